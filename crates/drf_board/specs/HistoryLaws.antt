@@ -3,7 +3,7 @@ use Rattle.std.specs.Prelude.{◌≡◌, List, [], ◌∷◌, ◌++◌}
 use Rattle.std.proofs.Common.{refl, ap, sym, ◌∙◌}
 use Rattle.std.proofs.lemmas.List.{map-append}
 use Rattle.drf_rows.specs.LimitNumbers.{LimitNumbers}
-use Rattle.drf_rows.specs.laws.RunLaws.{replies_to-append, rows_after_all-append}
+use Rattle.drf_row_laws.specs.RunLaws.{replies_to-append, rows_after_all-append}
 use Rattle.drf_rows.specs.Step.{replies_to, rows_after, rows_after_all, reply_to}
 use Rattle.drf_rows.specs.declared.rows.Rows.{Rows}
 use Rattle.drf_board.specs.History.{IsLegal, rows_of, events_of}

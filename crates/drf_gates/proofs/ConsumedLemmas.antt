@@ -17,9 +17,9 @@ use Rattle.drf_bundle.specs.laws.KeyLaws.{where-cons}
 use Rattle.drf_bundle.specs.laws.SumLaws.{amount-quantities_of, of_name}
 use Rattle.drf_bundle.specs.declared.quantities.Entry.{Entry}
 use Rattle.drf_bundle.specs.declared.resource.Resource.{Resource}
-use Rattle.drf_rows.specs.laws.ConsistentLaws.{same_text-swap}
+use Rattle.drf_row_laws.specs.ConsistentLaws.{same_text-swap}
 use Rattle.drf_rows.specs.Quota.{reserves, unreserved_in, reserved_in}
-use Rattle.drf_rows.specs.laws.QuotaLaws.{no_text, parts_le}
+use Rattle.drf_row_laws.specs.QuotaLaws.{no_text, parts_le}
 use Rattle.drf_gates.specs.Quota.{Allowance, IsRaised, IsRaisedBy, IsSame, amount_in_one, unreserved_one, reserved_one, counted, used_where}
 
 -- the element that is read is the first of those that are left

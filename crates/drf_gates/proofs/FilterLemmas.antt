@@ -1,25 +1,31 @@
 -- Laws of filters.
-use Rattle.std.proofs.Common.{◌≡◌, ◌+◌, ◌<◌, ◌≤◌, ◌&&◌, ℕ, suc, Bool, true, false, filter, inl, inr, refl, List, [], ◌∷◌, ◌++◌, nat_lt, length, get_or, set, take, ap, ◌∙◌, sym, subst, min, arith, length-append, mod-lt}
-use Rattle.std.proofs.lemmas.Bool.{cases_Bool, and_parts, and_from, lt-ltb, ltb-true}
-use Rattle.std.proofs.lemmas.List.{map-append, length-map, length-set, length-take, take_all}
-use Rattle.std.proofs.lemmas.List.Elements.{All-filter, All-push, All-take}
+use Rattle.std.proofs.Common.{◌≡◌, ◌≢◌, ◌+◌, ◌-◌, ◌%◌, ◌<◌, ◌≤◌, ◌&&◌, ℕ, suc, Bool, true, false, inl, inr, map, filter, refl, List, [], ◌∷◌, ◌++◌, Option, None, Some, nat_lt, length, get_or, set, take, ap, ◌∙◌, sym, subst, min, arith, length-append}
+use Rattle.std.specs.List.{list_any}
+use Rattle.std.proofs.lemmas.Bool.{cases_eq, cases_lt, false_from_ne_true, and_parts, and_from, lt-ltb, ltb-true}
+use Rattle.std.proofs.lemmas.List.{map-append, map-set, length-map, length-set, get_or-map, get_or_default}
+use Rattle.std.proofs.lemmas.List.Elements.{All-nil, All-cons, All-append, All-filter, All-push, All-take}
 use Rattle.std.proofs.lemmas.List.Folds.{Any-from_list_any, list_any-from_Any, list_any_none}
 use Rattle.drf_role.specs.TextLaws.{same_itself, same_from_test}
 use Rattle.drf_role.specs.PathLaws.{same_path_itself, same_path-true}
+use Rattle.drf_role.specs.Mark.{mark_of}
+use Rattle.drf_role.specs.Text.{Text, same_text}
+use Rattle.drf_role.specs.Path.{same_path}
 use Rattle.drf_bundle.specs.Bundle.{IsBundle, covers}
 use Rattle.drf_bundle.specs.laws.UnitProofs.{covers_by_units}
 use Rattle.drf_bundle.specs.declared.resource.Resource.{Resource}
-use Rattle.drf_role.specs.Text.{Text, same_text}
-use Rattle.drf_role.specs.Path.{same_path}
 use Rattle.drf_rows.specs.Client.{Client}
-use Rattle.drf_rows.specs.Filters.{is_in_force, in_force, is_of_client, is_on_agent, holds_back, is_held_back}
-use Rattle.drf_rows.specs.laws.ListLaws.{length-filter_le}
+use Rattle.drf_rows.specs.Filters.{is_in_force, in_force, is_of_client, is_on_agent, holds_back}
 use Rattle.drf_rows.specs.declared.rows.FilterRow.{FilterRow}
 use Rattle.drf_gates.specs.Laws.{LessIsHeldBack, HeldBackIsRefused}
 use Rattle.drf_gates.specs.Chains.{IsLast, IsChained}
-use Rattle.drf_gates.specs.Index.{key_hash, bucket_of, row_bucket, buckets_of, IsChainedBy, IsIndexed, IsLeft, HasRoom, IsFilterIndex, NoneEndsBefore}
+use Rattle.drf_gates.specs.Index.{pair_hash, row_hash, slot_bucket, buckets_of, IsChainedBy, IsIndexed, IsLeft, HasRoom, NoneEndsBefore}
+use Rattle.drf_gates.specs.Slots.{filled, slot_passes, without_one, filters_in, IsSlots, IsClosed, IsFilterTable}
 use Rattle.drf_gates.specs.declared.index.Index.{Index}
-use Rattle.drf_gates.proofs.ChainLemmas.{chained-more, passed-last, passed-more}
+use Rattle.drf_gates.specs.declared.index.Key.{Key}
+use Rattle.drf_gates.specs.declared.index.Key.TheVariants.{Client as ByClient, ClientAndAgent}
+use Rattle.drf_gates.specs.declared.slots.Slots.{Slots}
+use Rattle.drf_gates.proofs.ChainLemmas.{chained-more, chained-gap, IsLed, led-start, chained-drop_head, chained-drop_link, passed-last, passed-more}
+use Rattle.drf_gates.proofs.SlotLemmas.{filled-all, filled-more, any-filled, set-one, without-length, without-other, without-here, place-below, IsLess, filter-less, all-less, take-less}
 
 pub less_is_held_back : LessIsHeldBack
 less_is_held_back filters f clock bundle is_there before is_bundle is_part below =
@@ -47,10 +53,22 @@ held_back_is_refused filters clock client agent bundle held are_bundles is_part 
       (covers_by_units f.bundle bundle is_bundle is_part).0 on.1,
     )
 
--- what a filter holds back goes to its client on its agent, which are in its bucket
-pub held_in_bucket : (number clock : ℕ) (client : Client) (agent : Text) (bundle : List Resource) (f : FilterRow)
-    → holds_back clock client agent bundle f ≡ true → row_bucket number f ≡ bucket_of number client.role client.framework agent
-held_in_bucket number clock client agent bundle f holds =
+-- ---- what is found is in its bucket
+
+pub of_client_in_bucket : (number : ℕ) (client : Client) (slot : Option FilterRow) → slot_passes (is_of_client client) slot ≡ true
+    → slot_bucket ByClient number slot ≡ mark_of client.role client.framework % number
+of_client_in_bucket number client None own = cc
+of_client_in_bucket number client (Some f) own =
+    let names = and_parts (same_path f.role client.role) (same_text f.framework client.framework) own in
+    let role = same_path-true f.role client.role names.0 in
+    let framework = same_from_test f.framework client.framework names.1 in
+    λ i. mark_of (role i) (framework i) % number
+
+pub held_in_bucket : (number clock : ℕ) (client : Client) (agent : Text) (bundle : List Resource) (slot : Option FilterRow)
+    → slot_passes (holds_back clock client agent bundle) slot ≡ true
+    → slot_bucket ClientAndAgent number slot ≡ pair_hash client.role client.framework agent % number
+held_in_bucket number clock client agent bundle None holds = cc
+held_in_bucket number clock client agent bundle (Some f) holds =
     let parts = and_parts (is_in_force clock f) (is_of_client client f && (is_on_agent agent f && covers f.bundle bundle)) holds in
     let own = and_parts (is_of_client client f) (is_on_agent agent f && covers f.bundle bundle) parts.1 in
     let names = and_parts (same_path f.role client.role) (same_text f.framework client.framework) own.0 in
@@ -58,70 +76,281 @@ held_in_bucket number clock client agent bundle f holds =
     let role = same_path-true f.role client.role names.0 in
     let framework = same_from_test f.framework client.framework names.1 in
     let there = same_from_test f.agent agent on.0 in
-    λ i. bucket_of number (role i) (framework i) (there i)
+    λ i. pair_hash (role i) (framework i) (there i) % number
 
--- one more filter, and the index with it
-pub chained-push : (rows : List FilterRow) (row : FilterRow) (heads links more : List ℕ) (bucket head next : ℕ)
-    → IsChained (buckets_of (length heads) rows) heads links
-    → bucket ≡ row_bucket (length heads) row → bucket < length heads → next ≡ length links + 1
+-- ---- one more slot, and the index with it
+
+pub chained-push : (key : Key) (rows : List (Option FilterRow)) (row : FilterRow) (heads links more : List ℕ) (bucket head next : ℕ)
+    → IsChained (buckets_of key (length heads) rows) heads links
+    → bucket ≡ row_hash key row % length heads → bucket < length heads → next ≡ length links + 1
     → head ≡ get_or heads bucket 0 → more ≡ links ++ head ∷ []
-    → IsChained (buckets_of (length (set heads bucket next)) (rows ++ row ∷ [])) (set heads bucket next) more
-chained-push rows row heads links more bucket head next is is_bucket below is_next is_head is_more =
-    let same : buckets_of (length heads) rows ++ bucket ∷ [] ≡ buckets_of (length (set heads bucket next)) (rows ++ row ∷ []) =
-    ap (λ (b : ℕ). buckets_of (length heads) rows ++ b ∷ []) is_bucket
-    ∙ sym (map-append (row_bucket (length heads)) rows (row ∷ []))
-    ∙ ap (λ (n : ℕ). buckets_of n (rows ++ row ∷ [])) (sym (length-set heads bucket next))
+    → IsChained (buckets_of key (length (set heads bucket next)) (rows ++ Some row ∷ [])) (set heads bucket next) more
+chained-push key rows row heads links more bucket head next is is_bucket below is_next is_head is_more =
+    let same : buckets_of key (length heads) rows ++ bucket ∷ [] ≡ buckets_of key (length (set heads bucket next)) (rows ++ Some row ∷ []) =
+    ap (λ (b : ℕ). buckets_of key (length heads) rows ++ b ∷ []) is_bucket
+    ∙ sym (map-append (slot_bucket key (length heads)) rows (Some row ∷ []))
+    ∙ ap (λ (n : ℕ). buckets_of key n (rows ++ Some row ∷ [])) (sym (length-set heads bucket next))
     in
     let same_links : links ++ get_or heads bucket 0 ∷ [] ≡ more = ap (λ (h : ℕ). links ++ h ∷ []) (sym is_head) ∙ sym is_more in
     subst (λ (q : List ℕ × List ℕ). IsChained q.0 (set heads bucket next) q.1) (λ i. (same i, same_links i))
-    (chained-more (buckets_of (length heads) rows) heads links bucket next below (is_next ∙ ap (λ (n : ℕ). n + 1) is.number) is)
+    (chained-more (buckets_of key (length heads) rows) heads links bucket next below (is_next ∙ ap (λ (n : ℕ). n + 1) is.number) is)
 
--- ---- what is left
+pub chained-push_gap : (key : Key) (rows : List (Option FilterRow)) (heads links more : List ℕ)
+    → IsChained (buckets_of key (length heads) rows) heads links → more ≡ links ++ 0 ∷ []
+    → IsChained (buckets_of key (length heads) (rows ++ None ∷ [])) heads more
+chained-push_gap key rows heads links more is is_more =
+    subst (λ (q : List ℕ × List ℕ). IsChained q.0 heads q.1)
+    (λ i. (sym (map-append (slot_bucket key (length heads)) rows (None ∷ [])) i, sym is_more i))
+    (chained-gap (buckets_of key (length heads) rows) heads links (length heads) (omega arith) is)
 
--- a filter that leaves as many leaves all
-filter_as_many : {X : Type 0} (p : X → Bool) (xs : List X) → length (filter p xs) ≡ length xs → filter p xs ≡ xs
-filter_as_many p [] same = refl
-filter_as_many {X} p (x ∷ xs) same = elim (cases_Bool (p x)) [
-  | inl kept ↦ rw kept (ap (λ (ys : List X). x ∷ ys) (filter_as_many p xs (omega (arith, rw kept at same))))
-  | inr gone ↦ absurd (omega (arith, rw gone at same, length-filter_le p xs))
-]
+-- ---- a filter is taken out of its chain
 
-pub left-filter : (p : FilterRow → Bool) (rows left : List FilterRow) (index : Index) → left ≡ filter p rows → IsIndexed rows index → IsLeft left index
-left-filter p rows left index is indexed = record {
-  all = rows;
-  indexed = indexed;
-  at_most = subst (λ (fs : List FilterRow). length fs ≤ length rows) (sym is) (length-filter_le p rows);
-  or_all = λ same. is ∙ filter_as_many p rows (sym (ap length is) ∙ same);
+pub bucket-here : (key : Key) (rows : List (Option FilterRow)) (number place : ℕ) (row : FilterRow) → get_or rows place None ≡ Some row
+    → get_or (buckets_of key number rows) place 0 ≡ row_hash key row % number
+bucket-here key rows number place row here =
+    get_or-map (slot_bucket key number) rows place None 0 (place-below rows place row here) ∙ ap (λ (s : Option FilterRow). slot_bucket key number s) here
+
+pub goes_on : (key : Key) (rows : List (Option FilterRow)) (index : Index) (place next : ℕ) → IsIndexed key rows index
+    → place + 1 ≤ length (buckets_of key (length index.heads.items) rows) → next ≡ get_or index.links.items place next → next ≡ get_or index.links.items place 0
+goes_on key rows index place next indexed below read =
+    read ∙ get_or_default index.links.items place next 0 (omega (arith, below, indexed.chained.number))
+
+-- the walk to it
+pub index-led : (key : Key) (rows : List (Option FilterRow)) (index : Index) (row : FilterRow) (place bucket after : ℕ)
+    → IsIndexed key rows index → get_or rows place None ≡ Some row → bucket ≡ row_hash key row % length index.heads.items
+    → bucket < length index.heads.items → after ≡ get_or index.heads.items bucket 0
+    → IsLed (buckets_of key (length index.heads.items) rows) index.heads.items index.links.items place bucket (length index.heads.items) 0 after
+index-led key rows index row place bucket after indexed here is_bucket known start =
+    led-start (buckets_of key (length index.heads.items) rows) index.heads.items index.links.items place bucket (length index.heads.items) after
+    indexed.chained known (omega (arith, place-below rows place row here, length-map rows (slot_bucket key (length index.heads.items))))
+    (bucket-here key rows (length index.heads.items) place row here ∙ sym is_bucket) start
+
+indexed-set : (key : Key) (rows : List (Option FilterRow)) (index after : Index) (place : ℕ)
+    → IsChained (set (buckets_of key (length index.heads.items) rows) place (length index.heads.items)) after.heads.items after.links.items
+    → length after.heads.items ≡ length index.heads.items → length rows ≤ length index.heads.items
+    → IsIndexed key (set rows place None) after
+indexed-set key rows index after place chained same enough = record {
+  chained = subst (λ (bs : List ℕ). IsChained bs after.heads.items after.links.items)
+      (sym (map-set (slot_bucket key (length index.heads.items)) rows place None)
+      ∙ ap (λ (n : ℕ). buckets_of key n (set rows place None)) (sym same)) chained;
+  enough = omega (arith, length-set rows place None, same, enough);
 }
 
-pub left-take : (n : ℕ) (rows left : List FilterRow) (index : Index) → left ≡ take n rows → IsIndexed rows index → IsLeft left index
-left-take n rows left index is indexed =
-    let long : length left ≡ min n (length rows) = ap length is ∙ length-take n rows in
-    record {
-      all = rows;
-      indexed = indexed;
-      at_most = omega (arith, long);
-      or_all = λ same. is ∙ take_all n rows (omega (arith, long, same));
+module _ (key : Key) (rows : List (Option FilterRow)) (index after : Index) (row : FilterRow) (place bucket from at next : ℕ)
+    (indexed : IsIndexed key rows index) (here : get_or rows place None ≡ Some row)
+    (is_bucket : bucket ≡ row_hash key row % length index.heads.items) (known : bucket < length index.heads.items)
+    (is_next : next ≡ get_or index.links.items place 0)
+    (led : IsLed (buckets_of key (length index.heads.items) rows) index.heads.items index.links.items place bucket (length index.heads.items) from at)
+    (arrived : at ≤ place + 1) where
+  small : place < length (buckets_of key (length index.heads.items) rows)
+  small = omega (arith, place-below rows place row here, length-map rows (slot_bucket key (length index.heads.items)))
+
+  own : get_or (buckets_of key (length index.heads.items) rows) place 0 ≡ bucket
+  own = bucket-here key rows (length index.heads.items) place row here ∙ sym is_bucket
+
+  pub indexed-drop_head : from ≡ 0 → after.heads.items ≡ set index.heads.items bucket next → after.links.items ≡ index.links.items
+      → IsIndexed key (set rows place None) after
+  indexed-drop_head none heads links =
+      indexed-set key rows index after place
+      (subst (λ (q : List ℕ × List ℕ). IsChained (set (buckets_of key (length index.heads.items) rows) place (length index.heads.items)) q.0 q.1)
+      (λ i. (sym heads i, sym links i))
+      (chained-drop_head (buckets_of key (length index.heads.items) rows) index.heads.items index.links.items place bucket (length index.heads.items)
+      indexed.chained known small own refl next is_next (sym (led.at_head none) ∙ omega (arith, led.reached, arrived))))
+      (ap length heads ∙ length-set index.heads.items bucket next) indexed.enough
+
+  pub indexed-drop_link : (p : ℕ) → from ≡ p + 1 → after.heads.items ≡ index.heads.items → after.links.items ≡ set index.links.items p next
+      → IsIndexed key (set rows place None) after
+  indexed-drop_link p is_from heads links =
+      indexed-set key rows index after place
+      (subst (λ (q : List ℕ × List ℕ). IsChained (set (buckets_of key (length index.heads.items) rows) place (length index.heads.items)) q.0 q.1)
+      (λ i. (sym heads i, sym links i))
+      (chained-drop_link (buckets_of key (length index.heads.items) rows) index.heads.items index.links.items place bucket (length index.heads.items)
+      indexed.chained known small own refl p next is_next (led.behind p is_from) (omega (arith, led.small, is_from)) (led.at_link p is_from).0
+      (sym (led.at_link p is_from).1 ∙ omega (arith, led.reached, arrived))))
+      (ap length heads) indexed.enough
+
+-- ---- a walk along a chain
+
+module _ (key : Key) (rows : List (Option FilterRow)) (index : Index) (test : Option FilterRow → Bool) (bucket : ℕ) where
+  -- it has come to a place of the bucket, or has ended, and no slot behind passes the test
+  pub record IsWalked (after : ℕ) : Type 0 where
+    pub within : after ≤ length rows
+    pub own : (place : ℕ) → after ≡ place + 1 → get_or (buckets_of key (length index.heads.items) rows) place 0 ≡ bucket
+    pub passed : (place : ℕ) (d : Option FilterRow) → after ≤ place → place < length rows → test (get_or rows place d) ≡ false
+
+  module _ (chained : IsChainedBy key rows index) (in_bucket : (s : Option FilterRow) → test s ≡ true → slot_bucket key (length index.heads.items) s ≡ bucket)
+      (known : bucket < length index.heads.items) where
+    number : length (buckets_of key (length index.heads.items) rows) ≡ length rows
+    number = length-map rows (slot_bucket key (length index.heads.items))
+
+    walk-last : (end after : ℕ) → end ≤ length rows → IsLast (buckets_of key (length index.heads.items) rows) bucket end after
+        → ((place : ℕ) (d : Option FilterRow) → end ≤ place → place < length rows → test (get_or rows place d) ≡ false)
+        → IsWalked after
+    walk-last end after small is passed = record {
+      within = omega (arith, is.within);
+      own = is.own;
+      passed = passed-last test (slot_bucket key (length index.heads.items)) rows bucket end after in_bucket small is passed;
     }
 
-kept-left : (left shown : List FilterRow) (after : Index) (soonest : ℕ)
-    → shown ≡ left → NoneEndsBefore soonest left → IsIndexed shown after → IsFilterIndex left after soonest
-kept-left left shown after soonest is_shown none indexed = record {
-  indexed = subst (λ (fs : List FilterRow). IsIndexed fs after) is_shown indexed;
-  none_before = none;
+    -- where the chain begins
+    pub walk-start : (after : ℕ) → after ≡ get_or index.heads.items bucket 0 → IsWalked after
+    walk-start after is_after =
+        walk-last (length (buckets_of key (length index.heads.items) rows)) after (omega (arith, number))
+        (subst (λ (last : ℕ). IsLast (buckets_of key (length index.heads.items) rows) bucket (length (buckets_of key (length index.heads.items) rows)) last) (sym is_after)
+        (chained.head bucket known))
+        (λ place d behind below. absurd (omega (arith, number, behind, below)))
+
+    pub walk-less : (after place next : ℕ) → after ≡ place + 1 → next ≡ get_or index.links.items place 0 → IsWalked after → next < after
+    walk-less after place next is_after is_next walked =
+        let below : place < length rows = omega (arith, walked.within, is_after) in
+        let its : get_or (buckets_of key (length index.heads.items) rows) place 0 ≡ bucket = walked.own place is_after in
+        let last = chained.link place (omega (arith, below, number)) (omega (arith, its, known)) in
+        omega (arith, last.within, is_next, is_after)
+
+    -- and where it goes on
+    pub walk-next : (after place next : ℕ) (slot : Option FilterRow) → after ≡ place + 1 → next ≡ get_or index.links.items place 0
+        → slot ≡ get_or rows place slot → test slot ≡ false → IsWalked after → IsWalked next
+    walk-next after place next slot is_after is_next read fails walked =
+        let below : place < length rows = omega (arith, walked.within, is_after) in
+        let its : get_or (buckets_of key (length index.heads.items) rows) place 0 ≡ bucket = walked.own place is_after in
+        walk-last place next (omega (arith, below))
+        (subst (λ (q : ℕ × ℕ). IsLast (buckets_of key (length index.heads.items) rows) q.0 place q.1) (λ i. (its i, sym is_next i))
+        (chained.link place (omega (arith, below, number)) (omega (arith, its, known))))
+        (passed-more test rows after place slot is_after read below fails walked.passed)
+
+-- a filter is taken
+pub slots-taken : (s after : Slots) (place : ℕ) (row : FilterRow) → IsSlots s → get_or s.rows.items place None ≡ Some row
+    → after.rows.items ≡ set s.rows.items place None
+    → IsIndexed ClientAndAgent (set s.rows.items place None) after.pairs → IsIndexed ByClient (set s.rows.items place None) after.clients
+    → after.live ≡ s.live - 1 → IsSlots after
+slots-taken s after place row slots here rows pairs clients less =
+    let one = set-one s.rows.items place row here in
+    record {
+      pairs = subst (λ (fs : List (Option FilterRow)). IsIndexed ClientAndAgent fs after.pairs) (sym rows) pairs;
+      clients = subst (λ (fs : List (Option FilterRow)). IsIndexed ByClient fs after.clients) (sym rows) clients;
+      live = omega (arith, less, slots.live, one, ap (λ (fs : List (Option FilterRow)). length (filled fs)) rows);
+    }
+
+pub held_by : (p : FilterRow → Bool) (slots : List (Option FilterRow)) (place : ℕ) (slot : Option FilterRow) → place < length slots → slot ≡ get_or slots place slot
+    → slot_passes p slot ≡ true → list_any p (filled slots) ≡ true
+held_by p slots place slot below read passes = sym (any-filled p slots) ∙ list_any-from_Any (slot_passes p) slots (place, slot, below, sym read, passes)
+
+pub held_by_none : (p : FilterRow → Bool) (slots : List (Option FilterRow))
+    → ((place : ℕ) (d : Option FilterRow) → 0 ≤ place → place < length slots → slot_passes p (get_or slots place d) ≡ false) → list_any p (filled slots) ≡ false
+held_by_none p slots none = sym (any-filled p slots) ∙ list_any_none (slot_passes p) slots (λ k d below. none k d (omega arith) below)
+
+-- a walk along the chain of a client, whose filters are taken
+module _ (client : Client) (s t : Slots) (place next : ℕ) (slots : IsSlots s) (small : place < length s.rows.items)
+    (is_rows : t.rows.items ≡ without_one (is_of_client client) s.rows.items place)
+    (is_heads : length t.clients.heads.items ≡ length s.clients.heads.items) where
+  abbrev n : ℕ
+  n = length s.clients.heads.items
+
+  abbrev bucket : ℕ
+  bucket = mark_of client.role client.framework % n
+
+  elsewhere : (q : ℕ) (d : Option FilterRow) → q ≢ place → get_or t.rows.items q d ≡ get_or s.rows.items q d
+  elsewhere q d apart =
+      ap (λ (ss : List (Option FilterRow)). get_or ss q d) is_rows ∙ without-other (is_of_client client) s.rows.items place small q d apart
+
+  long : length t.rows.items ≡ length s.rows.items
+  long = ap length is_rows ∙ without-length (is_of_client client) s.rows.items place small
+
+  own-elsewhere : (q : ℕ) → q ≢ place → q < length s.rows.items
+      → get_or (buckets_of ByClient (length t.clients.heads.items) t.rows.items) q 0 ≡ get_or (buckets_of ByClient n s.rows.items) q 0
+  own-elsewhere q apart below =
+      ap (λ (m : ℕ). get_or (buckets_of ByClient m t.rows.items) q 0) is_heads
+      ∙ get_or-map (slot_bucket ByClient n) t.rows.items q None 0 (omega (arith, below, long))
+      ∙ ap (λ (slot : Option FilterRow). slot_bucket ByClient n slot) (elsewhere q None apart)
+      ∙ sym (get_or-map (slot_bucket ByClient n) s.rows.items q None 0 below)
+
+  pub walk-taken : bucket < n → next ≡ get_or s.clients.links.items place 0
+      → IsWalked ByClient s.rows.items s.clients (slot_passes (is_of_client client)) bucket (place + 1)
+      → IsWalked ByClient t.rows.items t.clients (slot_passes (is_of_client client)) (mark_of client.role client.framework % length t.clients.heads.items) next
+  walk-taken known is_next walked =
+      let number : length (buckets_of ByClient n s.rows.items) ≡ length s.rows.items = length-map s.rows.items (slot_bucket ByClient n) in
+      let its : get_or (buckets_of ByClient n s.rows.items) place 0 ≡ bucket = walked.own place refl in
+      let last : IsLast (buckets_of ByClient n s.rows.items) bucket place next =
+      subst (λ (q : ℕ × ℕ). IsLast (buckets_of ByClient n s.rows.items) q.0 place q.1) (λ i. (its i, sym is_next i))
+      (slots.clients.chained.link place (omega (arith, small, number)) (omega (arith, its, known)))
+      in
+      record {
+        within = omega (arith, last.within, small, long);
+        own = λ q at.
+            own-elsewhere q (λ e. absurd (omega (arith, at, e, last.within))) (omega (arith, at, last.within, small)) ∙ last.own q at
+            ∙ ap (λ (m : ℕ). mark_of client.role client.framework % m) (sym is_heads);
+        passed = λ q d after below. elim (cases_eq q place) [
+          | inl here ↦
+              ap (λ (k : ℕ). slot_passes (is_of_client client) (get_or t.rows.items k d)) here
+              ∙ ap (λ (ss : List (Option FilterRow)). slot_passes (is_of_client client) (get_or ss place d)) is_rows
+              ∙ without-here (is_of_client client) s.rows.items place small d
+          | inr apart ↦
+              ap (λ (slot : Option FilterRow). slot_passes (is_of_client client) slot) (elsewhere q d apart)
+              ∙ elim (cases_lt q place) [
+                | inl early ↦ false_from_ne_true (slot_passes (is_of_client client) (get_or s.rows.items q d))
+                    (λ passes. last.none_after q after early
+                    (get_or-map (slot_bucket ByClient n) s.rows.items q d 0 (omega (arith, below, long)) ∙ of_client_in_bucket n client (get_or s.rows.items q d) passes))
+                | inr late ↦ walked.passed q d (omega (arith, late, apart)) (omega (arith, below, long))
+              ]
+        ];
+      }
+
+-- ---- what is left of slots
+
+pub left-of : (key : Key) (rows left : List (Option FilterRow)) (index : Index) → IsLess rows left → IsIndexed key rows index → IsLeft key left index
+left-of key rows left index less indexed = record { all = rows; indexed = indexed; at_most = less.at_most; or_all = less.or_all }
+
+closed-of : (s t : Slots) (xs : List FilterRow) → t.rows.items ≡ map Some xs → IsLess s.rows.items t.rows.items → t.pairs ≡ s.pairs → t.clients ≡ s.clients
+    → IsSlots s → IsClosed t
+closed-of s t xs is less same_pairs same_clients slots = record {
+  pairs = left-of ClientAndAgent s.rows.items t.rows.items t.pairs less
+      (subst (λ (i : Index). IsIndexed ClientAndAgent s.rows.items i) (sym same_pairs) slots.pairs);
+  clients = left-of ByClient s.rows.items t.rows.items t.clients less
+      (subst (λ (i : Index). IsIndexed ByClient s.rows.items i) (sym same_clients) slots.clients);
+  closed = is ∙ ap (λ (ys : List FilterRow). map Some ys) (sym (ap (λ (ys : List (Option FilterRow)). filled ys) is ∙ filled-all xs));
 }
 
-pub kept-filter : (p : FilterRow → Bool) (rows left shown : List FilterRow) (index after : Index) (soonest : ℕ)
-    → left ≡ filter p rows → shown ≡ left → IsFilterIndex rows index soonest → IsIndexed shown after → IsFilterIndex left after soonest
-kept-filter p rows left shown index after soonest is is_shown kept =
-    kept-left left shown after soonest is_shown
-    (subst (λ (fs : List FilterRow). NoneEndsBefore soonest fs) (sym is) (All-filter p (λ f. soonest ≤ f.until) rows kept.none_before))
+pub closed-filter : (p : FilterRow → Bool) (s t : Slots) → t.rows.items ≡ map Some (filter p (filters_in s)) → t.pairs ≡ s.pairs → t.clients ≡ s.clients
+    → IsSlots s → IsClosed t
+closed-filter p s t is = closed-of s t (filter p (filters_in s)) is (filter-less p s.rows.items t.rows.items is)
 
-pub kept-take : (n : ℕ) (rows left shown : List FilterRow) (index after : Index) (soonest : ℕ)
-    → left ≡ take n rows → shown ≡ left → IsFilterIndex rows index soonest → IsIndexed shown after → IsFilterIndex left after soonest
-kept-take n rows left shown index after soonest is is_shown kept =
-    kept-left left shown after soonest is_shown
-    (subst (λ (fs : List FilterRow). NoneEndsBefore soonest fs) (sym is) (All-take (λ f. soonest ≤ f.until) n rows kept.none_before))
+pub closed-take : (n : ℕ) (s t : Slots) → t.rows.items ≡ map Some (take n (filters_in s)) → t.pairs ≡ s.pairs → t.clients ≡ s.clients
+    → IsSlots s → IsClosed t
+closed-take n s t is = closed-of s t (take n (filters_in s)) is (take-less n s.rows.items t.rows.items is)
+
+pub closed-all : (s t : Slots) → t.rows.items ≡ map Some (filters_in s) → t.pairs ≡ s.pairs → t.clients ≡ s.clients → IsSlots s → IsClosed t
+closed-all s t is = closed-of s t (filters_in s) is (all-less s.rows.items t.rows.items is)
+
+pub left-are : (xs : List FilterRow) (rows : List (Option FilterRow)) (after : Slots) → rows ≡ map Some xs → filters_in after ≡ filled rows → filters_in after ≡ xs
+left-are xs rows after is same = same ∙ ap (λ (ys : List (Option FilterRow)). filled ys) is ∙ filled-all xs
+
+pub table-filter : (p : FilterRow → Bool) (s after : Slots) (soonest : ℕ) → filters_in after ≡ filter p (filters_in s)
+    → IsSlots after → IsFilterTable s soonest → IsFilterTable after soonest
+table-filter p s after soonest is slots table = record {
+  slots = slots;
+  none_before = subst (λ (fs : List FilterRow). NoneEndsBefore soonest fs) (sym is) (All-filter p (λ f. soonest ≤ f.until) (filters_in s) table.none_before);
+}
+
+pub table-take : (n : ℕ) (s after : Slots) (soonest : ℕ) → filters_in after ≡ take n (filters_in s)
+    → IsSlots after → IsFilterTable s soonest → IsFilterTable after soonest
+table-take n s after soonest is slots table = record {
+  slots = slots;
+  none_before = subst (λ (fs : List FilterRow). NoneEndsBefore soonest fs) (sym is) (All-take (λ f. soonest ≤ f.until) n (filters_in s) table.none_before);
+}
+
+pub indexed-push : (key : Key) (rows shown more : List (Option FilterRow)) (row : FilterRow) (index after : Index)
+    → shown ≡ rows → more ≡ rows ++ Some row ∷ [] → IsIndexed key shown index → HasRoom shown index
+    → ((fs : List (Option FilterRow)) → IsChainedBy key fs index → IsChainedBy key (fs ++ Some row ∷ []) after)
+    → length after.heads.items ≡ length index.heads.items → IsIndexed key more after
+indexed-push key rows shown more row index after is_shown is_more indexed room pushed same =
+    let longer : length (rows ++ Some row ∷ []) ≡ length rows + 1 = length-append rows (Some row ∷ []) in
+    let all : IsIndexed key (rows ++ Some row ∷ []) after = record {
+      chained = subst (λ (fs : List (Option FilterRow)). IsChainedBy key (fs ++ Some row ∷ []) after) is_shown (pushed shown indexed.chained);
+      enough = omega (arith, longer, same, room.heads, ap length is_shown);
+    } in
+    subst (λ (fs : List (Option FilterRow)). IsIndexed key fs after) (sym is_more) all
+
+-- ---- when filters end
 
 -- before the first end all are in force
 pub all_in_force : (now soonest : ℕ) (rows : List FilterRow) → now < soonest → NoneEndsBefore soonest rows → in_force now rows ≡ rows
@@ -134,67 +363,21 @@ all_in_force now soonest (f ∷ fs) before none =
 pub none_before-less : (moment earlier : ℕ) (rows : List FilterRow) → earlier ≤ moment → NoneEndsBefore moment rows → NoneEndsBefore earlier rows
 none_before-less moment earlier rows le none = λ k d below. omega (arith, le, none k d below)
 
--- ---- what is held back
+pub none_before-slot : (moment next : ℕ) (slots : List (Option FilterRow)) (i : ℕ) (slot : Option FilterRow) → i < length slots → slot ≡ get_or slots i slot
+    → next ≤ moment → ((f : FilterRow) → slot ≡ Some f → next ≤ f.until)
+    → NoneEndsBefore moment (filled (take i slots)) → NoneEndsBefore next (filled (take (i + 1) slots))
+none_before-slot moment next slots i slot below read less its none =
+    subst (λ (fs : List FilterRow). NoneEndsBefore next fs) (sym (filled-more slots i slot below read))
+    (All-append (λ f. next ≤ f.until) (filled (take i slots)) (filled (slot ∷ [])) (none_before-less moment next (filled (take i slots)) less none) (one slot its))
+  where
+    one : (s : Option FilterRow) → ((f : FilterRow) → s ≡ Some f → next ≤ f.until) → NoneEndsBefore next (filled (s ∷ []))
+    one None ends = All-nil (λ (f : FilterRow). next ≤ f.until)
+    one (Some f) ends = All-cons (λ (f : FilterRow). next ≤ f.until) f [] (ends f refl) (All-nil (λ (f : FilterRow). next ≤ f.until))
 
-module _ (rows : List FilterRow) (index : Index) (clock : ℕ) (client : Client) (agent : Text) (bundle : List Resource) where
-  abbrev own_bucket : ℕ
-  own_bucket = bucket_of (length index.heads.items) client.role client.framework agent
-
-  -- what a walk along a chain has found: it is at a place of the chain, or has ended, and none behind holds the bundle back
-  pub record IsWalked (after : ℕ) : Type 0 where
-    pub within : after ≤ length rows
-    pub own : (place : ℕ) → after ≡ place + 1 → get_or (buckets_of (length index.heads.items) rows) place 0 ≡ own_bucket
-    pub passed : (place : ℕ) (d : FilterRow) → after ≤ place → place < length rows → holds_back clock client agent bundle (get_or rows place d) ≡ false
-
-  pub walk-last : (end after : ℕ) → end ≤ length rows → IsLast (buckets_of (length index.heads.items) rows) own_bucket end after
-      → ((place : ℕ) (d : FilterRow) → end ≤ place → place < length rows → holds_back clock client agent bundle (get_or rows place d) ≡ false)
-      → IsWalked after
-  walk-last end after small is passed = record {
-    within = omega (arith, is.within);
-    own = is.own;
-    passed = passed-last (holds_back clock client agent bundle) (row_bucket (length index.heads.items)) rows own_bucket end after
-        (held_in_bucket (length index.heads.items) clock client agent bundle) small is passed;
-  }
-
-  -- where the chain begins
-  pub walk-start : (after : ℕ) → IsChainedBy rows index → 0 < length index.heads.items → after ≡ get_or index.heads.items own_bucket 0 → IsWalked after
-  walk-start after chained some is_after =
-      let number : length (buckets_of (length index.heads.items) rows) ≡ length rows = length-map rows (row_bucket (length index.heads.items)) in
-      walk-last (length (buckets_of (length index.heads.items) rows)) after (omega (arith, number))
-      (subst (λ (last : ℕ). IsLast (buckets_of (length index.heads.items) rows) own_bucket (length (buckets_of (length index.heads.items) rows)) last) (sym is_after)
-      (chained.head own_bucket (mod-lt (key_hash client.role client.framework agent) some)))
-      (λ place d behind below. absurd (omega (arith, number, behind, below)))
-
-  -- and where it goes on
-  pub walk-next : (after place next : ℕ) (row : FilterRow) → IsChainedBy rows index → after ≡ place + 1 → next ≡ get_or index.links.items place 0
-      → row ≡ get_or rows place row → holds_back clock client agent bundle row ≡ false → IsWalked after → IsWalked next
-  walk-next after place next row chained is_after is_next read fails walked =
-      let number : length (buckets_of (length index.heads.items) rows) ≡ length rows = length-map rows (row_bucket (length index.heads.items)) in
-      let below : place < length rows = omega (arith, walked.within, is_after) in
-      walk-last place next (omega (arith, below))
-      (subst (λ (q : ℕ × ℕ). IsLast (buckets_of (length index.heads.items) rows) q.0 place q.1) (λ i. (walked.own place is_after i, sym is_next i))
-      (chained.link place (omega (arith, below, number))))
-      (passed-more (holds_back clock client agent bundle) rows after place row is_after read below fails walked.passed)
-
-  pub walk-end : IsWalked 0 → is_held_back rows clock client agent bundle ≡ false
-  walk-end walked = list_any_none (holds_back clock client agent bundle) rows (λ k d below. walked.passed k d (omega arith) below)
-
--- ---- one more filter
-
-pub kept-push : (rows shown more : List FilterRow) (row : FilterRow) (index after : Index) (soonest next : ℕ)
-    → NoneEndsBefore soonest rows → next ≡ min soonest row.until → shown ≡ rows → more ≡ rows ++ row ∷ []
-    → IsIndexed shown index → HasRoom shown index
-    → ((fs : List FilterRow) → IsChainedBy fs index → IsChainedBy (fs ++ row ∷ []) after)
-    → length after.heads.items ≡ length index.heads.items
-    → IsFilterIndex more after next
-kept-push rows shown more row index after soonest next none is_next is_shown is_more indexed room pushed same =
-    let longer : length (rows ++ row ∷ []) ≡ length rows + 1 = length-append rows (row ∷ []) in
-    let all : IsIndexed (rows ++ row ∷ []) after = record {
-      chained = subst (λ (fs : List FilterRow). IsChainedBy (fs ++ row ∷ []) after) is_shown (pushed shown indexed.chained);
-      enough = omega (arith, longer, same, room.heads, ap length is_shown);
-    } in
-    record {
-      indexed = subst (λ (fs : List FilterRow). IsIndexed fs after) (sym is_more) all;
-      none_before = subst (λ (fs : List FilterRow). NoneEndsBefore next fs) (sym is_more)
-          (All-push (λ f. next ≤ f.until) rows row (none_before-less soonest next rows (omega (arith, is_next)) none) (omega (arith, is_next)));
-    }
+pub table-push : (s after : Slots) (row : FilterRow) (soonest next : ℕ) → filters_in after ≡ filters_in s ++ row ∷ [] → next ≡ min soonest row.until
+    → IsSlots after → IsFilterTable s soonest → IsFilterTable after next
+table-push s after row soonest next is is_next slots table = record {
+  slots = slots;
+  none_before = subst (λ (fs : List FilterRow). NoneEndsBefore next fs) (sym is)
+      (All-push (λ f. next ≤ f.until) (filters_in s) row (none_before-less soonest next (filters_in s) (omega (arith, is_next)) table.none_before) (omega (arith, is_next)));
+}

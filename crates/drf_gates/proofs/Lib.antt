@@ -1,4 +1,5 @@
 pub mod ChainLemmas
+pub mod SlotLemmas
 pub mod FilterLemmas
 pub mod UsageLemmas
 pub mod QuotaLemmas
@@ -10,3 +11,5 @@ pub mod RoomLemmas
 pub mod FrontLemmas
 pub mod LeaveLemmas
 pub mod LeastLemmas
+pub mod SomeLemmas
+pub mod LimitedLemmas

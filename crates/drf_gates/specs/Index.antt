@@ -1,60 +1,58 @@
--- Where the filters of a client on an agent stand among all.
-use Rattle.std.specs.Prelude.{◌≡◌, ℕ, ◌*◌, ◌%◌, ◌^◌, ◌<◌, ◌≤◌, List, length, map, fold, bit_xor, All, vec_capacity}
+-- Where the filters of a client, or of a client on an agent, stand among all.
+use Rattle.std.specs.Prelude.{◌≡◌, ℕ, ◌%◌, ◌<◌, ◌≤◌, List, Option, None, Some, length, map, slice_index_or, All, vec_capacity}
 use Rattle.drf_role.specs.Text.{Text}
 use Rattle.drf_role.specs.Path.{Path}
-use Rattle.drf_role.specs.Parts.{text_of}
+use Rattle.drf_role.specs.Mark.{mixed, mark_of}
 use Rattle.drf_rows.specs.declared.rows.FilterRow.{FilterRow}
 use Rattle.drf_gates.specs.Chains.{IsChained}
 use Rattle.drf_gates.specs.declared.index.Index.{Index}
-use Rattle.drf_gates.specs.declared.index.TheConstants.{START, FACTOR}
-
--- one byte mixed into a hash, and all of a text
-abbrev pub mixed_byte : ℕ → ℕ → ℕ
-mixed_byte hash byte = (bit_xor hash byte * FACTOR) % 2 ^ 64
-
-abbrev pub mixed : ℕ → Text → ℕ
-mixed hash text = fold mixed_byte hash text
+use Rattle.drf_gates.specs.declared.index.Key.{Key}
+use Rattle.drf_gates.specs.declared.index.Key.TheVariants.{Client, ClientAndAgent}
 
 -- the hash of a client and an agent
-unfoldable pub key_hash : Path → Text → Text → ℕ
-key_hash role framework agent = mixed (mixed (mixed START framework) agent) (text_of role)
+unfoldable pub pair_hash : Path → Text → Text → ℕ
+pair_hash role framework agent = mixed (mark_of role framework) agent
 
--- the bucket of a client and an agent, and that of a filter, among so many
-abbrev pub bucket_of : ℕ → Path → Text → Text → ℕ
-bucket_of number role framework agent = key_hash role framework agent % number
+-- the hash by which a filter is chained
+abbrev pub row_hash : Key → FilterRow → ℕ
+row_hash Client f = mark_of f.role f.framework
+row_hash ClientAndAgent f = pair_hash f.role f.framework f.agent
 
-abbrev pub row_bucket : ℕ → FilterRow → ℕ
-row_bucket number f = bucket_of number f.role f.framework f.agent
+-- the bucket of a filter among so many; a gap is in none of them
+abbrev pub slot_bucket : Key → ℕ → Option FilterRow → ℕ
+slot_bucket key number None = number
+slot_bucket key number (Some f) = row_hash key f % number
 
-abbrev pub buckets_of : ℕ → List FilterRow → List ℕ
-buckets_of number rows = map (row_bucket number) rows
+abbrev pub buckets_of : Key → ℕ → List (Option FilterRow) → List ℕ
+buckets_of key number rows = map (slot_bucket key number) rows
 
 -- the filters are chained by their buckets
-abbrev pub IsChainedBy : List FilterRow → Index → Type 0
-IsChainedBy rows index = IsChained (buckets_of (length index.heads.items) rows) index.heads.items index.links.items
+abbrev pub IsChainedBy : Key → List (Option FilterRow) → Index → Type 0
+IsChainedBy key rows index = IsChained (buckets_of key (length index.heads.items) rows) index.heads.items index.links.items
 
--- and there are at least as many buckets as filters
-pub record IsIndexed (rows : List FilterRow) (index : Index) : Type 0 where
-  pub chained : IsChainedBy rows index
+-- and there are at least as many buckets as filters and gaps
+pub record IsIndexed (key : Key) (rows : List (Option FilterRow)) (index : Index) : Type 0 where
+  pub chained : IsChainedBy key rows index
   pub enough : length rows ≤ length index.heads.items
 
+-- a filter is at a place among those that the index has
+pub record IsAt (key : Key) (index : Index) (row : FilterRow) (place : ℕ) : Type 0 where
+  pub rows : List (Option FilterRow)
+  pub indexed : IsIndexed key rows index
+  pub here : slice_index_or rows place None ≡ Some row
+
 -- the filters are left of those that the index has
-pub record IsLeft (rows : List FilterRow) (index : Index) : Type 0 where
-  pub all : List FilterRow
-  pub indexed : IsIndexed all index
+pub record IsLeft (key : Key) (rows : List (Option FilterRow)) (index : Index) : Type 0 where
+  pub all : List (Option FilterRow)
+  pub indexed : IsIndexed key all index
   pub at_most : length rows ≤ length all
   pub or_all : length rows ≡ length all → rows ≡ all
 
 -- one more filter can be put in without memory
-pub record HasRoom (rows : List FilterRow) (index : Index) : Type 0 where
+pub record HasRoom (rows : List (Option FilterRow)) (index : Index) : Type 0 where
   pub heads : length rows < length index.heads.items
   pub links : length index.links.items < vec_capacity index.links
 
 -- no filter ends before the moment
 abbrev pub NoneEndsBefore : ℕ → List FilterRow → Type 0
 NoneEndsBefore moment rows = All (λ f. moment ≤ f.until) rows
-
--- what is kept beside the filters
-pub record IsFilterIndex (rows : List FilterRow) (index : Index) (soonest : ℕ) : Type 0 where
-  pub indexed : IsIndexed rows index
-  pub none_before : NoneEndsBefore soonest rows

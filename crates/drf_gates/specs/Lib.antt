@@ -5,4 +5,5 @@ pub mod Index
 pub mod Laws
 pub mod Limits
 pub mod Quota
+pub mod Slots
 pub mod Totals

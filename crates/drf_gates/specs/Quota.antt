@@ -1,5 +1,5 @@
 -- What a quota keeps: the limits, and what each role consumes.
-use Rattle.std.specs.Prelude.{◌≡◌, ℕ, ◌+◌, ◌^◌, ◌<◌, min, Bool, List, [], ◌∷◌, map, fold, sum_by, Option, Some, None, if◌then◌else◌, refl}
+use Rattle.std.specs.Prelude.{◌≡◌, ℕ, ◌+◌, ◌^◌, ◌<◌, min, Bool, List, [], ◌∷◌, All, map, fold, sum_by, Option, Some, None, if◌then◌else◌, refl}
 use Rattle.std.specs.List.{reduce}
 use Rattle.std.specs.Coded.{Coded, code_by, coded×, coded_list, coded_ℕ}
 use Rattle.std.specs.Map.{lookup}
@@ -75,6 +75,15 @@ pub record IsAllowanceOf (rows : Rows) (a : Allowance) : Type 0 where
 -- no role consumes 2^64 thousandths of a scalar
 pub record IsBounded (used : List Usage) : Type 0 where
   pub below : (role : Path) (label : Text) → IsRole role → used_at used role label < 2 ^ 64
+
+-- amounts of which one is above 0
+pub record IsSomething (amounts : List Entry) : Type 0 where
+  pub label : Text
+  pub above : 0 < amount_of amounts label
+
+-- no row stands that is for nothing
+abbrev pub AreSome : List Usage → Type 0
+AreSome used = All (λ u. IsSomething u.1) used
 
 -- the amounts of a role's own row
 abbrev pub row_of : List Usage → Path → List Entry

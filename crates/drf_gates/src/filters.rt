@@ -1,12 +1,13 @@
 //! The filters of declined offers, and of what is left of accepted ones.
 ghost use Rattle.std.specs.Prelude.{◌≡◌, [], ◌∷◌, ◌++◌, length, take, IfOk, OnOk, OnErr};
 ghost use Rattle.drf_rows.specs.Filters.{is_held_back, in_force, number_in_force, filters_without_client, filters_without_agent, filters_without_framework};
+ghost use Rattle.drf_gates.specs.Slots.{filled};
 
-use crate::index::Index;
 use crate::row::{
-    holds_back, is_in_force, keep_in_force, keep_other_agents, keep_other_clients,
-    keep_other_frameworks, soonest,
+    copy_slot_in_force, keep_filled, keep_in_force, keep_other_agents, keep_other_frameworks,
+    number_in_force, soonest,
 };
+use crate::slots::Slots;
 use drf_bundle::Bundle;
 use drf_role::{Name, Role};
 use drf_rows::{Copied, FilterRow, Table};
@@ -16,8 +17,7 @@ use std::marker::Model;
 /// The filters, in the order in which they were added. Contracts see their list. What leaves does so without memory.
 #[derive(Drop)]
 pub struct FilterTable {
-    rows: Vec<FilterRow>,
-    index: Index,
+    slots: Slots,
     // No filter ends before this moment, in milliseconds.
     soonest: u64,
 }
@@ -33,11 +33,11 @@ impl Model for FilterTable {
 
     ghost coded = { coded_list filter_row.the_row.coded };
 
-    ghost view = { λ t. t.rows.items };
+    ghost use Rattle.drf_gates.specs.Slots.{filters_in, IsFilterTable};
 
-    ghost use Rattle.drf_gates.specs.Index.{IsFilterIndex};
+    ghost view = { λ t. filters_in t.slots };
 
-    ghost invariant = { λ t. IsFilterIndex t.rows.items t.index t.soonest };
+    ghost invariant = { λ t. IsFilterTable t.slots t.soonest };
 }
 
 impl FilterTable {
@@ -46,8 +46,7 @@ impl FilterTable {
         ensures { result ≡ [] }
     {
         FilterTable {
-            rows: Vec::new(alloc),
-            index: Index::new(alloc),
+            slots: Slots::new(alloc),
             soonest: u64::MAX,
         }
     }
@@ -56,7 +55,7 @@ impl FilterTable {
     pub fn len(&self) -> usize
         ensures { result ≡ length self.now }
     {
-        self.rows.len()
+        self.slots.live
     }
 
     /// Adds a filter behind those that are there. An `Err` changes nothing.
@@ -64,20 +63,29 @@ impl FilterTable {
         ensures ok { OnOk result (self.new ≡ self.old ++ row ∷ []) }
         ensures err { OnErr result (self.new ≡ self.old) }
     {
-        self.rows.reserve(1)?;
-        self.index.make_room(&self.rows)?;
-        self.index.push(&row);
-        self.soonest = self.soonest.min(row.until);
-        self.rows.push_reserved(row);
+        let until = row.until;
+        self.slots.add(row)?;
+        self.soonest = self.soonest.min(until);
         Ok(())
+    }
+
+    /// Adds a copy of a filter, if there is one.
+    fn add_slot(&mut self, slot: &Option<FilterRow>) -> Result<(), AllocError>
+        ensures { OnOk result (self.new ≡ self.old ++ filled (slot.now ∷ [])) }
+    {
+        match slot {
+            Some(row) => self.add(row.copy()?),
+            None => Ok(()),
+        }
     }
 
     /// Keeps the first filters, as many as `number`.
     pub fn truncate(&mut self, number: usize)
         ensures { self.new ≡ take number self.old }
     {
-        self.rows.truncate(number);
-        self.index.rebuild_if_less(&self.rows);
+        keep_filled(&mut self.slots.rows);
+        self.slots.rows.truncate(number);
+        self.slots.find_again();
     }
 
     /// Whether a filter of the client on the agent that is in force at `now`, in milliseconds, covers the bundle. Looks at
@@ -92,18 +100,7 @@ impl FilterTable {
     ) -> bool
         ensures { result ≡ is_held_back self.now now (record { role = role.now; framework = framework.now }) agent.now bundle.now }
     {
-        if self.rows.is_empty() {
-            return false;
-        }
-        let mut after = self.index.last(role, framework, agent);
-        while after > 0 {
-            let place = after - 1;
-            if holds_back(&self.rows[place], role, framework, agent, bundle, now) {
-                return true;
-            }
-            after = self.index.before(place);
-        }
-        false
+        self.slots.hold_back(role, framework, agent, bundle, now)
     }
 
     /// How many filters are in force at `now`, in milliseconds.
@@ -111,9 +108,9 @@ impl FilterTable {
         ensures { result ≡ number_in_force now self.now }
     {
         if now < self.soonest {
-            return self.rows.len() as u64;
+            return self.slots.live as u64;
         }
-        self.rows.iter().filter(|row| is_in_force(row, now)).count() as u64
+        number_in_force(&self.slots.rows, now)
     }
 
     /// Drops the filters that are not in force at `now`, in milliseconds.
@@ -123,44 +120,41 @@ impl FilterTable {
         if now < self.soonest {
             return;
         }
-        keep_in_force(&mut self.rows, now);
-        self.index.rebuild_if_less(&self.rows);
-        self.soonest = soonest(&self.rows);
+        keep_in_force(&mut self.slots.rows, now);
+        self.slots.find_again();
+        self.soonest = soonest(&self.slots.rows);
     }
 
-    /// Drops the filters of a client, on whatever agent.
+    /// Drops the filters of a client, on whatever agent. The cost follows their number, and not that of others.
     pub fn revive(&mut self, role: &Role, framework: &Name)
         ensures { self.new ≡ filters_without_client (record { role = role.now; framework = framework.now }) self.old }
     {
-        keep_other_clients(&mut self.rows, role, framework);
-        self.index.rebuild_if_less(&self.rows);
+        self.slots.drop_client(role, framework);
     }
 
     /// Drops the filters on an agent.
     pub fn drop_agent(&mut self, agent: &Name)
         ensures { self.new ≡ filters_without_agent agent.now self.old }
     {
-        keep_other_agents(&mut self.rows, agent);
-        self.index.rebuild_if_less(&self.rows);
+        keep_other_agents(&mut self.slots.rows, agent);
+        self.slots.find_again();
     }
 
     /// Drops the filters of a framework in all its roles.
     pub fn drop_framework(&mut self, framework: &Name)
         ensures { self.new ≡ filters_without_framework framework.now self.old }
     {
-        keep_other_frameworks(&mut self.rows, framework);
-        self.index.rebuild_if_less(&self.rows);
+        keep_other_frameworks(&mut self.slots.rows, framework);
+        self.slots.find_again();
     }
 
     /// The filters in force at `now`, in milliseconds, copied.
     pub fn copy_in_force(&self, now: u64) -> Result<Table<FilterRow>, AllocError>
         ensures { IfOk result (λ rows. rows ≡ in_force now self.now) }
     {
-        let mut rows = Vec::new(*self.rows.allocator());
-        for row in &self.rows {
-            if is_in_force(row, now) {
-                rows.push(row.copy()?)?;
-            }
+        let mut rows = Vec::new(*self.slots.rows.allocator());
+        for slot in &self.slots.rows {
+            copy_slot_in_force(&mut rows, slot, now)?;
         }
         Ok(Table::from_vec(rows))
     }
@@ -169,9 +163,9 @@ impl FilterTable {
     pub fn copy(&self) -> Result<FilterTable, AllocError>
         ensures { IfOk result (λ table. table ≡ self.now) }
     {
-        let mut copy = FilterTable::new(*self.rows.allocator());
-        for row in &self.rows {
-            copy.add(row.copy()?)?;
+        let mut copy = FilterTable::new(*self.slots.rows.allocator());
+        for slot in &self.slots.rows {
+            copy.add_slot(slot)?;
         }
         Ok(copy)
     }

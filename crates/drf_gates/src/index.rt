@@ -1,36 +1,35 @@
-//! Where the filters of a client on an agent stand among all.
-ghost use Rattle.std.specs.Prelude.{◌≡◌, ◌+◌, ◌<◌, ◌≤◌, [], ◌∷◌, ◌++◌, List, length, slice_index, replicate, vec_capacity, OnOk};
+//! Where the filters of a client, or of a client on an agent, stand among all.
+ghost use Rattle.std.specs.Prelude.{◌≡◌, ◌+◌, ◌%◌, ◌<◌, ◌≤◌, [], ◌∷◌, ◌++◌, List, Option, None, Some, length, slice_index, slice_index_or, set, replicate, vec_capacity, OnOk};
 ghost use Rattle.drf_rows.specs.declared.rows.FilterRow.{FilterRow};
-ghost use Rattle.drf_gates.specs.Index.{mixed, key_hash, bucket_of, IsChainedBy, IsIndexed, IsLeft, HasRoom};
+ghost use Rattle.drf_gates.specs.Index.{pair_hash, row_hash, IsChainedBy, IsIndexed, IsAt, IsLeft, HasRoom};
 
-use drf_role::{Name, Role};
+use drf_role::{Name, Role, mark_of, mixed};
 use drf_rows::FilterRow;
 use std::alloc::{AllocError, Global};
 
-/// The hash of nothing.
-const START: u64 = 0xcbf2_9ce4_8422_2325;
-
-/// What a hash is multiplied by at each byte.
-const FACTOR: u64 = 0x100_0000_01b3;
-
-/// The hash, with the bytes of a text mixed in.
-fn mixed(hash: u64, text: &str) -> u64
-    ensures { result ≡ mixed hash text.now }
+/// The hash of a client and an agent.
+#[tactic(auto, unfolding(crate::specs::Index::pair_hash))]
+pub(crate) fn pair_hash(role: &Role, framework: &Name, agent: &Name) -> u64
+    ensures { result ≡ pair_hash role.now framework.now agent.now }
 {
-    let mut state = hash;
-    for byte in text.as_bytes() {
-        state = (state ^ u64::from(*byte)).wrapping_mul(FACTOR);
-    }
-    state
+    mixed(mark_of(role, framework), agent.text())
 }
 
-#[tactic(auto, unfolding(crate::specs::Index::key_hash))]
-fn key_hash(role: &Role, framework: &Name, agent: &Name) -> u64
-    ensures { result ≡ key_hash role.now framework.now agent.now }
+/// What the filters of a chain have in common.
+#[derive(Clone, Copy)]
+pub(crate) enum Key {
+    Client,
+    ClientAndAgent,
+}
+
+/// The hash by which a filter is chained.
+fn row_hash(key: Key, row: &FilterRow) -> u64
+    ensures { result ≡ row_hash key row.now }
 {
-    let hash = mixed(START, framework.text());
-    let hash = mixed(hash, agent.text());
-    mixed(hash, role.text())
+    match key {
+        Key::Client => mark_of(&row.role, &row.framework),
+        Key::ClientAndAgent => pair_hash(&row.role, &row.framework, &row.agent),
+    }
 }
 
 /// Ends each chain at once.
@@ -40,8 +39,8 @@ fn cut(heads: &mut [usize])
     heads.fill(0);
 }
 
-/// Chains of filters, one for each bucket, from the last to the first. A filter's place is written as
-/// the number after it, and 0 ends a chain. The filters of one client on one agent are in one bucket.
+/// Chains of filters, one for each bucket, from the last to the first. A filter's place is written as the number after
+/// it, and 0 ends a chain. Filters with the same key are in one bucket, and gaps between filters in none.
 #[derive(Drop)]
 pub(crate) struct Index {
     /// Where the chain of each bucket begins.
@@ -53,7 +52,7 @@ pub(crate) struct Index {
 impl Index {
     /// The index of no filters.
     pub(crate) fn new(alloc: Global) -> Index
-        ensures { IsIndexed [] result }
+        ensures { (key : Key) → IsIndexed key [] result }
     {
         Index {
             heads: Vec::new(alloc),
@@ -61,20 +60,25 @@ impl Index {
         }
     }
 
-    fn bucket(&self, role: &Role, framework: &Name, agent: &Name) -> usize
-        requires { 0 < length self.now.heads.items }
-        ensures value { result ≡ bucket_of (length self.now.heads.items) role.now framework.now agent.now }
-        ensures within { result < length self.now.heads.items }
-    {
-        (key_hash(role, framework, agent) % self.heads.len() as u64) as usize
+    /// Whether one more filter needs more buckets.
+    pub(crate) fn is_full(&self) -> bool {
+        self.heads.len() <= self.links.len()
     }
 
-    /// Where the chain of a client on an agent begins.
-    pub(crate) fn last(&self, role: &Role, framework: &Name, agent: &Name) -> usize
+    fn bucket(&self, hash: u64) -> usize
         requires { 0 < length self.now.heads.items }
-        ensures { result ≡ slice_index self.now.heads.items (bucket_of (length self.now.heads.items) role.now framework.now agent.now) }
+        ensures value { result ≡ hash % length self.now.heads.items }
+        ensures within { result < length self.now.heads.items }
     {
-        self.heads[self.bucket(role, framework, agent)]
+        (hash % self.heads.len() as u64) as usize
+    }
+
+    /// Where the chain of a hash begins.
+    pub(crate) fn last(&self, hash: u64) -> usize
+        requires { 0 < length self.now.heads.items }
+        ensures { result ≡ slice_index self.now.heads.items (hash % length self.now.heads.items) }
+    {
+        self.heads[self.bucket(hash)]
     }
 
     /// Where the chain goes on after a place.
@@ -86,48 +90,96 @@ impl Index {
     }
 
     /// Puts a filter behind those that are there.
-    pub(crate) fn push(&mut self, row: &FilterRow)
+    pub(crate) fn push(&mut self, key: Key, row: &FilterRow)
         requires heads { 0 < length self.old.heads.items }
         requires links { length self.old.links.items < vec_capacity self.old.links }
-        ensures chained { (rows : List FilterRow) → IsChainedBy rows self.old → IsChainedBy (rows ++ row.now ∷ []) self.new }
+        ensures chained { (rows : List (Option FilterRow)) → IsChainedBy key rows self.old → IsChainedBy key (rows ++ Some row.now ∷ []) self.new }
         ensures heads { length self.new.heads.items ≡ length self.old.heads.items }
         ensures capacity { vec_capacity self.new.links ≡ vec_capacity self.old.links }
     {
-        let bucket = self.bucket(&row.role, &row.framework, &row.agent);
+        let bucket = self.bucket(row_hash(key, row));
         let head = self.heads[bucket];
         self.links.push_reserved(head);
         self.heads[bucket] = self.links.len();
     }
 
+    fn push_gap(&mut self)
+        requires links { length self.old.links.items < vec_capacity self.old.links }
+        ensures chained { (key : Key) (rows : List (Option FilterRow)) → IsChainedBy key rows self.old → IsChainedBy key (rows ++ None ∷ []) self.new }
+        ensures heads { length self.new.heads.items ≡ length self.old.heads.items }
+        ensures capacity { vec_capacity self.new.links ≡ vec_capacity self.old.links }
+    {
+        self.links.push_reserved(0);
+    }
+
+    fn push_slot(&mut self, key: Key, slot: &Option<FilterRow>)
+        requires heads { 0 < length self.old.heads.items }
+        requires links { length self.old.links.items < vec_capacity self.old.links }
+        ensures chained { (rows : List (Option FilterRow)) → IsChainedBy key rows self.old → IsChainedBy key (rows ++ slot.now ∷ []) self.new }
+        ensures heads { length self.new.heads.items ≡ length self.old.heads.items }
+        ensures capacity { vec_capacity self.new.links ≡ vec_capacity self.old.links }
+    {
+        match slot {
+            Some(row) => self.push(key, row),
+            None => self.push_gap(),
+        }
+    }
+
+    /// Takes a filter that is at a place out of its chain. Looks at those alone that stand before it in the chain.
+    pub(crate) fn unlink(&mut self, key: Key, row: &FilterRow, place: usize)
+        requires { IsAt key self.old row.now place }
+        ensures indexed { (rows : List (Option FilterRow)) → IsIndexed key rows self.old → slice_index_or rows place None ≡ Some row.now
+            → IsIndexed key (set rows place None) self.new }
+        ensures heads { length self.new.heads.items ≡ length self.old.heads.items }
+    {
+        let bucket = self.bucket(row_hash(key, row));
+        let mut after = self.heads[bucket];
+        let mut from = 0;
+        while place + 1 < after {
+            from = after;
+            after = self.links[from - 1];
+        }
+        let next = self.links[place];
+        if from == 0 {
+            self.heads[bucket] = next;
+            return;
+        }
+        self.links[from - 1] = next;
+    }
+
     /// Makes it the index of these filters.
-    fn rebuild(&mut self, rows: &[FilterRow])
+    fn rebuild(&mut self, key: Key, rows: &[Option<FilterRow>])
         requires heads { length rows.now ≤ length self.old.heads.items }
         requires links { length rows.now ≤ vec_capacity self.old.links }
-        ensures indexed { IsIndexed rows.now self.new }
+        ensures indexed { IsIndexed key rows.now self.new }
         ensures heads { length self.new.heads.items ≡ length self.old.heads.items }
         ensures capacity { vec_capacity self.new.links ≡ vec_capacity self.old.links }
     {
         cut(&mut self.heads);
         self.links.clear();
-        for row in rows {
-            self.push(row);
+        for slot in rows {
+            self.push_slot(key, slot);
         }
     }
 
     /// Makes it the index of these filters, which are left of those that it has.
-    pub(crate) fn rebuild_if_less(&mut self, rows: &[FilterRow])
-        requires { IsLeft rows.now self.old }
-        ensures { IsIndexed rows.now self.new }
+    pub(crate) fn rebuild_if_less(&mut self, key: Key, rows: &[Option<FilterRow>])
+        requires { IsLeft key rows.now self.old }
+        ensures { IsIndexed key rows.now self.new }
     {
         if rows.len() < self.links.len() {
-            self.rebuild(rows);
+            self.rebuild(key, rows);
         }
     }
 
     /// Makes room for one more filter.
-    pub(crate) fn make_room(&mut self, rows: &[FilterRow]) -> Result<(), AllocError>
-        requires { IsIndexed rows.now self.old }
-        ensures indexed { IsIndexed rows.now self.new }
+    pub(crate) fn make_room(
+        &mut self,
+        key: Key,
+        rows: &[Option<FilterRow>],
+    ) -> Result<(), AllocError>
+        requires { IsIndexed key rows.now self.old }
+        ensures indexed { IsIndexed key rows.now self.new }
         ensures room { OnOk result (HasRoom rows.now self.new) }
     {
         self.links.reserve(1)?;
@@ -135,7 +187,7 @@ impl Index {
             return Ok(());
         }
         self.heads.resize(2 * rows.len() + 8, 0)?;
-        self.rebuild(rows);
+        self.rebuild(key, rows);
         Ok(())
     }
 }

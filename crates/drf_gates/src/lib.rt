@@ -10,6 +10,7 @@ mod laws;
 mod limits;
 mod quota;
 mod row;
+mod slots;
 mod totals;
 mod usage;
 

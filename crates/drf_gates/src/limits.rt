@@ -296,11 +296,6 @@ impl LimitTable {
         lent(&self.shared, &self.nothing)
     }
 
-    /// Whether the limit of a role was taken away, and is still among all.
-    pub(crate) fn is_gone(&self, role: &Role) -> bool {
-        is_gone(&self.gone, role)
-    }
-
     /// The limits as rows, copied.
     pub(crate) fn rows(&self) -> Result<Table<LimitRow>, AllocError>
         ensures { IfOk result (λ rows. rows ≡ limit_rows self.now) }

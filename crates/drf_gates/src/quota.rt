@@ -55,7 +55,7 @@ impl Model for Quota {
 
     ghost view = { λ q. record { limits = limit_rows q.limits; used = q.used.entries } };
 
-    ghost invariant = { λ q. IsCounted q.used.entries q.totals.entries };
+    ghost invariant = { λ q. IsCounted q.limits q.used.entries q.totals.entries };
 }
 
 /// The lesser of a number and of one that may be known.

@@ -1,11 +1,14 @@
 //! What roles with a limit consume together with the roles below them, kept so that a question of it need not go over all roles.
 //! Where memory for it ends, a total is lost, and the question goes over all.
-ghost use Rattle.std.specs.Prelude.{◌≡◌, ◌+◌, ◌≤◌, List, IsTrue, IfSome, length, take};
+ghost use Rattle.std.specs.Prelude.{◌≡◌, ◌+◌, ◌≤◌, List, IsSome, IsTrue, IfSome, length, take};
+ghost use Rattle.std.specs.Map.{keys_of, lookup, remove_entry};
 ghost use Rattle.drf_role.specs.Text.{Text};
+ghost use Rattle.drf_role.specs.Path.{same_path};
 ghost use Rattle.drf_bundle.specs.Quantities.{amount_of};
 ghost use Rattle.drf_rows.specs.Quota.{is_within};
+ghost use Rattle.drf_gates.specs.Limits.{Limit};
 ghost use Rattle.drf_gates.specs.Quota.{Usage, AreRaised, counted, one_entry, used_at};
-ghost use Rattle.drf_gates.specs.Totals.{IsExact, AreExact, AreCarried};
+ghost use Rattle.drf_gates.specs.Totals.{IsExact, AreExact, AreCarried, AreLimited};
 
 use crate::fronts::first_parts;
 use crate::limits::LimitTable;
@@ -120,8 +123,9 @@ fn reduce_total(total: &mut Total, label: &Label, thousandths: u64)
 /// A role consumes so much more, and with it the role of its first parts, so many, whose total is raised.
 fn raise_front(totals: &mut IndexMap<Role, Total>, role: &Role, len: usize, amounts: &Quantities)
     requires { len ≤ length role.now }
-    ensures { (old new : List Usage) → AreRaised old new role.now amounts.now
+    ensures carried { (old new : List Usage) → AreRaised old new role.now amounts.now
         → AreCarried old new role.now len totals.old.entries → AreCarried old new role.now (len + 1) totals.new.entries }
+    ensures roles { keys_of totals.new.entries ≡ keys_of totals.old.entries }
 {
     let Some(total) = totals.get_mut(first_parts(role, len)) else {
         return;
@@ -132,8 +136,9 @@ fn raise_front(totals: &mut IndexMap<Role, Total>, role: &Role, len: usize, amou
 /// A role consumes so much less, and with it the role of its first parts, so many, whose total is lowered.
 fn lower_front(totals: &mut IndexMap<Role, Total>, role: &Role, len: usize, amounts: &Quantities)
     requires { len ≤ length role.now }
-    ensures { (old new : List Usage) → AreRaised new old role.now amounts.now
+    ensures carried { (old new : List Usage) → AreRaised new old role.now amounts.now
         → AreCarried old new role.now len totals.old.entries → AreCarried old new role.now (len + 1) totals.new.entries }
+    ensures roles { keys_of totals.new.entries ≡ keys_of totals.old.entries }
 {
     let Some(total) = totals.get_mut(first_parts(role, len)) else {
         return;
@@ -150,8 +155,9 @@ fn reduce_front(
     thousandths: u64,
 )
     requires { len ≤ length role.now }
-    ensures { (old new : List Usage) → AreRaised new old role.now (one_entry label.now thousandths)
+    ensures carried { (old new : List Usage) → AreRaised new old role.now (one_entry label.now thousandths)
         → AreCarried old new role.now len totals.old.entries → AreCarried old new role.now (len + 1) totals.new.entries }
+    ensures roles { keys_of totals.new.entries ≡ keys_of totals.old.entries }
 {
     let Some(total) = totals.get_mut(first_parts(role, len)) else {
         return;
@@ -161,7 +167,8 @@ fn reduce_front(
 
 /// A role consumes so much more, and with it the roles above it.
 pub(crate) fn raise_totals(totals: &mut IndexMap<Role, Total>, role: &Role, amounts: &Quantities)
-    ensures { (old new : List Usage) → AreRaised old new role.now amounts.now → AreExact old totals.old.entries → AreExact new totals.new.entries }
+    ensures exact { (old new : List Usage) → AreRaised old new role.now amounts.now → AreExact old totals.old.entries → AreExact new totals.new.entries }
+    ensures roles { keys_of totals.new.entries ≡ keys_of totals.old.entries }
 {
     let fronts = role.len() + 1;
     for len in 1..fronts {
@@ -171,7 +178,8 @@ pub(crate) fn raise_totals(totals: &mut IndexMap<Role, Total>, role: &Role, amou
 
 /// A role consumes so much less, and with it the roles above it. It needs no memory.
 pub(crate) fn lower_totals(totals: &mut IndexMap<Role, Total>, role: &Role, amounts: &Quantities)
-    ensures { (old new : List Usage) → AreRaised new old role.now amounts.now → AreExact old totals.old.entries → AreExact new totals.new.entries }
+    ensures exact { (old new : List Usage) → AreRaised new old role.now amounts.now → AreExact old totals.old.entries → AreExact new totals.new.entries }
+    ensures roles { keys_of totals.new.entries ≡ keys_of totals.old.entries }
 {
     let fronts = role.len() + 1;
     for len in 1..fronts {
@@ -186,8 +194,9 @@ pub(crate) fn reduce_totals(
     label: &Label,
     thousandths: u64,
 )
-    ensures { (old new : List Usage) → AreRaised new old role.now (one_entry label.now thousandths)
+    ensures exact { (old new : List Usage) → AreRaised new old role.now (one_entry label.now thousandths)
         → AreExact old totals.old.entries → AreExact new totals.new.entries }
+    ensures roles { keys_of totals.new.entries ≡ keys_of totals.old.entries }
 {
     let fronts = role.len() + 1;
     for len in 1..fronts {
@@ -234,7 +243,9 @@ fn is_kept(totals: &IndexMap<Role, Total>, role: &Role) -> bool {
 
 /// Keeps the totals of other roles alone.
 pub(crate) fn drop_total(totals: &mut IndexMap<Role, Total>, role: &Role)
-    ensures { (used : List Usage) → AreExact used totals.old.entries → AreExact used totals.new.entries }
+    ensures exact { (used : List Usage) → AreExact used totals.old.entries → AreExact used totals.new.entries }
+    ensures limited { (limits : List Limit) → AreLimited limits totals.old.entries
+        → AreLimited (remove_entry (same_path role.now) limits) totals.new.entries }
 {
     totals.shift_remove(role);
 }
@@ -258,7 +269,9 @@ fn put_total(
     role: &Role,
     total: Total,
 ) -> Result<(), AllocError>
-    ensures { (used : List Usage) → IsExact used role.now total → AreExact used totals.old.entries → AreExact used totals.new.entries }
+    ensures exact { (used : List Usage) → IsExact used role.now total → AreExact used totals.old.entries → AreExact used totals.new.entries }
+    ensures limited { (limits : List Limit) → IsSome (lookup (same_path role.now) limits)
+        → AreLimited limits totals.old.entries → AreLimited limits totals.new.entries }
 {
     let role = role.copy()?;
     totals.insert(role, total)?;
@@ -271,7 +284,9 @@ pub(crate) fn keep_total(
     used: &IndexMap<Role, Quantities>,
     role: &Role,
 )
-    ensures { AreExact used.now.entries totals.old.entries → AreExact used.now.entries totals.new.entries }
+    ensures exact { AreExact used.now.entries totals.old.entries → AreExact used.now.entries totals.new.entries }
+    ensures limited { (limits : List Limit) → IsSome (lookup (same_path role.now) limits)
+        → AreLimited limits totals.old.entries → AreLimited limits totals.new.entries }
 {
     if is_kept(totals, role) {
         return;
@@ -281,16 +296,17 @@ pub(crate) fn keep_total(
     let _ = put_total(totals, role, Total { is_known, amounts });
 }
 
-/// The same, unless the limit of the role is gone.
+/// The same, if the role has a limit.
 fn keep_limited(
     totals: &mut IndexMap<Role, Total>,
     used: &IndexMap<Role, Quantities>,
     limits: &LimitTable,
     role: &Role,
 )
-    ensures { AreExact used.now.entries totals.old.entries → AreExact used.now.entries totals.new.entries }
+    ensures exact { AreExact used.now.entries totals.old.entries → AreExact used.now.entries totals.new.entries }
+    ensures limited { AreLimited limits.now totals.old.entries → AreLimited limits.now totals.new.entries }
 {
-    if !limits.is_gone(role) {
+    if limits.get(role).is_some() {
         keep_total(totals, used, role);
     }
 }
@@ -300,7 +316,8 @@ pub(crate) fn totals_of(
     limits: &LimitTable,
     used: &IndexMap<Role, Quantities>,
 ) -> IndexMap<Role, Total>
-    ensures { AreExact used.now.entries result.entries }
+    ensures exact { AreExact used.now.entries result.entries }
+    ensures limited { AreLimited limits.now result.entries }
 {
     let mut totals = IndexMap::new(*used.allocator());
     for (role, _) in limits.all() {
@@ -311,7 +328,9 @@ pub(crate) fn totals_of(
 
 /// Puts a copy of a total behind those that are there, if there is memory.
 fn copy_total(copy: &mut IndexMap<Role, Total>, role: &Role, total: &Total)
-    ensures { (used : List Usage) → IsExact used role.now total.now → AreExact used copy.old.entries → AreExact used copy.new.entries }
+    ensures exact { (used : List Usage) → IsExact used role.now total.now → AreExact used copy.old.entries → AreExact used copy.new.entries }
+    ensures limited { (limits : List Limit) → IsSome (lookup (same_path role.now) limits)
+        → AreLimited limits copy.old.entries → AreLimited limits copy.new.entries }
 {
     let Ok(amounts) = total.amounts.copy() else {
         return;
@@ -325,7 +344,8 @@ fn copy_total(copy: &mut IndexMap<Role, Total>, role: &Role, total: &Total)
 
 /// The totals, copied as far as there is memory.
 pub(crate) fn copy_totals(totals: &IndexMap<Role, Total>, alloc: Global) -> IndexMap<Role, Total>
-    ensures { (used : List Usage) → AreExact used totals.now.entries → AreExact used result.entries }
+    ensures exact { (used : List Usage) → AreExact used totals.now.entries → AreExact used result.entries }
+    ensures limited { (limits : List Limit) → AreLimited limits totals.now.entries → AreLimited limits result.entries }
 {
     let mut copy = IndexMap::new(alloc);
     let _ = copy.reserve(totals.len());

@@ -4,7 +4,7 @@ ghost use Rattle.drf_role.specs.Text.{Text};
 ghost use Rattle.drf_role.specs.Path.{Path};
 ghost use Rattle.drf_bundle.specs.Quantities.{amount_of};
 ghost use Rattle.drf_rows.specs.Quota.{is_within};
-ghost use Rattle.drf_gates.specs.Quota.{AreRaised, IsBounded, counted, one_entry, used_at, used_by, used_where, row_of};
+ghost use Rattle.drf_gates.specs.Quota.{AreRaised, AreSome, IsBounded, IsSomething, counted, one_entry, used_at, used_by, used_where, row_of};
 
 use drf_bundle::Quantities;
 use drf_role::{Label, Role};
@@ -55,6 +55,7 @@ fn raise_row(row: &mut Quantities, amounts: &Quantities) -> bool
     requires { (label : Text) → amount_of row.old label + amount_of amounts.now label < 2 ^ 64 }
     ensures done { IsTrue result → (label : Text) → amount_of row.new label ≡ amount_of row.old label + amount_of amounts.now label }
     ensures not { result ≡ false → row.new ≡ row.old }
+    ensures some { IsSomething row.old → IsSomething row.new }
 {
     if !row.names_all(amounts) {
         return false;
@@ -64,11 +65,23 @@ fn raise_row(row: &mut Quantities, amounts: &Quantities) -> bool
     true
 }
 
+/// Whether one of the amounts is above 0.
+fn is_something(amounts: &Quantities) -> bool
+    ensures some { IsTrue result → IsSomething amounts.now }
+    ensures none { result ≡ false → (label : Text) → amount_of amounts.now label ≡ 0 }
+{
+    amounts
+        .entries()
+        .iter()
+        .any(|entry| entry.amount.thousandths() > 0)
+}
+
 /// Adds to what a role consumes, if it consumes something of each label. Whether it could be done. It needs no memory.
 fn raise_there(used: &mut IndexMap<Role, Quantities>, role: &Role, amounts: &Quantities) -> bool
     requires { (label : Text) → used_by used.old.entries role.now label + amount_of amounts.now label < 2 ^ 64 }
     ensures done { IsTrue result → AreRaised used.old.entries used.new.entries role.now amounts.now }
     ensures not { result ≡ false → used.new.entries ≡ used.old.entries }
+    ensures some { AreSome used.old.entries → AreSome used.new.entries }
 {
     let Some(row) = used.get_mut(role) else {
         return false;
@@ -85,8 +98,9 @@ pub(crate) fn raise(
     requires { (label : Text) → used_by used.old.entries role.now label + amount_of amounts.now label < 2 ^ 64 }
     ensures ok { OnOk result (AreRaised used.old.entries used.new.entries role.now amounts.now) }
     ensures err { OnErr result (used.new.entries ≡ used.old.entries) }
+    ensures some { AreSome used.old.entries → AreSome used.new.entries }
 {
-    if raise_there(used, role, amounts) {
+    if raise_there(used, role, amounts) || !is_something(amounts) {
         return Ok(());
     }
     let sum = row_with(used, role, amounts)?;
@@ -99,6 +113,7 @@ pub(crate) fn raise(
 fn prune(row: &mut Quantities) -> bool
     ensures same { (label : Text) → amount_of row.new label ≡ amount_of row.old label }
     ensures empty { IsTrue result ↔ (row.new ≡ []) }
+    ensures some { result ≡ false → IsSomething row.new }
 {
     row.recall();
     row.remove_zeros();
@@ -110,6 +125,7 @@ fn lower_row(row: &mut Quantities, amounts: &Quantities) -> bool
     requires { (label : Text) → amount_of amounts.now label ≤ amount_of row.old label }
     ensures left { (label : Text) → amount_of row.new label + amount_of amounts.now label ≡ amount_of row.old label }
     ensures empty { IsTrue result ↔ (row.new ≡ []) }
+    ensures some { result ≡ false → IsSomething row.new }
 {
     amounts.recall();
     row.lower(amounts);
@@ -121,6 +137,7 @@ fn reduce_row(row: &mut Quantities, label: &Label, thousandths: u64) -> bool
     requires { thousandths ≤ amount_of row.old label.now }
     ensures left { (other : Text) → amount_of row.new other + amount_of (one_entry label.now thousandths) other ≡ amount_of row.old other }
     ensures empty { IsTrue result ↔ (row.new ≡ []) }
+    ensures some { result ≡ false → IsSomething row.new }
 {
     row.reduce(label, thousandths);
     prune(row)
@@ -129,7 +146,8 @@ fn reduce_row(row: &mut Quantities, label: &Label, thousandths: u64) -> bool
 /// Takes away from what a role consumes. A role that consumes nothing more leaves. It needs no memory.
 pub(crate) fn lower(used: &mut IndexMap<Role, Quantities>, role: &Role, amounts: &Quantities)
     requires { (label : Text) → amount_of amounts.now label ≤ used_by used.old.entries role.now label }
-    ensures { AreRaised used.new.entries used.old.entries role.now amounts.now }
+    ensures lowered { AreRaised used.new.entries used.old.entries role.now amounts.now }
+    ensures some { AreSome used.old.entries → AreSome used.new.entries }
 {
     let Some(row) = used.get_mut(role) else {
         return;
@@ -147,7 +165,8 @@ pub(crate) fn reduce(
     thousandths: u64,
 )
     requires { thousandths ≤ used_by used.old.entries role.now label.now }
-    ensures { AreRaised used.new.entries used.old.entries role.now (one_entry label.now thousandths) }
+    ensures lowered { AreRaised used.new.entries used.old.entries role.now (one_entry label.now thousandths) }
+    ensures some { AreSome used.old.entries → AreSome used.new.entries }
 {
     let Some(row) = used.get_mut(role) else {
         return;
@@ -162,8 +181,9 @@ pub(crate) fn copy_used(
     used: &IndexMap<Role, Quantities>,
 ) -> Result<IndexMap<Role, Quantities>, AllocError>
     requires { IsBounded used.now.entries }
-    ensures { IfOk result (λ copy. (test : Path → Bool) (label : Text)
+    ensures same { IfOk result (λ copy. (test : Path → Bool) (label : Text)
         → used_where test copy.entries label ≡ used_where test used.now.entries label) }
+    ensures some { IfOk result (λ copy. AreSome copy.entries) }
 {
     let mut copy = IndexMap::with_capacity(*used.allocator(), used.len())?;
     for (role, amounts) in used {

@@ -7,3 +7,4 @@ mod Removed
 mod Parts
 mod Named
 mod Running
+mod Unlisted

@@ -1,12 +1,17 @@
 -- Lists of numbers by name, after a change of one of them.
-use Rattle.std.specs.Prelude.{◌≡◌, ℕ, Bool, true, false, List, [], ◌∷◌, ◌++◌, Option, None, cond, length, Result, Ok, Err, OnErr}
+use Rattle.std.specs.Prelude.{◌≡◌, ℕ, ◌==◌, Bool, true, false, not, List, [], ◌∷◌, ◌++◌, Option, Some, None, cond, filter, length, vec_len, Result, Ok, Err, OnErr}
+use Rattle.std.specs.Cmp.{IsEquivalence}
+use Rattle.std.specs.List.{IsDistinct}
 use Rattle.std.specs.Global.{Vec}
-use Rattle.std.specs.Map.{lookup}
+use Rattle.std.specs.Map.{lookup, keys_of}
 use Rattle.std.specs.Option.{option_map_or}
-use Rattle.std.proofs.Common.{refl, sym, ap, ◌∙◌}
+use Rattle.std.proofs.Common.{refl, sym, ap, ◌∙◌, inl, inr}
+use Rattle.std.proofs.lemmas.Bool.{cases_Bool, eqb-true}
 use Rattle.std.proofs.lemmas.List.{append-nil}
+use Rattle.std.proofs.lemmas.Map.Entries.{lookup-filter-values, option_filter}
 use Rattle.drf_role.specs.Text.{Text, same_text}
-use Rattle.drf_role.specs.TextLaws.{same_from_test}
+use Rattle.drf_role.specs.TextLaws.{same_from_test, same_itself}
+use Rattle.drf_row_laws.specs.ConsistentLaws.{same_text-swap}
 
 abbrev pub items_or : Option (Vec ℕ) → List ℕ
 items_or o = option_map_or (λ v. v.items) o []
@@ -62,3 +67,25 @@ on_err (Err e) P p = p
 pub none_in : {X : Type 0} (xs : List X) → length xs ≡ 0 → xs ≡ []
 none_in [] long = refl
 none_in (x ∷ xs) long = cc
+
+texts_same : IsEquivalence same_text
+texts_same = record {
+  refl = same_itself;
+  symm = same_text-swap;
+  congr = λ a b c same. ap (λ (t : Text). same_text t c) (same_from_test a b same);
+}
+
+-- the lists that are not empty stay
+pub some_kept : (old new : List (Text × Vec ℕ)) → IsDistinct same_text (keys_of old) → new ≡ filter (λ e. not (vec_len e.1 == 0)) old
+    → (q : Text) → numbers_at new q ≡ numbers_at old q
+some_kept old new apart is q =
+    ap (λ (es : List (Text × Vec ℕ)). numbers_at es q) is
+    ∙ ap items_or (lookup-filter-values texts_same (λ v. not (vec_len v == 0)) q old apart)
+    ∙ by (lookup (same_text q) old)
+  where
+    by : (o : Option (Vec ℕ)) → items_or (option_filter (λ v. not (vec_len v == 0)) o) ≡ items_or o
+    by None = refl
+    by (Some v) = elim (cases_Bool (vec_len v == 0)) [
+      | inl empty ↦ rw empty (sym (none_in v.items (sym v.ok.0 ∙ eqb-true (vec_len v) 0 empty)))
+      | inr some ↦ rw some refl
+    ]

@@ -6,7 +6,7 @@ use Rattle.std.proofs.lemmas.Bool.{cases_Bool, eqb-true, eq-eqb, or_parts, false
 use Rattle.std.specs.Borrow.{Bor}
 use Rattle.std.specs.Option.{option_to_list, option_copied}
 use Rattle.std.proofs.lemmas.List.{map-append}
-use Rattle.drf_rows.specs.laws.ListLaws.{list_any_at}
+use Rattle.drf_bundle.specs.ListLaws.{list_any_at}
 use Rattle.drf_holdings.specs.Rising.{IsRising}
 use Rattle.drf_holdings.specs.Taking.{IsTaken, HasNone}
 use Rattle.drf_holdings.proofs.RisingLists.{others_split, others_from}
@@ -45,15 +45,19 @@ module _ {X : Type 0} (number : X → ℕ) where
     pub none_by : slice_get ns (length ns - 1) ≡ None → HasNone test old old
     none_by none = record { none = any_listed test old (sym listed ∙ last_none ns none); same = refl }
 
+    -- a number that is listed is there
+    pub not_missing : (n i : ℕ) (new : List X) → slice_get ns i ≡ Some n → HasNone (λ x. number x == n) old new → false ≡ true
+    not_missing n i new last none =
+        let any : list_any (λ m. m == n) (map number (filter test old)) ≡ true =
+        ap (list_any (λ m. m == n)) (sym listed) ∙ list_any_at (λ m. m == n) ns i n last (eq-eqb n n refl) in
+        listed_none number test n old (others_from number n old none.none) any
+
     -- what is taken out by a number that is listed passes, and also any wider test
     pub taken_by : (wide : X → Bool) → ((x : X) → test x ≡ true → wide x ≡ true)
         → (n : ℕ) (i : ℕ) (new : List X) → IsRising (map number old) → slice_get ns i ≡ Some n → (r : Option X)
         → MatchOption r (HasNone (λ x. number x == n) old new) (IsTaken (λ x. number x == n) old new)
         → MatchOption r (HasNone wide old new) (IsTaken wide old new)
-    taken_by wide widens n i new rising last None none =
-        let any : list_any (λ m. m == n) (map number (filter test old)) ≡ true =
-        ap (list_any (λ m. m == n)) (sym listed) ∙ list_any_at (λ m. m == n) ns i n last (eq-eqb n n refl) in
-        absurd (false≢true (listed_none number test n old (others_from number n old none.none) any))
+    taken_by wide widens n i new rising last None none = absurd (false≢true (not_missing n i new last none))
     taken_by wide widens n i new rising last (Some x) taken =
         let its : number x ≡ n = eqb-true (number x) n taken.passes in
         let any : list_any (λ m. m == n) (map number (filter test old)) ≡ true =

@@ -1,5 +1,5 @@
 //! Which holdings are an agent's or a framework's, by their numbers.
-ghost use Rattle.std.specs.Prelude.{◌≡◌, [], ◌∷◌, ◌++◌, cond, not, filter, ◌==◌, OnOk, OnErr};
+ghost use Rattle.std.specs.Prelude.{◌≡◌, [], ◌∷◌, ◌++◌, cond, true, not, filter, vec_len, ◌==◌, OnOk, OnErr};
 ghost use Rattle.drf_role.specs.Text.{Text, same_text};
 ghost use Rattle.drf_holdings.specs.Listed.{numbers_in};
 ghost use Rattle.drf_holdings.specs.Rising.{IsRising};
@@ -17,10 +17,22 @@ fn take_out(numbers: &mut Vec<u64>, number: u64)
     }
 }
 
-/// Lists of numbers, by name. A name has a list while there is a number in it.
+// An empty list with room for more numbers does not stay.
+const MOST_KEPT: usize = 16;
+
+/// Whether a list is empty, and has room for more numbers than may stay.
+fn is_spent(numbers: &Vec<u64>) -> bool
+    ensures { result ≡ true → numbers.now.items ≡ [] }
+{
+    numbers.is_empty() && MOST_KEPT < numbers.capacity()
+}
+
+/// Lists of numbers, by name. An empty list stays, if it is small, since its name most often gets a number again. Before there are
+/// more than `most`, the empty ones go, and as many again as are left, and a few, may be added.
 #[derive(Drop)]
 pub(crate) struct Index {
     pub(crate) lists: IndexMap<Name, Vec<u64>>,
+    most: usize,
 }
 
 impl Index {
@@ -30,6 +42,7 @@ impl Index {
     {
         Index {
             lists: IndexMap::new(alloc),
+            most: 8,
         }
     }
 
@@ -47,6 +60,21 @@ impl Index {
         }
     }
 
+    /// Drops the empty lists where there are as many lists as may be.
+    fn make_room(&mut self)
+        ensures { (n : Text) → numbers_in self.new n ≡ numbers_in self.old n }
+    {
+        if self.lists.len() < self.most {
+            return;
+        }
+        self.lists.retain(
+            |_name: &Name, numbers: &mut Vec<u64>| -> bool
+                ensures { (result ≡ not (vec_len numbers.old == 0)) × (numbers.new ≡ numbers.old) }
+            { !numbers.is_empty() },
+        );
+        self.most = self.lists.len().saturating_mul(2).saturating_add(8);
+    }
+
     /// Adds a number behind those of a name. An `Err` changes no list.
     pub(crate) fn add(&mut self, name: &Name, number: u64) -> Result<(), AllocError>
         ensures ok { OnOk result ((n : Text) → numbers_in self.new n ≡ numbers_in self.old n ++ cond (same_text name.now n) (number ∷ []) []) }
@@ -56,6 +84,7 @@ impl Index {
             numbers.push(number)?;
             return Ok(());
         }
+        self.make_room();
         let mut numbers = Vec::new(*self.lists.allocator());
         numbers.push(number)?;
         self.lists.insert(name.copy()?, numbers)?;
@@ -71,7 +100,7 @@ impl Index {
             return;
         };
         take_out(numbers, number);
-        if numbers.is_empty() {
+        if is_spent(numbers) {
             self.lists.swap_remove(name);
         }
     }

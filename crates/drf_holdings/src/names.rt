@@ -66,17 +66,17 @@ impl Names {
         Ok(())
     }
 
-    /// Takes the framework's task of a name out. It needs no memory.
-    pub(crate) fn remove(&mut self, framework: &Name, name: &Name)
-        ensures { (key : TaskKey) → serials_in self.new key
+    /// Takes the framework's task of a name out, and gives its serial number, if there is one. It needs no memory.
+    pub(crate) fn take(&mut self, framework: &Name, name: &Name) -> Option<u64>
+        ensures found { option_to_list result ≡ serials_in self.old (framework.now, name.now) }
+        ensures left { (key : TaskKey) → serials_in self.new key
             ≡ cond (same_text framework.now key.0 && same_text name.now key.1) [] (serials_in self.old key) }
     {
-        let Some(tasks) = self.frameworks.get_mut(framework) else {
-            return;
-        };
-        tasks.swap_remove(name);
+        let tasks = self.frameworks.get_mut(framework)?;
+        let serial = tasks.swap_remove(name);
         if tasks.is_empty() {
             self.frameworks.swap_remove(framework);
         }
+        serial
     }
 }

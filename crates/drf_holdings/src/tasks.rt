@@ -58,7 +58,7 @@ impl TaskIndex {
         match self.agents.add(&task.row.agent, task.serial) {
             Ok(()) => Ok(()),
             Err(error) => {
-                self.names.remove(&task.row.framework, &task.row.name);
+                let _ = self.names.take(&task.row.framework, &task.row.name);
                 Err(error)
             }
         }
@@ -70,7 +70,7 @@ impl TaskIndex {
             → AreTasksListed self.old (before ++ task.now ∷ after) → AreTasksListed self.new (before ++ after) }
     {
         self.agents.remove(&task.row.agent, task.serial);
-        self.names.remove(&task.row.framework, &task.row.name);
+        let _ = self.names.take(&task.row.framework, &task.row.name);
     }
 }
 
@@ -339,8 +339,9 @@ impl TaskTable {
             (HasNone (is_task framework.now name.now) self.old self.new)
             (IsTaken (is_task framework.now name.now) self.old self.new) }
     {
-        let serial = self.index.names.get(framework, name)?;
-        let task = take_task(&mut self.tasks, &mut self.index, serial)?;
+        let serial = self.index.names.take(framework, name)?;
+        let task = self.tasks.take(serial)?;
+        self.index.agents.remove(&task.row.agent, task.serial);
         Some(task.row)
     }
 }

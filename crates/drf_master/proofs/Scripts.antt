@@ -5,21 +5,21 @@ use Rattle.std.proofs.lemmas.List.{append-nil, length-append, length-map, map_pu
 use Rattle.std.proofs.lemmas.List.Elements.{All-cons, All-head, All-nil, All-tail}
 use Rattle.std.specs.Global.{Vec}
 use Rattle.std.specs.Prelude.{All}
-use Rattle.drf_board.specs.History.{IsLegal}
 use Rattle.drf_board.specs.declared.entry.Entry.{Entry}
 use Rattle.drf_rows.specs.LimitNumbers.{LimitNumbers}
 use Rattle.drf_rows.specs.declared.event.Event.{Event}
 use Rattle.drf_rows.specs.declared.reply.Reply.{Reply}
 use Rattle.drf_rows.specs.declared.rows.Rows.{Rows}
-use Rattle.drf_master.specs.Closing.{AreOf, IsCloseFault}
+use Rattle.drf_master.specs.Closing.{AreOf}
 use Rattle.drf_master.specs.Matching.{IsShuffle, receipts_of}
 use Rattle.drf_master.specs.Receipts.{Held, IsSamePass}
-use Rattle.drf_master.specs.Scripts.{receipt, AreAsked, AreDone, AreNumbered, AreReceipts, DidJob, DidJobs, HasCalled, HasDriven, HasRun, HasStopped, HaveAllRun, HaveRun, HoldsBelow, IsCallStop, IsClosingFault, IsDriveFault, IsFirstFault, IsJobFault, IsMisfitOf, IsRunFault, IsThrough}
+use Rattle.drf_master.specs.Scripts.{receipt, AreAsked, AreDone, AreNumbered, AreReceipts, DidJob, DidJobs, HasCalled, HasDriven, HasRun, HasStopped, HaveAllRun, HaveRun, HoldsBelow, IsCallStop, IsCloseRefused, IsCut, IsCutShort, IsFirstFault, IsJobFault, IsRefused, IsRunFault, IsThrough, IsUndriven}
 use Rattle.drf_master.specs.declared.driving.Done.{Done}
 use Rattle.drf_master.specs.declared.driving.DriveFault.{DriveFault}
 use Rattle.drf_master.specs.declared.driving.DriveFault.TheVariants.{Stopped, Memory, Close}
 use Rattle.drf_master.specs.declared.driving.Job.{Job}
-use Rattle.drf_master.specs.declared.matching.CloseFault.{CloseFault}
+use Rattle.drf_master.specs.declared.driving.Undriven.{Undriven}
+use Rattle.drf_master.specs.declared.driving.Undriven.TheVariants.{Undone, Unfit}
 use Rattle.drf_master.specs.declared.matching.CloseFault.TheVariants as why
 use Rattle.drf_master.specs.declared.pass.Receipt.{Receipt}
 
@@ -99,16 +99,54 @@ through-goes_on asked old mid new es ys e y so_far called last = record {
 pub through-count : (asked : ℕ → Type 0) (old new : Held) (es : List Event) (ys : List Reply) → IsThrough asked old es ys new → length ys ≡ length es
 through-count asked old new es ys so_far = as-many so_far.run.added es ys so_far.run.are
 
-pub stopped-at : (asked stops : ℕ → Type 0) (key : ℕ) (old mid : Held) (script es : List Event) (ys : List Reply) (fault : DriveFault) → old.key ≡ key
-    → IsThrough asked old es ys mid → length es < length script → IsCallStop (stops (length ys)) key mid fault → IsJobFault asked stops (length script) fault
-stopped-at asked stops key old mid script es ys Stopped own so_far few stop =
-    let same = as-many so_far.run.added es ys so_far.run.are in
-    record { call = length es; few = few; stopped = subst stops same stop; before = so_far.calls }
-stopped-at asked stops key old mid script es ys Memory own so_far few stop = tt
-stopped-at asked stops key old mid script es ys (Close why.Stranger) own so_far few stop = absurd (stop (so_far.key ∙ own))
-stopped-at asked stops key old mid script es ys (Close why.Missing) own so_far few stop = absurd stop
-stopped-at asked stops key old mid script es ys (Close (why.Mismatch place)) own so_far few stop = absurd stop
-stopped-at asked stops key old mid script es ys (Close why.Memory) own so_far few stop = absurd stop
+through-same : (asked : ℕ → Type 0) (old mid new : Held) (es : List Event) (ys : List Reply) → IsThrough asked old es ys mid → IsSamePass mid new
+    → IsThrough asked old es ys new
+through-same asked old mid new es ys so_far same = record {
+  key = same.key ∙ so_far.key;
+  run = subst (HasRun old.receipts es ys) (sym same.receipts) so_far.run;
+  calls = so_far.calls;
+}
+
+cut-cause : (asked stops : ℕ → Type 0) (key : ℕ) (old mid : Held) (calls : ℕ) (es : List Event) (ys : List Reply) (fault : DriveFault) → old.key ≡ key
+    → IsThrough asked old es ys mid → length es < calls → IsCallStop (stops (length ys)) key mid fault → IsCut stops (length es) calls fault
+cut-cause asked stops key old mid calls es ys Stopped own so_far few stop =
+    (few, subst stops (as-many so_far.run.added es ys so_far.run.are) stop)
+cut-cause asked stops key old mid calls es ys Memory own so_far few stop = tt
+cut-cause asked stops key old mid calls es ys (Close why.Stranger) own so_far few stop = absurd (stop (so_far.key ∙ own))
+cut-cause asked stops key old mid calls es ys (Close why.Missing) own so_far few stop = absurd stop
+cut-cause asked stops key old mid calls es ys (Close (why.Mismatch place)) own so_far few stop = absurd stop
+cut-cause asked stops key old mid calls es ys (Close why.Memory) own so_far few stop = absurd stop
+
+-- a call that was not made cuts the script short
+pub cut-at : (asked stops : ℕ → Type 0) (key : ℕ) (old mid new : Held) (script es rest : List Event) (ys : List Reply) (fault : DriveFault) → old.key ≡ key
+    → script ≡ es ++ rest → IsThrough asked old es ys mid → IsSamePass mid new → length es < length script → IsCallStop (stops (length ys)) key mid fault
+    → IsCutShort asked stops old script new fault
+cut-at asked stops key old mid new script es rest ys fault own split so_far same few stop = record {
+  made = es;
+  left = rest;
+  front = split;
+  replies = ys;
+  through = through-same asked old mid new es ys so_far same;
+  cause = cut-cause asked stops key old mid (length script) es ys fault own so_far few stop;
+}
+
+-- so does want of memory before the first
+pub cut-before : (asked stops : ℕ → Type 0) (old new : Held) (script : List Event) → IsSamePass old new → IsCutShort asked stops old script new Memory
+cut-before asked stops old new script same = record {
+  made = [];
+  left = script;
+  front = refl;
+  replies = [];
+  through = through-starts asked old new same;
+  cause = tt;
+}
+
+pub job-cut : (asked stops : ℕ → Type 0) (old new : Held) (script : List Event) (fault : DriveFault) → IsCutShort asked stops old script new fault
+    → IsJobFault asked stops (length script) fault
+job-cut asked stops old new script Stopped cut =
+    record { call = length cut.made; few = cut.cause.0; stopped = cut.cause.1; before = cut.through.calls }
+job-cut asked stops old new script Memory cut = tt
+job-cut asked stops old new script (Close fault) cut = absurd cut.cause
 
 -- ---- jobs
 
@@ -288,24 +326,16 @@ run-fault asked stops key jobs results own scripts fault are_own same_scripts nu
     as-run-fault asked stops key own scripts fault are_own
     (subst (λ (ss : List (Vec Event)). job-fault asked stops 0 ss fault) same_scripts (first-job asked stops 0 jobs results fault numbers did first))
 
-pub closing-fault : (given : LimitNumbers) (start : Rows) (asked : ℕ → ℕ → Type 0) (key : ℕ) (own : List Held) (scripts : List (Vec Event)) (done : List Held) (replies : List (Vec Reply))
-    (journal : List Entry) (fault : CloseFault) → HaveAllRun asked key own scripts done replies → IsLegal given start journal → IsCloseFault journal key done fault
-    → IsClosingFault given start asked key own scripts fault
-closing-fault given start asked key own scripts done replies journal why.Stranger all legal is = absurd (is all.own_done)
-closing-fault given start asked key own scripts done replies journal why.Missing all legal is =
-    record { own = all.own; calls = all.calls; journal = journal; legal = legal; replies = replies; lists = receipts_of done; run = all.run; misfit = is.1 }
-closing-fault given start asked key own scripts done replies journal (why.Mismatch place) all legal is =
-    record { own = all.own; calls = all.calls; journal = journal; legal = legal; replies = replies; lists = receipts_of done; run = all.run; misfit = is.1 }
-closing-fault given start asked key own scripts done replies journal why.Memory all legal is =
-    record { own = all.own; calls = all.calls; journal = journal; legal = legal; replies = replies; lists = receipts_of done; run = all.run; misfit = is.1 }
-
-pub misfit-fault : (given : LimitNumbers) (start : Rows) (asked stops : ℕ → ℕ → Type 0) (key : ℕ) (own : List Held) (scripts : List (Vec Event)) (done : List Held)
-    (replies : List (Vec Reply)) (fault : DriveFault) → HaveAllRun asked key own scripts done replies → IsMisfitOf given start key done fault
-    → IsDriveFault given start asked stops key own scripts fault
-misfit-fault given start asked stops key own scripts done replies Stopped all is = absurd is
-misfit-fault given start asked stops key own scripts done replies Memory all is = absurd is
-misfit-fault given start asked stops key own scripts done replies (Close fault) all is =
-    closing-fault given start asked key own scripts done replies is.0 fault all is.1.0 is.1.1
+-- what the closing handed back is what the drive hands back
+pub drive-refused : {K : Type 0} (given : LimitNumbers) (start : Rows) (asked stops : ℕ → ℕ → Type 0) (key : ℕ) (own : List Held) (scripts : List (Vec Event)) (done : List Held)
+    (replies : List (Vec Reply)) → HaveAllRun asked key own scripts done replies → (r : Undriven K) → IsRefused given start key done r
+    → IsUndriven given start asked stops key own scripts r
+drive-refused given start asked stops key own scripts done replies all (Undone fault) is = absurd is
+drive-refused given start asked stops key own scripts done replies all (Unfit refused) is = record {
+  replies = replies;
+  run = subst (λ (ps : List Held). HaveAllRun asked key own scripts ps replies) (sym is.kept) all;
+  handed_back = subst (λ (ps : List Held). IsCloseRefused given start key ps refused) (sym is.kept) is;
+}
 
 pub has-driven : (asked : ℕ → ℕ → Type 0) (key : ℕ) (own : List Held) (scripts : List (Vec Event)) (done : List Held) (replies : List (Vec Reply))
     (journal : List Entry) → HaveAllRun asked key own scripts done replies → IsShuffle journal (receipts_of done) → HasDriven own scripts replies journal

@@ -1,5 +1,5 @@
 -- Scripts that threads run on one master.
-use Rattle.std.specs.Prelude.{◌≡◌, ℕ, ◌+◌, ◌<◌, ◌⊎◌, List, [], ◌∷◌, ◌++◌, length, Result, Ok, Err}
+use Rattle.std.specs.Prelude.{◌≡◌, ℕ, ◌+◌, ◌%◌, ◌<◌, max, ◌⊎◌, List, [], ◌∷◌, ◌++◌, length, Result, Ok, Err}
 use Rattle.std.specs.Global.{Vec}
 use Rattle.drf_board.specs.History.{IsLegal, entry}
 use Rattle.drf_board.specs.declared.entry.Entry.{Entry}
@@ -9,15 +9,17 @@ use Rattle.drf_rows.specs.declared.reply.Reply.{Reply}
 use Rattle.drf_rows.specs.declared.rows.Rows.{Rows}
 use Rattle.drf_master.specs.Calling.{IsCallFault}
 use Rattle.drf_master.specs.Closing.{AreOf, IsCloseFault}
-use Rattle.drf_master.specs.Matching.{IsFault, IsShuffle, receipts_of}
+use Rattle.drf_master.specs.Matching.{IsShuffle, receipts_of}
 use Rattle.drf_master.specs.Receipts.{Held}
 use Rattle.drf_master.specs.declared.driving.Done.{Done}
 use Rattle.drf_master.specs.declared.driving.DriveFault.{DriveFault}
 use Rattle.drf_master.specs.declared.driving.DriveFault.TheVariants.{Stopped, Memory, Close}
 use Rattle.drf_master.specs.declared.driving.Job.{Job}
+use Rattle.drf_master.specs.declared.driving.Undriven.{Undriven}
+use Rattle.drf_master.specs.declared.driving.Undriven.TheVariants.{Undone, Unfit}
 use Rattle.drf_master.specs.declared.master.CallFault.{CallFault}
-use Rattle.drf_master.specs.declared.master.CallFault.TheVariants as refused
-use Rattle.drf_master.specs.declared.matching.CloseFault.{CloseFault}
+use Rattle.drf_master.specs.declared.master.CallFault.TheVariants as calling
+use Rattle.drf_master.specs.declared.master.CloseRefused.{CloseRefused}
 use Rattle.drf_master.specs.declared.matching.CloseFault.TheVariants as why
 use Rattle.drf_master.specs.declared.pass.Receipt.{Receipt}
 
@@ -87,55 +89,63 @@ HasStopped asked stops worker (s ∷ ss) =
     IsStop (asked worker) (stops worker) (length s.items)
     ⊎ (HoldsBelow (asked worker) (length s.items) × HasStopped asked stops (worker + 1) ss)
 
--- ---- faults
-
--- passes of the master with the key do not fit a legal journal
-abbrev pub IsMisfitOf : LimitNumbers → Rows → ℕ → List Held → DriveFault → Type 0
-IsMisfitOf given start key passes (Close fault) = (journal : List Entry) × (IsLegal given start journal × IsCloseFault journal key passes fault)
-IsMisfitOf given start key passes _ = ⊥
-
--- All scripts were run by passes of the master, but the passes do not fit a legal journal. Nobody is handed that journal or the receipts, so
--- this says that there are such, as there always are where the passes had no receipts.
-pub record IsMisfit (given : LimitNumbers) (start : Rows) (asked : ℕ → ℕ → Type 0) (key : ℕ) (passes : List Held) (scripts : List (Vec Event)) (fault : CloseFault) : Type 0 where
+-- all scripts were run by passes of the master, which are these afterwards, with these replies
+pub record HaveAllRun (asked : ℕ → ℕ → Type 0) (key : ℕ) (passes : List Held) (scripts : List (Vec Event)) (done : List Held) (replies : List (Vec Reply)) : Type 0 where
   pub own : AreOf key passes
+  pub own_done : AreOf key done
+  pub run : HaveRun passes scripts replies (receipts_of done)
   pub calls : AreAsked asked 0 scripts
-  pub journal : List Entry
-  pub legal : IsLegal given start journal
+
+-- ---- the lock
+
+-- a call, counted from 0, is the last of so many that are made with one lock; a lock is for one call at least
+abbrev pub IsLastOf : ℕ → ℕ → Type 0
+IsLastOf together call = (call + 1) % max together 1 ≡ 0
+
+-- ---- what is handed back
+
+-- why a drive was refused, without what is handed back
+abbrev pub fault_of : {K : Type 0} → Undriven K → DriveFault
+fault_of (Undone fault) = fault
+fault_of (Unfit refused) = Close refused.fault
+
+-- a book and passes that were not found to be of the master with the key and to fit: the book is legal, and is what was told
+pub record IsCloseRefused {K : Type 0} (given : LimitNumbers) (start : Rows) (key : ℕ) (passes : List Held) (refused : CloseRefused K) : Type 0 where
+  pub kept : refused.passes.items ≡ passes
+  pub limits : refused.book.limits ≡ given
+  pub legal : IsLegal given start refused.book.entries
+  pub told : refused.told ≡ refused.book.entries
+  pub fault : IsCloseFault refused.book.entries key passes refused.fault
+  pub exact : AreOf key passes → IsShuffle refused.book.entries (receipts_of passes) → refused.fault ≡ why.Memory
+
+-- these are handed back at a closing
+abbrev pub IsRefused : {K : Type 0} → LimitNumbers → Rows → ℕ → List Held → Undriven K → Type 0
+IsRefused given start key passes (Undone fault) = ⊥
+IsRefused given start key passes (Unfit refused) = IsCloseRefused given start key passes refused
+
+-- All scripts were run, and the book and the passes that made the calls are handed back, which were not found to fit.
+pub record IsUnfit {K : Type 0} (given : LimitNumbers) (start : Rows) (asked : ℕ → ℕ → Type 0) (key : ℕ) (passes : List Held) (scripts : List (Vec Event)) (refused : CloseRefused K) : Type 0 where
   pub replies : List (Vec Reply)
-  pub lists : List (List Receipt)
-  pub run : HaveRun passes scripts replies lists
-  pub misfit : IsFault journal lists fault
-
-abbrev pub IsClosingFault : LimitNumbers → Rows → (ℕ → ℕ → Type 0) → ℕ → List Held → List (Vec Event) → CloseFault → Type 0
-IsClosingFault given start asked key passes scripts why.Stranger = ¬ AreOf key passes
-IsClosingFault given start asked key passes scripts why.Missing = IsMisfit given start asked key passes scripts why.Missing
-IsClosingFault given start asked key passes scripts (why.Mismatch place) = IsMisfit given start asked key passes scripts (why.Mismatch place)
-IsClosingFault given start asked key passes scripts why.Memory = IsMisfit given start asked key passes scripts why.Memory
-
--- Which fault is told when: a stranger where a pass is of another master; a stop where the gate stopped a worker before which no worker was
--- stopped; another fault of closing where all workers made all their calls.
-abbrev pub IsDriveFault : LimitNumbers → Rows → (ℕ → ℕ → Type 0) → (ℕ → ℕ → Type 0) → ℕ → List Held → List (Vec Event) → DriveFault → Type 0
-IsDriveFault given start asked stops key passes scripts Stopped = AreOf key passes × HasStopped asked stops 0 scripts
-IsDriveFault given start asked stops key passes scripts Memory = AreOf key passes
-IsDriveFault given start asked stops key passes scripts (Close fault) = IsClosingFault given start asked key passes scripts fault
+  pub run : HaveAllRun asked key passes scripts refused.passes.items replies
+  pub handed_back : IsCloseRefused given start key refused.passes.items refused
 
 -- ---- jobs
 
 -- the fault of a call, as a drive tells it
 abbrev pub drive_fault : CallFault → DriveFault
-drive_fault refused.Stranger = Close why.Stranger
-drive_fault refused.Memory = Memory
+drive_fault calling.Stranger = Close why.Stranger
+drive_fault calling.Memory = Memory
 
 -- why a worker's call by a pass was not made: the gate stopped it, or the master with the key refused it
 abbrev pub IsCallStop : Type 0 → ℕ → Held → DriveFault → Type 0
 IsCallStop stopped key pass Stopped = stopped
-IsCallStop stopped key pass Memory = IsCallFault key pass refused.Memory
-IsCallStop stopped key pass (Close why.Stranger) = IsCallFault key pass refused.Stranger
+IsCallStop stopped key pass Memory = IsCallFault key pass calling.Memory
+IsCallStop stopped key pass (Close why.Stranger) = IsCallFault key pass calling.Stranger
 IsCallStop stopped key pass (Close why.Missing) = ⊥
 IsCallStop stopped key pass (Close (why.Mismatch place)) = ⊥
 IsCallStop stopped key pass (Close why.Memory) = ⊥
 
--- why a worker did not make so many calls
+-- why a worker did not make so many calls, its pass being gone
 abbrev pub IsJobFault : (ℕ → Type 0) → (ℕ → Type 0) → ℕ → DriveFault → Type 0
 IsJobFault asked stops calls Stopped = IsStop asked stops calls
 IsJobFault asked stops calls Memory = Unit {0}
@@ -146,6 +156,21 @@ pub record IsThrough (asked : ℕ → Type 0) (old : Held) (script : List Event)
   pub key : new.key ≡ old.key
   pub run : HasRun old.receipts script replies new.receipts
   pub calls : HoldsBelow asked (length script)
+
+-- after so many calls of a script the gate stopped the worker at the next, or there was no memory
+abbrev pub IsCut : (ℕ → Type 0) → ℕ → ℕ → DriveFault → Type 0
+IsCut stops made calls Stopped = (made < calls) × stops made
+IsCut stops made calls Memory = Unit {0}
+IsCut stops made calls (Close fault) = ⊥
+
+-- a pass has made the first calls of a script, in order, and no others, the gate being asked round each; then that came
+pub record IsCutShort (asked stops : ℕ → Type 0) (old : Held) (script : List Event) (new : Held) (fault : DriveFault) : Type 0 where
+  pub made : List Event
+  pub left : List Event
+  pub front : script ≡ made ++ left
+  pub replies : List Reply
+  pub through : IsThrough asked old made replies new
+  pub cause : IsCut stops (length made) (length script) fault
 
 -- a job was done to its end, or with a fault
 abbrev pub DidJob : (ℕ → ℕ → Type 0) → (ℕ → ℕ → Type 0) → Job → Result Done DriveFault → Type 0
@@ -174,14 +199,7 @@ IsFirstFault [] fault = ⊥
 IsFirstFault (Ok done ∷ rs) fault = IsFirstFault rs fault
 IsFirstFault (Err first ∷ rs) fault = fault ≡ first
 
--- all scripts were run by passes of the master, which are these afterwards, with these replies
-pub record HaveAllRun (asked : ℕ → ℕ → Type 0) (key : ℕ) (passes : List Held) (scripts : List (Vec Event)) (done : List Held) (replies : List (Vec Reply)) : Type 0 where
-  pub own : AreOf key passes
-  pub own_done : AreOf key done
-  pub run : HaveRun passes scripts replies (receipts_of done)
-  pub calls : AreAsked asked 0 scripts
-
--- why they were not
+-- why not all scripts were
 abbrev pub IsRunFault : (ℕ → ℕ → Type 0) → (ℕ → ℕ → Type 0) → ℕ → List Held → List (Vec Event) → DriveFault → Type 0
 IsRunFault asked stops key passes scripts Stopped = AreOf key passes × HasStopped asked stops 0 scripts
 IsRunFault asked stops key passes scripts Memory = AreOf key passes
@@ -189,3 +207,9 @@ IsRunFault asked stops key passes scripts (Close why.Stranger) = ¬ AreOf key pa
 IsRunFault asked stops key passes scripts (Close why.Missing) = ⊥
 IsRunFault asked stops key passes scripts (Close (why.Mismatch place)) = ⊥
 IsRunFault asked stops key passes scripts (Close why.Memory) = ⊥
+
+-- Which fault is told when: a stranger where a pass is of another master; a stop where the gate stopped a worker before which no worker was
+-- stopped; a fault of closing where all workers made all their calls, of the book and the passes that are handed back.
+abbrev pub IsUndriven : {K : Type 0} → LimitNumbers → Rows → (ℕ → ℕ → Type 0) → (ℕ → ℕ → Type 0) → ℕ → List Held → List (Vec Event) → Undriven K → Type 0
+IsUndriven given start asked stops key passes scripts (Undone fault) = IsRunFault asked stops key passes scripts fault
+IsUndriven given start asked stops key passes scripts (Unfit refused) = IsUnfit given start asked key passes scripts refused

@@ -1,13 +1,14 @@
 //! Scripts of events that threads run on one master, each on a pass of its own.
-ghost use Rattle.std.specs.Prelude.{◌≡◌, ◌≤◌, [], All, length, map, vec_capacity, IfOk, IfErr, OnOk};
+ghost use Rattle.std.specs.Prelude.{◌≡◌, ◌≤◌, [], All, length, map, vec_capacity, IfOk, IfErr, IsNone, OnErr, OnOk};
 ghost use Rattle.drf_board.specs.History.{IsLegal};
 ghost use Rattle.drf_master.specs.Closing.{AreOf, IsClosed};
-ghost use Rattle.drf_master.specs.Scripts.{AreAsked, AreDone, AreNumbered, DidJob, DidJobs, HasCalled, HasDriven, HaveAllRun, IsAsked, IsCallStop, IsDriveFault, IsFirstFault, IsMisfitOf, IsRunFault};
+ghost use Rattle.drf_master.specs.Receipts.{IsSamePass};
+ghost use Rattle.drf_master.specs.Scripts.{AreAsked, AreDone, AreNumbered, DidJob, DidJobs, HasCalled, HasDriven, HaveAllRun, IsAsked, IsCallStop, IsCutShort, IsFirstFault, IsLastOf, IsRefused, IsRunFault, IsThrough, IsUndriven, fault_of};
 
 use crate::book::Book;
 use crate::desk::MasterSorter;
 use crate::gate::Gate;
-use crate::master::{CallFault, Locked, Master, are_of};
+use crate::master::{CallFault, CloseRefused, Locked, Master, are_of};
 use crate::matching::CloseFault;
 use crate::pass::Pass;
 use drf_board::{Entry, Naming};
@@ -17,15 +18,15 @@ use std::sync::Wait;
 use std::thread;
 use std::thread::Threads;
 
-/// Why scripts did not run to their ends. A pass of another key is told before all else, and of the faults of several workers that of the
-/// first. `Memory` may come in place of any but a stranger: no clause says where it was wanting.
+/// Why scripts gave no book. A pass of another key is told before all else, and of the faults of several workers that of the first.
+/// `Memory` may come in place of any but a stranger: no clause says where it was wanting.
 #[derive(Clone, Copy, Debug, PartialEq, Eq)]
 pub enum DriveFault {
     /// The gate stopped a worker.
     Stopped,
     /// There is no memory for threads, calls or replies.
     Memory,
-    /// The passes do not fit.
+    /// The passes do not fit, or with `Memory` there was none to find that out.
     Close(CloseFault),
 }
 
@@ -50,6 +51,27 @@ impl From<CallFault> for DriveFault {
         match fault {
             CallFault::Stranger => DriveFault::Close(CloseFault::Stranger),
             CallFault::Memory => DriveFault::Memory,
+        }
+    }
+}
+
+/// What is handed back where scripts gave no book.
+#[derive(Drop)]
+pub enum Undriven<K: Naming> {
+    /// The scripts did not run to their ends, though of `Memory` no clause says so. The master and the passes are gone.
+    Undone(DriveFault),
+    /// All calls were made, but the passes were not found to fit the journal: with `Memory` they may.
+    Unfit(CloseRefused<K>),
+}
+
+impl<K: Naming> Undriven<K> {
+    /// Why there is no book. The rest goes.
+    pub fn into_fault(self) -> DriveFault
+        ensures { result ≡ fault_of self }
+    {
+        match self {
+            Undriven::Undone(fault) => fault,
+            Undriven::Unfit(refused) => DriveFault::Close(refused.into_fault()),
         }
     }
 }
@@ -89,12 +111,14 @@ pub struct Done {
     pub replies: Vec<Reply>,
 }
 
-// Gives the lock up after the last of the calls that are made together.
+// Gives the lock up after the last of the calls that are made together: it is kept for so many at most.
 fn keep<'a, K: Naming, R: Wait + Drop>(
     desk: Locked<'a, K, R>,
     together: u64,
     call: u64,
-) -> Option<Locked<'a, K, R>> {
+) -> Option<Locked<'a, K, R>>
+    ensures { IsLastOf together call → IsNone result }
+{
     if call.wrapping_add(1) % together.max(1) == 0 {
         drop(desk);
         return None;
@@ -116,6 +140,7 @@ fn run_call<'a, K: Naming, R: Wait + Drop, W: Wait, G: Gate>(
     ensures called { IfOk result (λ r. HasCalled pass.old pass.new event r.0) }
     ensures asked { OnOk result (IsAsked (G.lets gate.now) (G.sees gate.now) worker call) }
     ensures fault { IfErr result (IsCallStop (G.stops gate.now worker call) master.now.key pass.old) }
+    ensures err { OnErr result (IsSamePass pass.old pass.new) }
 {
     if !gate.before(worker, call) {
         drop(event);
@@ -127,8 +152,34 @@ fn run_call<'a, K: Naming, R: Wait + Drop, W: Wait, G: Gate>(
     Ok((answer.reply, held))
 }
 
-// Makes the calls of a script in order.
+// Makes the calls of a script in order, as far as it gets. The pass has a receipt for each that was made, and for no other.
 fn run_script<K: Naming, R: Wait + Drop, W: Wait, G: Gate>(
+    rt: &W,
+    alloc: Global,
+    master: &Master<K, R>,
+    gate: &G,
+    worker: u64,
+    pass: &mut Pass,
+    script: Vec<Event>,
+) -> Result<Vec<Reply>, DriveFault>
+    requires own { pass.old.key ≡ master.now.key }
+    ensures through { IfOk result (λ replies. IsThrough (IsAsked (G.lets gate.now) (G.sees gate.now) worker) pass.old script.items replies.items pass.new) }
+    ensures cut { IfErr result (IsCutShort (IsAsked (G.lets gate.now) (G.sees gate.now) worker) (G.stops gate.now worker) pass.old script.items pass.new) }
+{
+    pass.reserve(script.len())?;
+    let mut replies = Vec::with_capacity(alloc, script.len())?;
+    let mut held = None;
+    for event in script {
+        let call = replies.len() as u64;
+        let (reply, next) = run_call(rt, master, gate, worker, call, held, pass, event)?;
+        held = next;
+        replies.push_reserved(reply);
+    }
+    Ok(replies)
+}
+
+// Does what one thread is to do.
+fn run_job<K: Naming, R: Wait + Drop, W: Wait, G: Gate>(
     rt: &W,
     alloc: Global,
     master: &Master<K, R>,
@@ -143,15 +194,7 @@ fn run_script<K: Naming, R: Wait + Drop, W: Wait, G: Gate>(
         mut pass,
         script,
     } = job;
-    pass.reserve(script.len())?;
-    let mut replies = Vec::with_capacity(alloc, script.len())?;
-    let mut held = None;
-    for event in script {
-        let call = replies.len() as u64;
-        let (reply, next) = run_call(rt, master, gate, worker, call, held, &mut pass, event)?;
-        held = next;
-        replies.push_reserved(reply);
-    }
+    let replies = run_script(rt, alloc, master, gate, worker, &mut pass, script)?;
     Ok(Done { pass, replies })
 }
 
@@ -178,7 +221,7 @@ fn run_all<
         &|job: Job| -> Result<Done, DriveFault>
             requires { job.pass.key ≡ master.now.key }
             ensures { DidJob (IsAsked (G.lets gate.entry.now) (G.sees gate.entry.now)) (G.stops gate.entry.now) job result }
-        { run_script(rt, alloc, master, gate, job) },
+        { run_job(rt, alloc, master, gate, job) },
     )?;
     Ok(results)
 }
@@ -255,42 +298,28 @@ fn run_scripts<
     all_done(done, replies, results)
 }
 
-// Closes a master. What does not fit goes.
-fn close_or_fault<K: Naming, R: Wait + Drop>(
-    master: Master<K, R>,
-    passes: Vec<Pass>,
-) -> Result<Book<K, MasterSorter>, DriveFault>
-    ensures closed { IfOk result (λ book. IsClosed K.slate.limits K.start book master.key passes.items) }
-    ensures fault { IfErr result (IsMisfitOf K.slate.limits K.start master.key passes.items) }
-{
-    match master.close(passes) {
-        Ok(book) => Ok(book),
-        Err(refused) => Err(DriveFault::Close(refused.into_fault())),
-    }
-}
-
 // Closes the master of scripts that were run, with these replies.
 fn close_driven<K: Naming, R: Wait + Drop>(
     master: Master<K, R>,
     passes: Vec<Pass>,
     replies: Vec<Vec<Reply>>,
-) -> Result<Driven<K>, DriveFault>
+) -> Result<Driven<K>, Undriven<K>>
     ensures closed { IfOk result (λ driven. IsClosed K.slate.limits K.start driven.book master.key passes.items) }
     ensures replies { IfOk result (λ driven. driven.replies ≡ replies) }
-    ensures fault { IfErr result (IsMisfitOf K.slate.limits K.start master.key passes.items) }
+    ensures refused { IfErr result (IsRefused K.slate.limits K.start master.key passes.items) }
 {
-    match close_or_fault(master, passes) {
+    match master.close(passes) {
         Ok(book) => Ok(Driven { book, replies }),
-        Err(fault) => {
+        Err(refused) => {
             drop(replies);
-            Err(fault)
+            Err(Undriven::Unfit(refused))
         }
     }
 }
 
 /// Runs each script on a thread and a pass of its own, asks the gate round each call, joins all threads and closes the master. A pass
-/// of another key is told before all else, and before any thread starts, though no clause says that. After a fault the master and the
-/// passes are gone.
+/// of another key is told before all else, and before any thread starts, though no clause says that. Where all calls were made but the
+/// passes are not found to fit the journal, both are handed back, as `Master::close` does.
 pub fn drive<
     K: Naming + Send + Sync,
     R: Wait + Drop + Send + Sync,
@@ -303,20 +332,20 @@ pub fn drive<
     passes: Vec<Pass>,
     gate: &G,
     scripts: Vec<Vec<Event>>,
-) -> Result<Driven<K>, DriveFault>
+) -> Result<Driven<K>, Undriven<K>>
     requires { length scripts.items ≡ length passes.items }
     ensures limits { IfOk result (λ driven. driven.book.limits ≡ K.slate.limits) }
     ensures legal { IfOk result (λ driven. IsLegal K.slate.limits K.start driven.book.entries) }
     ensures own { OnOk result (AreOf master.key passes.items) }
     ensures driven { IfOk result (λ driven. HasDriven passes.items scripts.items driven.replies.items driven.book.entries) }
     ensures asked { OnOk result (AreAsked (IsAsked (G.lets gate.now) (G.sees gate.now)) 0 scripts.items) }
-    ensures fault { IfErr result (IsDriveFault K.slate.limits K.start (IsAsked (G.lets gate.now) (G.sees gate.now)) (G.stops gate.now) master.key passes.items scripts.items) }
+    ensures undriven { IfErr result (IsUndriven K.slate.limits K.start (IsAsked (G.lets gate.now) (G.sees gate.now)) (G.stops gate.now) master.key passes.items scripts.items) }
 {
     match run_scripts(rt, alloc, &master, passes, gate, scripts) {
         Ok((passes, replies)) => close_driven(master, passes, replies),
         Err(fault) => {
             drop(master);
-            Err(fault)
+            Err(Undriven::Undone(fault))
         }
     }
 }

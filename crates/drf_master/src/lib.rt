@@ -13,7 +13,7 @@ mod same;
 
 pub use book::{Book, Next};
 pub use desk::{Answer, Desk, MasterSorter};
-pub use driving::{DriveFault, Driven, drive};
+pub use driving::{DriveFault, Driven, Undriven, drive};
 pub use gate::{Gate, OpenGate};
 pub use master::{CallFault, CloseRefused, Master};
 pub use matching::CloseFault;

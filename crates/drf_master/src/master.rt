@@ -39,7 +39,7 @@ impl From<AllocError> for CallFault {
     }
 }
 
-/// What is handed back where passes do not fit the journal: why, the book, its journal as a list that was told, and the passes.
+/// What is handed back where passes are not found to fit the journal: why, the book, its journal as a list that was told, and the passes.
 #[derive(Drop)]
 pub struct CloseRefused<K: Naming> {
     pub fault: CloseFault,

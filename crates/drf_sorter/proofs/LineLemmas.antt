@@ -15,11 +15,11 @@ use Rattle.drf_bundle.specs.declared.quantities.Entry.{Entry}
 use Rattle.drf_role.specs.Text.{Text}
 use Rattle.drf_role.specs.Path.{Path, begins_with, same_path}
 use Rattle.drf_role.specs.PathLaws.{same_path-true}
-use Rattle.drf_rows.specs.laws.Laws.{are_in_order}
-use Rattle.drf_rows.specs.laws.LowestLaws.{lowest_terms-same}
+use Rattle.drf_row_laws.specs.Laws.{are_in_order}
+use Rattle.drf_row_laws.specs.LowestLaws.{lowest_terms-same}
 use Rattle.drf_rows.specs.Report.{path_cmp}
-use Rattle.drf_rows.specs.laws.ReportLaws.{begins_take}
-use Rattle.drf_rows.specs.laws.ReportedShares.{small_entries, part_of_greatest}
+use Rattle.drf_row_laws.specs.ReportLaws.{begins_take}
+use Rattle.drf_row_laws.specs.ReportedShares.{small_entries, part_of_greatest}
 use Rattle.drf_rows.specs.Share.{lowest_terms}
 use Rattle.drf_rows.specs.declared.report.NodeLine.{NodeLine}
 use Rattle.drf_sorter.specs.Content.{Content, Ranked, has_client, has_node}

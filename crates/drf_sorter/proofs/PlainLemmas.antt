@@ -1,8 +1,9 @@
 -- What a sound content says of the clients themselves.
-use Rattle.std.proofs.Common.{◌≡◌, ◌<◌, ◌≤◌, ◌+◌, ◌^◌, ℕ, Bool, true, false, List, [], ◌∷◌, ◌++◌, map, length, take, get_or, refl, sym, ap, ◌∙◌, inl, inr, arith}
+use Rattle.std.proofs.Common.{◌≡◌, ◌<◌, ◌≤◌, ◌+◌, ◌^◌, ◌-◌, ℕ, Bool, true, false, List, [], ◌∷◌, ◌++◌, map, min, length, take, get_or, refl, sym, ap, ◌∙◌, inl, inr, arith}
 use Rattle.std.proofs.lemmas.Bool.{cases_Bool}
 use Rattle.std.proofs.lemmas.List.{append-nil, map-append, take_more}
 use Rattle.std.proofs.lemmas.List.Elements.{filter-append}
+use Rattle.std.proofs.lemmas.List.Sums.{sum_by_push}
 use Rattle.std.proofs.lemmas.Simd.{map-map}
 use Rattle.std.specs.List.{IsDistinct, sum_by, filter, list_any}
 use Rattle.drf_bundle.specs.Quantities.{amount_of}
@@ -16,7 +17,7 @@ use Rattle.drf_sorter.specs.Fractions.{dominant_of, weigh}
 use Rattle.drf_sorter.specs.Plain.{ranked, held_by, count_by, plain_content, plain_standing}
 use Rattle.drf_sorter.proofs.ChangeLemmas.{any_ranked}
 use Rattle.drf_sorter.proofs.OrderLemmas.{distinct_filter}
-use Rattle.drf_rows.specs.laws.ListLaws.{sum_by-map}
+use Rattle.drf_bundle.specs.ListLaws.{sum_by-map}
 use Rattle.drf_sorter.proofs.SumLemmas.{sum_part_le}
 
 pub filter-map : {X Y : Type 0} (p : Y → Bool) (f : X → Y) (xs : List X)
@@ -100,6 +101,13 @@ module _ {X Y : Type 0} (p : X → Bool) (f : X → Y) (xs : List X) (i : ℕ) (
 
   pub passed_same : p x ≡ false → map f (filter p (take (i + 1) xs)) ≡ map f (filter p (take i xs))
   passed_same fails = rw (one_more, filter-append p (take i xs) (x ∷ []), fails, append-nil (filter p (take i xs)))
+
+-- the keys of one more path are made
+pub made_more : (old mid new : ℕ) (paths more : List (List (List ℕ))) (path : List (List ℕ))
+    → mid ≡ min (old + sum_by length paths) (2 ^ 64 - 1) → new ≡ min (mid + length path) (2 ^ 64 - 1)
+    → more ≡ paths ++ path ∷ [] → new ≡ min (old + sum_by length more) (2 ^ 64 - 1)
+made_more old mid new paths more path before then is =
+    rw (is, sum_by_push length paths path) (omega (arith, before, then))
 
 pub active_paths-ranked : (sorter : PlainSorter)
     → map (λ (x : Client). x.path) (filter (λ x. x.active) sorter.clients.items) ≡ active_paths (plain_content sorter)

@@ -8,8 +8,8 @@ use Rattle.drf_role.specs.PathLaws.{role_part-client_path, framework_part-client
 use Rattle.drf_rows.specs.Client.{Client, path_of}
 use Rattle.drf_rows.specs.Share.{Standing, is_serving_order}
 use Rattle.drf_rows.specs.Cycle.{serving_order}
-use Rattle.drf_rows.specs.laws.ListLaws.{each_map}
-use Rattle.drf_rows.specs.laws.ServingOrder.{serving_order-unique}
+use Rattle.drf_bundle.specs.ListLaws.{each_map}
+use Rattle.drf_row_laws.specs.ServingOrder.{serving_order-unique}
 use Rattle.drf_sorter.specs.Served.{AreClients, Weighs}
 use Rattle.drf_sorter.specs.laws.SortedLaws.{sorted, moved_sorted, ordered_sorted}
 

@@ -13,7 +13,7 @@ use Rattle.drf_bundle.specs.Quantities.{amount_of, is_in_order}
 use Rattle.drf_bundle.specs.laws.QuantitiesLaws.{amount_head}
 use Rattle.drf_bundle.specs.declared.quantities.Entry.{Entry}
 use Rattle.drf_rows.specs.Share.{Fraction, IsLowest, is_less, greater, lowest_terms}
-use Rattle.drf_rows.specs.laws.LowestLaws.{lowest_terms-is, lowest_terms-same}
+use Rattle.drf_row_laws.specs.LowestLaws.{lowest_terms-is, lowest_terms-same}
 use Rattle.drf_sorter.specs.declared.share.Share.{Share}
 use Rattle.drf_sorter.specs.Fractions.{fraction_cmp, weigh, weighted, dominant_of}
 use Rattle.drf_sorter.specs.laws.FractionLaws.{nat_cmp-scale, product_above, is_lt-fraction_cmp, same_as_weighed}

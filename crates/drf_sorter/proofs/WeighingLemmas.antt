@@ -15,7 +15,7 @@ use Rattle.drf_role.specs.TextLaws.{cases_same}
 use Rattle.drf_rows.specs.Held.{weight_of}
 use Rattle.drf_rows.specs.Share.{Fraction, is_less, share_of, weighted_share_of}
 use Rattle.drf_rows.specs.declared.rows.WeightRow.{WeightRow}
-use Rattle.drf_rows.specs.laws.WeightLaws.{weight_of-set}
+use Rattle.drf_row_laws.specs.WeightLaws.{weight_of-set}
 use Rattle.drf_sorter.specs.Content.{Content, standing_in, with_weight}
 use Rattle.drf_sorter.specs.Fractions.{dominant_of, weigh}
 use Rattle.drf_sorter.specs.laws.Laws.{ClientsHaveDefaultWeight}

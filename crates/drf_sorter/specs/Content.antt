@@ -1,5 +1,5 @@
 -- What a sorter holds: clients with what they hold, the total of the cluster, and weights.
-use Rattle.std.specs.Prelude.{◌≡◌, ℕ, ◌+◌, ◌-◌, ◌^◌, ◌<◌, ◌≤◌, Bool, true, not, List, [], ◌∷◌, ◌++◌, map, filter, sum_by, if◌then◌else◌, IsTrue}
+use Rattle.std.specs.Prelude.{◌≡◌, ℕ, ◌+◌, ◌-◌, ◌^◌, ◌<◌, ◌≤◌, Bool, true, not, List, [], ◌∷◌, ◌++◌, length, map, filter, sum_by, if◌then◌else◌, IsTrue}
 use Rattle.std.specs.List.{list_any, AllByRecursion}
 use Rattle.std.specs.List.Sorted.{IsPermutation}
 use Rattle.drf_bundle.specs.Quantities.{amount_of}
@@ -95,6 +95,11 @@ with_weight content role weight = record content { weights = weights_with conten
 -- some client's path begins with the node
 abbrev pub has_node : Content → Path → Bool
 has_node content node = list_any (λ c. begins_with c.path node) content.clients
+
+-- each node that has clients is among these paths
+abbrev pub HasNodes : Content → List Path → Type 0
+HasNodes content nodes =
+    (node : Path) → 1 ≤ length node → has_node content node ≡ true → list_any (same_path node) nodes ≡ true
 
 -- the clients of a node
 abbrev pub clients_under : Content → Path → List Ranked

@@ -7,7 +7,7 @@ use Rattle.drf_bundle.specs.Quantities.{HasNoZeros, amount_of}
 use Rattle.drf_bundle.specs.declared.quantities.Entry.{Entry}
 use Rattle.drf_role.specs.Text.{Text}
 use Rattle.drf_role.specs.Path.{Path, same_path}
-use Rattle.drf_rows.specs.laws.Laws.{are_in_order}
+use Rattle.drf_row_laws.specs.Laws.{are_in_order}
 use Rattle.drf_rows.specs.Report.{line_by, path_cmp, terms_of}
 use Rattle.drf_rows.specs.Share.{share_of, weighted_share_of}
 use Rattle.drf_rows.specs.declared.report.NodeLine.{NodeLine}

@@ -1,9 +1,9 @@
 -- What a sorter over a list of clients holds.
-use Rattle.std.specs.Prelude.{ℕ, List, filter, map, sum_by}
+use Rattle.std.specs.Prelude.{ℕ, List, filter, length, map, sum_by}
 use Rattle.drf_bundle.specs.Quantities.{amount_of}
 use Rattle.drf_role.specs.Path.{Path, begins_with}
 use Rattle.drf_rows.specs.Share.{Standing}
-use Rattle.drf_sorter.specs.Content.{Ranked, Content, standing_in}
+use Rattle.drf_sorter.specs.Content.{Ranked, Content, active_paths, standing_in}
 use Rattle.drf_sorter.specs.declared.client.Client.{Client}
 use Rattle.drf_role.specs.Text.{Text}
 use Rattle.drf_sorter.specs.declared.plain.PlainSorter.{PlainSorter}
@@ -30,3 +30,7 @@ plain_content sorter = record {
 -- what its order depends on
 abbrev pub plain_standing : PlainSorter → Standing
 plain_standing sorter = standing_in (plain_content sorter)
+
+-- the keys that an order takes: one for each node on the path of each client that is to be served
+abbrev pub keys_to_make : Content → ℕ
+keys_to_make content = sum_by length (active_paths content)

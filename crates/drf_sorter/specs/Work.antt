@@ -17,3 +17,7 @@ Adds counted old new most = IsTrue counted → debt new ≤ debt old + most
 -- where work is counted, no key is stale
 abbrev pub IsRepaired : Bool → Work → Type 0
 IsRepaired counted work = IsTrue counted → work.marked ≡ 0
+
+-- where work is counted, no more keys than that are stale
+abbrev pub OwesAtMost : Bool → Work → ℕ → Type 0
+OwesAtMost counted work most = IsTrue counted → work.marked ≤ most

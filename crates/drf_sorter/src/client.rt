@@ -1,7 +1,7 @@
 //! The clients of a sorter that lists them, and those of one node.
-ghost use Rattle.std.specs.Prelude.{◌≡◌, ◌+◌, ◌<◌, ◌^◌, IfOk, OnOk, OnErr};
+ghost use Rattle.std.specs.Prelude.{◌≡◌, ◌+◌, ◌<◌, ◌^◌, false, IfOk, OnOk, OnErr};
 ghost use Rattle.std.specs.List.{list_any};
-ghost use Rattle.drf_bundle.specs.Quantities.{amount_of};
+ghost use Rattle.drf_bundle.specs.Quantities.{HasNoZeros, amount_of, names_all};
 ghost use Rattle.drf_role.specs.Path.{begins_with};
 ghost use Rattle.drf_role.specs.Text.{Text};
 
@@ -37,6 +37,7 @@ impl Client {
 pub fn raise(held: &mut Quantities, more: &Quantities) -> Result<(), AllocError>
     requires { (label : Text) → amount_of held.old label + amount_of more.now label < 2 ^ 64 }
     ensures ok { OnOk result ((label : Text) → amount_of held.new label ≡ amount_of held.old label + amount_of more.now label) }
+    ensures few { OnOk result (names_all held.old more.now ≡ false → HasNoZeros held.new) }
     ensures err { OnErr result (held.new ≡ held.old) }
 {
     more.recall();

@@ -120,9 +120,11 @@ impl KeyCount {
 
     /// A count of its own, that begins at this one.
     pub fn copy(&self) -> KeyCount
-        ensures { result ≡ self.now }
+        ensures same { result ≡ self.now }
+        ensures fits { result < 2 ^ 64 }
     {
-        KeyCount { made: self.made }
+        let made = self.made();
+        KeyCount { made }
     }
 }
 

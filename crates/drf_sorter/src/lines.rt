@@ -4,7 +4,7 @@ ghost use Rattle.std.specs.declared.cmp.Ordering.TheVariants.{Greater};
 ghost use Rattle.drf_bundle.specs.Quantities.{amount_of, is_in_order};
 ghost use Rattle.drf_role.specs.Text.{Text};
 ghost use Rattle.drf_rows.specs.Report.{path_cmp};
-ghost use Rattle.drf_rows.specs.laws.Laws.{are_in_order};
+ghost use Rattle.drf_row_laws.specs.Laws.{are_in_order};
 ghost use Rattle.drf_sorter.specs.Lines.{AreRising, BelongsBehind, StandsAt, line_with, paths_of, with_line};
 
 use crate::key::dominant_share;

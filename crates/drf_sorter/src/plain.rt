@@ -1,11 +1,11 @@
 //! A sorter over a list of clients.
-ghost use Rattle.std.specs.Prelude.{◌≡◌, ◌≤◌, ◌<◌, ◌+◌, [], ◌∷◌, ◌++◌, All, IfOk, IsTrue, OnOk, length, map, take, true};
+ghost use Rattle.std.specs.Prelude.{◌≡◌, ◌≤◌, ◌<◌, ◌+◌, ◌-◌, ◌^◌, [], ◌∷◌, ◌++◌, All, IfOk, IsTrue, OnOk, length, map, min, take, true};
 ghost use Rattle.std.specs.Option.{option_copied};
 ghost use Rattle.std.specs.List.{AllByRecursion, IsDistinct, IsDistinct-prop, find, position};
-ghost use Rattle.drf_role.specs.Path.{Path, begins_with, same_path};
+ghost use Rattle.drf_role.specs.Path.{IsClientPath, Path, begins_with, same_path};
 ghost use Rattle.drf_rows.specs.Held.{weight_of};
 ghost use Rattle.drf_rows.specs.Weights.{are_weights};
-ghost use Rattle.drf_sorter.specs.Content.{IsSound, active_paths, has_client, has_node};
+ghost use Rattle.drf_sorter.specs.Content.{IsOrderOf, IsSound, active_paths, has_client, has_node};
 ghost use Rattle.drf_sorter.specs.Keys.{keys_of, key_by};
 ghost use Rattle.drf_sorter.specs.Lines.{IsLineOf, has_line};
 
@@ -109,7 +109,7 @@ fn paths(alloc: Global, candidates: Vec<Candidate>) -> Result<Vec<ClientPath>, A
 }
 
 impl PlainSorter {
-    ghost use Rattle.drf_sorter.specs.Plain.{plain_content, plain_standing};
+    ghost use Rattle.drf_sorter.specs.Plain.{keys_to_make, plain_content, plain_standing};
     ghost use Rattle.drf_sorter.specs.Candidates.{HasKeys};
 
     /// The total of the cluster.
@@ -146,6 +146,7 @@ impl PlainSorter {
         ensures key { IfOk result (λ key.
             keys_of (plain_standing self.now) [] (take (i + 1) path.now)
             ≡ keys_of (plain_standing self.now) [] (take i path.now) ++ key_by key ∷ []) }
+        ensures counted { OnOk result (made.new ≡ min (made.old + 1) (2 ^ 64 - 1)) }
         ensures made { made.old ≤ made.new }
     {
         let node = path.node(i + 1)?;
@@ -161,9 +162,11 @@ impl PlainSorter {
 
     /// The client of that path, with its keys.
     fn candidate(&self, made: &mut KeyCount, path: &ClientPath) -> Result<Candidate, AllocError>
-        requires { IsSound (plain_content self.now) }
+        requires sound { IsSound (plain_content self.now) }
+        requires fits { made.old < 2 ^ 64 }
         ensures path { IfOk result (λ c. c.path ≡ path.now) }
         ensures keys { IfOk result (HasKeys (plain_standing self.now)) }
+        ensures counted { OnOk result (made.new ≡ min (made.old + length path.now) (2 ^ 64 - 1)) }
         ensures made { made.old ≤ made.new }
     {
         let mut keys = Vec::with_capacity(self.alloc(), path.len())?;
@@ -178,9 +181,11 @@ impl PlainSorter {
 
     /// The clients that are to be served.
     fn candidates(&self, made: &mut KeyCount) -> Result<Vec<Candidate>, AllocError>
-        requires { IsSound (plain_content self.now) }
+        requires sound { IsSound (plain_content self.now) }
+        requires fits { made.old < 2 ^ 64 }
         ensures paths { IfOk result (λ all. map (λ c. c.path) all.items ≡ active_paths (plain_content self.now)) }
         ensures keys { IfOk result (λ all. All (HasKeys (plain_standing self.now)) all.items) }
+        ensures counted { OnOk result (made.new ≡ min (made.old + keys_to_make (plain_content self.now)) (2 ^ 64 - 1)) }
         ensures made { made.old ≤ made.new }
     {
         let mut candidates = Vec::new(self.alloc());
@@ -227,7 +232,7 @@ impl PlainSorter {
 }
 
 impl Sorter for PlainSorter {
-    ghost use Rattle.drf_sorter.specs.Plain.{plain_content};
+    ghost use Rattle.drf_sorter.specs.Plain.{keys_to_make, plain_content};
     ghost use Rattle.std.specs.Prelude.{drop, false};
 
     ghost content = { plain_content };
@@ -335,7 +340,15 @@ impl Sorter for PlainSorter {
         }
     }
 
-    fn fix_order(&mut self) -> Result<(), AllocError> {
+    /// As of each sorter, and each node on the path of each active client has its key made.
+    fn fix_order(&mut self) -> Result<(), AllocError>
+        requires { IsSound (plain_content self.old) }
+        ensures order { OnOk result (IsOrderOf (plain_content self.old) (drop self.new.next self.new.queue.items)) }
+        ensures right { OnOk result (AllByRecursion IsClientPath (drop self.new.next self.new.queue.items)) }
+        ensures same { plain_content self.new ≡ plain_content self.old }
+        ensures made { self.old.made ≤ self.new.made }
+        ensures counted { OnOk result (self.new.made ≡ min (self.old.made + keys_to_make (plain_content self.old)) (2 ^ 64 - 1)) }
+    {
         let mut made = self.made.copy();
         let candidates = self.candidates(&mut made);
         // Also those that were made before memory ended count.

@@ -2,8 +2,8 @@ ghost use Rattle.std.specs.Prelude.{◌≡◌, ◌≤◌, ◌+◌, ◌↔◌, Bo
 ghost use Rattle.std.specs.List.{AllByRecursion};
 ghost use Rattle.drf_role.specs.Path.{IsClientPath, Path};
 ghost use Rattle.drf_sorter.specs.Passed.{IsPassedFront};
-ghost use Rattle.drf_sorter.specs.Work.{Work, Adds, IsRepaired};
-ghost use Rattle.drf_sorter.specs.Content.{Content, IsSound, IsOrderOf, HasChargeAt, HoldsAt, activated, charged, discharged, empty, has_client, has_node, has_weight, refunded, with_change, with_client, with_weight, without_client};
+ghost use Rattle.drf_sorter.specs.Work.{Work, Adds, IsRepaired, OwesAtMost};
+ghost use Rattle.drf_sorter.specs.Content.{Content, IsSound, IsOrderOf, HasChargeAt, HasNodes, HoldsAt, activated, charged, discharged, empty, has_client, has_node, has_weight, refunded, with_change, with_client, with_weight, without_client};
 ghost use Rattle.drf_sorter.specs.Lines.{AreLinesOf};
 ghost use Rattle.drf_sorter.specs.Share.{IsShareOf};
 
@@ -95,10 +95,11 @@ pub trait Sorter: Sized + Drop {
         ensures made { (work self.new).made ≡ (work self.old).made }
         ensures work { Adds COUNTED (work self.old) (work self.new) (length path.now) };
 
-    /// Sets the total of the cluster.
+    /// Sets the total of the cluster. No more keys are stale then than there are nodes, by any list that has each.
     fn set_total(&mut self, total: Quantities)
         ensures content { content self.new ≡ record (content self.old) { total = total } }
-        ensures made { (work self.new).made ≡ (work self.old).made };
+        ensures made { (work self.new).made ≡ (work self.old).made }
+        ensures stale { (nodes : List Path) → HasNodes (content self.old) nodes → OwesAtMost COUNTED (work self.new) (length nodes) };
 
     /// Gives a role a weight, in thousandths. No memory is asked for where the role has one.
     fn set_weight(&mut self, role: &Role, weight: u64) -> Result<(), AllocError>

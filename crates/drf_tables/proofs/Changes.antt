@@ -13,9 +13,9 @@ use Rattle.drf_rows.specs.Endings.{without_ended, all_on, all_of}
 use Rattle.drf_rows.specs.Filters.{filters_without_client, filters_without_agent, filters_without_framework}
 use Rattle.drf_rows.specs.Held.{clients_of, cluster_total}
 use Rattle.drf_rows.specs.Holdings.{holdings_of}
-use Rattle.drf_rows.specs.laws.ListLaws.{each_filter, length-filter_le}
+use Rattle.drf_bundle.specs.ListLaws.{each_filter, length-filter_le}
 use Rattle.drf_rows.specs.Members.{active_at, with_activity, with_suppression, suppressed_in, revived, agent_removed, framework_removed}
-use Rattle.drf_rows.specs.laws.MemberLaws.{IsConsistent-with_activity, cluster_total-with_activity, IsConsistent-with_suppression, clients_of-with_suppression, IsConsistent-revived, IsConsistent-agent_removed, IsConsistent-framework_removed}
+use Rattle.drf_row_laws.specs.MemberLaws.{IsConsistent-with_activity, cluster_total-with_activity, IsConsistent-with_suppression, clients_of-with_suppression, IsConsistent-revived, IsConsistent-agent_removed, IsConsistent-framework_removed}
 use Rattle.drf_rows.specs.declared.rows.ClientRow.{ClientRow}
 use Rattle.drf_rows.specs.declared.rows.FilterRow.{FilterRow}
 use Rattle.drf_rows.specs.declared.rows.Rows.{Rows}

@@ -17,7 +17,7 @@ use Rattle.drf_rows.specs.declared.rows.ClientRow.{ClientRow}
 use Rattle.drf_rows.specs.declared.rows.FrameworkRow.{FrameworkRow}
 use Rattle.drf_rows.specs.declared.rows.OfferRow.{OfferRow}
 use Rattle.drf_tables.specs.Counting.{counting, counting_all, count_clients, CanCount, CanCountAll}
-use Rattle.drf_rows.specs.laws.ConsistentLaws.{same_text-swap, name-count_offer}
+use Rattle.drf_row_laws.specs.ConsistentLaws.{same_text-swap, name-count_offer}
 
 -- ---- one client after another
 

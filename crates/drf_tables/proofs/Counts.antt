@@ -6,7 +6,7 @@ use Rattle.std.proofs.lemmas.Bool.{cases_Bool, false≢true}
 use Rattle.drf_role.specs.Text.{Text, same_text}
 use Rattle.drf_role.specs.Path.{Path, same_path}
 use Rattle.drf_rows.specs.Holdings.{holdings_of}
-use Rattle.drf_rows.specs.laws.ListLaws.{sum_by-map}
+use Rattle.drf_bundle.specs.ListLaws.{sum_by-map}
 use Rattle.drf_rows.specs.Members.{active_at, with_activity}
 use Rattle.drf_rows.specs.Quota.{reserved_in, held_unreserved, reserved_for, limit_of}
 use Rattle.drf_rows.specs.declared.rows.AgentRow.{AgentRow}

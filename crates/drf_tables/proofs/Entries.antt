@@ -12,8 +12,8 @@ use Rattle.std.proofs.lemmas.Bool.{cases_Bool, false≢true, and_parts, or_parts
 use Rattle.indexmap.specs.IndexMap.{insert_entry, set_value_at}
 use Rattle.drf_role.specs.Text.{Text, same_text}
 use Rattle.drf_rows.specs.Consistent.{are_distinct}
-use Rattle.drf_rows.specs.laws.ConsistentLaws.{same_text-swap}
-use Rattle.drf_rows.specs.laws.ListLaws.{none_has, none_has_at}
+use Rattle.drf_row_laws.specs.ConsistentLaws.{same_text-swap}
+use Rattle.drf_bundle.specs.ListLaws.{none_has, none_has_at}
 use Rattle.drf_rows.specs.declared.rows.ClientRow.{ClientRow}
 use Rattle.drf_rows.specs.declared.rows.FrameworkRow.{FrameworkRow}
 use Rattle.drf_role.specs.Path.{same_path}

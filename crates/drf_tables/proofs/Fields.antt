@@ -18,9 +18,9 @@ use Rattle.drf_rows.specs.Held.{cluster_total}
 use Rattle.drf_rows.specs.Cycle.{free_of}
 use Rattle.drf_rows.specs.Members.{has_agent, has_framework}
 use Rattle.drf_rows.specs.Consistent.{IsAgent}
-use Rattle.drf_rows.specs.laws.ConsistentLaws.{same_text-swap}
+use Rattle.drf_row_laws.specs.ConsistentLaws.{same_text-swap}
 use Rattle.drf_rows.specs.Totals.{agent_at as found_agent}
-use Rattle.drf_rows.specs.laws.RegistrationLaws.{agent_added, framework_added}
+use Rattle.drf_row_laws.specs.RegistrationLaws.{agent_added, framework_added}
 use Rattle.drf_rows.specs.declared.limits.TheConstants.{LARGEST_AMOUNT}
 use Rattle.drf_rows.specs.declared.rows.AgentRow.{AgentRow}
 use Rattle.drf_rows.specs.declared.rows.ClientRow.{ClientRow}
@@ -31,7 +31,7 @@ use Rattle.drf_tables.specs.DraftLaws.{offers_added, with_offers-added}
 use Rattle.drf_tables.specs.Counting.{counting_all}
 use Rattle.drf_tables.specs.Inside.{agent_row, framework_row, framework_rows, rows_of, rows_in, IsKnown}
 use Rattle.drf_rows.specs.Holdings.{holdings_of}
-use Rattle.drf_rows.specs.laws.ListLaws.{each_at}
+use Rattle.drf_bundle.specs.ListLaws.{each_at}
 use Rattle.drf_bundle.specs.declared.resource.Resource.{Resource}
 use Rattle.drf_holdings.specs.Stored.{OffersAndTasks}
 use Rattle.drf_tables.specs.declared.tables.Agent.{Agent}

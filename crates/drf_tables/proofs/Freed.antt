@@ -11,9 +11,9 @@ use Rattle.drf_bundle.specs.Taken.{units_of_all, rest_of_all}
 use Rattle.drf_bundle.specs.laws.TakenLaws.{bundle-rest_of_all, units-rest_of_all}
 use Rattle.drf_bundle.specs.declared.resource.Resource.{Resource}
 use Rattle.drf_rows.specs.Consistent.{IsAgent, IsCovered}
-use Rattle.drf_rows.specs.laws.ConsistentLaws.{same_text-swap}
+use Rattle.drf_row_laws.specs.ConsistentLaws.{same_text-swap}
 use Rattle.drf_rows.specs.Holdings.{Holding, AreBundles, parts_on}
-use Rattle.drf_rows.specs.laws.HoldingsLaws.{each_part}
+use Rattle.drf_row_laws.specs.HoldingsLaws.{each_part}
 use Rattle.drf_tables.specs.Changing.{changed, freed, joined_free}
 use Rattle.drf_tables.specs.Inside.{agent_row, IsKnown}
 use Rattle.drf_tables.specs.declared.tables.Agent.{Agent}

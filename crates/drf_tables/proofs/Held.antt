@@ -16,9 +16,9 @@ use Rattle.drf_bundle.specs.declared.resource.Resource.{Resource}
 use Rattle.drf_rows.specs.Consistent.{IsAgent, IsConsistent, IsHeld}
 use Rattle.drf_rows.specs.Held.{clients_of, cluster_total}
 use Rattle.drf_rows.specs.Holdings.{Holding, AreBundles, holdings_of, of_offer, of_task, parts_on}
-use Rattle.drf_rows.specs.laws.ConsistentLaws.{bundles-consistent, same_text-swap}
-use Rattle.drf_rows.specs.laws.EndingLaws.{IsOneLess, one-one_less, one_less-offer, one_less-task, parts_on-one_less, units-one_less}
-use Rattle.drf_rows.specs.laws.HoldingsLaws.{each_part}
+use Rattle.drf_row_laws.specs.ConsistentLaws.{bundles-consistent, same_text-swap}
+use Rattle.drf_row_laws.specs.EndingLaws.{IsOneLess, one-one_less, one_less-offer, one_less-task, parts_on-one_less, units-one_less}
+use Rattle.drf_row_laws.specs.HoldingsLaws.{each_part}
 use Rattle.drf_rows.specs.declared.rows.AgentRow.{AgentRow}
 use Rattle.drf_rows.specs.declared.rows.OfferRow.{OfferRow}
 use Rattle.drf_rows.specs.declared.rows.Rows.{Rows}

@@ -12,8 +12,8 @@ use Rattle.drf_rows.specs.Held.{clients_of, cluster_total}
 use Rattle.drf_rows.specs.Holdings.{Holding, holdings_of, parts_on}
 use Rattle.drf_rows.specs.Members.{has_agent, has_framework}
 use Rattle.drf_rows.specs.Consistent.{IsAgent, IsFramework, IsConsistent, are_distinct_roles, offers_counted}
-use Rattle.drf_rows.specs.laws.ListLaws.{each_append}
-use Rattle.drf_rows.specs.laws.RegistrationLaws.{new_agent, agent_added, framework_added, cluster_total-with_agent, parts_on-nothing, length-clients_of-framework_added, IsConsistent-agent_added}
+use Rattle.drf_bundle.specs.ListLaws.{each_append}
+use Rattle.drf_row_laws.specs.RegistrationLaws.{new_agent, agent_added, framework_added, cluster_total-with_agent, parts_on-nothing, length-clients_of-framework_added, IsConsistent-agent_added}
 use Rattle.drf_rows.specs.declared.limits.TheConstants.{LATEST_MOMENT}
 use Rattle.drf_rows.specs.Cycle.{free_of}
 use Rattle.drf_rows.specs.declared.rows.AgentRow.{AgentRow}

@@ -11,10 +11,10 @@ use Rattle.drf_role.specs.TextLaws.{same_itself}
 use Rattle.drf_bundle.specs.Taken.{rest_of_all}
 use Rattle.drf_bundle.specs.declared.resource.Resource.{Resource}
 use Rattle.drf_rows.specs.Consistent.{are_distinct}
-use Rattle.drf_rows.specs.laws.ConsistentLaws.{same_text-swap}
+use Rattle.drf_row_laws.specs.ConsistentLaws.{same_text-swap}
 use Rattle.drf_rows.specs.Cycle.{free_of}
 use Rattle.drf_rows.specs.Holdings.{Holding, holdings_of, parts_on}
-use Rattle.drf_rows.specs.laws.ListLaws.{each_from, each_map}
+use Rattle.drf_bundle.specs.ListLaws.{each_from, each_map}
 use Rattle.drf_rows.specs.Members.{active_at}
 use Rattle.drf_rows.specs.declared.rows.AgentRow.{AgentRow}
 use Rattle.drf_rows.specs.declared.rows.Rows.{Rows}

@@ -21,15 +21,15 @@ use Rattle.drf_rows.specs.Consistent.{IsAgent, IsCovered}
 use Rattle.drf_rows.specs.Cycle.{free_of}
 use Rattle.drf_rows.specs.Held.{cluster_total}
 use Rattle.drf_rows.specs.Holdings.{Holding, AreBundles, of_offer, of_task, holdings_of, parts_on}
-use Rattle.drf_rows.specs.laws.ConsistentLaws.{bundles-consistent}
-use Rattle.drf_rows.specs.laws.HoldingsLaws.{each_part}
-use Rattle.drf_rows.specs.laws.LimitLaws.{IsConsistent-limit_set}
-use Rattle.drf_rows.specs.laws.ListLaws.{each_from_both, each_map}
+use Rattle.drf_row_laws.specs.ConsistentLaws.{bundles-consistent}
+use Rattle.drf_row_laws.specs.HoldingsLaws.{each_part}
+use Rattle.drf_row_laws.specs.LimitLaws.{IsConsistent-limit_set}
+use Rattle.drf_bundle.specs.ListLaws.{each_from_both, each_map}
 use Rattle.drf_rows.specs.Quota.{unreserved_in, held_unreserved, reserved_for, consumption_where, limits_with}
-use Rattle.drf_rows.specs.laws.QuotaLaws.{consumption_is_part_of_total}
-use Rattle.drf_rows.specs.laws.ReservationLaws.{IsConsistent-other_total}
+use Rattle.drf_row_laws.specs.QuotaLaws.{consumption_is_part_of_total}
+use Rattle.drf_row_laws.specs.ReservationLaws.{IsConsistent-other_total}
 use Rattle.drf_rows.specs.Totals.{CanExchange, total_at, with_total, with_other_total, exchanged}
-use Rattle.drf_rows.specs.laws.TotalsLaws.{if_named, can_in_total, IsConsistent-exchanged, free_of-exchanged, cluster_total-exchanged, cluster_total-other_total}
+use Rattle.drf_row_laws.specs.TotalsLaws.{if_named, can_in_total, IsConsistent-exchanged, free_of-exchanged, cluster_total-exchanged, cluster_total-other_total}
 use Rattle.drf_rows.specs.declared.rows.AgentRow.{AgentRow}
 use Rattle.drf_rows.specs.declared.rows.Rows.{Rows}
 use Rattle.drf_gates.specs.Quota.{Allowance, IsAllowanceOf, IsRaisedBy, used_where}

@@ -16,8 +16,8 @@ use Rattle.drf_rows.specs.Cycle.{free_of}
 use Rattle.drf_rows.specs.Endings.{is_task}
 use Rattle.drf_rows.specs.Holdings.{Holding, holdings_of, of_offer, of_task}
 use Rattle.drf_rows.specs.Members.{has_agent}
-use Rattle.drf_rows.specs.laws.EndingLaws.{IsOneLess, is_task-swap, one-one_less}
-use Rattle.drf_rows.specs.laws.ReservationLaws.{found_known}
+use Rattle.drf_row_laws.specs.EndingLaws.{IsOneLess, is_task-swap, one-one_less}
+use Rattle.drf_row_laws.specs.ReservationLaws.{found_known}
 use Rattle.drf_rows.specs.Totals.{agent_at}
 use Rattle.drf_rows.specs.declared.rows.AgentRow.{AgentRow}
 use Rattle.drf_saved.specs.Saved.{is_usable}

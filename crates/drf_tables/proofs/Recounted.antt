@@ -22,17 +22,17 @@ use Rattle.drf_bundle.specs.laws.UnitProofs.{covers_by_units, rest_and_part}
 use Rattle.drf_bundle.specs.Value.{Point, Thousandths}
 use Rattle.drf_bundle.specs.declared.resource.Resource.{Resource}
 use Rattle.drf_rows.specs.Consistent.{IsConsistent}
-use Rattle.drf_rows.specs.laws.ConsistentLaws.{same_text-swap}
-use Rattle.drf_rows.specs.laws.EndingLaws.{IsOneLess, accepted_in, offer_held, offer_out, started_by, sum_by-out, tasks_last}
+use Rattle.drf_row_laws.specs.ConsistentLaws.{same_text-swap}
+use Rattle.drf_row_laws.specs.EndingLaws.{IsOneLess, accepted_in, offer_held, offer_out, started_by, sum_by-out, tasks_last}
 use Rattle.drf_rows.specs.Holdings.{Holding, holdings_of, of_offer, of_task}
 use Rattle.drf_rows.specs.Offers.{CanStart, offer_at, task_of}
 use Rattle.drf_rows.specs.Quota.{consumption_where, held_unreserved, reserved_for, reserved_in, reserves, unreserved_in}
-use Rattle.drf_rows.specs.laws.QuotaLaws.{consumption_is_part_of_total, parts_le}
-use Rattle.drf_rows.specs.laws.RegistrationLaws.{agent_added, new_agent}
-use Rattle.drf_rows.specs.laws.TaskLaws.{units-covers_all}
+use Rattle.drf_row_laws.specs.QuotaLaws.{consumption_is_part_of_total, parts_le}
+use Rattle.drf_row_laws.specs.RegistrationLaws.{agent_added, new_agent}
+use Rattle.drf_rows.specs.TaskLaws.{units-covers_all}
 use Rattle.drf_rows.specs.Tasks.{Start, uses}
 use Rattle.drf_rows.specs.Totals.{CanExchange, agent_at, exchanged, with_total}
-use Rattle.drf_rows.specs.laws.TotalsLaws.{agents_after, agents_before, agents_stand, stock-exchanged, where-exchanged, with_total-place}
+use Rattle.drf_row_laws.specs.TotalsLaws.{agents_after, agents_before, agents_stand, stock-exchanged, where-exchanged, with_total-place}
 use Rattle.drf_rows.specs.declared.limits.TheConstants.{LARGEST_AMOUNT}
 use Rattle.drf_rows.specs.declared.rows.AgentRow.{AgentRow}
 use Rattle.drf_rows.specs.declared.rows.FilterRow.{FilterRow}

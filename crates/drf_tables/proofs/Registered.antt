@@ -12,8 +12,8 @@ use Rattle.drf_rows.specs.Consistent.{are_distinct, are_distinct_roles, offers_c
 use Rattle.drf_rows.specs.Held.{is_registered}
 use Rattle.drf_rows.specs.Holdings.{Holding, holdings_of}
 use Rattle.drf_rows.specs.Members.{has_framework}
-use Rattle.drf_rows.specs.laws.ListLaws.{each_append, each_from}
-use Rattle.drf_rows.specs.laws.RegistrationLaws.{framework_added, IsConsistent-framework_added}
+use Rattle.drf_bundle.specs.ListLaws.{each_append, each_from}
+use Rattle.drf_row_laws.specs.RegistrationLaws.{framework_added, IsConsistent-framework_added}
 use Rattle.drf_rows.specs.declared.rows.ClientRow.{ClientRow}
 use Rattle.drf_rows.specs.declared.rows.FilterRow.{FilterRow}
 use Rattle.drf_rows.specs.declared.rows.FrameworkRow.{FrameworkRow}

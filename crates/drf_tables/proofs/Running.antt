@@ -10,9 +10,9 @@ use Rattle.drf_bundle.specs.declared.quantities.Entry.{Entry}
 use Rattle.drf_bundle.specs.declared.resource.Resource.{Resource}
 use Rattle.drf_rows.specs.Held.{cluster_total}
 use Rattle.drf_rows.specs.Quota.{consumption_where, reserved_for, reserved_in}
-use Rattle.drf_rows.specs.laws.QuotaLaws.{consumption_is_part_of_total}
+use Rattle.drf_row_laws.specs.QuotaLaws.{consumption_is_part_of_total}
 use Rattle.drf_rows.specs.Totals.{CanExchange, exchanged, with_other_total, with_total}
-use Rattle.drf_rows.specs.laws.TotalsLaws.{can_in_total, is_agent}
+use Rattle.drf_row_laws.specs.TotalsLaws.{can_in_total, is_agent}
 use Rattle.drf_rows.specs.declared.limits.TheConstants.{LARGEST_AMOUNT}
 use Rattle.drf_rows.specs.declared.rows.FilterRow.{FilterRow}
 use Rattle.drf_rows.specs.declared.rows.LimitRow.{LimitRow}

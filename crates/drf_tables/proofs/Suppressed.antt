@@ -4,7 +4,7 @@ use Rattle.std.proofs.Common.{ap, ◌∙◌}
 use Rattle.drf_role.specs.Text.{same_text}
 use Rattle.drf_role.specs.TextLaws.{same_itself}
 use Rattle.drf_rows.specs.Client.{Client}
-use Rattle.drf_rows.specs.laws.ConsistentLaws.{same_text-swap}
+use Rattle.drf_row_laws.specs.ConsistentLaws.{same_text-swap}
 use Rattle.drf_rows.specs.Members.{suppressed_at, suppressed_in}
 use Rattle.drf_rows.specs.declared.rows.FrameworkRow.{FrameworkRow}
 

@@ -10,8 +10,8 @@ use Rattle.drf_bundle.specs.laws.UnitProofs.{quantities_no_zeros}
 use Rattle.drf_bundle.specs.declared.quantities.Entry.{Entry}
 use Rattle.drf_rows.specs.Consistent.{IsAgent, AreAgents}
 use Rattle.drf_rows.specs.Held.{cluster_total}
-use Rattle.drf_rows.specs.laws.ListLaws.{each_filter, each_find}
-use Rattle.drf_rows.specs.laws.MemberLaws.{amount-without_named}
+use Rattle.drf_bundle.specs.ListLaws.{each_filter, each_find}
+use Rattle.drf_row_laws.specs.MemberLaws.{amount-without_named}
 use Rattle.drf_rows.specs.declared.rows.AgentRow.{AgentRow}
 
 no_zeros-added : (start : List Entry) (agents : List AgentRow) → HasNoZeros start → AllByRecursion IsAgent agents

@@ -10,7 +10,7 @@ use Rattle.drf_role.specs.PathLaws.{same_path-swap}
 use Rattle.drf_role.specs.Role.{IsRole}
 use Rattle.drf_bundle.specs.declared.quantities.Entry.{Entry}
 use Rattle.drf_rows.specs.Weights.{has_weight, is_weight, weights_with}
-use Rattle.drf_rows.specs.laws.WeightLaws.{IsConsistent-weight_set}
+use Rattle.drf_row_laws.specs.WeightLaws.{IsConsistent-weight_set}
 use Rattle.drf_rows.specs.declared.rows.Rows.{Rows}
 use Rattle.drf_tables.specs.Inside.{weight_row, weight_rows, rows_of, rows_in, AreDerived}
 use Rattle.drf_tables.specs.declared.tables.Agent.{Agent}

@@ -9,7 +9,7 @@ use Rattle.std.proofs.lemmas.Option.{slice_get-get_or}
 use Rattle.drf_role.specs.Text.{Text, same_text}
 use Rattle.drf_role.specs.Path.{Path, begins_with, same_path}
 use Rattle.drf_role.specs.PathLaws.{same_path-true}
-use Rattle.drf_rows.specs.laws.ListLaws.{each_from_both}
+use Rattle.drf_bundle.specs.ListLaws.{each_from_both}
 use Rattle.drf_sorter.specs.Content.{Content, Ranked, clients_under, standing_in}
 use Rattle.drf_sorter.specs.Keys.{key_by, key_of}
 use Rattle.drf_sorter.specs.Work.{debt}

@@ -12,7 +12,7 @@ use Rattle.drf_role.specs.Text.{Text, same_text}
 use Rattle.drf_role.specs.TextLaws.{same_itself}
 use Rattle.drf_role.specs.Path.{Path, IsClientPath, begins_with, same_path}
 use Rattle.drf_role.specs.PathLaws.{same_path-swap, same_path-true}
-use Rattle.drf_rows.specs.laws.ListLaws.{each_append}
+use Rattle.drf_bundle.specs.ListLaws.{each_append}
 use Rattle.drf_sorter.specs.Content.{Content, Ranked, has_client, with_client}
 use Rattle.drf_tree.specs.declared.family.Child.{Child}
 use Rattle.drf_tree.specs.declared.family.Family.{Family}

@@ -7,7 +7,7 @@ use Rattle.std.proofs.lemmas.List.Sums.{sum_by-cons}
 use Rattle.std.proofs.lemmas.Map.Keys.{IsDistinct-head, IsDistinct-tail}
 use Rattle.drf_role.specs.Path.{Path, begins_with, same_path}
 use Rattle.drf_role.specs.PathLaws.{same_path-swap, same_path-true}
-use Rattle.drf_rows.specs.laws.ListLaws.{sum_by-filter}
+use Rattle.drf_bundle.specs.ListLaws.{sum_by-filter}
 use Rattle.drf_sorter.specs.Content.{Ranked}
 
 -- a value of each client below a node, and 0 of the others

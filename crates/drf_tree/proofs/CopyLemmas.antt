@@ -7,7 +7,7 @@ use Rattle.std.proofs.lemmas.List.{length-map, nil_from_length}
 use Rattle.std.proofs.lemmas.Option.{slice_get-map}
 use Rattle.std.proofs.lemmas.Simd.{map-map}
 use Rattle.drf_role.specs.Text.{Text, same_text}
-use Rattle.drf_rows.specs.laws.ListLaws.{list_any-map}
+use Rattle.drf_bundle.specs.ListLaws.{list_any-map}
 use Rattle.drf_sorter.specs.Content.{Content, standing_in}
 use Rattle.drf_sorter.specs.Keys.{Key, key_of}
 use Rattle.drf_tree.specs.declared.family.Child.{Child}

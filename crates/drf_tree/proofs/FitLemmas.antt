@@ -3,7 +3,7 @@ use Rattle.std.specs.Prelude.{◌≡◌, ◌≤◌, ℕ, Bool, true, false, cond
 use Rattle.std.proofs.Common.{refl, ap, arith}
 use Rattle.std.proofs.lemmas.List.Sums.{sum_by-le-sum_by}
 use Rattle.drf_role.specs.Path.{Path, begins_with}
-use Rattle.drf_rows.specs.laws.ListLaws.{cond_le, sum_by-filter}
+use Rattle.drf_bundle.specs.ListLaws.{cond_le, sum_by-filter}
 use Rattle.drf_sorter.specs.Content.{Content, Ranked, clients_under}
 use Rattle.drf_tree.proofs.PathLemmas.{begins_trans}
 

@@ -10,7 +10,7 @@ use Rattle.drf_bundle.specs.Quantities.{amount_of}
 use Rattle.drf_bundle.specs.declared.quantities.Entry.{Entry}
 use Rattle.drf_role.specs.Path.{Path, IsClientPath, begins_with, same_path}
 use Rattle.drf_role.specs.PathLaws.{same_path-true}
-use Rattle.drf_rows.specs.laws.ListLaws.{each_from, length-filter_le}
+use Rattle.drf_bundle.specs.ListLaws.{each_from, length-filter_le}
 use Rattle.drf_sorter.specs.Content.{Content, HasCharge, HasChargeAt, Holds, HoldsAt, IsSound, Ranked, charged, clients_under, has_client, refunded, standing_in, with_change}
 use Rattle.drf_sorter.specs.Plain.{plain_content, ranked}
 use Rattle.drf_sorter.specs.declared.plain.PlainSorter.{PlainSorter}

@@ -25,6 +25,7 @@ pub mod RenewLemmas
 pub mod RepairLemmas
 pub mod StaleLemmas
 pub mod NothingLemmas
+pub mod CountLemmas
 pub mod CopyLemmas
 pub mod KeptLemmas
 pub mod SliceLemmas

@@ -6,7 +6,7 @@ use Rattle.drf_bundle.specs.laws.QuantitiesLaws.{amount-minus}
 use Rattle.drf_bundle.specs.declared.quantities.Entry.{Entry}
 use Rattle.drf_role.specs.Text.{Text}
 use Rattle.drf_role.specs.Path.{Path, same_path}
-use Rattle.drf_rows.specs.laws.ListLaws.{each_from}
+use Rattle.drf_bundle.specs.ListLaws.{each_from}
 use Rattle.drf_sorter.specs.Content.{Content, Ranked, has_client, with_change}
 use Rattle.drf_tree.specs.declared.node.Sum.{Sum}
 use Rattle.drf_tree.specs.declared.tree.Tree.{Tree}

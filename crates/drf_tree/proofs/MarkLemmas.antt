@@ -3,7 +3,7 @@ use Rattle.std.specs.Prelude.{◌≡◌, ◌≤◌, ◌<◌, ◌+◌, ◌-◌, �
 use Rattle.std.proofs.Common.{refl, ap, arith}
 use Rattle.std.proofs.Math.Nat.{min-le_left}
 use Rattle.std.proofs.lemmas.List.Sums.{count_by-le-length, sum_by-set}
-use Rattle.drf_rows.specs.laws.ListLaws.{count_by-cons}
+use Rattle.drf_bundle.specs.ListLaws.{count_by-cons}
 use Rattle.drf_sorter.specs.Work.{debt}
 use Rattle.drf_tree.specs.Marks.{Flags, marked_in, work_of}
 

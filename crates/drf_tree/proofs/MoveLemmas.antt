@@ -9,7 +9,7 @@ use Rattle.drf_role.specs.Text.{Text}
 use Rattle.drf_role.specs.Path.{Path, begins_with, same_path}
 use Rattle.drf_role.specs.PathLaws.{same_path-true}
 use Rattle.drf_rows.specs.Held.{weight_of}
-use Rattle.drf_rows.specs.laws.ListLaws.{each_from, sum_by-filter}
+use Rattle.drf_bundle.specs.ListLaws.{each_from, sum_by-filter}
 use Rattle.drf_rows.specs.Share.{greatest}
 use Rattle.drf_sorter.specs.Content.{Content, Ranked, clients_under, has_client, standing_in, with_change, with_client}
 use Rattle.drf_sorter.specs.Keys.{Key, key_of}

@@ -8,7 +8,7 @@ use Rattle.std.proofs.lemmas.Bool.Decides.{same_from_decides, Decides-like}
 use Rattle.std.proofs.lemmas.List.Quantifiers.{position-Some}
 use Rattle.std.proofs.lemmas.Option.{slice_get-get_or}
 use Rattle.drf_role.specs.Text.{Text, same_text}
-use Rattle.drf_rows.specs.laws.ListLaws.{each_at, list_any-map}
+use Rattle.drf_bundle.specs.ListLaws.{each_at, list_any-map}
 use Rattle.drf_bundle.specs.laws.ListLaws.{position-none}
 use Rattle.drf_tree.specs.declared.family.Child.{Child}
 use Rattle.drf_tree.specs.declared.family.Family.{Family}

@@ -2,7 +2,7 @@
 use Rattle.std.specs.Prelude.{◌≡◌, true, List, [], ◌∷◌, ◌++◌, Option}
 use Rattle.std.specs.List.{AllByRecursion}
 use Rattle.drf_role.specs.Path.{begins_with}
-use Rattle.drf_rows.specs.laws.ListLaws.{each_append, each_parts}
+use Rattle.drf_bundle.specs.ListLaws.{each_append, each_parts}
 use Rattle.drf_tree.specs.declared.node.Place.{Place}
 use Rattle.drf_tree.specs.declared.walk.Frame.{Frame}
 use Rattle.drf_tree.specs.Nodes.{path_at}

@@ -6,7 +6,7 @@ use Rattle.std.proofs.Common.{refl, sym, ap, ◌∙◌, inl, inr}
 use Rattle.std.proofs.lemmas.Bool.{true≢false}
 use Rattle.drf_role.specs.Text.{same_text}
 use Rattle.drf_role.specs.Path.{IsClientPath, same_path}
-use Rattle.drf_rows.specs.laws.ListLaws.{each_from}
+use Rattle.drf_bundle.specs.ListLaws.{each_from}
 use Rattle.drf_sorter.specs.Content.{Content, IsOrderOf, active_paths, standing_in}
 use Rattle.drf_sorter.specs.Served.{Weighs}
 use Rattle.drf_tree.specs.declared.family.Family.{Family}

@@ -8,7 +8,7 @@ use Rattle.std.proofs.lemmas.List.{length-take-le}
 use Rattle.std.proofs.lemmas.Option.{same_Some}
 use Rattle.drf_role.specs.Text.{Text}
 use Rattle.drf_role.specs.Path.{Path, begins_with}
-use Rattle.drf_rows.specs.laws.ListLaws.{each_from, each_parts}
+use Rattle.drf_bundle.specs.ListLaws.{each_from, each_parts}
 use Rattle.drf_sorter.specs.Content.{Content, active_paths}
 use Rattle.drf_sorter.specs.Passed.{IsPassedFront}
 use Rattle.drf_tree.specs.declared.family.Family.{Family}

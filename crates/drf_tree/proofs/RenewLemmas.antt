@@ -13,7 +13,7 @@ use Rattle.drf_role.specs.Text.{Text, same_text}
 use Rattle.drf_role.specs.TextLaws.{same_itself}
 use Rattle.drf_role.specs.Path.{Path, begins_with, same_path}
 use Rattle.drf_rows.specs.Held.{weight_of}
-use Rattle.drf_rows.specs.laws.ListLaws.{each_from_both}
+use Rattle.drf_bundle.specs.ListLaws.{each_from_both}
 use Rattle.drf_rows.specs.Weights.{are_weights}
 use Rattle.drf_rows.specs.declared.rows.WeightRow.{WeightRow}
 use Rattle.drf_sorter.specs.Content.{Content, IsSound, standing_in}
@@ -23,7 +23,7 @@ use Rattle.drf_sorter.specs.laws.OrderLaws.{weighted_share-above}
 use Rattle.drf_sorter.specs.Plain.{plain_content}
 use Rattle.drf_sorter.specs.Served.{Weighs}
 use Rattle.drf_sorter.specs.declared.plain.PlainSorter.{PlainSorter}
-use Rattle.drf_rows.specs.laws.WeightLaws.{weight-found}
+use Rattle.drf_row_laws.specs.WeightLaws.{weight-found}
 use Rattle.drf_tree.specs.declared.family.Child.{Child}
 use Rattle.drf_tree.specs.declared.family.Family.{Family}
 use Rattle.drf_tree.specs.declared.node.Place.{Place}

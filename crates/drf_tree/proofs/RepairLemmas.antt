@@ -7,7 +7,7 @@ use Rattle.std.proofs.lemmas.Bool.{true≢false, cases_Bool, eqb-true}
 use Rattle.std.proofs.lemmas.Option.{slice_get-get_or}
 use Rattle.drf_role.specs.Text.{same_text}
 use Rattle.drf_role.specs.TextLaws.{same_itself}
-use Rattle.drf_rows.specs.laws.ListLaws.{each_at, each_from, each_from_both, each_map}
+use Rattle.drf_bundle.specs.ListLaws.{each_at, each_from, each_from_both, each_map}
 use Rattle.drf_sorter.specs.Content.{Content, IsSound, standing_in}
 use Rattle.drf_sorter.specs.Keys.{key_by, key_of}
 use Rattle.drf_sorter.specs.laws.OrderLaws.{weighted_share-above}

@@ -10,7 +10,7 @@ use Rattle.std.proofs.lemmas.List.Sorted.{All-permutation, IsPermutation-map, Is
 use Rattle.std.proofs.lemmas.Map.Keys.{IsDistinct-IsPermutation}
 use Rattle.drf_role.specs.Text.{Text, same_text}
 use Rattle.drf_role.specs.Path.{Path, same_path}
-use Rattle.drf_rows.specs.laws.ListLaws.{each_from, each_map, list_any-map}
+use Rattle.drf_bundle.specs.ListLaws.{each_from, each_map, list_any-map}
 use Rattle.drf_sorter.specs.Content.{Content}
 use Rattle.drf_tree.specs.declared.family.Child.{Child}
 use Rattle.drf_tree.specs.declared.family.Family.{Family}

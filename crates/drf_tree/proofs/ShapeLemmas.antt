@@ -7,7 +7,7 @@ use Rattle.std.proofs.lemmas.Bool.{true≢false, false≢true, cases_Bool, cases
 use Rattle.std.specs.Cmp.Lexicographic.{bytes_decides}
 use Rattle.drf_role.specs.Text.{Text, same_text}
 use Rattle.drf_role.specs.Path.{Path, IsClientPath, IsNodePath}
-use Rattle.drf_rows.specs.laws.ListLaws.{each_from}
+use Rattle.drf_bundle.specs.ListLaws.{each_from}
 use Rattle.drf_tree.specs.declared.family.Child.{Child}
 use Rattle.drf_tree.specs.declared.family.Family.{Family}
 use Rattle.drf_tree.specs.declared.node.Place.{Place}

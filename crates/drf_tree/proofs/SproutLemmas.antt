@@ -13,7 +13,7 @@ use Rattle.drf_bundle.specs.declared.quantities.Entry.{Entry}
 use Rattle.drf_role.specs.Text.{Text, same_text}
 use Rattle.drf_role.specs.Path.{Path, IsClientPath, IsNodePath, begins_with, same_path}
 use Rattle.drf_rows.specs.Held.{weight_of}
-use Rattle.drf_rows.specs.laws.ListLaws.{each_from}
+use Rattle.drf_bundle.specs.ListLaws.{each_from}
 use Rattle.drf_rows.specs.Share.{Fraction, greatest, is_less, weighted_share_of}
 use Rattle.drf_sorter.specs.Content.{Content, Ranked, clients_under, has_node, standing_in}
 use Rattle.drf_sorter.specs.Fractions.{fraction_cmp, held_fractions}

@@ -6,7 +6,7 @@ use Rattle.std.proofs.Math.Seq.{drop-cons, map-set_same, take-suc-set}
 use Rattle.std.proofs.lemmas.Bool.{true≢false, false≢true, cases_Bool, cases_eq}
 use Rattle.std.proofs.lemmas.List.{drop-set-lt, get_or-set_other, length-map, length-set}
 use Rattle.std.proofs.lemmas.Map.Keys.{IsDistinct-head, IsDistinct-tail}
-use Rattle.drf_rows.specs.laws.ListLaws.{each_append, each_from_both, list_any_at}
+use Rattle.drf_bundle.specs.ListLaws.{each_append, each_from_both, list_any_at}
 use Rattle.drf_tree.specs.declared.family.Child.{Child}
 use Rattle.drf_tree.specs.declared.node.Sum.{Sum}
 use Rattle.drf_bundle.specs.declared.quantities.Entry.{Entry}

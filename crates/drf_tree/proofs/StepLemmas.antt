@@ -8,7 +8,7 @@ use Rattle.std.proofs.lemmas.List.{append-nil}
 use Rattle.std.proofs.lemmas.List.Sums.{sum_by-cons}
 use Rattle.std.proofs.lemmas.Option.{same_Some, slice_get_cases}
 use Rattle.drf_role.specs.Path.{Path, IsClientPath, begins_with}
-use Rattle.drf_rows.specs.laws.ListLaws.{each_append, each_from, each_parts}
+use Rattle.drf_bundle.specs.ListLaws.{each_append, each_from, each_parts}
 use Rattle.drf_sorter.specs.Content.{Content, active_paths, clients_under}
 use Rattle.drf_tree.specs.declared.family.Family.{Family}
 use Rattle.drf_tree.specs.declared.node.Place.{Place}

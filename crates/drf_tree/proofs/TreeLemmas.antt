@@ -7,7 +7,7 @@ use Rattle.std.proofs.lemmas.Option.{slice_get_within, slice_get-get_or}
 use Rattle.drf_role.specs.Text.{Text}
 use Rattle.drf_role.specs.Path.{Path, IsClientPath, begins_with, same_path}
 use Rattle.drf_rows.specs.Held.{weight_of}
-use Rattle.drf_rows.specs.laws.ListLaws.{each_from, each_from_both}
+use Rattle.drf_bundle.specs.ListLaws.{each_from, each_from_both}
 use Rattle.drf_sorter.specs.Content.{Content, Ranked, standing_in}
 use Rattle.drf_sorter.specs.Keys.{Key, key_by, key_of}
 use Rattle.drf_tree.specs.declared.family.Child.{Child}

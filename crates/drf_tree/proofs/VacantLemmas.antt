@@ -5,7 +5,7 @@ use Rattle.std.specs.Option.{is_some, option_map_or}
 use Rattle.std.proofs.Common.{refl, sym, ap, subst, ◌∙◌, inl, inr, arith, length-append}
 use Rattle.drf_role.specs.Text.{same_text}
 use Rattle.drf_role.specs.Path.{Path, same_path}
-use Rattle.drf_rows.specs.laws.ListLaws.{each_from}
+use Rattle.drf_bundle.specs.ListLaws.{each_from}
 use Rattle.drf_sorter.specs.Content.{Content, Ranked, standing_in}
 use Rattle.drf_sorter.specs.Keys.{key_by, key_of}
 use Rattle.drf_tree.specs.declared.family.Child.{Child}

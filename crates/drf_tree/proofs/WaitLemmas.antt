@@ -6,7 +6,7 @@ use Rattle.std.proofs.lemmas.Bool.{cases_Bool, cases_eq, false≢true, ne_eqb}
 use Rattle.std.proofs.lemmas.List.{get_or-set_other, get_or-set_same, length-set}
 use Rattle.std.proofs.lemmas.List.Folds.{list_any-append}
 use Rattle.std.proofs.lemmas.List.Sums.{sum_by-append, sum_by-set}
-use Rattle.drf_rows.specs.laws.ListLaws.{each_append, each_from, each_parts}
+use Rattle.drf_bundle.specs.ListLaws.{each_append, each_from, each_parts}
 use Rattle.drf_tree.specs.Marks.{AreWaiting, marked_in}
 use Rattle.drf_tree.proofs.MarkLemmas.{all_clear, down_at, few_marked, marked_once, one_if}
 

@@ -5,8 +5,8 @@ use Rattle.std.proofs.lemmas.Bool.{cases_Bool, cases_eq}
 use Rattle.drf_role.specs.Path.{Path, same_path}
 use Rattle.drf_role.specs.PathLaws.{same_path-true}
 use Rattle.drf_rows.specs.Held.{weight_of}
-use Rattle.drf_rows.specs.laws.ListLaws.{each_from_both}
-use Rattle.drf_rows.specs.laws.WeightLaws.{weight_of-set}
+use Rattle.drf_bundle.specs.ListLaws.{each_from_both}
+use Rattle.drf_row_laws.specs.WeightLaws.{weight_of-set}
 use Rattle.drf_rows.specs.Weights.{weights_with}
 use Rattle.drf_rows.specs.declared.rows.WeightRow.{WeightRow}
 use Rattle.drf_sorter.specs.Content.{Content, standing_in, with_weight}

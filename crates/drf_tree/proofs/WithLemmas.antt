@@ -9,7 +9,7 @@ use Rattle.std.proofs.lemmas.Bool.{cases_eq}
 use Rattle.std.proofs.lemmas.List.Sorted.{IsPermutation-map, IsPermutation-middle, list_any-IsPermutation}
 use Rattle.std.proofs.lemmas.Map.Keys.{IsDistinct-IsPermutation}
 use Rattle.drf_role.specs.Text.{same_text}
-use Rattle.drf_rows.specs.laws.ListLaws.{each_append, each_parts}
+use Rattle.drf_bundle.specs.ListLaws.{each_append, each_parts}
 use Rattle.drf_tree.specs.declared.family.Child.{Child}
 use Rattle.drf_tree.specs.declared.family.Family.{Family}
 use Rattle.drf_tree.specs.Family.{IsWith, child_name}

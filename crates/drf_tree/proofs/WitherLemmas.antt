@@ -8,7 +8,7 @@ use Rattle.std.specs.Cmp.Lexicographic.{bytes_decides}
 use Rattle.std.proofs.lemmas.List.{same_from_push}
 use Rattle.drf_role.specs.Text.{same_text}
 use Rattle.drf_role.specs.Path.{Path, IsClientPath, IsNodePath}
-use Rattle.drf_rows.specs.laws.ListLaws.{each_from, each_from_both}
+use Rattle.drf_bundle.specs.ListLaws.{each_from, each_from_both}
 use Rattle.drf_tree.specs.declared.family.Child.{Child}
 use Rattle.drf_tree.specs.declared.node.Place.{Place}
 use Rattle.drf_tree.specs.Family.{IsGone, child_name, has_child}

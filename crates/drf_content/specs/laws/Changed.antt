@@ -13,7 +13,7 @@ use Rattle.drf_sorter.specs.Content.{with_change}
 use Rattle.drf_sorter.specs.Content as sorter
 use Rattle.drf_content.specs.Content.{ranked, content_of}
 use Rattle.drf_content.specs.laws.Client.{ranked_all, ranked-changed}
-use Rattle.drf_rows.specs.laws.MemberLaws.{cluster_total-with_activity}
+use Rattle.drf_row_laws.specs.MemberLaws.{cluster_total-with_activity}
 
 -- ---- what a sorter does not know
 

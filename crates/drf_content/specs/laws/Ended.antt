@@ -11,7 +11,7 @@ use Rattle.drf_bundle.specs.declared.quantities.Entry.{Entry}
 use Rattle.drf_rows.specs.Client.{path_of}
 use Rattle.drf_rows.specs.Holdings.{Holding, holdings_of, held_where, is_of}
 use Rattle.drf_rows.specs.Held.{client_of, cluster_total}
-use Rattle.drf_rows.specs.laws.ListLaws.{each_append}
+use Rattle.drf_bundle.specs.ListLaws.{each_append}
 use Rattle.drf_rows.specs.declared.rows.ClientRow.{ClientRow}
 use Rattle.drf_rows.specs.declared.rows.FrameworkRow.{FrameworkRow}
 use Rattle.drf_rows.specs.declared.rows.Rows.{Rows}

@@ -16,8 +16,8 @@ use Rattle.drf_rows.specs.Holdings.{Holding, holdings_of}
 use Rattle.drf_rows.specs.Held.{cluster_total, is_registered}
 use Rattle.drf_rows.specs.Members.{has_framework, with_agent, new_client}
 use Rattle.drf_rows.specs.Consistent.{IsConsistent}
-use Rattle.drf_rows.specs.laws.ConsistentLaws.{has_its_role, is_row_of}
-use Rattle.drf_rows.specs.laws.ListLaws.{list_any-both}
+use Rattle.drf_row_laws.specs.ConsistentLaws.{has_its_role, is_row_of}
+use Rattle.drf_bundle.specs.ListLaws.{list_any-both}
 use Rattle.drf_rows.specs.declared.rows.AgentRow.{AgentRow}
 use Rattle.drf_rows.specs.declared.rows.ClientRow.{ClientRow}
 use Rattle.drf_rows.specs.declared.rows.FrameworkRow.{FrameworkRow}

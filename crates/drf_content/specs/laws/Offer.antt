@@ -11,7 +11,7 @@ use Rattle.drf_bundle.specs.Bundle.{quantities_of}
 use Rattle.drf_bundle.specs.declared.quantities.Entry.{Entry}
 use Rattle.drf_rows.specs.Client.{Client, path_of}
 use Rattle.drf_rows.specs.Holdings.{Holding, of_offer, holdings_of, held_where, amount_in, is_of}
-use Rattle.drf_rows.specs.laws.HoldingsLaws.{held_where-with_offer}
+use Rattle.drf_row_laws.specs.HoldingsLaws.{held_where-with_offer}
 use Rattle.drf_rows.specs.Held.{client_of, cluster_total}
 use Rattle.drf_rows.specs.Cycle.{with_offer}
 use Rattle.drf_rows.specs.declared.rows.ClientRow.{ClientRow}

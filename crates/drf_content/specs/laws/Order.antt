@@ -13,9 +13,9 @@ use Rattle.drf_rows.specs.Holdings.{Holding, holdings_of, held_where, amount_in,
 use Rattle.drf_rows.specs.Held.{client_of, active_clients, held_by, count_of, cluster_total, weight_of}
 use Rattle.drf_rows.specs.Share.{Standing, is_serving_order}
 use Rattle.drf_rows.specs.Cycle.{turn_order}
-use Rattle.drf_rows.specs.laws.ServingOrder.{serving_order-unique}
+use Rattle.drf_row_laws.specs.ServingOrder.{serving_order-unique}
 use Rattle.drf_rows.specs.Consistent.{IsConsistent}
-use Rattle.drf_rows.specs.laws.ListLaws.{sum_by-filter, sum_by-as_one}
+use Rattle.drf_bundle.specs.ListLaws.{sum_by-filter, sum_by-as_one}
 use Rattle.drf_rows.specs.declared.rows.ClientRow.{ClientRow}
 use Rattle.drf_rows.specs.declared.rows.FrameworkRow.{FrameworkRow}
 use Rattle.drf_rows.specs.declared.rows.Rows.{Rows}

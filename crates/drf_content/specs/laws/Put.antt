@@ -18,7 +18,7 @@ use Rattle.drf_rows.specs.Held.{client_of, cluster_total}
 use Rattle.drf_rows.specs.Holdings.{Holding, amount_in, held_where, holdings_of, is_of, of_offer, of_task}
 use Rattle.drf_rows.specs.Members.{has_framework}
 use Rattle.drf_rows.specs.Weights.{weights_with}
-use Rattle.drf_rows.specs.laws.HoldingsLaws.{held_where-append, held_where-cons, held_where-with_offer}
+use Rattle.drf_row_laws.specs.HoldingsLaws.{held_where-append, held_where-cons, held_where-with_offer}
 use Rattle.drf_rows.specs.declared.rows.AgentRow.{AgentRow}
 use Rattle.drf_rows.specs.declared.rows.ClientRow.{ClientRow}
 use Rattle.drf_rows.specs.declared.rows.FrameworkRow.{FrameworkRow}

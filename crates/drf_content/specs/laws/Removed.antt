@@ -15,7 +15,7 @@ use Rattle.drf_rows.specs.Held.{client_of, cluster_total}
 use Rattle.drf_rows.specs.Members.{framework_removed}
 use Rattle.drf_rows.specs.Endings.{without_ended, all_of}
 use Rattle.drf_rows.specs.Consistent.{AreFrameworks, are_distinct_roles}
-use Rattle.drf_rows.specs.laws.ListLaws.{list_any-both, each_from, each_find, each_found}
+use Rattle.drf_bundle.specs.ListLaws.{list_any-both, each_from, each_find, each_found}
 use Rattle.drf_rows.specs.declared.rows.ClientRow.{ClientRow}
 use Rattle.drf_rows.specs.declared.rows.FrameworkRow.{FrameworkRow}
 use Rattle.drf_rows.specs.declared.rows.Rows.{Rows}

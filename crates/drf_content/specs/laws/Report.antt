@@ -13,19 +13,19 @@ use Rattle.drf_bundle.specs.laws.QuantitiesLaws.{amount-without_zeros, in_order-
 use Rattle.drf_bundle.specs.declared.quantities.Entry.{Entry}
 use Rattle.drf_rows.specs.Client.{Client, path_of}
 use Rattle.drf_rows.specs.Consistent.{IsConsistent}
-use Rattle.drf_rows.specs.laws.ConsistentLaws.{bundles-consistent}
+use Rattle.drf_row_laws.specs.ConsistentLaws.{bundles-consistent}
 use Rattle.drf_rows.specs.Held.{client_of, clients_in, clients_of, cluster_total, held_by, standing_of}
 use Rattle.drf_rows.specs.Holdings.{Holding, holdings_of, is_under}
-use Rattle.drf_rows.specs.laws.Laws.{paths_told}
+use Rattle.drf_row_laws.specs.Laws.{paths_told}
 use Rattle.drf_rows.specs.Offers.{is_empty}
 use Rattle.drf_rows.specs.Report.{held_under, node_line, nodes_of, report_of, terms_of}
-use Rattle.drf_rows.specs.laws.ReportLaws.{amount-held_under, nodes_begin_paths, nodes_rise}
+use Rattle.drf_row_laws.specs.ReportLaws.{amount-held_under, nodes_begin_paths, nodes_rise}
 use Rattle.drf_rows.specs.Share.{Standing, share_of, weighted_share_of}
 use Rattle.drf_rows.specs.declared.report.NodeLine.{NodeLine}
 use Rattle.drf_rows.specs.declared.rows.ClientRow.{ClientRow}
 use Rattle.drf_rows.specs.declared.rows.FrameworkRow.{FrameworkRow}
 use Rattle.drf_rows.specs.declared.rows.Rows.{Rows}
-use Rattle.drf_sorter.specs.Content.{Ranked, has_node}
+use Rattle.drf_sorter.specs.Content.{HasNodes, Ranked, has_node}
 use Rattle.drf_sorter.specs.Lines.{AreLinesOf, IsLineOf, has_line, paths_of}
 use Rattle.drf_content.specs.Content.{content_of, ranked}
 use Rattle.drf_content.specs.laws.Client.{ranked_all}
@@ -60,6 +60,22 @@ has_node-content_of : (rows : Rows) (node : Path)
 unfolding content_of
 has_node-content_of rows node = any_clients (holdings_of rows) node rows.frameworks
 
+not_empty : (node : Path) (b : Bool) → 1 ≤ length node → b ≡ true → (not (is_empty node) && b) ≡ true
+not_empty [] b some is = absurd (omega arith)
+not_empty (p ∷ ps) b some is = is
+
+paths_again : (rows : Rows) (nodes : List Path) → map (λ line. line.path) (map (node_line rows) nodes) ≡ nodes
+paths_again rows [] = refl
+paths_again rows (n ∷ ns) = ap (λ (ps : List Path). n ∷ ps) (paths_again rows ns)
+
+-- each node of the sorter's clients is reported
+pub HasNodes-content_of : (rows : Rows) → HasNodes (content_of rows) (nodes_of rows)
+unfolding report_of
+HasNodes-content_of rows node some has =
+    ap (list_any (same_path node)) (sym (paths_again rows (nodes_of rows)))
+    ∙ nodes_begin_paths rows node
+    ∙ not_empty node _ some (sym (has_node-content_of rows node) ∙ has)
+
 module _ (rows : Rows) (lines : List NodeLine) (are : AreLinesOf (content_of rows) lines) where
   -- a line that is there is one of a node that has clients
   of_node : (ls : List NodeLine) → AllByRecursion (IsLineOf (content_of rows)) ls → (node : Path) → has_line ls node ≡ true
@@ -71,10 +87,6 @@ module _ (rows : Rows) (lines : List NodeLine) (are : AreLinesOf (content_of row
         (all.0.some, all.0.clients)
     | inr past ↦ of_node ls all.1 node past
   ]
-
-  not_empty : (node : Path) (b : Bool) → 1 ≤ length node → b ≡ true → (not (is_empty node) && b) ≡ true
-  not_empty [] b some is = absurd (omega arith)
-  not_empty (p ∷ ps) b some is = is
 
   with_parts : (node : Path) (b : Bool) → (not (is_empty node) && b) ≡ true → (1 ≤ length node) × (b ≡ true)
   with_parts [] b is = absurd (false≢true is)
@@ -123,16 +135,12 @@ each_is : (rows : Rows) (lines : List NodeLine) → IsConsistent rows → AllByR
 each_is rows [] consistent all = refl
 each_is rows (l ∷ ls) consistent all = λ i. line_is rows l consistent all.0 i ∷ each_is rows ls consistent all.1 i
 
-told_again : (rows : Rows) (nodes : List Path)
-    → map (node_line rows) (map (λ line. line.path) (map (node_line rows) nodes)) ≡ map (node_line rows) nodes
-told_again rows [] = refl
-told_again rows (n ∷ ns) = ap (λ (ls : List NodeLine). node_line rows n ∷ ls) (told_again rows ns)
-
 pub report_of-lines : (rows : Rows) (total : List Entry) (lines : List NodeLine) → IsConsistent rows
     → total ≡ without_zeros (cluster_total rows.agents) → AreLinesOf (content_of rows) lines
     → record { total = total; nodes = lines } ≡ report_of rows
 unfolding report_of
 report_of-lines rows total lines consistent total_is are =
     let nodes : lines ≡ map (node_line rows) (nodes_of rows) =
-    each_is rows lines consistent are.each ∙ ap (map (node_line rows)) (same_nodes rows lines are) ∙ told_again rows (nodes_of rows) in
+    each_is rows lines consistent are.each ∙ ap (map (node_line rows)) (same_nodes rows lines are)
+    ∙ ap (map (node_line rows)) (paths_again rows (nodes_of rows)) in
     λ i. record { total = total_is i; nodes = nodes i }

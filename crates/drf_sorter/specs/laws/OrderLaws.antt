@@ -12,7 +12,7 @@ use Rattle.drf_role.specs.TextLaws.{less_from_test, cases_same, same_from_cmp, s
 use Rattle.drf_bundle.specs.declared.quantities.Entry.{Entry}
 use Rattle.drf_role.specs.Path.{Path, begins_with}
 use Rattle.drf_rows.specs.Share.{Fraction, is_less, greatest, Standing, share_of, weighted_share_of, is_ahead, stands_before_below, stands_before}
-use Rattle.drf_rows.specs.laws.ServingOrder.{is_ahead-back}
+use Rattle.drf_row_laws.specs.ServingOrder.{is_ahead-back}
 use Rattle.drf_sorter.specs.Fractions.{fraction_cmp, held_fractions}
 use Rattle.drf_sorter.specs.laws.FractionLaws.{fraction_cmp-antisymm, fraction_cmp-trans, fraction_cmp-congr, is_lt-fraction_cmp, product_above, is_eq-fraction_cmp, is_lt-nat_cmp}
 use Rattle.drf_sorter.specs.Keys.{Key, key_cmp, key_of, keys_of}

@@ -9,7 +9,7 @@ use Rattle.std.proofs.lemmas.Map.Keys.{IsDistinct-head, IsDistinct-tail}
 use Rattle.drf_role.specs.Path.{Path, IsClientPath, same_path, begins_with}
 use Rattle.drf_role.specs.PathLaws.{path_decides, client_paths-apart}
 use Rattle.drf_rows.specs.Share.{Standing, stands_before, is_serving_order}
-use Rattle.drf_rows.specs.laws.ListLaws.{each_from_both}
+use Rattle.drf_bundle.specs.ListLaws.{each_from_both}
 use Rattle.drf_sorter.specs.laws.OrderLaws.{stands_before-total, stands_before-transitive}
 use Rattle.drf_sorter.specs.Served.{Weighs}
 

@@ -15,7 +15,7 @@ raise-requires c =
     let rest : List Usage = c.next.new.self in
     let split : c.loop-role.role-iterator ≡ (role, amounts) ∷ rest = c.in-Some.ensures.steps in
     copy_fits whole copy rest role amounts
-    (subst (λ (us : List Usage). (test : Path → Bool) (label : Text) → used_where test copy label + used_where test us label ≡ used_where test whole label) split c.loop-role.invariant)
+    (subst (λ (us : List Usage). (test : Path → Bool) (label : Text) → used_where test copy label + used_where test us label ≡ used_where test whole label) split c.loop-role.invariant.parts)
     c.requires c.recall.ensures.right
 
 pub loop-role-preserved : goal.loop-role-preserved
@@ -26,6 +26,9 @@ loop-role-preserved c =
     let amounts : List Entry = c.in-Some.amounts.now in
     let rest : List Usage = c.next.new.self in
     let split : c.loop-role.role-iterator ≡ (role, amounts) ∷ rest = c.in-Some.ensures.steps in
-    copy_more whole copy rest role amounts c.raise.new.used.entries
-    (subst (λ (us : List Usage). (test : Path → Bool) (label : Text) → used_where test copy label + used_where test us label ≡ used_where test whole label) split c.loop-role.invariant)
-    c.in_ok-raise.ensures.ok
+    record {
+      parts = copy_more whole copy rest role amounts c.raise.new.used.entries
+          (subst (λ (us : List Usage). (test : Path → Bool) (label : Text) → used_where test copy label + used_where test us label ≡ used_where test whole label) split c.loop-role.invariant.parts)
+          c.in_ok-raise.ensures.ok;
+      some = c.raise.ensures.some c.loop-role.invariant.some;
+    }

@@ -1,10 +1,11 @@
-use Rattle.std.proofs.Common.{◌≡◌, List, Some, sym, ap, ◌∙◌, arith}
+use Rattle.std.proofs.Common.{◌≡◌, List, Some, sym, ap, subst, ◌∙◌, arith}
 use Rattle.std.specs.Map.{lookup, set_value}
 use Rattle.std.specs.Option.{option_copied_mut}
 use Rattle.std.proofs.lemmas.Map.Steps.{set_value_same}
 use Rattle.drf_role.specs.Path.{Path, same_path}
 use Rattle.drf_bundle.specs.declared.quantities.Entry.{Entry}
-use Rattle.drf_gates.specs.Quota.{Usage, used_where}
+use Rattle.drf_gates.specs.Quota.{Usage, AreSome, used_where}
+use Rattle.drf_gates.proofs.SomeLemmas.{some_found, some_set}
 use Rattle.drf_gates.proofs.UsageLemmas.{row_is, set_raises}
 use Rattle.drf_gates.proofs.usage.raise_there.Goals as goal
 
@@ -33,3 +34,13 @@ returns-clause-not c = λ other.
     let found : lookup (same_path role) old ≡ Some c.in-Some.row.now = sym c.get_mut.ensures.value ∙ ap option_copied_mut c.in-Some.is in
     let wrote : (c.get_mut.follows.lender sum).entries ≡ set_value (same_path role) old sum = (c.get_mut.follows.holds sum).0 in
     wrote ∙ set_value_same (same_path role) old sum (found ∙ ap (λ (q : List Entry). Some q) (sym (c.raise_row.ensures.not other)))
+
+pub returns-clause-some : goal.returns-clause-some
+returns-clause-some c = λ all.
+    let role : Path = c.args.role.now in
+    let old : List Usage = c.args.used.now.entries in
+    let sum : List Entry = c.raise_row.new.row in
+    let found : lookup (same_path role) old ≡ Some c.in-Some.row.now = sym c.get_mut.ensures.value ∙ ap option_copied_mut c.in-Some.is in
+    let wrote : (c.get_mut.follows.lender sum).entries ≡ set_value (same_path role) old sum = (c.get_mut.follows.holds sum).0 in
+    subst AreSome (sym wrote)
+    (some_set (same_path role) old sum (c.raise_row.ensures.some (some_found (same_path role) old c.in-Some.row.now found all)) all)

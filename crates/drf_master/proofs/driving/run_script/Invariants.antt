@@ -7,6 +7,6 @@ use Rattle.drf_master.proofs.driving.run_script.Given as goal
 -- the events so far were called and replied to, and there is room for all replies
 abbrev pub invariant-loop-event : goal.invariant-loop-event
 invariant-loop-event g l =
-    (l.fn.job.script.items ≡ l.yielded ++ into_iter_items l.event-iterator)
-    × (IsThrough (IsAsked (g.G.Gate.lets l.fn.gate) (g.G.Gate.sees l.fn.gate) l.fn.job.worker) l.fn.job.pass l.yielded l.replies.items l.pass
-    × (length l.fn.job.script.items ≤ vec_capacity l.replies))
+    (l.fn.script.items ≡ l.yielded ++ into_iter_items l.event-iterator)
+    × (IsThrough (IsAsked (g.G.Gate.lets l.fn.gate) (g.G.Gate.sees l.fn.gate) l.fn.worker) l.fn.pass l.yielded l.replies.items l.pass
+    × (length l.fn.script.items ≤ vec_capacity l.replies))

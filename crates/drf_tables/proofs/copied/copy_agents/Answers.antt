@@ -1,7 +1,7 @@
 use Rattle.std.proofs.Common.{◌≡◌, List, ◌∷◌, ◌++◌, sym, ap, ◌∙◌}
 use Rattle.indexmap.specs.IndexMap.{insert_entry}
 use Rattle.drf_role.specs.Text.{Text, same_text}
-use Rattle.drf_rows.specs.laws.ConsistentLaws.{same_text-swap}
+use Rattle.drf_row_laws.specs.ConsistentLaws.{same_text-swap}
 use Rattle.drf_tables.specs.declared.tables.Agent.{Agent}
 use Rattle.drf_tables.proofs.CopyLemmas.{copied_more}
 use Rattle.drf_tables.proofs.copied.copy_agents.Goals as goal

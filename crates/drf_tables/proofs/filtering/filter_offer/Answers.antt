@@ -1,10 +1,10 @@
 use Rattle.std.proofs.Common.{◌≡◌, Some, sym, ap, ◌∙◌}
 use Rattle.std.specs.Prelude.{option_copied}
-use Rattle.drf_rows.specs.laws.EndingLaws.{held-offer_at}
+use Rattle.drf_row_laws.specs.EndingLaws.{held-offer_at}
 use Rattle.drf_rows.specs.Offers.{offer_at}
 use Rattle.drf_rows.specs.declared.rows.OfferRow.{OfferRow}
 use Rattle.drf_rows.specs.declared.rows.Rows.{Rows}
-use Rattle.drf_rows.specs.laws.OfferLaws.{offer_filter}
+use Rattle.drf_row_laws.specs.OfferLaws.{offer_filter}
 use Rattle.drf_tables.proofs.filtering.filter_offer.Goals as goal
 
 pub add_filter-requires : goal.add_filter-requires

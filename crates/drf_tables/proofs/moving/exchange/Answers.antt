@@ -3,7 +3,7 @@ use Rattle.std.specs.Map.{lookup}
 use Rattle.indexmap.specs.IndexMap.{set_value_at}
 use Rattle.drf_role.specs.Text.{Text, same_text}
 use Rattle.drf_role.specs.TextLaws.{same_itself}
-use Rattle.drf_rows.specs.laws.ListLaws.{each_at}
+use Rattle.drf_bundle.specs.ListLaws.{each_at}
 use Rattle.drf_tables.specs.Changing.{CanExchangeAt, with_exchanged}
 use Rattle.drf_tables.proofs.Entries.{key_at, key_found}
 use Rattle.drf_tables.proofs.Known.{changed_entry, changed_none, key_unknown}

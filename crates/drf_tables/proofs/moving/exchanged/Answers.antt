@@ -5,7 +5,7 @@ use Rattle.drf_bundle.specs.Bundle.{merged, refusal, rest}
 use Rattle.drf_bundle.specs.laws.FitLaws.{join_or_some}
 use Rattle.drf_bundle.specs.declared.resource.Resource.{Resource}
 use Rattle.drf_rows.specs.Totals.{exchanged}
-use Rattle.drf_rows.specs.laws.TotalsLaws.{joined-exchanged}
+use Rattle.drf_row_laws.specs.TotalsLaws.{joined-exchanged}
 use Rattle.drf_tables.proofs.moving.exchanged.Goals as goal
 
 pub exchange-requires : goal.exchange-requires

@@ -6,7 +6,7 @@ use Rattle.drf_role.specs.Text.{Text, same_text}
 use Rattle.drf_rows.specs.Client.{Client}
 use Rattle.drf_rows.specs.Cycle.{counted, count_offer}
 use Rattle.drf_rows.specs.Holdings.{of_offer}
-use Rattle.drf_rows.specs.laws.ListLaws.{each_at}
+use Rattle.drf_bundle.specs.ListLaws.{each_at}
 use Rattle.drf_tables.specs.Counting.{CanCount}
 use Rattle.drf_tables.specs.Inside.{framework_row, framework_rows}
 use Rattle.drf_tables.proofs.Entries.{key_at, key_found, row_at, changed_at, known-lookup}

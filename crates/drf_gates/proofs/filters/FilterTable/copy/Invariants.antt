@@ -1,5 +1,6 @@
 use Rattle.std.proofs.Common.{◌≡◌, take}
+use Rattle.drf_gates.specs.Slots.{filled}
 use Rattle.drf_gates.proofs.filters.FilterTable.copy.Given as goal
 
-abbrev pub invariant-loop-row : goal.invariant-loop-row
-invariant-loop-row l = l.copy ≡ take l.row-index l.row-items
+abbrev pub invariant-loop-slot : goal.invariant-loop-slot
+invariant-loop-slot l = l.copy ≡ filled (take l.slot-index l.slot-items)

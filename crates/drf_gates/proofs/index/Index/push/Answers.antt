@@ -1,4 +1,4 @@
-use Rattle.std.proofs.Common.{◌≡◌, ◌+◌, length, get_or, ◌∙◌, arith}
+use Rattle.std.proofs.Common.{◌≡◌, ◌+◌, ◌%◌, ℕ, length, get_or, ap, ◌∙◌, arith}
 use Rattle.std.proofs.lemmas.List.{get_or_default}
 use Rattle.drf_gates.proofs.FilterLemmas.{chained-push}
 use Rattle.drf_gates.proofs.index.Index.push.Goals as goal
@@ -10,5 +10,6 @@ returns-clause-chained c =
     let head : c.index-head.result.now ≡ get_or index.heads.items c.bucket-bucket.result 0 =
     c.index-head.ensures ∙ get_or_default index.heads.items c.bucket-bucket.result c.index-head.result.now 0 c.bucket-bucket.ensures.within
     in
-    λ rows is. chained-push rows c.args.row.now index.heads.items index.links.items c.push_reserved.new.self.items c.bucket-bucket.result
-    c.index-head.result.now c.len.result is c.bucket-bucket.ensures.value c.bucket-bucket.ensures.within next head c.push_reserved.ensures.items
+    let bucket = c.bucket-bucket.ensures.value ∙ ap (λ (h : ℕ). h % length index.heads.items) c.row_hash.ensures in
+    λ rows is. chained-push c.args.key rows c.args.row.now index.heads.items index.links.items c.push_reserved.new.self.items c.bucket-bucket.result
+    c.index-head.result.now c.len.result is bucket c.bucket-bucket.ensures.within next head c.push_reserved.ensures.items

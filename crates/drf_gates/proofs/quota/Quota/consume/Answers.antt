@@ -18,15 +18,15 @@ raise-requires c = λ label.
 
 pub invariant_of-self : goal.invariant_of-self
 invariant_of-self c =
-    subst (λ (us : List Usage). IsCounted us c.self.inside.totals.entries) (sym c.in_err-raise.ensures.err) c.self.invariant
+    subst (λ (us : List Usage). IsCounted c.self.inside.limits us c.self.inside.totals.entries) (sym c.in_err-raise.ensures.err) c.self.invariant
 
 pub invariant_of-self-2 : goal.invariant_of-self-2
 invariant_of-self-2 c =
     let old : List Usage = c.self.inside.used.entries in
     let new : List Usage = c.raise.new.used.entries in
-    raised_beside old new c.args.role.now c.args.amounts.now c.self.inside.totals.entries c.raise_totals.new.totals.entries
-    c.self.invariant c.in_ok-raise.ensures.ok
+    raised_beside c.self.inside.limits old new c.args.role.now c.args.amounts.now c.self.inside.totals.entries c.raise_totals.new.totals.entries
+    c.self.invariant c.raise.ensures.some c.raise_totals.ensures.roles c.in_ok-raise.ensures.ok
     (bounded-raised c.raise.result old new c.args.role.now c.args.amounts.now c.raise.ensures.ok c.raise.ensures.err c.self.invariant.bounded
     (λ outer label right within.
     omega (arith, c.requires outer label right within, ap (λ (a : Allowance). used_at a.used outer label) c.self.view_is)))
-    c.raise_totals.ensures
+    c.raise_totals.ensures.exact

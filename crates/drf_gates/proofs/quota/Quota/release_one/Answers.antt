@@ -22,6 +22,6 @@ reduce-requires c =
 
 pub invariant_of-self : goal.invariant_of-self
 invariant_of-self c =
-    lowered_beside c.self.inside.used.entries c.reduce.new.used.entries c.args.role.now
+    lowered_beside c.self.inside.limits c.self.inside.used.entries c.reduce.new.used.entries c.args.role.now
     (one_entry c.args.resource.now.label c.thousandths-amount.result) c.self.inside.totals.entries c.reduce_totals.new.totals.entries
-    c.self.invariant c.reduce.ensures c.reduce_totals.ensures
+    c.self.invariant c.reduce.ensures.some c.reduce_totals.ensures.roles c.reduce.ensures.lowered c.reduce_totals.ensures.exact

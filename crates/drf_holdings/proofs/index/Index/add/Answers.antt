@@ -20,13 +20,14 @@ returns-clause-ok c =
     let old = c.args.self.now.lists.entries in
     let none : lookup (same_text name) old ≡ None = sym c.get_mut.ensures.value ∙ ap option_copied_mut c.in_default.is in
     let same = c.get_mut.follows.holds-at-none in
-    let mid = c.get_mut.follows.lender-at-none.entries in
+    let mid = c.make_room.new.self.lists.entries in
+    let kept : (q : Text) → numbers_at mid q ≡ numbers_at old q = λ q. c.make_room.ensures q ∙ (λ i. numbers_at (same i).entries q) in
     let key : Text = c.in_ok-copy.field-0 in
     let copied : key ≡ name = c.in_ok-copy.ensures in
-    let missing : lookup (same_text key) mid ≡ None = (λ i. lookup (same_text (copied i)) (same i).entries) ∙ none in
+    let free : numbers_at mid key ≡ [] = (λ i. numbers_at mid (copied i)) ∙ kept name ∙ ap items_or none in
     let v = c.push-2.new.self in
     let pushed : items_or (Some v) ≡ numbers_at mid key ++ c.args.number ∷ [] =
-    c.in_ok-push-2.ensures.items ∙ ap (λ ns. ns ++ c.args.number ∷ []) (c.new-numbers.ensures.items ∙ sym (ap items_or missing)) in
+    c.in_ok-push-2.ensures.items ∙ ap (λ ns. ns ++ c.args.number ∷ []) (c.new-numbers.ensures.items ∙ sym free) in
     let updates = c.in_ok-insert.ensures.updates in
     λ q. added_at mid c.insert.new.self.entries key (Some v) updates.0 c.args.number pushed q
-    ∙ (λ i. numbers_at (same i).entries q ++ cond (same_text (copied i) q) (c.args.number ∷ []) [])
+    ∙ (λ i. kept q i ++ cond (same_text (copied i) q) (c.args.number ∷ []) [])

@@ -20,7 +20,7 @@ returns-in-Err-clause-err c tasks listed =
       agents = λ n. c.in-Err.ensures.err n ∙ listed.agents n;
       names = λ key.
           undone (same_text row.framework key.0 && same_text row.name key.1) c.args.task.now.serial
-          (serials_in names key) (serials_in c.add.new.self key) (serials_in c.remove.new.self key)
-          (c.remove.ensures key) (c.in_ok-add.ensures.ok key) (free key)
+          (serials_in names key) (serials_in c.add.new.self key) (serials_in c.take.new.self key)
+          (c.take.ensures.left key) (c.in_ok-add.ensures.ok key) (free key)
           ∙ listed.names key;
     }

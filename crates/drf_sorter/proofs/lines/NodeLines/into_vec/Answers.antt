@@ -1,6 +1,6 @@
 use Rattle.std.proofs.Common.{IsTrue, subst, List}
 use Rattle.drf_rows.specs.declared.report.NodeLine.{NodeLine}
-use Rattle.drf_rows.specs.laws.Laws.{are_in_order}
+use Rattle.drf_row_laws.specs.Laws.{are_in_order}
 use Rattle.drf_sorter.specs.Lines.{paths_of}
 use Rattle.drf_sorter.proofs.LineLemmas.{in_order-rising}
 use Rattle.drf_sorter.proofs.lines.NodeLines.into_vec.Goals as goal

@@ -5,7 +5,7 @@ use Rattle.drf_rows.specs.Cycle.{at_moment}
 use Rattle.drf_rows.specs.Offers.{offer_accepted, filter_of, is_empty, left_of_offer, offer_at, filtered_until, filters_rest}
 use Rattle.drf_rows.specs.declared.rows.OfferRow.{OfferRow}
 use Rattle.drf_rows.specs.declared.rows.Rows.{Rows}
-use Rattle.drf_rows.specs.laws.OfferLaws.{moment_early, same_offer}
+use Rattle.drf_row_laws.specs.OfferLaws.{moment_early, same_offer}
 use Rattle.drf_tables.specs.Ended.{filter_if}
 use Rattle.drf_tables.specs.Inside.{rows_of}
 use Rattle.drf_tables.specs.Stored.{Stored}

@@ -7,7 +7,7 @@ use Rattle.drf_bundle.specs.declared.quantities.Entry.{Entry}
 use Rattle.drf_bundle.specs.declared.resource.Resource.{Resource}
 use Rattle.drf_bundle.specs.Bundle.{quantities_of}
 use Rattle.drf_rows.specs.Consistent.{IsAgent}
-use Rattle.drf_rows.specs.laws.RegistrationLaws.{new_agent, agent_added}
+use Rattle.drf_row_laws.specs.RegistrationLaws.{new_agent, agent_added}
 use Rattle.drf_rows.specs.Members.{has_agent}
 use Rattle.drf_rows.specs.Quota.{reserved_in}
 use Rattle.drf_rows.specs.declared.limits.TheConstants.{LARGEST_AMOUNT}

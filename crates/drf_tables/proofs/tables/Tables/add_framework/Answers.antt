@@ -4,7 +4,7 @@ use Rattle.indexmap.specs.IndexMap.{insert_entry}
 use Rattle.drf_role.specs.Role.{IsRole}
 use Rattle.drf_role.specs.Text.{same_text}
 use Rattle.drf_rows.specs.Consistent.{IsFramework, offers_counted}
-use Rattle.drf_rows.specs.laws.RegistrationLaws.{framework_added}
+use Rattle.drf_row_laws.specs.RegistrationLaws.{framework_added}
 use Rattle.drf_rows.specs.Members.{has_framework}
 use Rattle.drf_rows.specs.declared.rows.ClientRow.{ClientRow}
 use Rattle.drf_rows.specs.declared.rows.FrameworkRow.{FrameworkRow}

@@ -1,7 +1,7 @@
 use Rattle.std.proofs.Common.{sym, ap, ◌∙◌, List}
 use Rattle.drf_bundle.specs.Bundle.{covers}
 use Rattle.drf_bundle.specs.declared.resource.Resource.{Resource}
-use Rattle.drf_rows.specs.laws.TaskLaws.{covers_from}
+use Rattle.drf_rows.specs.TaskLaws.{covers_from}
 use Rattle.drf_tables.proofs.PutBack.{usable-known, usable-unknown}
 use Rattle.drf_tables.proofs.tables.Tables.is_usable.Goals as goal
 

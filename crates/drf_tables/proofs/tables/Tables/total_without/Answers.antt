@@ -4,7 +4,7 @@ use Rattle.drf_role.specs.Text.{Text, same_text}
 use Rattle.drf_bundle.specs.Bundle.{quantities_of}
 use Rattle.drf_bundle.specs.Quantities.{covers, minus, without_zeros}
 use Rattle.drf_bundle.specs.declared.quantities.Entry.{Entry}
-use Rattle.drf_rows.specs.laws.EndingLaws.{each_past, filter-none}
+use Rattle.drf_row_laws.specs.EndingLaws.{each_past, filter-none}
 use Rattle.drf_rows.specs.Held.{cluster_total}
 use Rattle.drf_rows.specs.Members.{has_agent}
 use Rattle.drf_rows.specs.declared.rows.AgentRow.{AgentRow}

@@ -1,7 +1,10 @@
-use Rattle.std.proofs.Common.{refl, true}
-use Rattle.drf_sorter.specs.Content.{Content}
+use Rattle.std.proofs.Common.{refl, subst, sym, true}
+use Rattle.drf_sorter.specs.Content.{Content, HasNodes}
 use Rattle.drf_sorter.specs.Plain.{plain_content}
+use Rattle.drf_tree.specs.Sorter.{Sorted}
+use Rattle.drf_tree.specs.Tidy.{IsTidy}
 use Rattle.drf_tree.specs.Tree.{IsTotalFree}
+use Rattle.drf_tree.proofs.CountLemmas.{few_stale}
 use Rattle.drf_tree.proofs.KeptLemmas.{kept_by, settled_along}
 use Rattle.drf_tree.proofs.RenewLemmas.{plain_weighs}
 use Rattle.drf_tree.proofs.sorter.TreeSorterSorter.set_total.Goals as goal
@@ -28,3 +31,18 @@ invariant_of-self-2 c =
     c.self.invariant.frames
     (settled_along content new c.self.inside.tree.places.items c.self.inside.tree.families.items refl c.self.inside.walk.frames.items
     c.self.invariant.settled)
+
+-- ---- no more is stale than there is
+
+pub returns-then-self-clause-stale : goal.returns-then-self-clause-stale
+returns-then-self-clause-stale c = λ nodes has counted.
+    few_stale (plain_content c.self.inside.ledger) c.self.inside.tree nodes c.self.invariant.of_ledger.shape c.self.invariant.tidy
+    (subst (λ (s : Sorted). HasNodes (plain_content s.ledger) nodes) (sym c.self.view_is) has)
+
+pub returns-clause-stale : goal.returns-clause-stale
+returns-clause-stale c = λ nodes has counted.
+    let content = plain_content c.self.inside.ledger in
+    let of = c.mark_all.ensures.tree content c.args.total (plain_weighs c.self.inside.ledger) c.self.invariant.of_ledger in
+    few_stale content c.mark_all.new.self nodes of.shape
+    (subst (λ (places : _). IsTidy content places.items) (sym c.mark_all.ensures.places) c.self.invariant.tidy)
+    (subst (λ (s : Sorted). HasNodes (plain_content s.ledger) nodes) (sym c.self.view_is) has)

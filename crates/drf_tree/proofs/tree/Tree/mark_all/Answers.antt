@@ -4,7 +4,7 @@ use Rattle.std.proofs.Common.{refl, subst, sym, ◌∙◌, inl, inr}
 use Rattle.std.proofs.lemmas.Bool.{and_parts, cases_Bool}
 use Rattle.drf_bundle.specs.declared.quantities.Entry.{Entry}
 use Rattle.drf_role.specs.Path.{Path}
-use Rattle.drf_rows.specs.laws.ListLaws.{each_from_both}
+use Rattle.drf_bundle.specs.ListLaws.{each_from_both}
 use Rattle.drf_sorter.specs.Content.{Content, standing_in}
 use Rattle.drf_sorter.specs.Keys.{key_by}
 use Rattle.drf_tree.specs.declared.node.Sum.{Sum}

@@ -4,7 +4,7 @@ use Rattle.std.proofs.Common.{ap, arith, refl, subst, sym, ◌∙◌}
 use Rattle.std.proofs.lemmas.List.{drop_all, nil_from_length}
 use Rattle.std.proofs.lemmas.Option.{same_Some, slice_get_read}
 use Rattle.drf_role.specs.Path.{Path}
-use Rattle.drf_rows.specs.laws.EndingLaws.{split_at}
+use Rattle.drf_row_laws.specs.EndingLaws.{split_at}
 use Rattle.drf_sorter.specs.Content.{Content}
 use Rattle.drf_tree.specs.declared.family.Family.{Family}
 use Rattle.drf_tree.specs.declared.node.Place.{Place}

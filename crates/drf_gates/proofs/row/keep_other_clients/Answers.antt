@@ -1,7 +1,0 @@
-use Rattle.std.proofs.Common.{not, rules}
-use Rattle.std.proofs.lemmas.Fn.{filter_same}
-use Rattle.drf_rows.specs.Filters.{is_of_client}
-use Rattle.drf_gates.proofs.row.keep_other_clients.Goals as goal
-
-pub returns : goal.returns
-returns c = filter_same _ (λ f. not (is_of_client (record { role = c.args.role.now; framework = c.args.framework.now }) f)) _ (λ x b f k. search rules) _ _ c.retain.ensures.filtered

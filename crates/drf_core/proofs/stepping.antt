@@ -1,4 +1,5 @@
 -- Whole steps and runs.
+pub mod Filters
 pub mod Safe
 pub mod Work
 pub mod Step

@@ -10,7 +10,7 @@ use Rattle.drf_rows.specs.declared.rows.AgentRow.{AgentRow}
 use Rattle.drf_rows.specs.declared.rows.Rows.{Rows}
 use Rattle.drf_rows.specs.Step.{live_rows}
 use Rattle.drf_rows.specs.declared.rows.OfferRow.{OfferRow}
-use Rattle.drf_explain.specs.Each.{told_of_each, each_on, each_on_all}
+use Rattle.drf_explain.specs.Each.{told_of_each, each_on, turns_on_all, untouched_on}
 use Rattle.drf_explain.specs.Explained.{outcome, told_of_agent, told_of_all}
 use Rattle.drf_gates.specs.Quota.{Allowance}
 use Rattle.drf_sorter.specs.Content.{Content}
@@ -33,9 +33,9 @@ told_on each rows agent = if each then each_on rows agent else told_of_agent row
 abbrev pub told_at : Bool → Rows → ℕ → List Finding
 told_at each rows place = option_map_or (told_on each rows) (slice_get rows.agents place) []
 
--- what comes of a client as the rows stand
-abbrev pub told_here : Rows → AgentRow → Client → Finding
-told_here rows agent client = Tried agent.name (path_of client) (outcome rows agent client)
+-- what would be told of each client of the turn of the agent at a place, were it tried first
+abbrev pub untouched_at : Rows → ℕ → List Finding
+untouched_at rows place = option_map_or (untouched_on rows) (slice_get rows.agents place) []
 
 -- what is told of clients that are not tried
 abbrev pub left_told : Text → List Resource → ℕ → List Finding
@@ -58,8 +58,8 @@ IsOutcomeOf rows agent path finding = (client : Client) → path ≡ path_of cli
 -- ---- a telling that goes from agent to agent
 
 -- what is left to be told of the agents from a place on, with the drafts: nothing where the telling is over
-abbrev pub left_to_tell : Bool → Rows → List OfferRow → ℕ → List (List Finding)
-left_to_tell over rows offers place = if over then [] else each_on_all (with_offers rows offers) (drop place rows.agents)
+abbrev pub left_to_tell : Bool → Rows → List OfferRow → ℕ → List (List Finding × List Finding)
+left_to_tell over rows offers place = if over then [] else turns_on_all (with_offers rows offers) (drop place rows.agents)
 
 -- a telling stands before the turn of the agent at a place
 pub record IsTelling (content : Content) (rows : Rows) (settled : Bool) (live : Rows) (offers : List OfferRow) (lefts : List tables_word.Left)

@@ -1,5 +1,5 @@
 -- What an allocator is to its callers: its limits and rows, of which clauses name the live ones, and the work of its sorter.
-use Rattle.std.specs.Prelude.{◌≡◌, ℕ, ◌≤◌, ◌<◌, ◌^◌, List, ◌++◌, length, take, refl}
+use Rattle.std.specs.Prelude.{◌≡◌, ℕ, ◌≤◌, ◌<◌, ◌^◌, List, ◌++◌, take, slice_get, Some, None, refl}
 use Rattle.std.specs.List.{AllByRecursion}
 use Rattle.std.specs.Coded.{Coded, code_by, coded×, coded_ℕ}
 use Rattle.drf_rows.specs.contracts.limits.Limits as limits
@@ -11,6 +11,7 @@ use Rattle.drf_rows.specs.declared.reply.Reply.{Reply}
 use Rattle.drf_rows.specs.declared.rows.Rows.{Rows}
 use Rattle.drf_rows.specs.declared.event.Event.{Event}
 use Rattle.drf_sorter.specs.Work.{Work}
+use Rattle.drf_core.specs.Refusing.{early_refusal_of}
 
 pub record Machine : Type 0 where
   pub limits : LimitNumbers
@@ -72,9 +73,12 @@ pub record IsAfterAll (old new : Engine) (events : List Event) : Type 0 where
   pub limits : new.limits ≡ old.limits
   pub rows : live_rows new.rows ≡ live_rows (rows_after_all old.limits old.rows events)
 
--- the allocator took the events of a prefix, and their replies were appended
-pub record HasRun (old new : Engine) (events : List Event) (before told : List Reply) : Type 0 where
+-- The allocator stopped at an event: those before it were taken, and their replies appended. Where there is room for one more reply, the
+-- event is not refused whatever the memory.
+pub record HasStopped (old new : Engine) (events : List Event) (before told : List Reply) (room : ℕ) : Type 0 where
   pub number : ℕ
-  pub few : number ≤ length events
+  pub event : Event
+  pub at : slice_get events number ≡ Some event
   pub ended : IsAfterAll old new (take number events)
   pub replies : told ≡ before ++ replies_to old.limits old.rows (take number events)
+  pub not_refused : 0 < room → early_refusal_of old.limits (rows_after_all old.limits old.rows (take number events)) event ≡ None

@@ -1,13 +1,14 @@
 -- How much an event may add to what a sorter owes.
-use Rattle.std.specs.Prelude.{ℕ, ◌+◌, ◌≤◌, Bool, true, false, IsTrue, List, [], ◌∷◌, ◌++◌, Option, Some, None, length, map, filter, sum_by}
+use Rattle.std.specs.Prelude.{ℕ, ◌+◌, ◌≤◌, Bool, true, false, IsTrue, List, [], ◌∷◌, ◌++◌, length, map, filter, sum_by}
 use Rattle.std.specs.Option.{option_map_or}
 use Rattle.drf_role.specs.Text.{same_text}
 use Rattle.drf_rows.specs.Client.{Client, path_of}
-use Rattle.drf_rows.specs.Endings.{Ending, one_offer, one_task, offers_on, all_of, ends_offer, ends_task}
+use Rattle.drf_rows.specs.Endings.{Ending, one_offer, one_task, offers_on, all_on, all_of, ends_offer, ends_task}
 use Rattle.drf_rows.specs.Held.{clients_of}
 use Rattle.drf_rows.specs.Holdings.{of_offer, of_task}
 use Rattle.drf_rows.specs.LimitNumbers.{LimitNumbers}
 use Rattle.drf_rows.specs.Members.{distinct}
+use Rattle.drf_rows.specs.Report as report
 use Rattle.drf_rows.specs.Step.{effect, new_offers, refusal_of, rows_after}
 use Rattle.drf_rows.specs.declared.event.Event.{Event}
 use Rattle.drf_rows.specs.declared.event.Event.TheVariants.{AddAgent, RemoveAgent, ActivateAgent, DeactivateAgent, SetAgent, AddFramework, RemoveFramework, Accept, Decline, Rescind, Finish, Suppress, Revive, Reserve, Unreserve, SetWeight, SetLimit, Cycle, Report}
@@ -32,7 +33,7 @@ losers rows ending =
 -- removes. An accepted offer and its tasks are one client's, which stands once.
 abbrev pub touched : Rows → Event → List Client
 touched rows (AddAgent agent total) = []
-touched rows (RemoveAgent agent) = []
+touched rows (RemoveAgent agent) = losers rows (all_on agent)
 touched rows (ActivateAgent agent) = []
 touched rows (DeactivateAgent agent) = losers rows (offers_on agent)
 touched rows (SetAgent agent total) = []
@@ -58,29 +59,27 @@ may_make_keys (AddFramework framework roles) = true
 may_make_keys (Cycle at) = true
 may_make_keys event = false
 
--- what an event that is not refused may add: nothing bounds a change of the cluster's total, which all keys depend on
-abbrev pub allowed : Rows → Event → Option ℕ
-allowed rows (AddAgent agent total) = None
-allowed rows (RemoveAgent agent) = None
-allowed rows (SetAgent agent total) = None
-allowed rows (SetWeight role weight) = Some 1
-allowed rows event = Some (nodes_of (touched rows event))
+-- how many nodes a report has, each once
+abbrev pub all_nodes : Rows → ℕ
+all_nodes rows = length (report.nodes_of rows)
+
+-- What an event that is not refused may add. Each key depends on the cluster's total, so where this is another, each node counts.
+abbrev pub allowed : Rows → Event → ℕ
+allowed rows (AddAgent agent total) = all_nodes rows
+allowed rows (RemoveAgent agent) = nodes_of (touched rows (RemoveAgent agent)) + all_nodes rows
+allowed rows (SetAgent agent total) = all_nodes rows
+allowed rows (SetWeight role weight) = 1
+allowed rows event = nodes_of (touched rows event)
 
 -- what an event may add
-abbrev pub allowance : LimitNumbers → Rows → Event → Option ℕ
-allowance limits rows event = option_map_or (λ refusal. Some 0) (refusal_of limits rows event) (allowed rows event)
-
--- the sum of two amounts, where both are bounded
-abbrev pub bounded_sum : Option ℕ → Option ℕ → Option ℕ
-bounded_sum None other = None
-bounded_sum (Some n) None = None
-bounded_sum (Some n) (Some m) = Some (n + m)
+abbrev pub allowance : LimitNumbers → Rows → Event → ℕ
+allowance limits rows event = option_map_or (λ refusal. 0) (refusal_of limits rows event) (allowed rows event)
 
 -- what a list of events may add: each event on the rows that it finds
-abbrev pub allowance_of_all : LimitNumbers → Rows → List Event → Option ℕ
-allowance_of_all limits rows [] = Some 0
+abbrev pub allowance_of_all : LimitNumbers → Rows → List Event → ℕ
+allowance_of_all limits rows [] = 0
 allowance_of_all limits rows (event ∷ events) =
-    bounded_sum (allowance limits rows event) (allowance_of_all limits (rows_after limits rows event) events)
+    allowance limits rows event + allowance_of_all limits (rows_after limits rows event) events
 
 -- where work is counted, what is owed grew by no more than the nodes of the clients of new drafts
 abbrev pub AddsDrafts : Bool → Work → Work → List OfferRow → List OfferRow → Type 0

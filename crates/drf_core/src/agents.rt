@@ -4,7 +4,7 @@ ghost use Rattle.drf_rows.specs.Step.{refusal_of, effect};
 ghost use Rattle.drf_rows.specs.declared.event.Event.TheVariants.{AddAgent, RemoveAgent, ActivateAgent, DeactivateAgent, SetAgent};
 ghost use Rattle.drf_laws.specs.Kept.{IsKept};
 ghost use Rattle.drf_sorter.specs.Work.{Adds};
-ghost use Rattle.drf_core.specs.Working.{nodes_of, touched};
+ghost use Rattle.drf_core.specs.Working.{all_nodes, allowed, nodes_of, touched};
 
 use crate::cluster::Cluster;
 use drf_bundle::Bundle;
@@ -26,6 +26,7 @@ impl<S: Sorter> Cluster<S> {
         requires welcome { refusal_of limits.now self.old.rows (AddAgent agent total) ≡ None }
         ensures ok { OnOk result (self.new.rows ≡ effect self.old.rows (AddAgent agent total)) }
         ensures err { OnErr result (self.new.rows ≡ self.old.rows) }
+        ensures work { OnOk result (Adds S.COUNTED self.old.work self.new.work (all_nodes self.old.rows)) }
         ensures made { self.new.work.made ≡ self.old.work.made }
     {
         let sum = self.tables.total().plus(total.quantities())?;
@@ -38,6 +39,7 @@ impl<S: Sorter> Cluster<S> {
     pub(crate) fn remove_agent(&mut self, agent: &Name) -> Result<(), AllocError>
         ensures ok { OnOk result (self.new.rows ≡ effect self.old.rows (RemoveAgent agent.now)) }
         ensures err { OnErr result (self.new.rows ≡ self.old.rows) }
+        ensures work { OnOk result (Adds S.COUNTED self.old.work self.new.work (allowed self.old.rows (RemoveAgent agent.now))) }
         ensures made { self.new.work.made ≡ self.old.work.made }
     {
         let total = self.tables.total_without(agent)?;
@@ -77,6 +79,7 @@ impl<S: Sorter> Cluster<S> {
         requires welcome { refusal_of limits.now self.old.rows (SetAgent agent.now total) ≡ None }
         ensures ok { OnOk result (self.new.rows ≡ effect self.old.rows (SetAgent agent.now total)) }
         ensures err { OnErr result (self.new.rows ≡ self.old.rows) }
+        ensures work { OnOk result (Adds S.COUNTED self.old.work self.new.work (all_nodes self.old.rows)) }
         ensures made { self.new.work.made ≡ self.old.work.made }
     {
         let others = self.tables.total_without(agent)?;

@@ -1,8 +1,8 @@
-ghost use Rattle.std.specs.Prelude.{◌≡◌, ◌≤◌, ◌++◌, false, None, IfOk, IfSome, OnOk, OnErr, MatchOption};
+ghost use Rattle.std.specs.Prelude.{◌≡◌, ◌≤◌, ◌++◌, ◌-◌, false, None, length, vec_len, vec_capacity, IfOk, IfSome, OnOk, OnErr};
 ghost use Rattle.drf_sorter.specs.Work.{Adds};
 ghost use Rattle.drf_core.specs.Working.{allowance, allowance_of_all, may_make_keys};
 ghost use Rattle.drf_core.specs.Copies.{copies_if};
-ghost use Rattle.drf_core.specs.Machine.{IsOpened, IsSafe, IsSame, IsAfter, IsAfterAll, HasRun};
+ghost use Rattle.drf_core.specs.Machine.{IsOpened, IsSafe, IsSame, IsAfter, IsAfterAll, HasStopped};
 
 use crate::cluster::Cluster;
 use crate::explain::Telling;
@@ -55,7 +55,7 @@ impl<S: Sorter> Core<S> {
     ghost use Rattle.drf_core.specs.Refusing.{early_refusal_of};
     ghost use Rattle.drf_rows.specs.Report.{report_of};
     ghost use Rattle.drf_content.specs.Content.{content_of};
-    ghost use Rattle.drf_explain.specs.Each.{each_by_agent};
+    ghost use Rattle.drf_explain.specs.Each.{turns_by_agent};
     ghost use Rattle.drf_explain.specs.Explained.{explained};
     ghost use Rattle.drf_core.specs.Keeping.{IsStanding};
     ghost use Rattle.drf_saved_laws.specs.SavedLaws.{IsSaveable};
@@ -97,19 +97,21 @@ impl<S: Sorter> Core<S> {
     /// Takes one event, whole or not at all. A refusal is a reply; a refused event changes nothing, nor does want of
     /// memory, which no refused event meets but one that is refused for what is free, held or consumed: where resources move
     /// between everyone and a role, or a total is another. However it ends, nothing is granted twice. At `Ok`, a sorter whose work is
-    /// counted owes no more for it than the nodes of the clients that it touches, and one for a weight; of what `add_agent`,
-    /// `remove_agent` and `set_agent` leave stale no bound is said. However it ends, the count of keys has not fallen, and only a
-    /// `cycle` and an `add_framework` that are not refused raise it.
+    /// counted owes no more for it than the nodes of the clients that it touches, and one for a weight; for `add_agent`,
+    /// `remove_agent` and `set_agent` one more for each node of a report. However it ends, the count of keys has not fallen, and only a
+    /// `cycle` and an `add_framework` that are not refused raise it. At most 65,537 filters stand then, those that have run out among
+    /// them: one more than may be in force.
     pub fn step(&mut self, event: Event) -> Result<Reply, AllocError>
         ensures reply { IfOk result (λ reply. reply ≡ reply_to self.old.limits self.old.rows event) }
         ensures ok { OnOk result (IsAfter self.old self.new event) }
         ensures err { OnErr result (IsSame self.old self.new) }
         ensures not_refused { OnErr result (early_refusal_of self.old.limits self.old.rows event ≡ None) }
         ensures safe { IsSafe (live_rows self.new.rows) }
-        ensures work { OnOk result (MatchOption (allowance self.old.limits self.old.rows event) (Unit {0}) (Adds S.COUNTED self.old.work self.new.work)) }
+        ensures work { OnOk result (Adds S.COUNTED self.old.work self.new.work (allowance self.old.limits self.old.rows event)) }
         ensures made { self.old.work.made ≤ self.new.work.made }
         ensures keys { may_make_keys event ≡ false → self.new.work.made ≡ self.old.work.made }
         ensures refused { IfSome (refusal_of self.old.limits self.old.rows event) (λ refusal. self.new.work.made ≡ self.old.work.made) }
+        ensures filters { length self.new.rows.filters ≤ 65537 }
     {
         let Stepped {
             reply,
@@ -127,14 +129,14 @@ impl<S: Sorter> Core<S> {
         ensures err { OnErr result (IsSame self.old self.new) }
         ensures not_refused { OnErr result (early_refusal_of self.old.limits self.old.rows event ≡ None) }
         ensures safe { IsSafe (live_rows self.new.rows) }
-        ensures work { OnOk result (MatchOption (allowance self.old.limits self.old.rows event) (Unit {0}) (Adds S.COUNTED self.old.work self.new.work)) }
+        ensures work { OnOk result (Adds S.COUNTED self.old.work self.new.work (allowance self.old.limits self.old.rows event)) }
         ensures made { self.old.work.made ≤ self.new.work.made }
         ensures keys { may_make_keys event ≡ false → self.new.work.made ≡ self.old.work.made }
         ensures refused { IfSome (refusal_of self.old.limits self.old.rows event) (λ refusal. self.new.work.made ≡ self.old.work.made) }
+        ensures filters { length self.new.rows.filters ≤ 65537 }
     {
         given_law(&event);
         let cluster = &mut *self.cluster;
-        cluster.forget_spent();
         if let Some(refusal) = cluster.refusal(&self.limits, &event)? {
             return Ok(Stepped::refused(refusal, copied));
         }
@@ -150,23 +152,43 @@ impl<S: Sorter> Core<S> {
         let _ = self.limits.agents();
     }
 
-    /// Takes events in order, and appends their replies. At an `Err` it stands after the events whose replies it has
-    /// appended. However it ends, nothing is granted twice, and the count of keys has not fallen, and has risen only where `cycle` or
-    /// `add_framework` is among the events.
+    /// Takes one event that is lent, as `step` does. One that is refused early needs no memory, not for a copy either.
+    fn step_lent(&mut self, event: &Event) -> Result<Reply, AllocError>
+        ensures reply { IfOk result (λ reply. reply ≡ reply_to self.old.limits self.old.rows event.now) }
+        ensures ok { OnOk result (IsAfter self.old self.new event.now) }
+        ensures err { OnErr result (IsSame self.old self.new) }
+        ensures not_refused { OnErr result (early_refusal_of self.old.limits self.old.rows event.now ≡ None) }
+        ensures safe { IsSafe (live_rows self.new.rows) }
+        ensures work { OnOk result (Adds S.COUNTED self.old.work self.new.work (allowance self.old.limits self.old.rows event.now)) }
+        ensures made { self.old.work.made ≤ self.new.work.made }
+        ensures keys { may_make_keys event.now ≡ false → self.new.work.made ≡ self.old.work.made }
+    {
+        self.tell_safe();
+        if let Some(refusal) = self.cluster.early_refusal(&self.limits, event) {
+            return Ok(Reply::Refused(refusal));
+        }
+        let event = event.copy()?;
+        self.step(event)
+    }
+
+    /// Takes events in order, and appends their replies. At an `Err` it stands after the events whose replies it has appended, before one
+    /// that no early refusal holds of, or for whose reply there is no room. At `Ok`, a sorter whose work is counted owes no more than for
+    /// each event alone. However it ends, nothing is granted twice, and the count of keys has not fallen, and has risen only where `cycle`
+    /// or `add_framework` is among the events.
     pub fn run(&mut self, events: &[Event], replies: &mut Vec<Reply>) -> Result<(), AllocError>
-        ensures run { HasRun self.old self.new events.now replies.old.items replies.new.items }
         ensures ok { OnOk result (IsAfterAll self.old self.new events.now) }
         ensures replies { OnOk result (replies.new.items ≡ replies.old.items ++ replies_to self.old.limits self.old.rows events.now) }
+        ensures stopped { OnErr result (HasStopped self.old self.new events.now replies.old.items replies.new.items (vec_capacity replies.new - vec_len replies.new)) }
+        ensures capacity { vec_capacity replies.old ≤ vec_capacity replies.new }
         ensures safe { IsSafe (live_rows self.new.rows) }
-        ensures work { OnOk result (MatchOption (allowance_of_all self.old.limits self.old.rows events.now) (Unit {0}) (Adds S.COUNTED self.old.work self.new.work)) }
+        ensures work { OnOk result (Adds S.COUNTED self.old.work self.new.work (allowance_of_all self.old.limits self.old.rows events.now)) }
         ensures made { self.old.work.made ≤ self.new.work.made }
         ensures keys { list_any may_make_keys events.now ≡ false → self.new.work.made ≡ self.old.work.made }
     {
         self.tell_safe();
         for event in events {
-            let event = event.copy()?;
             replies.reserve(1)?;
-            let reply = self.step(event)?;
+            let reply = self.step_lent(event)?;
             replies.push_reserved(reply);
         }
         Ok(())
@@ -200,7 +222,7 @@ impl<S: Sorter> Core<S> {
     /// left there. So memory is that of the state, and of what is told of one agent. Clients that want no offers are not told of.
     pub fn telling(&self, at: u64) -> Result<Telling<S>, AllocError>
         requires { at ≤ LATEST_MOMENT }
-        ensures { IfOk result (λ telling. telling ≡ each_by_agent (live_rows self.now.rows) at) }
+        ensures { IfOk result (λ telling. telling ≡ turns_by_agent (live_rows self.now.rows) at) }
     {
         self.cluster.telling(self.alloc, &self.limits, at)
     }

@@ -1,5 +1,5 @@
 //! The effects of events that are not refused.
-ghost use Rattle.std.specs.Prelude.{◌≡◌, ◌≤◌, false, None, IfOk, OnOk, OnErr, MatchOption};
+ghost use Rattle.std.specs.Prelude.{◌≡◌, ◌≤◌, false, None, IfOk, OnOk, OnErr};
 ghost use Rattle.drf_rows.specs.Step.{refusal_of, effect, answer};
 ghost use Rattle.drf_rows.specs.declared.event.Event.TheVariants.{SetWeight, SetLimit};
 ghost use Rattle.drf_laws.specs.Kept.{IsKept};
@@ -53,7 +53,7 @@ impl<S: Sorter> Cluster<S> {
         requires welcome { refusal_of limits.now self.old.rows event ≡ None }
         requires plain { has_answer event ≡ false }
         ensures ok { OnOk result (self.new.rows ≡ effect self.old.rows event) }
-        ensures work { OnOk result (MatchOption (allowed self.old.rows event) (Unit {0}) (Adds S.COUNTED self.old.work self.new.work)) }
+        ensures work { OnOk result (Adds S.COUNTED self.old.work self.new.work (allowed self.old.rows event)) }
         ensures made { self.old.work.made ≤ self.new.work.made }
         ensures keys { may_make_keys event ≡ false → self.new.work.made ≡ self.old.work.made }
         ensures err { OnErr result (self.new.rows ≡ self.old.rows) }
@@ -106,7 +106,7 @@ impl<S: Sorter> Cluster<S> {
         ensures reply { IfOk result (λ stepped. stepped.reply ≡ answer self.old.rows (effect self.old.rows event) event) }
         ensures copies { IfOk result (λ stepped. stepped.copies ≡ copies_if copied stepped.reply) }
         ensures ok { OnOk result (self.new.rows ≡ effect self.old.rows event) }
-        ensures work { OnOk result (MatchOption (allowed self.old.rows event) (Unit {0}) (Adds S.COUNTED self.old.work self.new.work)) }
+        ensures work { OnOk result (Adds S.COUNTED self.old.work self.new.work (allowed self.old.rows event)) }
         ensures made { self.old.work.made ≤ self.new.work.made }
         ensures keys { may_make_keys event ≡ false → self.new.work.made ≡ self.old.work.made }
         ensures err { OnErr result (self.new.rows ≡ self.old.rows) }

@@ -1,12 +1,13 @@
 //! The rows, and a sorter that holds what they say.
-ghost use Rattle.std.specs.Prelude.{◌≡◌, ◌+◌, ◌<◌, ◌^◌, None, IfOk, OnErr};
+ghost use Rattle.std.specs.Prelude.{◌≡◌, ◌+◌, ◌<◌, ◌≤◌, ◌^◌, None, length, IfOk, OnErr};
 ghost use Rattle.drf_rows.specs.Consistent.{IsConsistent};
 ghost use Rattle.drf_rows.specs.Step.{opening, live_rows, refusal_of};
 ghost use Rattle.drf_content.specs.Content.{content_of};
 ghost use Rattle.drf_laws.specs.Kept.{AreFew};
+ghost use Rattle.drf_core.specs.Keeping.{IsStanding};
 ghost use Rattle.drf_core.specs.Refusing.{early_refusal_of};
 
-use crate::refusal::refusal;
+use crate::refusal::{refusal, refuse_early};
 use drf_rows::{Event, Limits, Refusal, Rows};
 use drf_sorter::Sorter;
 use drf_tables::Tables;
@@ -58,29 +59,30 @@ impl<S: Sorter> Cluster<S> {
         })
     }
 
-    /// Drops filters that have run out, when the filters have become many.
-    pub(crate) fn forget_spent(&mut self)
-        ensures live { live_rows self.new.rows ≡ live_rows self.old.rows }
-        ensures others { self.new.rows ≡ record self.old.rows { filters = self.new.rows.filters } }
-        ensures consistent { IsConsistent self.new.rows }
-        ensures work { self.new.work ≡ self.old.work }
+    /// Why an event is refused whatever the memory, if it is.
+    pub(crate) fn early_refusal(&self, limits: &Limits, event: &Event) -> Option<Refusal>
+        requires { AreFew limits.now self.now.rows }
+        ensures { result ≡ early_refusal_of limits.now self.now.rows event.now }
     {
-        self.tables.forget_spent();
+        refuse_early(limits, &self.tables, event)
     }
 
-    /// Why an event is refused, if it is. No row changes.
+    /// Why an event is refused, if it is. Filters that have run out are dropped first, when the filters have become many; no other row
+    /// changes.
     pub(crate) fn refusal(
         &mut self,
         limits: &Limits,
         event: &Event,
     ) -> Result<Option<Refusal>, AllocError>
-        requires few { AreFew limits.now self.old.rows }
-        requires consistent { IsConsistent self.old.rows }
-        ensures value { IfOk result (λ refusal. refusal ≡ refusal_of limits.now self.old.rows event.now) }
+        requires { IsStanding limits.now self.old.rows }
+        ensures standing { IsStanding limits.now self.new.rows }
+        ensures live { live_rows self.new.rows ≡ live_rows self.old.rows }
+        ensures filters { length self.new.rows.filters ≤ 65536 }
+        ensures value { IfOk result (λ refusal. refusal ≡ refusal_of limits.now self.new.rows event.now) }
         ensures early { OnErr result (early_refusal_of limits.now self.old.rows event.now ≡ None) }
-        ensures same { self.new.rows ≡ self.old.rows }
         ensures work { self.new.work ≡ self.old.work }
     {
+        self.tables.forget_spent();
         refusal(limits, &mut self.tables, event)
     }
 

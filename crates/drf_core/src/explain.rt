@@ -10,14 +10,15 @@ ghost use Rattle.drf_rows.specs.declared.limits.TheConstants.{LATEST_MOMENT};
 ghost use Rattle.drf_rows.specs.declared.rows.AgentRow.{AgentRow};
 ghost use Rattle.drf_rows.specs.declared.rows.Rows.{Rows};
 ghost use Rattle.drf_sorter.specs.Content.{IsOrderOf, IsSound};
-ghost use Rattle.drf_explain.specs.Each.{each_by_agent};
+ghost use Rattle.drf_explain.specs.Each.{told_here, turns_by_agent};
+ghost use Rattle.drf_explain.specs.declared.finding.Finding.{Finding};
 ghost use Rattle.drf_explain.specs.Explained.{explained, told_of_agents};
 ghost use Rattle.drf_explain.specs.Gates.{AreGatesOf};
 ghost use Rattle.drf_tables.specs.Drafts.{with_offers};
 ghost use Rattle.drf_content.specs.Content.{content_of};
 ghost use Rattle.drf_core.specs.Drafting.{IsDrafting, HasLeft, turn_at};
 ghost use Rattle.drf_core.specs.Entitling.{IsQuotaOf};
-ghost use Rattle.drf_core.specs.Explaining.{AreToldAt, AreTried, IsOutcomeOf, IsTelling, left_told, told_at, told_by, told_here};
+ghost use Rattle.drf_core.specs.Explaining.{AreToldAt, AreTried, IsOutcomeOf, IsTelling, left_told, told_at, told_by, untouched_at};
 ghost use Rattle.drf_laws.specs.Kept.{IsKept};
 
 use crate::cluster::Cluster;
@@ -25,7 +26,7 @@ use crate::cycle::{Drafts, goes_on, has_next, quota_of, try_first};
 use crate::free::{Free, part_within};
 use drf_amount::Algebra;
 use drf_bundle::Bundle;
-use drf_explain::{Finding, Gates, suppressed};
+use drf_explain::{Finding, Gates, TurnTold, suppressed};
 use drf_gates::Quota;
 use drf_role::{ClientPath, Name};
 use drf_rows::{Limits, Rows};
@@ -59,7 +60,7 @@ fn outcome_of(
     let bundle = part_within(quota, free, client.role())?;
     let agent = agent.copy()?;
     let path = client.copy()?;
-    let outcome = gates.outcome(quota, client, &part, bundle)?;
+    let outcome = gates.outcome(quota, client, free, &part, bundle)?;
     Ok(Finding::Tried {
         agent,
         client: path,
@@ -254,6 +255,38 @@ fn tell_turn<S: Sorter>(
     Ok(())
 }
 
+/// Tells what would come of each client of the turn of an agent, were it tried first. Nobody is granted anything.
+fn tell_untouched<S: Sorter>(
+    alloc: Global,
+    rows: &Rows,
+    tables: &Tables,
+    sorter: &mut S,
+    place: usize,
+    drafts: &Drafts,
+    findings: &mut Vec<Finding>,
+) -> Result<(), AllocError>
+    requires rows { rows.now ≡ live_rows tables.now.rows }
+    requires drafting { IsDrafting (S.content sorter.old) tables.now.rows drafts.now.offers.items }
+    requires place { place < length tables.now.rows.agents }
+    requires settled { tables.now.settled ≡ true }
+    requires left { HasLeft tables.now.rows drafts.now.offers.items drafts.now.lefts.items place }
+    requires quota { IsQuotaOf (with_offers tables.now.rows drafts.now.offers.items) drafts.now.quota }
+    ensures content { S.content sorter.new ≡ S.content sorter.old }
+    ensures told { OnOk result (findings.new.items ≡ findings.old.items ++ untouched_at (with_offers tables.now.rows drafts.now.offers.items) place) }
+{
+    let agent = tables.agent_name(place);
+    if !tables.is_active(place) {
+        return Ok(());
+    }
+    let free = tables.free(place);
+    if free.entries().is_empty() {
+        return Ok(());
+    }
+    let gates = Gates::on(alloc, rows, agent)?;
+    sorter.fix_order()?;
+    tell_behind(sorter, &gates, drafts, free, agent, findings)
+}
+
 /// Tells of the turns of all agents.
 fn tell_turns<S: Sorter>(
     alloc: Global,
@@ -322,13 +355,14 @@ pub struct Telling<S: Sorter> {
 
 impl<S: Sorter> Model for Telling<S> {
     ghost use Rattle.std.specs.Prelude.{◌≡◌, List, false};
-    ghost use Rattle.std.specs.Coded.{coded_list};
+    ghost use Rattle.std.specs.Coded.{coded_list, coded×};
     ghost use Rattle.drf_explain.specs.contracts.finding.Finding as finding;
     ghost use Rattle.drf_explain.specs.declared.finding.Finding.{Finding};
 
-    ghost Value = { List (List Finding) };
+    // Of each agent what is told of it, and what would be told of each of its clients, were it tried first.
+    ghost Value = { List (List Finding × List Finding) };
 
-    ghost coded = { coded_list (coded_list finding.the_row.coded) };
+    ghost coded = { coded_list (coded× (coded_list finding.the_row.coded) (coded_list finding.the_row.coded)) };
 
     ghost use Rattle.drf_core.specs.Explaining.{IsTelling, left_to_tell};
 
@@ -348,7 +382,7 @@ fn begin_telling<S: Sorter>(
     requires sorted { S.content sorter ≡ content_of tables.rows }
     requires kept { IsKept limits.now tables.rows }
     requires early { at ≤ LATEST_MOMENT }
-    ensures { IfOk result (λ telling. telling ≡ each_by_agent tables.rows at) }
+    ensures { IfOk result (λ telling. telling ≡ turns_by_agent tables.rows at) }
 {
     let moment = tables.clock().max(at);
     tables.set_clock(moment);
@@ -375,7 +409,8 @@ impl<S: Sorter> Telling<S> {
     /// What is told of the next agent, in order of registration, or nothing behind the last one. At an `Err` the telling is over.
     #[tactic(auto, using(crate::proofs::drafting::Told::none_left))]
     pub fn next_agent(&mut self) -> Result<Option<Vec<Finding>>, AllocError>
-        ensures told { IfOk result (λ next. MatchOption next ((self.old ≡ []) × (self.new ≡ [])) (λ told. self.old ≡ told.items ∷ self.new)) }
+        ensures told { IfOk result (λ next. MatchOption next ((self.old ≡ []) × (self.new ≡ []))
+            (λ told. (untouched : List Finding) × (self.old ≡ (told.items, untouched) ∷ self.new))) }
         ensures err { OnErr result (self.new ≡ []) }
     {
         if self.is_over || self.place >= self.tables.agent_count() {
@@ -396,6 +431,45 @@ impl<S: Sorter> Telling<S> {
         self.place += 1;
         self.is_over = false;
         Ok(Some(told))
+    }
+
+    /// What would come of each client of the next agent's turn, were it tried first. At an `Err` the telling is over.
+    fn untouched(&mut self) -> Result<Vec<Finding>, AllocError>
+        ensures told { IfOk result (λ untouched. (turn : List Finding × List Finding) (turns : List (List Finding × List Finding))
+            → self.old ≡ turn ∷ turns → untouched.items ≡ turn.1) }
+        ensures same { OnOk result (self.new ≡ self.old) }
+        ensures err { OnErr result (self.new ≡ []) }
+    {
+        let mut untouched = Vec::new(self.alloc);
+        if self.is_over || self.place >= self.tables.agent_count() {
+            return Ok(untouched);
+        }
+        self.is_over = true;
+        tell_untouched(
+            self.alloc,
+            &self.rows,
+            &self.tables,
+            &mut self.sorter,
+            self.place,
+            &self.drafts,
+            &mut untouched,
+        )?;
+        self.is_over = false;
+        Ok(untouched)
+    }
+
+    /// What is told of the next agent, and what would be told of each of its clients, were it tried first: for twice the time, and a
+    /// list more. At an `Err` the telling is over.
+    pub fn next_turn(&mut self) -> Result<Option<TurnTold>, AllocError>
+        ensures told { IfOk result (λ next. MatchOption next ((self.old ≡ []) × (self.new ≡ []))
+            (λ turn. self.old ≡ (turn.told.items, turn.untouched.items) ∷ self.new)) }
+        ensures err { OnErr result (self.new ≡ []) }
+    {
+        let untouched = self.untouched()?;
+        let Some(told) = self.next_agent()? else {
+            return Ok(None);
+        };
+        Ok(Some(TurnTold { told, untouched }))
     }
 }
 
@@ -425,7 +499,7 @@ impl<S: Sorter> Cluster<S> {
     ) -> Result<Telling<S>, AllocError>
         requires kept { IsKept limits.now self.now.rows }
         requires early { at ≤ LATEST_MOMENT }
-        ensures { IfOk result (λ telling. telling ≡ each_by_agent self.now.rows at) }
+        ensures { IfOk result (λ telling. telling ≡ turns_by_agent self.now.rows at) }
     {
         let tables = self.tables.copy()?;
         let sorter = self.sorter.copy()?;

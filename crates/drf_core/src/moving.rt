@@ -2,7 +2,7 @@
 ghost use Rattle.std.specs.Prelude.{◌≡◌, None, IfOk, OnOk, OnErr, IsTrue};
 ghost use Rattle.drf_bundle.specs.Bundle.{is_unreserved, relabel};
 ghost use Rattle.drf_rows.specs.Consistent.{IsConsistent};
-ghost use Rattle.drf_rows.specs.laws.ReservationLaws.{IsAsked};
+ghost use Rattle.drf_row_laws.specs.ReservationLaws.{IsAsked};
 ghost use Rattle.drf_rows.specs.Step.{refusal_of, effect};
 ghost use Rattle.drf_rows.specs.declared.event.Event.TheVariants.{Reserve, Unreserve};
 

@@ -418,7 +418,7 @@ fn refuse_cycle(limits: &Limits, tables: &Tables, at: u64) -> Option<Refusal>
 }
 
 /// Why an event is refused, of the cases that are told whatever the memory.
-fn refuse_early(limits: &Limits, tables: &Tables, event: &Event) -> Option<Refusal>
+pub(crate) fn refuse_early(limits: &Limits, tables: &Tables, event: &Event) -> Option<Refusal>
     requires few { AreFew limits.now tables.now.rows }
     ensures { result ≡ early_refusal_of limits.now tables.now.rows event.now }
 {

@@ -1,6 +1,6 @@
 -- What each reason says of the cycle, from the definition of what comes of a client.
 use Rattle.std.specs.Prelude.{◌≡◌, ◌⊎◌, ◌↔◌, ℕ, zero, suc, ◌<◌, ◌≤◌, max, min, Bool, true, false, not, ◌&&◌, ◌||◌, List, [], ◌∷◌, map, fold, filter, slice_get, Option, Some, None, is_some, if◌then◌else◌, nat_lt, nat_le, codes}
-use Rattle.std.specs.List.{list_any, reduce, AllByRecursion}
+use Rattle.std.specs.List.{flat_map, list_any, reduce, AllByRecursion}
 use Rattle.std.specs.Option.{option_map_or}
 use Rattle.std.proofs.Common.{refl, sym, ap, subst, ◌∙◌, inl, inr, cond, arith}
 use Rattle.std.proofs.lemmas.Bool.{cases_Bool, or_parts, and_parts, and_from, false≢true, false_from_ne_true, leb-true, leb-false, le-leb, lt-ltb, ltb-true, ltb-false}
@@ -18,72 +18,93 @@ use Rattle.drf_bundle.specs.declared.quantities.Entry.{Entry}
 use Rattle.drf_bundle.specs.declared.resource.Resource.{Resource}
 use Rattle.drf_bundle.specs.declared.value.Value.{Value}
 use Rattle.drf_bundle.specs.declared.value.Value.TheVariants.{Scalar, Ranges, Items}
-use Rattle.drf_rows.specs.Client.{Client}
-use Rattle.drf_rows.specs.Cycle.{free_of, is_allocatable, grant, at_moment}
+use Rattle.drf_rows.specs.Client.{Client, path_of}
+use Rattle.drf_rows.specs.Cycle.{free_of, is_allocatable, grant, tried, turn_order, at_moment}
 use Rattle.drf_rows.specs.Filters.{is_in_force, is_of_client, is_on_agent, holds_back, is_held_back}
-use Rattle.drf_rows.specs.laws.EntitlementLaws.{some_room, limited-binds, named-puts}
+use Rattle.drf_row_laws.specs.CycleLaws.{little_entitlement}
+use Rattle.drf_row_laws.specs.EntitlementLaws.{some_room, limited-binds, named-puts}
 use Rattle.drf_rows.specs.Offers.{is_empty}
 use Rattle.drf_rows.specs.Quota.{binds, consumption, headroom, headroom_at, limited_names, room_under}
-use Rattle.drf_rows.specs.laws.QuotaLaws.{headroom_le, named_put}
+use Rattle.drf_bundle.specs.ListLaws.{each_append}
+use Rattle.drf_row_laws.specs.QuotaLaws.{headroom_le, named_put}
 use Rattle.drf_rows.specs.declared.rows.AgentRow.{AgentRow}
+use Rattle.drf_rows.specs.declared.rows.ClientRow.{ClientRow}
 use Rattle.drf_rows.specs.declared.rows.FilterRow.{FilterRow}
+use Rattle.drf_rows.specs.declared.rows.FrameworkRow.{FrameworkRow}
 use Rattle.drf_rows.specs.declared.rows.LimitRow.{LimitRow}
 use Rattle.drf_rows.specs.declared.rows.Rows.{Rows}
-use Rattle.drf_explain.specs.Explained.{held_until, limiting_role, outcome, tighter, tightest}
-use Rattle.drf_explain.specs.ExplainedLaws.{held_back-until}
-use Rattle.drf_explain.specs.ReasonLaws.{usable, entitled, usable_amount, IsHeldUntil, IsCutBelow, IsOverLimit, IsTooLittle, IsForOthers}
+use Rattle.drf_explain.specs.Explained.{held_until, limiting_role, outcome, tighter, tightest, after_agent, explained, suppressed_in, suppressed_of, told_if_suppressed, told_of_agent, told_of_agents, told_of_all}
+use Rattle.drf_explain.specs.EachLaws.{little_part}
+use Rattle.drf_explain.specs.ExplainedLaws.{held_back-until, nothing_free}
+use Rattle.drf_explain.specs.ReasonLaws.{usable, entitled, usable_amount, IsHeldUntil, IsCutBelow, IsOverLimit, IsTooLittle, IsForOthers, IsReserved, IsOtherwise, NothingLeftIsNotExplained}
+use Rattle.drf_explain.specs.declared.finding.Finding.TheVariants.{Inactive, NothingFree, Tried}
 use Rattle.drf_explain.specs.declared.finding.Outcome.{Outcome}
-use Rattle.drf_explain.specs.declared.finding.Outcome.TheVariants.{Grant, HeldBack, OverLimit, BelowThreshold, ReservedForOthers}
+use Rattle.drf_explain.specs.declared.finding.Outcome.TheVariants.{Grant, HeldBack, OverLimit, BelowThreshold, NothingLeft, ReservedForOthers}
 use Rattle.drf_explain.proofs.Found.{same_values}
 
 -- ---- what comes of a client, by what decides it
 
-abbrev told_by : Bool → Option ℕ → List Resource → Bool → Bool → Path → Outcome
-told_by worth until bundle some none limited =
+abbrev told_by : Bool → Option ℕ → List Resource → Bool → Bool → Bool → Path → Outcome
+told_by worth until bundle some gone none limited =
     if worth then option_map_or HeldBack until (Grant bundle)
     else if some then OverLimit limited
+    else if gone then NothingLeft
     else if none then ReservedForOthers
     else BelowThreshold
 
-granted_by : (worth : Bool) (until : Option ℕ) (bundle : List Resource) (some none : Bool) (limited : Path) (b : List Resource)
-    → (told_by worth until bundle some none limited ≡ Grant b) ↔ ((if worth && not (is_some until) then Some bundle else None) ≡ Some b)
-granted_by true None bundle some none limited b = (λ is. cc, λ is. cc)
-granted_by true (Some u) bundle some none limited b = (λ is. cc, λ is. cc)
-granted_by false until bundle true none limited b = (λ is. cc, λ is. cc)
-granted_by false until bundle false true limited b = (λ is. cc, λ is. cc)
-granted_by false until bundle false false limited b = (λ is. cc, λ is. cc)
+granted_by : (worth : Bool) (until : Option ℕ) (bundle : List Resource) (some gone none : Bool) (limited : Path) (b : List Resource)
+    → (told_by worth until bundle some gone none limited ≡ Grant b) ↔ ((if worth && not (is_some until) then Some bundle else None) ≡ Some b)
+granted_by true None bundle some gone none limited b = (λ is. cc, λ is. cc)
+granted_by true (Some u) bundle some gone none limited b = (λ is. cc, λ is. cc)
+granted_by false until bundle true gone none limited b = (λ is. cc, λ is. cc)
+granted_by false until bundle false true none limited b = (λ is. cc, λ is. cc)
+granted_by false until bundle false false true limited b = (λ is. cc, λ is. cc)
+granted_by false until bundle false false false limited b = (λ is. cc, λ is. cc)
 
-held_by : (worth : Bool) (until : Option ℕ) (bundle : List Resource) (some none : Bool) (limited : Path) (t : ℕ)
-    → told_by worth until bundle some none limited ≡ HeldBack t → (worth ≡ true) × (until ≡ Some t)
-held_by true None bundle some none limited t is = cc
-held_by true (Some u) bundle some none limited t is = (refl, cc)
-held_by false until bundle true none limited t is = cc
-held_by false until bundle false true limited t is = cc
-held_by false until bundle false false limited t is = cc
+held_by : (worth : Bool) (until : Option ℕ) (bundle : List Resource) (some gone none : Bool) (limited : Path) (t : ℕ)
+    → told_by worth until bundle some gone none limited ≡ HeldBack t → (worth ≡ true) × (until ≡ Some t)
+held_by true None bundle some gone none limited t is = cc
+held_by true (Some u) bundle some gone none limited t is = (refl, cc)
+held_by false until bundle true gone none limited t is = cc
+held_by false until bundle false true none limited t is = cc
+held_by false until bundle false false true limited t is = cc
+held_by false until bundle false false false limited t is = cc
 
-limited_by : (worth : Bool) (until : Option ℕ) (bundle : List Resource) (some none : Bool) (limited role : Path)
-    → told_by worth until bundle some none limited ≡ OverLimit role → (worth ≡ false) × (some ≡ true) × (limited ≡ role)
-limited_by true None bundle some none limited role is = cc
-limited_by true (Some u) bundle some none limited role is = cc
-limited_by false until bundle true none limited role is = (refl, refl, cc)
-limited_by false until bundle false true limited role is = cc
-limited_by false until bundle false false limited role is = cc
+limited_by : (worth : Bool) (until : Option ℕ) (bundle : List Resource) (some gone none : Bool) (limited role : Path)
+    → told_by worth until bundle some gone none limited ≡ OverLimit role → (worth ≡ false) × (some ≡ true) × (limited ≡ role)
+limited_by true None bundle some gone none limited role is = cc
+limited_by true (Some u) bundle some gone none limited role is = cc
+limited_by false until bundle true gone none limited role is = (refl, refl, cc)
+limited_by false until bundle false true none limited role is = cc
+limited_by false until bundle false false true limited role is = cc
+limited_by false until bundle false false false limited role is = cc
 
-little_by : (worth : Bool) (until : Option ℕ) (bundle : List Resource) (some none : Bool) (limited : Path)
-    → told_by worth until bundle some none limited ≡ BelowThreshold → (some ≡ false) × (none ≡ false)
-little_by true None bundle some none limited is = cc
-little_by true (Some u) bundle some none limited is = cc
-little_by false until bundle true none limited is = cc
-little_by false until bundle false true limited is = cc
-little_by false until bundle false false limited is = (refl, refl)
+little_by : (worth : Bool) (until : Option ℕ) (bundle : List Resource) (some gone none : Bool) (limited : Path)
+    → told_by worth until bundle some gone none limited ≡ BelowThreshold → (some ≡ false) × (none ≡ false)
+little_by true None bundle some gone none limited is = cc
+little_by true (Some u) bundle some gone none limited is = cc
+little_by false until bundle true gone none limited is = cc
+little_by false until bundle false true none limited is = cc
+little_by false until bundle false false true limited is = cc
+little_by false until bundle false false false limited is = (refl, refl)
 
-reserved_by : (worth : Bool) (until : Option ℕ) (bundle : List Resource) (some none : Bool) (limited : Path)
-    → told_by worth until bundle some none limited ≡ ReservedForOthers → none ≡ true
-reserved_by true None bundle some none limited is = cc
-reserved_by true (Some u) bundle some none limited is = cc
-reserved_by false until bundle true none limited is = cc
-reserved_by false until bundle false true limited is = refl
-reserved_by false until bundle false false limited is = cc
+reserved_by : (worth : Bool) (until : Option ℕ) (bundle : List Resource) (some gone none : Bool) (limited : Path)
+    → told_by worth until bundle some gone none limited ≡ ReservedForOthers → (gone ≡ false) × (none ≡ true)
+reserved_by true None bundle some gone none limited is = cc
+reserved_by true (Some u) bundle some gone none limited is = cc
+reserved_by false until bundle true gone none limited is = cc
+reserved_by false until bundle false true none limited is = cc
+reserved_by false until bundle false false true limited is = (refl, refl)
+reserved_by false until bundle false false false limited is = cc
+
+gone_by : (worth : Bool) (until : Option ℕ) (bundle : List Resource) (some gone none : Bool) (limited : Path)
+    → told_by worth until bundle some gone none limited ≡ NothingLeft → gone ≡ true
+gone_by true None bundle some gone none limited is = cc
+gone_by true (Some u) bundle some gone none limited is = cc
+gone_by false until bundle true gone none limited is = cc
+gone_by false until bundle false true none limited is = refl
+gone_by false until bundle false false true limited is = cc
+gone_by false until bundle false false false limited is = cc
 
 -- ---- what is found stands at a place
 
@@ -378,6 +399,9 @@ each_for_others client (r ∷ rs) none = elim (cases_Bool (is_for client.role r)
 -- ---- a client is tried
 
 module _ (rows : Rows) (agent : AgentRow) (client : Client) where
+  abbrev free : List Resource
+  free = free_of rows agent
+
   abbrev part : List Resource
   part = usable rows agent client
 
@@ -394,7 +418,7 @@ module _ (rows : Rows) (agent : AgentRow) (client : Client) where
   granted bundle =
       subst (λ (held : Bool). (outcome rows agent client ≡ Grant bundle) ↔ ((if is_allocatable may && not held then Some may else None) ≡ Some bundle))
       (sym (held_back-until rows.filters rows.clock client agent.name may))
-      (granted_by (is_allocatable may) end may (is_allocatable part) (is_empty part) limiting bundle)
+      (granted_by (is_allocatable may) end may (is_allocatable part) (is_empty free) (is_empty part) limiting bundle)
 
   -- ---- held back
 
@@ -452,7 +476,7 @@ module _ (rows : Rows) (agent : AgentRow) (client : Client) where
 
   pub held_back : (until : ℕ) → outcome rows agent client ≡ HeldBack until → IsHeldUntil rows agent client until
   held_back until is =
-      let decided = held_by (is_allocatable may) end may (is_allocatable part) (is_empty part) limiting until is in
+      let decided = held_by (is_allocatable may) end may (is_allocatable part) (is_empty free) (is_empty part) limiting until is in
       held-until until decided.0 decided.1
 
   -- ---- over a limit
@@ -488,17 +512,74 @@ module _ (rows : Rows) (agent : AgentRow) (client : Client) where
 
   pub over_limit : (limited : Path) → outcome rows agent client ≡ OverLimit limited → IsOverLimit rows agent client limited
   over_limit limited is =
-      let decided = limited_by (is_allocatable may) end may (is_allocatable part) (is_empty part) limiting limited is in
+      let decided = limited_by (is_allocatable may) end may (is_allocatable part) (is_empty free) (is_empty part) limiting limited is in
       subst (IsOverLimit rows agent client) decided.2
       (record { worth = decided.1; little = decided.0; cpus = cut_cpus decided.0; mem = cut_mem decided.0 decided.1 })
 
-  -- ---- too little, and reserved
+  -- ---- too little, nothing, and reserved
 
   pub below_threshold : outcome rows agent client ≡ BelowThreshold → IsTooLittle rows agent client
   below_threshold is =
-      let decided = little_by (is_allocatable may) end may (is_allocatable part) (is_empty part) limiting is in
+      let decided = little_by (is_allocatable may) end may (is_allocatable part) (is_empty free) (is_empty part) limiting is in
       record { some = decided.1; little = decided.0 }
 
-  pub reserved : outcome rows agent client ≡ ReservedForOthers → AllByRecursion (IsForOthers client) (free_of rows agent)
+  nothing-is : is_empty free ≡ true → outcome rows agent client ≡ NothingLeft
+  nothing-is none =
+      let little = nothing_free free none in
+      rw (little_entitlement rows free client little) (rw (little_part client.role free little) (rw none refl))
+
+  pub nothing_left : (outcome rows agent client ≡ NothingLeft) ↔ (is_empty (free_of rows agent) ≡ true)
+  nothing_left = (gone_by (is_allocatable may) end may (is_allocatable part) (is_empty free) (is_empty part) limiting, nothing-is)
+
+  pub reserved : outcome rows agent client ≡ ReservedForOthers → IsReserved rows agent client
   reserved is =
-      each_for_others client (free_of rows agent) (reserved_by (is_allocatable may) end may (is_allocatable part) (is_empty part) limiting is)
+      let decided = reserved_by (is_allocatable may) end may (is_allocatable part) (is_empty free) (is_empty part) limiting is in
+      record { some = decided.0; others = each_for_others client free decided.1 }
+
+-- ---- what an explanation does not tell
+
+tried-otherwise : (rows : Rows) (agent : AgentRow) (client : Client) → is_allocatable (free_of rows agent) ≡ true
+    → IsOtherwise (Tried agent.name (path_of client) (outcome rows agent client))
+tried-otherwise rows agent client worth = λ name path is.
+    let told : outcome rows agent client ≡ NothingLeft = cc in
+    false≢true (sym (nothing_free (free_of rows agent) ((nothing_left rows agent client).0 told)) ∙ worth)
+
+all-otherwise : (rows : Rows) (agent : AgentRow) (clients : List Client) → AllByRecursion IsOtherwise (told_of_all rows agent clients)
+all-otherwise rows agent [] = tt
+all-otherwise rows agent (client ∷ clients) = elim (cases_Bool (is_allocatable (free_of rows agent))) [
+  | inl worth ↦ rw worth (tried-otherwise rows agent client worth, all-otherwise (tried rows agent client) agent clients)
+  | inr little ↦ rw little (λ name path is. cc, tt)
+]
+
+agent-otherwise : (rows : Rows) (agent : AgentRow) → AllByRecursion IsOtherwise (told_of_agent rows agent)
+agent-otherwise rows agent = by agent.active (is_empty (free_of rows agent))
+  where
+    by : (active none : Bool) → AllByRecursion IsOtherwise
+        (cond active (cond none (NothingFree agent.name ∷ []) (told_of_all rows agent (turn_order rows))) (Inactive agent.name ∷ []))
+    by true true = (λ name path is. cc, tt)
+    by true false = all-otherwise rows agent (turn_order rows)
+    by false none = (λ name path is. cc, tt)
+
+agents-otherwise : (rows : Rows) (agents : List AgentRow) → AllByRecursion IsOtherwise (told_of_agents rows agents)
+agents-otherwise rows [] = tt
+agents-otherwise rows (agent ∷ agents) =
+    each_append IsOtherwise (told_of_agent rows agent) (told_of_agents (after_agent rows agent) agents) (agent-otherwise rows agent)
+    (agents-otherwise (after_agent rows agent) agents)
+
+clients-otherwise : (f : FrameworkRow) (cs : List ClientRow) → AllByRecursion IsOtherwise (flat_map (told_if_suppressed f) cs)
+clients-otherwise f [] = tt
+clients-otherwise f (c ∷ cs) = elim (cases_Bool c.suppressed) [
+  | inl here ↦ rw here (λ name path is. cc, clients-otherwise f cs)
+  | inr past ↦ rw past (clients-otherwise f cs)
+]
+
+suppressed-otherwise : (fs : List FrameworkRow) → AllByRecursion IsOtherwise (flat_map suppressed_in fs)
+suppressed-otherwise [] = tt
+suppressed-otherwise (f ∷ fs) =
+    each_append IsOtherwise (suppressed_in f) (flat_map suppressed_in fs) (clients-otherwise f f.clients) (suppressed-otherwise fs)
+
+pub nothing_left_is_not_explained : NothingLeftIsNotExplained
+unfolding explained
+nothing_left_is_not_explained rows at =
+    each_append IsOtherwise (suppressed_of rows) (told_of_agents (at_moment rows at) rows.agents) (suppressed-otherwise rows.frameworks)
+    (agents-otherwise (at_moment rows at) rows.agents)

@@ -72,7 +72,7 @@ client_at-path path client joined =
 -- ---- what comes of a client
 
 module _ (rows : Rows) (agent : AgentRow) (client : Client) (gates : Gates) (path : Path) (are : AreGatesOf rows agent gates)
-    (joined : path ≡ path_of client) (part bundle : List Resource) where
+    (joined : path ≡ path_of client) (free part bundle : List Resource) where
   pub held_as_found : held_until gates.filters.items gates.moment (client_at path) gates.agent.now bundle
       ≡ held_until rows.filters rows.clock client agent.name bundle
   held_as_found =
@@ -80,18 +80,18 @@ module _ (rows : Rows) (agent : AgentRow) (client : Client) (gates : Gates) (pat
       ∙ ap (λ (fs : List FilterRow). reduce max (map (λ f. f.until) fs)) (are.filters client bundle)
 
   pub outcome-short : (why : Outcome) → is_allocatable bundle ≡ false
-      → why ≡ shortage rows.limits (consumption rows) (role_part path) part
-      → why ≡ outcome_by rows agent client part bundle
+      → why ≡ shortage rows.limits (consumption rows) (role_part path) free part
+      → why ≡ outcome_by rows agent client free part bundle
   outcome-short why little is =
       let role : role_part path ≡ client.role = ap role_part joined ∙ role_part-client_path client.role client.framework in
-      is ∙ ap (λ (r : Path). shortage rows.limits (consumption rows) r part) role
+      is ∙ ap (λ (r : Path). shortage rows.limits (consumption rows) r free part) role
       ∙ sym (ap (λ b. cond b (option_map_or HeldBack (held_until rows.filters rows.clock client agent.name bundle) (Grant bundle))
-      (shortage rows.limits (consumption rows) client.role part)) little)
+      (shortage rows.limits (consumption rows) client.role free part)) little)
 
   pub outcome-worth : (found : Option ℕ) → is_allocatable bundle ≡ true
       → found ≡ held_until gates.filters.items gates.moment (client_at path) gates.agent.now bundle
-      → option_map_or HeldBack found (Grant bundle) ≡ outcome_by rows agent client part bundle
+      → option_map_or HeldBack found (Grant bundle) ≡ outcome_by rows agent client free part bundle
   outcome-worth found worth is =
       ap (λ (o : Option ℕ). option_map_or HeldBack o (Grant bundle)) (is ∙ held_as_found)
       ∙ sym (ap (λ b. cond b (option_map_or HeldBack (held_until rows.filters rows.clock client agent.name bundle) (Grant bundle))
-      (shortage rows.limits (consumption rows) client.role part)) worth)
+      (shortage rows.limits (consumption rows) client.role free part)) worth)

@@ -1,8 +1,8 @@
 -- Each client of a turn is told of once, at the rows of its moment; the shorter telling is this one, cut where too little is left; and nobody
 -- behind the cut gets anything.
-use Rattle.std.specs.Prelude.{◌≡◌, ◌≢◌, ℕ, ◌+◌, ◌≤◌, suc, max, Bool, true, false, ◌&&◌, List, [], ◌∷◌, ◌++◌, length, map, filter, slice_get, Some, if◌then◌else◌, codes}
+use Rattle.std.specs.Prelude.{◌≡◌, ◌≢◌, ℕ, ◌≤◌, suc, max, Bool, true, false, not, ◌&&◌, List, [], ◌∷◌, ◌++◌, length, map, filter, slice_get, Some, if◌then◌else◌, codes}
 use Rattle.std.specs.List.{flat_map, list_all, AllZip}
-use Rattle.std.proofs.Common.{refl, sym, ap, subst, ◌∙◌, inl, inr, cond, arith, append_assoc, append-nil}
+use Rattle.std.proofs.Common.{refl, sym, ap, ◌∙◌, inl, inr, cond, arith, append-nil}
 use Rattle.std.proofs.lemmas.Bool.{cases_Bool}
 use Rattle.std.proofs.lemmas.Bool.Decides.{nat_tests}
 use Rattle.std.proofs.lemmas.List.Concat.{flat_map-append}
@@ -16,7 +16,7 @@ use Rattle.drf_bundle.specs.laws.PartLaws.{where-some}
 use Rattle.drf_bundle.specs.declared.resource.Resource.{Resource}
 use Rattle.drf_rows.specs.Client.{Client, path_of}
 use Rattle.drf_rows.specs.Cycle.{free_of, grant, is_allocatable, tried, all_tried, turn_order, turn, turns, at_moment, cycle}
-use Rattle.drf_rows.specs.laws.CycleLaws.{all_tried_none, little_entitlement}
+use Rattle.drf_row_laws.specs.CycleLaws.{all_tried_none, little_entitlement}
 use Rattle.drf_rows.specs.Filters.{holds_back, is_in_force, in_force}
 use Rattle.drf_rows.specs.Held.{standing_of}
 use Rattle.drf_rows.specs.Offers.{is_empty}
@@ -24,13 +24,13 @@ use Rattle.drf_rows.specs.Step.{live_rows, new_offers}
 use Rattle.drf_rows.specs.declared.rows.AgentRow.{AgentRow}
 use Rattle.drf_rows.specs.declared.rows.FilterRow.{FilterRow}
 use Rattle.drf_rows.specs.declared.rows.Rows.{Rows}
-use Rattle.drf_explain.specs.Explained.{outcome, shortage, told_of_all, told_of_active, told_of_agent, told_of_agents, after_agent, suppressed_of, explained}
-use Rattle.drf_explain.specs.Each.{told_of_each, each_on_active, each_on, each_on_all, each_by_agent, each_told}
-use Rattle.drf_explain.specs.ExplainedLaws.{HoldTheSame, with_filters, grants_in, offered, grants_are_offers, outcome-filters, tried-filters, kept-tried, still_the_same, after-filters, kept-agent, filter_weaker, in_force_before}
+use Rattle.drf_explain.specs.Explained.{outcome, told_of_all, told_of_agent, told_of_agents, after_agent, suppressed_of, explained}
+use Rattle.drf_explain.specs.Each.{told_here, told_of_each, each_on_active, each_on, each_on_all, each_by_agent, each_told, untouched_on_active, untouched_on, turn_on, turns_on_all, turns_by_agent}
+use Rattle.drf_explain.specs.ExplainedLaws.{Granted, HoldTheSame, with_filters, grants_in, offered, grants_are_offers, tried-none, outcome-filters, tried-filters, kept-tried, still_the_same, after-filters, kept-agent, filter_weaker, in_force_before}
 use Rattle.drf_explain.specs.declared.finding.Finding.{Finding}
 use Rattle.drf_explain.specs.declared.finding.Finding.TheVariants.{Suppressed, Inactive, NothingFree, Tried, Left}
 use Rattle.drf_explain.specs.declared.finding.Outcome.{Outcome}
-use Rattle.drf_explain.specs.declared.finding.Outcome.TheVariants.{Grant, HeldBack, OverLimit, BelowThreshold, ReservedForOthers}
+use Rattle.drf_explain.specs.declared.finding.Outcome.TheVariants.{Grant, HeldBack, OverLimit, BelowThreshold, NothingLeft, ReservedForOthers}
 
 -- ---- what is promised
 
@@ -62,12 +62,35 @@ EachIsToldAtItsMoment =
     (rows : Rows) (at : ℕ) (before after : List AgentRow) (agent : AgentRow) → rows.agents ≡ before ++ agent ∷ after
     → IsToldAtItsMoment rows at before agent (turns (at_moment rows at) (filter (λ a. a.active) before))
 
+-- the telling of turns has of each agent what is told of it
+abbrev pub TurnsAreTold : Type 0
+TurnsAreTold = (rows : Rows) (at : ℕ) → map (λ turn. turn.0) (turns_by_agent rows at) ≡ each_by_agent rows at
+
+-- and what would come of each client of the turn, in its order, behind the turns of the agents before, and before all clients: of nobody, where
+-- nobody is tried
+pub record IsUntouchedAt (rows : Rows) (at : ℕ) (before : List AgentRow) (agent : AgentRow) (start : Rows) : Type 0 where
+  pub turn : slice_get (turns_by_agent rows at) (length before) ≡ Some (each_on start agent, untouched_on start agent)
+  pub clients : IsOpen start agent → untouched_on start agent ≡ map (told_here start agent) (turn_order start)
+  pub nobody : (agent.active && not (is_empty (free_of start agent))) ≡ false → untouched_on start agent ≡ []
+
+abbrev pub EachIsUntouched : Type 0
+EachIsUntouched =
+    (rows : Rows) (at : ℕ) (before after : List AgentRow) (agent : AgentRow) → rows.agents ≡ before ++ agent ∷ after
+    → IsUntouchedAt rows at before agent (turns (at_moment rows at) (filter (λ a. a.active) before))
+
+-- where nobody before a client is granted anything on an agent, just that comes of it at its moment
+abbrev pub UntouchedIsTold : Type 0
+UntouchedIsTold =
+    (rows : Rows) (agent : AgentRow) (earlier : List Client) (client : Client) → flat_map grants_in (told_of_each rows agent earlier) ≡ []
+    → told_here (all_tried rows agent earlier) agent client ≡ told_here rows agent client
+
 -- too little of what is left is for the client, or none
 abbrev pub is_late : Outcome → Bool
 is_late (Grant bundle) = false
 is_late (HeldBack until) = false
 is_late (OverLimit role) = false
 is_late BelowThreshold = true
+is_late NothingLeft = true
 is_late ReservedForOthers = true
 
 -- a finding that a client comes too late
@@ -112,6 +135,9 @@ EachGrantIsAnOffer = (rows : Rows) (at : ℕ) → flat_map grants_in (each_told 
 abbrev pub LiveRowsAreTold : Type 0
 LiveRowsAreTold = (rows : Rows) (at : ℕ) → each_by_agent (live_rows rows) at ≡ each_by_agent rows at
 
+abbrev pub LiveTurnsAreTold : Type 0
+LiveTurnsAreTold = (rows : Rows) (at : ℕ) → turns_by_agent (live_rows rows) at ≡ turns_by_agent rows at
+
 -- ---- who is told of
 
 tried-each : (rows : Rows) (agent : AgentRow) (clients : List Client) → flat_map tried_in (told_of_each rows agent clients) ≡ map path_of clients
@@ -139,16 +165,17 @@ each-at : (rows : Rows) (agent : AgentRow) (earlier later : List Client) (client
 each-at rows agent [] later client = refl
 each-at rows agent (first ∷ earlier) later client = each-at (tried rows agent first) agent earlier later client
 
+after-first : (rows : Rows) (before : List AgentRow) (first : AgentRow) (active : Bool)
+    → turns (cond active (turn rows first) rows) (filter (λ a. a.active) before)
+    ≡ turns rows (cond active (first ∷ filter (λ a. a.active) before) (filter (λ a. a.active) before))
+after-first rows before first true = refl
+after-first rows before first false = refl
+
 each_on_all-at : (rows : Rows) (before after : List AgentRow) (agent : AgentRow)
     → slice_get (each_on_all rows (before ++ agent ∷ after)) (length before) ≡ Some (each_on (turns rows (filter (λ a. a.active) before)) agent)
 each_on_all-at rows [] after agent = refl
 each_on_all-at rows (first ∷ before) after agent =
-    each_on_all-at (after_agent rows first) before after agent ∙ ap (λ (r : Rows). Some (each_on r agent)) (by first.active)
-  where
-    by : (active : Bool) → turns (cond active (turn rows first) rows) (filter (λ a. a.active) before)
-        ≡ turns rows (cond active (first ∷ filter (λ a. a.active) before) (filter (λ a. a.active) before))
-    by true = refl
-    by false = refl
+    each_on_all-at (after_agent rows first) before after agent ∙ ap (λ (r : Rows). Some (each_on r agent)) (after-first rows before first first.active)
 
 pub each_is_told_at_its_moment : EachIsToldAtItsMoment
 unfolding each_by_agent
@@ -162,6 +189,57 @@ each_is_told_at_its_moment rows at before after agent agents =
           ∙ each-at start agent earlier later client;
     }
 
+-- ---- before anything is taken
+
+turns-told : (rows : Rows) (agents : List AgentRow) → map (λ turn. turn.0) (turns_on_all rows agents) ≡ each_on_all rows agents
+turns-told rows [] = refl
+turns-told rows (agent ∷ agents) = ap (λ told. each_on rows agent ∷ told) (turns-told (after_agent rows agent) agents)
+
+pub turns_are_told : TurnsAreTold
+unfolding each_by_agent turns_by_agent
+turns_are_told rows at = turns-told (at_moment rows at) rows.agents
+
+turns_on_all-at : (rows : Rows) (before after : List AgentRow) (agent : AgentRow)
+    → slice_get (turns_on_all rows (before ++ agent ∷ after)) (length before) ≡ Some (turn_on (turns rows (filter (λ a. a.active) before)) agent)
+turns_on_all-at rows [] after agent = refl
+turns_on_all-at rows (first ∷ before) after agent =
+    turns_on_all-at (after_agent rows first) before after agent ∙ ap (λ (r : Rows). Some (turn_on r agent)) (after-first rows before first first.active)
+
+untouched_on-shut : (rows : Rows) (agent : AgentRow) → (agent.active && not (is_empty (free_of rows agent))) ≡ false → untouched_on rows agent ≡ []
+untouched_on-shut rows agent = by agent.active (is_empty (free_of rows agent))
+  where
+    by : (active none : Bool) → (active && not none) ≡ false → cond active (cond none [] (map (told_here rows agent) (turn_order rows))) [] ≡ []
+    by true true shut = refl
+    by true false shut = absurd cc
+    by false none shut = refl
+
+pub each_is_untouched : EachIsUntouched
+unfolding turns_by_agent
+each_is_untouched rows at before after agent agents =
+    let start : Rows = turns (at_moment rows at) (filter (λ a. a.active) before) in record {
+      turn =
+          ap (λ as'. slice_get (turns_on_all (at_moment rows at) as') (length before)) agents
+          ∙ turns_on_all-at (at_moment rows at) before after agent;
+      clients = λ opened.
+          (λ i. if opened.active i then untouched_on_active start agent else [])
+          ∙ (λ i. if opened.some i then [] else map (told_here start agent) (turn_order start));
+      nobody = untouched_on-shut start agent;
+    }
+
+none_tried : (rows : Rows) (agent : AgentRow) (earlier : List Client) → flat_map grants_in (told_of_each rows agent earlier) ≡ []
+    → all_tried rows agent earlier ≡ rows
+none_tried rows agent [] none = refl
+none_tried rows agent (client ∷ earlier) none =
+    let parts = append_nothing (grants_in (told_here rows agent client)) (flat_map grants_in (told_of_each (tried rows agent client) agent earlier)) none in
+    none_tried (tried rows agent client) agent earlier parts.1 ∙ tried-none rows agent client parts.0
+  where
+    append_nothing : (xs ys : List Granted) → xs ++ ys ≡ [] → (xs ≡ []) × (ys ≡ [])
+    append_nothing [] ys none = (refl, none)
+    append_nothing (x ∷ xs) ys none = absurd cc
+
+pub untouched_is_told : UntouchedIsTold
+untouched_is_told rows agent earlier client none = ap (λ (r : Rows). told_here r agent client) (none_tried rows agent earlier none)
+
 -- ---- where too little is left
 
 -- of a bundle that is worth no offer no part is
@@ -174,20 +252,21 @@ part_less role free name = omega (
   where-some (is_for role) (of_name name) Thousandths free,
 )
 
-little_part : (role : Path) (free : List Resource) → is_allocatable free ≡ false → is_allocatable (part_for role free) ≡ false
+pub little_part : (role : Path) (free : List Resource) → is_allocatable free ≡ false → is_allocatable (part_for role free) ≡ false
 little_part role free little =
     let cpus = part_less role free (codes "cpus") in
     let mem = part_less role free (codes "mem") in
     grind (arith, nat_tests)
 
-late_shortage : (none : Bool) → is_late (if none then ReservedForOthers else BelowThreshold) ≡ true
-late_shortage true = refl
-late_shortage false = refl
+late_shortage : (gone none : Bool) → is_late (if gone then NothingLeft else if none then ReservedForOthers else BelowThreshold) ≡ true
+late_shortage true none = refl
+late_shortage false true = refl
+late_shortage false false = refl
 
 late-outcome : (rows : Rows) (agent : AgentRow) (client : Client) → is_allocatable (free_of rows agent) ≡ false → is_late (outcome rows agent client) ≡ true
 late-outcome rows agent client little =
     rw (little_entitlement rows (free_of rows agent) client little)
-    (rw (little_part client.role (free_of rows agent) little) (late_shortage (is_empty (part_for client.role (free_of rows agent)))))
+    (rw (little_part client.role (free_of rows agent) little) (late_shortage (is_empty (free_of rows agent)) (is_empty (part_for client.role (free_of rows agent)))))
 
 each_is_late : (rows : Rows) (agent : AgentRow) (clients : List Client) → is_allocatable (free_of rows agent) ≡ false
     → list_all is_told_late (told_of_each rows agent clients) ≡ true
@@ -282,6 +361,7 @@ no_grant_late (Tried agent client (Grant bundle) ∷ findings) late = cc
 no_grant_late (Tried agent client (HeldBack until) ∷ findings) late = no_grant_late findings (absurd cc)
 no_grant_late (Tried agent client (OverLimit role) ∷ findings) late = no_grant_late findings (absurd cc)
 no_grant_late (Tried agent client BelowThreshold ∷ findings) late = no_grant_late findings late
+no_grant_late (Tried agent client NothingLeft ∷ findings) late = no_grant_late findings late
 no_grant_late (Tried agent client ReservedForOthers ∷ findings) late = no_grant_late findings late
 no_grant_late (Suppressed client ∷ findings) late = no_grant_late findings (absurd cc)
 no_grant_late (Inactive agent ∷ findings) late = no_grant_late findings (absurd cc)
@@ -348,10 +428,36 @@ each_on_all-filters rows fs (agent ∷ agents) same =
     ∙ each_on_all-filters after fs agents (still_the_same rows after fs (kept-agent rows agent agent.active) same) in
     λ i. each_on-filters rows fs agent same i ∷ others i
 
+-- those that are in force hold back the same at a moment
+live_filters : (rows : Rows) (at : ℕ) → HoldTheSame (in_force rows.clock rows.filters) rows.filters (max rows.clock at)
+live_filters rows at = λ client agent bundle.
+    let late : rows.clock ≤ max rows.clock at = omega arith in
+    filter_weaker (holds_back (max rows.clock at) client agent bundle) (is_in_force rows.clock)
+    (in_force_before rows.clock (max rows.clock at) client agent bundle late) rows.filters
+
 pub live_rows_are_told : LiveRowsAreTold
 unfolding each_by_agent
 live_rows_are_told rows at =
-    let late : rows.clock ≤ max rows.clock at = omega arith in
-    each_on_all-filters (at_moment rows at) (in_force rows.clock rows.filters) rows.agents
-    (λ client agent bundle. filter_weaker (holds_back (max rows.clock at) client agent bundle) (is_in_force rows.clock)
-    (in_force_before rows.clock (max rows.clock at) client agent bundle late) rows.filters)
+    each_on_all-filters (at_moment rows at) (in_force rows.clock rows.filters) rows.agents (live_filters rows at)
+
+untouched_on-filters : (rows : Rows) (fs : List FilterRow) (agent : AgentRow) → HoldTheSame fs rows.filters rows.clock
+    → untouched_on (with_filters rows fs) agent ≡ untouched_on rows agent
+unfolding free_of standing_of
+untouched_on-filters rows fs agent same =
+    λ i. if agent.active then (if is_empty (free_of rows agent) then []
+    else map (λ client. Tried agent.name (path_of client) (outcome-filters rows fs same agent client i)) (turn_order rows)) else []
+
+turns_on_all-filters : (rows : Rows) (fs : List FilterRow) (agents : List AgentRow) → HoldTheSame fs rows.filters rows.clock
+    → turns_on_all (with_filters rows fs) agents ≡ turns_on_all rows agents
+turns_on_all-filters rows fs [] same = refl
+turns_on_all-filters rows fs (agent ∷ agents) same =
+    let after : Rows = after_agent rows agent in
+    let others : turns_on_all (after_agent (with_filters rows fs) agent) agents ≡ turns_on_all after agents =
+    ap (λ (r : Rows). turns_on_all r agents) (after-filters rows fs agent agent.active same)
+    ∙ turns_on_all-filters after fs agents (still_the_same rows after fs (kept-agent rows agent agent.active) same) in
+    λ i. (each_on-filters rows fs agent same i, untouched_on-filters rows fs agent same i) ∷ others i
+
+pub live_turns_are_told : LiveTurnsAreTold
+unfolding turns_by_agent
+live_turns_are_told rows at =
+    turns_on_all-filters (at_moment rows at) (in_force rows.clock rows.filters) rows.agents (live_filters rows at)

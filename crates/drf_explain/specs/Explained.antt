@@ -22,7 +22,7 @@ use Rattle.drf_rows.specs.declared.rows.Rows.{Rows}
 use Rattle.drf_explain.specs.declared.finding.Finding.{Finding}
 use Rattle.drf_explain.specs.declared.finding.Finding.TheVariants.{Suppressed, Inactive, NothingFree, Tried, Left}
 use Rattle.drf_explain.specs.declared.finding.Outcome.{Outcome}
-use Rattle.drf_explain.specs.declared.finding.Outcome.TheVariants.{Grant, HeldBack, OverLimit, BelowThreshold, ReservedForOthers}
+use Rattle.drf_explain.specs.declared.finding.Outcome.TheVariants.{Grant, HeldBack, OverLimit, BelowThreshold, NothingLeft, ReservedForOthers}
 
 -- ---- why a client is offered nothing
 
@@ -46,24 +46,25 @@ worthy_scalar part = if nat_le 10 (amount_of (quantities_of part) (codes "cpus")
 abbrev pub limiting_role : List LimitRow → Consumed → Path → List Resource → Path
 limiting_role limits consumed role part = option_map_or (λ l. l.role) (tightest limits consumed role (worthy_scalar part)) role
 
--- why a client is offered nothing where limits leave too little of the part of its role
-abbrev pub shortage : List LimitRow → Consumed → Path → List Resource → Outcome
-shortage limits consumed role part =
+-- why a client is offered nothing where limits leave too little of the part of its role, of what is free
+abbrev pub shortage : List LimitRow → Consumed → Path → List Resource → List Resource → Outcome
+shortage limits consumed role free part =
     if is_allocatable part then OverLimit (limiting_role limits consumed role part)
+    else if is_empty free then NothingLeft
     else if is_empty part then ReservedForOthers
     else BelowThreshold
 
 -- ---- a client is tried
 
--- what comes of it, by the part of what is free that its role may use, and by what limits leave of that
-abbrev pub outcome_by : Rows → AgentRow → Client → List Resource → List Resource → Outcome
-outcome_by rows agent client part bundle =
+-- what comes of it, by what is free, by the part of that that its role may use, and by what limits leave of the part
+abbrev pub outcome_by : Rows → AgentRow → Client → List Resource → List Resource → List Resource → Outcome
+outcome_by rows agent client free part bundle =
     if is_allocatable bundle then option_map_or HeldBack (held_until rows.filters rows.clock client agent.name bundle) (Grant bundle)
-    else shortage rows.limits (consumption rows) client.role part
+    else shortage rows.limits (consumption rows) client.role free part
 
 abbrev pub outcome : Rows → AgentRow → Client → Outcome
 outcome rows agent client =
-    outcome_by rows agent client (part_for client.role (free_of rows agent)) (entitlement rows (free_of rows agent) client)
+    outcome_by rows agent client (free_of rows agent) (part_for client.role (free_of rows agent)) (entitlement rows (free_of rows agent) client)
 
 -- ---- the turn of an agent
 

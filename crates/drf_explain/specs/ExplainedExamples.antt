@@ -1,9 +1,9 @@
--- A cluster in which each cause for which a client gets nothing stands once, and what is told of it.
+-- A cluster in which each cause for which an explanation tells that a client gets nothing stands once, and what is told of it.
 use Rattle.std.specs.Prelude.{List, [], ◌∷◌, ◌++◌, codes}
 use Rattle.drf_role.specs.Path.{Path}
 use Rattle.drf_rows.specs.Client.{path_of}
-use Rattle.drf_rows.specs.examples.Examples.{cpus, cpus_for, mem, framework_in}
-use Rattle.drf_rows.specs.examples.LifeExamples.{decline_for}
+use Rattle.drf_worked.specs.Examples.{cpus, cpus_for, mem, framework_in}
+use Rattle.drf_worked.specs.LifeExamples.{decline_for}
 use Rattle.drf_rows.specs.LimitNumbers.{ceilings}
 use Rattle.drf_rows.specs.Step.{opening, rows_after_all}
 use Rattle.drf_rows.specs.declared.event.Event.{Event}

@@ -12,10 +12,10 @@ use Rattle.drf_bundle.specs.Bundle.{covers, part_for}
 use Rattle.drf_bundle.specs.declared.resource.Resource.{Resource}
 use Rattle.drf_rows.specs.Client.{Client, path_of}
 use Rattle.drf_rows.specs.Cycle.{free_of, is_allocatable, grant, new_offer, with_offer, tried, all_tried, turn_order, turn, turns, at_moment, cycle}
-use Rattle.drf_rows.specs.laws.CycleLaws.{all_tried_none}
+use Rattle.drf_row_laws.specs.CycleLaws.{all_tried_none}
 use Rattle.drf_rows.specs.Filters.{is_in_force, in_force, is_of_client, is_on_agent, holds_back, is_held_back}
 use Rattle.drf_rows.specs.Held.{standing_of}
-use Rattle.drf_rows.specs.laws.LiveLaws.{kept-turns}
+use Rattle.drf_row_laws.specs.LiveLaws.{kept-turns}
 use Rattle.drf_rows.specs.Offers.{is_empty}
 use Rattle.drf_rows.specs.Quota.{consumption, entitlement}
 use Rattle.drf_rows.specs.Step.{live_rows, new_offers}
@@ -29,7 +29,7 @@ use Rattle.drf_explain.specs.Explained.{held_until, limiting_role, shortage, out
 use Rattle.drf_explain.specs.declared.finding.Finding.{Finding}
 use Rattle.drf_explain.specs.declared.finding.Finding.TheVariants.{Suppressed, Inactive, NothingFree, Tried, Left}
 use Rattle.drf_explain.specs.declared.finding.Outcome.{Outcome}
-use Rattle.drf_explain.specs.declared.finding.Outcome.TheVariants.{Grant, HeldBack, OverLimit, BelowThreshold, ReservedForOthers}
+use Rattle.drf_explain.specs.declared.finding.Outcome.TheVariants.{Grant, HeldBack, OverLimit, BelowThreshold, NothingLeft, ReservedForOthers}
 
 -- a bundle of an agent that a client gets
 pub record Granted : Type 0 where
@@ -43,6 +43,7 @@ grants_of agent client (Grant bundle) = record { agent = agent; client = client;
 grants_of agent client (HeldBack until) = []
 grants_of agent client (OverLimit role) = []
 grants_of agent client BelowThreshold = []
+grants_of agent client NothingLeft = []
 grants_of agent client ReservedForOthers = []
 
 abbrev pub grants_in : Finding → List Granted
@@ -114,11 +115,12 @@ makes-both before mid after first second a b = record {
 }
 
 -- a shortage is no grant
-no_grant : (agent : Text) (client : Path) (worth none : Bool) (role : Path)
-    → flat_map grants_in (Tried agent client (if worth then OverLimit role else if none then ReservedForOthers else BelowThreshold) ∷ []) ≡ []
-no_grant agent client true none role = refl
-no_grant agent client false true role = refl
-no_grant agent client false false role = refl
+no_grant : (agent : Text) (client : Path) (worth gone none : Bool) (role : Path)
+    → flat_map grants_in (Tried agent client (if worth then OverLimit role else if gone then NothingLeft else if none then ReservedForOthers else BelowThreshold) ∷ []) ≡ []
+no_grant agent client true gone none role = refl
+no_grant agent client false true none role = refl
+no_grant agent client false false true role = refl
+no_grant agent client false false false role = refl
 
 -- a client is tried
 module _ (rows : Rows) (agent : AgentRow) (client : Client) where
@@ -145,9 +147,25 @@ module _ (rows : Rows) (agent : AgentRow) (client : Client) where
       let bundle = entitlement rows free client in
       let part = part_for client.role free in
       makes-by bundle (is_allocatable bundle) (is_held_back rows.filters rows.clock client agent.name bundle)
-      (held_until rows.filters rows.clock client agent.name bundle) (shortage rows.limits (consumption rows) client.role part)
+      (held_until rows.filters rows.clock client agent.name bundle) (shortage rows.limits (consumption rows) client.role free part)
       (held_back-until rows.filters rows.clock client agent.name bundle)
-      (no_grant agent.name (path_of client) (is_allocatable part) (is_empty part) (limiting_role rows.limits (consumption rows) client.role part))
+      (no_grant agent.name (path_of client) (is_allocatable part) (is_empty free) (is_empty part) (limiting_role rows.limits (consumption rows) client.role part))
+
+  none-by : (bundle : List Resource) (worth held : Bool) (until : Option ℕ) (short : Outcome) → held ≡ is_some until
+      → grants_of agent.name (path_of client) (if worth then option_map_or HeldBack until (Grant bundle) else short) ≡ []
+      → after (if worth && not held then Some bundle else None) ≡ rows
+  none-by bundle false held until short same none = refl
+  none-by bundle true held None short same none = absurd cc
+  none-by bundle true held (Some until) short same none = rw same refl
+
+  -- where no grant is told of, nothing is granted
+  pub tried-none : grants_in (Tried agent.name (path_of client) (outcome rows agent client)) ≡ [] → tried rows agent client ≡ rows
+  tried-none =
+      let free = free_of rows agent in
+      let bundle = entitlement rows free client in
+      none-by bundle (is_allocatable bundle) (is_held_back rows.filters rows.clock client agent.name bundle)
+      (held_until rows.filters rows.clock client agent.name bundle) (shortage rows.limits (consumption rows) client.role free (part_for client.role free))
+      (held_back-until rows.filters rows.clock client agent.name bundle)
 
 -- clients are tried one after another
 makes-all : (rows : Rows) (agent : AgentRow) (clients : List Client) → Makes rows (all_tried rows agent clients) (told_of_all rows agent clients)
@@ -228,7 +246,7 @@ module _ (rows : Rows) (fs : List FilterRow) (same : HoldTheSame fs rows.filters
       let free = free_of rows agent in
       let bundle = entitlement rows free client in
       λ i. if is_allocatable bundle then option_map_or HeldBack (reduce max (map (λ (f : FilterRow). f.until) (same client agent.name bundle i))) (Grant bundle)
-      else shortage rows.limits (consumption rows) client.role (part_for client.role free)
+      else shortage rows.limits (consumption rows) client.role free (part_for client.role free)
 
   grant-filters : grant (with_filters rows fs) agent client ≡ grant rows agent client
   unfolding free_of

@@ -11,7 +11,7 @@ use Rattle.drf_text.specs.Written.{bundle_text}
 use Rattle.drf_explain.specs.declared.finding.Finding.{Finding}
 use Rattle.drf_explain.specs.declared.finding.Finding.TheVariants.{Suppressed, Inactive, NothingFree, Tried, Left}
 use Rattle.drf_explain.specs.declared.finding.Outcome.{Outcome}
-use Rattle.drf_explain.specs.declared.finding.Outcome.TheVariants.{Grant, HeldBack, OverLimit, BelowThreshold, ReservedForOthers}
+use Rattle.drf_explain.specs.declared.finding.Outcome.TheVariants.{Grant, HeldBack, OverLimit, BelowThreshold, NothingLeft, ReservedForOthers}
 
 -- why nothing comes to a client on an agent
 abbrev pub tried_why : Text → Path → Text → Data
@@ -49,6 +49,7 @@ tried_value agent client (Grant bundle) = grant_value agent client bundle
 tried_value agent client (HeldBack until) = held_back_value agent client until
 tried_value agent client (OverLimit role) = over_limit_value agent client role
 tried_value agent client BelowThreshold = tried_why agent client (codes "BelowThreshold")
+tried_value agent client NothingLeft = tried_why agent client (codes "NothingLeft")
 tried_value agent client ReservedForOthers = tried_why agent client (codes "ReservedForOthers")
 
 abbrev pub suppressed_value : Path → Data

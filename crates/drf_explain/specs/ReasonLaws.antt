@@ -1,5 +1,5 @@
 -- What each reason says of the cycle: why a client gets nothing on an agent, what it gets, and from when on.
-use Rattle.std.specs.Prelude.{◌≡◌, ◌↔◌, ℕ, ◌<◌, ◌≤◌, true, false, List, Some, None, IsTrue, slice_get, codes}
+use Rattle.std.specs.Prelude.{◌≡◌, ◌≢◌, ◌↔◌, ℕ, ◌<◌, ◌≤◌, true, false, List, Some, None, IsTrue, slice_get, codes}
 use Rattle.std.specs.List.{AllByRecursion}
 use Rattle.drf_role.specs.Text.{Text}
 use Rattle.drf_role.specs.Path.{Path}
@@ -15,8 +15,10 @@ use Rattle.drf_rows.specs.declared.rows.AgentRow.{AgentRow}
 use Rattle.drf_rows.specs.declared.rows.FilterRow.{FilterRow}
 use Rattle.drf_rows.specs.declared.rows.LimitRow.{LimitRow}
 use Rattle.drf_rows.specs.declared.rows.Rows.{Rows}
-use Rattle.drf_explain.specs.Explained.{outcome}
-use Rattle.drf_explain.specs.declared.finding.Outcome.TheVariants.{Grant, HeldBack, OverLimit, BelowThreshold, ReservedForOthers}
+use Rattle.drf_explain.specs.Explained.{outcome, explained}
+use Rattle.drf_explain.specs.declared.finding.Finding.{Finding}
+use Rattle.drf_explain.specs.declared.finding.Finding.TheVariants.{Tried}
+use Rattle.drf_explain.specs.declared.finding.Outcome.TheVariants.{Grant, HeldBack, OverLimit, BelowThreshold, NothingLeft, ReservedForOthers}
 
 -- what a client's role may use of what is free on an agent
 abbrev pub usable : Rows → AgentRow → Client → List Resource
@@ -106,8 +108,28 @@ pub record IsForOthers (client : Client) (r : Resource) : Type 0 where
   pub reserved : is_default r.role ≡ false
   pub apart : is_within r.role client.role ≡ false
 
--- all that is free is reserved for others
+-- something is free, and all of it is reserved for others
+pub record IsReserved (rows : Rows) (agent : AgentRow) (client : Client) : Type 0 where
+  pub some : is_empty (free_of rows agent) ≡ false
+  pub others : AllByRecursion (IsForOthers client) (free_of rows agent)
+
 abbrev pub ReservedIsForOthers : Type 0
 ReservedIsForOthers =
     (rows : Rows) (agent : AgentRow) (client : Client)
-    → outcome rows agent client ≡ ReservedForOthers → AllByRecursion (IsForOthers client) (free_of rows agent)
+    → outcome rows agent client ≡ ReservedForOthers → IsReserved rows agent client
+
+-- ---- nothing
+
+-- that nothing is left is told where nothing is free, and there alone
+abbrev pub NothingLeftIsNothing : Type 0
+NothingLeftIsNothing =
+    (rows : Rows) (agent : AgentRow) (client : Client)
+    → (outcome rows agent client ≡ NothingLeft) ↔ (is_empty (free_of rows agent) ≡ true)
+
+-- a finding but that nothing is left
+abbrev pub IsOtherwise : Finding → Type 0
+IsOtherwise finding = (agent : Text) (client : Path) → finding ≢ Tried agent client NothingLeft
+
+-- an explanation does not tell it: there an agent's turn ends before
+abbrev pub NothingLeftIsNotExplained : Type 0
+NothingLeftIsNotExplained = (rows : Rows) (at : ℕ) → AllByRecursion IsOtherwise (explained rows at)

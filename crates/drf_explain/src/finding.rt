@@ -14,6 +14,8 @@ pub enum Outcome {
     OverLimit { role: Role },
     /// What it may have of what is free is not worth an offer.
     BelowThreshold,
+    /// All that was free has been granted.
+    NothingLeft,
     /// All that is free is reserved for other roles.
     ReservedForOthers,
 }
@@ -45,4 +47,13 @@ pub enum Finding {
         left: Bundle,
         clients: u64,
     },
+}
+
+/// What is told of the turn of an agent.
+#[derive(Debug, Drop)]
+pub struct TurnTold {
+    /// Of each client at its moment, or of the agent.
+    pub told: Vec<Finding>,
+    /// Of each client as if it were the first to be tried: empty where nobody is tried.
+    pub untouched: Vec<Finding>,
 }

@@ -127,19 +127,23 @@ fn limiting_role(
     }
 }
 
-/// Why a client of the role is offered nothing of a part of which limits leave too little.
+/// Why a client of the role is offered nothing of a part of what is free, of which limits leave too little.
 fn shortage(
     quota: Option<&Quota>,
     limits: &[LimitRow],
     role: &Role,
+    free: &Bundle,
     part: &Bundle,
 ) -> Result<Outcome, AllocError>
     ensures { IfOk result (λ why. (rows : Rows) → IsQuotaOf rows (option_copied quota.entry) → limits.now ≡ rows.limits
-        → why ≡ shortage rows.limits (consumption rows) role.now part.now) }
+        → why ≡ shortage rows.limits (consumption rows) role.now free.now part.now) }
 {
     if is_worth_an_offer(part) {
         let role = limiting_role(quota, limits, role, part)?;
         return Ok(Outcome::OverLimit { role });
+    }
+    if free.entries().is_empty() {
+        return Ok(Outcome::NothingLeft);
     }
     if part.entries().is_empty() {
         return Ok(Outcome::ReservedForOthers);
@@ -250,14 +254,15 @@ impl<'a> Gates<'a> {
         &self,
         quota: Option<&Quota>,
         client: &ClientPath,
+        free: &Bundle,
         part: &Bundle,
         bundle: Bundle,
     ) -> Result<Outcome, AllocError>
         ensures { IfOk result (λ outcome. (rows : Rows) (agent : AgentRow) (of : Client) → AreGatesOf rows agent self.now
-            → IsQuotaOf rows (option_copied quota.entry) → client.now ≡ path_of of → outcome ≡ outcome_by rows agent of part.now bundle) }
+            → IsQuotaOf rows (option_copied quota.entry) → client.now ≡ path_of of → outcome ≡ outcome_by rows agent of free.now part.now bundle) }
     {
         if !is_worth_an_offer(&bundle) {
-            return shortage(quota, self.limits, client.role(), part);
+            return shortage(quota, self.limits, client.role(), free, part);
         }
         match held_until(&self.filters, self.moment, client, self.agent, &bundle) {
             Some(until) => Ok(Outcome::HeldBack { until }),

@@ -84,6 +84,7 @@ fn tried_value(
         Outcome::HeldBack { until } => held_back_value(alloc, agent, client, *until),
         Outcome::OverLimit { role } => over_limit_value(alloc, agent, client, role),
         Outcome::BelowThreshold => tried_why(alloc, agent, client, "BelowThreshold"),
+        Outcome::NothingLeft => tried_why(alloc, agent, client, "NothingLeft"),
         Outcome::ReservedForOthers => tried_why(alloc, agent, client, "ReservedForOthers"),
     }
 }

@@ -1,2 +1,4 @@
 mod Picked
 mod Tallied
+mod Passed
+mod Sums

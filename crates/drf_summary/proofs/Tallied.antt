@@ -1,57 +1,62 @@
 -- Tallies, agent by agent.
-use Rattle.std.specs.Prelude.{◌≡◌, ℕ, ◌+◌, ◌-◌, ◌^◌, ◌<◌, ◌≤◌, min, Bool, true, false, not, List, [], ◌∷◌, ◌++◌, length, map, filter, flat_map, take, drop, if◌then◌else◌}
+use Rattle.std.specs.Prelude.{◌≡◌, ℕ, ◌+◌, ◌<◌, ◌≤◌, Bool, not, List, [], ◌∷◌, ◌++◌, length, map, filter, flat_map, take, drop}
 use Rattle.std.proofs.Common.{refl, sym, ap, ◌∙◌, inl, inr, zero, suc, arith, append_assoc, append-nil, get_or, set}
 use Rattle.std.proofs.lemmas.Bool.{cases_Bool}
 use Rattle.std.proofs.lemmas.List.{length-append, map-append, at_drop_more, drop_all}
 use Rattle.std.proofs.lemmas.List.Elements.{filter-append}
+use Rattle.std.proofs.lemmas.List.Sums.{fold-append}
 use Rattle.drf_role.specs.Path.{Path}
-use Rattle.drf_explain.specs.declared.finding.Finding.{Finding}
 use Rattle.drf_rows.specs.Client.{Client, path_of}
 use Rattle.drf_rows.specs.Held.{client_of, active_clients}
 use Rattle.drf_rows.specs.declared.rows.ClientRow.{ClientRow}
 use Rattle.drf_rows.specs.declared.rows.FrameworkRow.{FrameworkRow}
 use Rattle.drf_rows.specs.declared.rows.Rows.{Rows}
-use Rattle.drf_summary.specs.Tally.{active_in, active_one, agents_where, is_below_threshold, is_held_back, is_over_limit, is_passed, is_reserved, is_so_for, one_more, tally_of, tallies_of, with_list}
-use Rattle.drf_summary.specs.Pick.{is_grant}
+use Rattle.drf_summary.specs.Tally.{active_in, active_one, agents_where, comes_to, is_below_threshold, is_held_back, is_nothing_left, is_over_limit, is_reserved, more_if, tally_of, tallies_of, tells_of, with_turn}
+use Rattle.drf_summary.specs.Passers.{Turn, is_passed, with_passers_on}
+use Rattle.drf_summary.specs.Pick.{is_granted, is_inactive, is_nothing_free}
 use Rattle.drf_summary.specs.declared.tally.Tally.{Tally}
 
 -- one agent more
-agents-next : (test : List Finding → Bool) (lists : List (List Finding)) (told : List Finding)
-    → one_more (agents_where test lists) (test told) ≡ agents_where test (lists ++ told ∷ [])
-agents-next test lists told =
-    let all : length (filter test (lists ++ told ∷ [])) ≡ length (filter test lists) + length (filter test (told ∷ [])) =
-    ap length (filter-append test lists (told ∷ [])) ∙ length-append (filter test lists) (filter test (told ∷ [])) in
-    elim (cases_Bool (test told)) [
+agents-next : (test : Turn → Bool) (turns : List Turn) (turn : Turn)
+    → more_if (test turn) (agents_where test turns) ≡ agents_where test (turns ++ turn ∷ [])
+agents-next test turns turn =
+    let all : length (filter test (turns ++ turn ∷ [])) ≡ length (filter test turns) + length (filter test (turn ∷ [])) =
+    ap length (filter-append test turns (turn ∷ [])) ∙ length-append (filter test turns) (filter test (turn ∷ [])) in
+    elim (cases_Bool (test turn)) [
       | inl here ↦
-          let one : length (filter test (told ∷ [])) ≡ 1 = rw here refl in
+          let one : length (filter test (turn ∷ [])) ≡ 1 = rw here refl in
           rw here (omega (arith, all, one))
       | inr past ↦
-          let none : length (filter test (told ∷ [])) ≡ 0 = rw past refl in
+          let none : length (filter test (turn ∷ [])) ≡ 0 = rw past refl in
           rw past (omega (arith, all, none))
     ]
 
-tally-next : (lists : List (List Finding)) (told : List Finding) (client : Client)
-    → with_list told (tally_of lists (path_of client)) ≡ tally_of (lists ++ told ∷ []) (path_of client)
-tally-next lists told client =
+tally-next : (turns : List Turn) (turn : Turn) (client : Client)
+    → with_turn turn (tally_of turns (path_of client)) ≡ tally_of (turns ++ turn ∷ []) (path_of client)
+tally-next turns turn client =
     let path : Path = path_of client in
     λ i. record {
       client = path;
-      granted = agents-next (is_so_for is_grant path) lists told i;
-      held_back = agents-next (is_so_for is_held_back path) lists told i;
-      over_limit = agents-next (is_so_for is_over_limit path) lists told i;
-      below_threshold = agents-next (is_so_for is_below_threshold path) lists told i;
-      reserved = agents-next (is_so_for is_reserved path) lists told i;
-      passed = agents-next (is_passed path) lists told i;
+      granted = agents-next (comes_to is_granted path) turns turn i;
+      held_back = agents-next (comes_to is_held_back path) turns turn i;
+      over_limit = agents-next (comes_to is_over_limit path) turns turn i;
+      below_threshold = agents-next (comes_to is_below_threshold path) turns turn i;
+      nothing_left = agents-next (comes_to is_nothing_left path) turns turn i;
+      reserved = agents-next (comes_to is_reserved path) turns turn i;
+      inactive = agents-next (tells_of is_inactive) turns turn i;
+      nothing_free = agents-next (tells_of is_nothing_free) turns turn i;
+      passed = agents-next (is_passed path) turns turn i;
+      passers = sym (fold-append (with_passers_on path) [] turns (turn ∷ [])) i;
     }
 
-each_next : (clients : List Client) (lists : List (List Finding)) (told : List Finding)
-    → map (with_list told) (map (λ c. tally_of lists (path_of c)) clients) ≡ map (λ c. tally_of (lists ++ told ∷ []) (path_of c)) clients
-each_next [] lists told = refl
-each_next (client ∷ clients) lists told = λ i. tally-next lists told client i ∷ each_next clients lists told i
+each_next : (clients : List Client) (turns : List Turn) (turn : Turn)
+    → map (with_turn turn) (map (λ c. tally_of turns (path_of c)) clients) ≡ map (λ c. tally_of (turns ++ turn ∷ []) (path_of c)) clients
+each_next [] turns turn = refl
+each_next (client ∷ clients) turns turn = λ i. tally-next turns turn client i ∷ each_next clients turns turn i
 
-pub tallies-next : (rows : Rows) (lists : List (List Finding)) (told : List Finding)
-    → map (with_list told) (tallies_of rows lists) ≡ tallies_of rows (lists ++ told ∷ [])
-tallies-next rows lists told = each_next (active_clients rows) lists told
+pub tallies-next : (rows : Rows) (turns : List Turn) (turn : Turn)
+    → map (with_turn turn) (tallies_of rows turns) ≡ tallies_of rows (turns ++ turn ∷ [])
+tallies-next rows turns turn = each_next (active_clients rows) turns turn
 
 -- the elements before a place are changed, and one more is
 module _ {X : Type 0} (f : X → X) where

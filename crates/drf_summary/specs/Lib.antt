@@ -1,2 +1,4 @@
 pub mod Pick
+pub mod Passers
 pub mod Tally
+pub mod SumLaws

@@ -1,5 +1,5 @@
 -- What is told where one agent, or one client, is asked for.
-use Rattle.std.specs.Prelude.{ℕ, Bool, true, false, List, [], ◌∷◌, ◌++◌, filter, take, drop}
+use Rattle.std.specs.Prelude.{ℕ, Bool, true, false, ◌||◌, List, [], ◌∷◌, ◌++◌, Option, Some, None, filter, take, drop}
 use Rattle.std.specs.List.{flat_map, position}
 use Rattle.std.specs.Option.{option_map_or}
 use Rattle.drf_role.specs.Text.{Text, same_text}
@@ -7,11 +7,10 @@ use Rattle.drf_role.specs.Path.{Path, same_path}
 use Rattle.drf_rows.specs.declared.rows.Rows.{Rows}
 use Rattle.drf_explain.specs.Each.{each_by_agent}
 use Rattle.drf_explain.specs.Explained.{suppressed_of}
-use Rattle.drf_explain.specs.ExplainedText.{explained_text}
 use Rattle.drf_explain.specs.declared.finding.Finding.{Finding}
 use Rattle.drf_explain.specs.declared.finding.Finding.TheVariants.{Suppressed, Inactive, NothingFree, Tried, Left}
 use Rattle.drf_explain.specs.declared.finding.Outcome.{Outcome}
-use Rattle.drf_explain.specs.declared.finding.Outcome.TheVariants.{Grant, HeldBack, OverLimit, BelowThreshold, ReservedForOthers}
+use Rattle.drf_explain.specs.declared.finding.Outcome.TheVariants.{Grant, HeldBack, OverLimit, BelowThreshold, NothingLeft, ReservedForOthers}
 use Rattle.drf_summary.specs.declared.pick.Pick.{Pick}
 use Rattle.drf_summary.specs.declared.pick.Pick.TheVariants.{All, Agent, Client}
 
@@ -36,6 +35,7 @@ is_granted (Grant bundle) = true
 is_granted (HeldBack until) = false
 is_granted (OverLimit role) = false
 is_granted BelowThreshold = false
+is_granted NothingLeft = false
 is_granted ReservedForOthers = false
 
 -- a grant
@@ -46,19 +46,63 @@ is_grant (NothingFree agent) = false
 is_grant (Tried agent client outcome) = is_granted outcome
 is_grant (Left agent left clients) = false
 
+-- an agent that is inactive
+abbrev pub is_inactive : Finding → Bool
+is_inactive (Suppressed client) = false
+is_inactive (Inactive agent) = true
+is_inactive (NothingFree agent) = false
+is_inactive (Tried agent client outcome) = false
+is_inactive (Left agent left clients) = false
+
+-- an agent of which nothing is free
+abbrev pub is_nothing_free : Finding → Bool
+is_nothing_free (Suppressed client) = false
+is_nothing_free (Inactive agent) = false
+is_nothing_free (NothingFree agent) = true
+is_nothing_free (Tried agent client outcome) = false
+is_nothing_free (Left agent left clients) = false
+
+-- an agent on which nobody is tried
+abbrev pub bars_all : Finding → Bool
+bars_all finding = is_inactive finding || is_nothing_free finding
+
+-- the finding at a place, and those before it: none, where there is no place
+abbrev pub own_at : List Finding → Option ℕ → List Finding
+own_at findings place = option_map_or (λ p. take 1 (drop p findings)) place []
+
+abbrev pub earlier_at : List Finding → Option ℕ → List Finding
+earlier_at findings place = option_map_or (λ p. take p findings) place []
+
 -- what is told of a client among some findings: the first finding of it, or none
 abbrev pub own_on : Path → List Finding → List Finding
-own_on path findings = option_map_or (λ place. take 1 (drop place findings)) (position (is_of_client path) findings) []
+own_on path findings = own_at findings (position (is_of_client path) findings)
 
 -- what is told before that, if that is told
 abbrev pub earlier_on : Path → List Finding → List Finding
-earlier_on path findings = option_map_or (λ place. take place findings) (position (is_of_client path) findings) []
+earlier_on path findings = earlier_at findings (position (is_of_client path) findings)
+
+-- the outcome of the first of some findings, if that tries a client
+abbrev pub outcome_in : List Finding → Option Outcome
+outcome_in [] = None
+outcome_in (Suppressed client ∷ findings) = None
+outcome_in (Inactive agent ∷ findings) = None
+outcome_in (NothingFree agent ∷ findings) = None
+outcome_in (Tried agent client outcome ∷ findings) = Some outcome
+outcome_in (Left agent left clients ∷ findings) = None
+
+-- what comes of a client by some findings, if it is tried
+abbrev pub outcome_on : Path → List Finding → Option Outcome
+outcome_on path findings = outcome_in (own_on path findings)
+
+-- what is told of a client, behind the grants that are told before it
+abbrev pub picked_tries : Path → List Finding → List Finding
+picked_tries path findings = filter is_grant (earlier_on path findings) ++ own_on path findings
 
 -- what is picked of the findings of one agent, or of those who want no offers
 abbrev pub picked : Pick → List Finding → List Finding
 picked All findings = findings
 picked (Agent name) findings = filter (is_of_agent name) findings
-picked (Client path) findings = filter is_grant (earlier_on path findings) ++ own_on path findings
+picked (Client path) findings = filter bars_all findings ++ picked_tries path findings
 
 -- and of all that is told of the cycle at a moment: of those who want no offers, and of one agent after another
 abbrev pub picked_of : Pick → Rows → ℕ → List Finding

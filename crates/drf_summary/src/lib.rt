@@ -1,8 +1,13 @@
 //! What is asked of a telling of the next cycle: one agent, one client, or sums.
 #![tactic(auto)]
 
+mod laws;
+mod passer;
+mod passer_line;
 mod pick;
 mod tally;
 
+pub use laws::summary_law;
+pub use passer::{Passer, Passers};
 pub use pick::{Pick, write_picked};
-pub use tally::{Tally, take_list, tallies, write_tallies};
+pub use tally::{Tally, take_turn, tallies, write_tallies};

@@ -1,8 +1,9 @@
 //! What is picked of a telling.
-ghost use Rattle.std.specs.Prelude.{◌≡◌, ◌++◌, [], filter, if◌then◌else◌, OnOk};
+ghost use Rattle.std.specs.Prelude.{◌≡◌, ◌<◌, ◌++◌, [], filter, if◌then◌else◌, length, IfSome, OnOk};
 ghost use Rattle.std.specs.List.{position};
+ghost use Rattle.std.specs.Option.{option_copied};
 ghost use Rattle.drf_explain.specs.ExplainedText.{explained_text, finding_text};
-ghost use Rattle.drf_summary.specs.Pick.{is_granted, is_grant, is_of_agent, is_of_client, earlier_on, own_on, picked};
+ghost use Rattle.drf_summary.specs.Pick.{bars_all, is_granted, is_grant, is_inactive, is_nothing_free, is_of_agent, is_of_client, earlier_at, outcome_in, own_at, picked, picked_tries};
 
 use drf_explain::{Finding, Outcome, write_explained_line, write_explained_lines};
 use drf_role::{ClientPath, Name};
@@ -15,7 +16,8 @@ pub enum Pick {
     All,
     /// The agent of that name.
     Agent(Name),
-    /// The client of that path, and on each agent those that are granted something there before it is told of.
+    /// The client of that path, and on each agent those that are granted something there before it is told of. Agents on which nobody is tried
+    /// are told of too.
     Client(ClientPath),
 }
 
@@ -43,7 +45,7 @@ fn is_of_client(path: &ClientPath, finding: &Finding) -> bool
     }
 }
 
-fn is_granted(outcome: &Outcome) -> bool
+pub(crate) fn is_granted(outcome: &Outcome) -> bool
     ensures { result ≡ is_granted outcome.now }
 {
     matches!(outcome, Outcome::Grant(_))
@@ -57,6 +59,25 @@ pub(crate) fn is_grant(finding: &Finding) -> bool
         Finding::Tried { outcome, .. } => is_granted(outcome),
         _ => false,
     }
+}
+
+pub(crate) fn is_inactive(finding: &Finding) -> bool
+    ensures { result ≡ is_inactive finding.now }
+{
+    matches!(finding, Finding::Inactive { .. })
+}
+
+pub(crate) fn is_nothing_free(finding: &Finding) -> bool
+    ensures { result ≡ is_nothing_free finding.now }
+{
+    matches!(finding, Finding::NothingFree { .. })
+}
+
+/// Whether the finding is of an agent on which nobody is tried.
+fn bars_all(finding: &Finding) -> bool
+    ensures { result ≡ bars_all finding.now }
+{
+    is_inactive(finding) || is_nothing_free(finding)
 }
 
 /// Writes the line of a finding, if it is wanted.
@@ -99,6 +120,16 @@ fn write_grants(alloc: Global, findings: &[Finding], text: &mut Vec<u8>) -> Resu
     Ok(())
 }
 
+/// Writes the line of an agent on which nobody is tried.
+fn write_barred(alloc: Global, findings: &[Finding], text: &mut Vec<u8>) -> Result<(), AllocError>
+    ensures { OnOk result (text.new.items ≡ text.old.items ++ explained_text (filter bars_all findings.now)) }
+{
+    for finding in findings {
+        write_if(alloc, bars_all(finding), finding, text)?;
+    }
+    Ok(())
+}
+
 /// Writes the lines of findings.
 fn write_all(alloc: Global, findings: &[Finding], text: &mut Vec<u8>) -> Result<(), AllocError>
     ensures { OnOk result (text.new.items ≡ text.old.items ++ explained_text findings.now) }
@@ -108,48 +139,75 @@ fn write_all(alloc: Global, findings: &[Finding], text: &mut Vec<u8>) -> Result<
 }
 
 /// Where the client is first told of.
-fn place_of(path: &ClientPath, findings: &[Finding]) -> Option<usize>
-    ensures { result ≡ position (is_of_client path.now) findings.now }
+pub(crate) fn place_of(path: &ClientPath, findings: &[Finding]) -> Option<usize>
+    ensures place { result ≡ position (is_of_client path.now) findings.now }
+    ensures within { IfSome result (λ p. p < length findings.now) }
 {
     findings
         .iter()
         .position(|finding| is_of_client(path, finding))
 }
 
-/// The first of the findings that is of the client, or none.
-pub(crate) fn own_of<'a>(path: &ClientPath, findings: &'a [Finding]) -> &'a [Finding]
-    ensures { result.now ≡ own_on path.now findings.now }
+/// The finding at a place, if there is one.
+pub(crate) fn own_at(findings: &[Finding], place: Option<usize>) -> &[Finding]
+    requires { IfSome place (λ p. p < length findings.now) }
+    ensures { result.now ≡ own_at findings.now place }
 {
-    let Some(place) = place_of(path, findings) else {
+    let Some(place) = place else {
         return &findings[..0];
     };
     let rest = &findings[place..];
     &rest[..1]
 }
 
-/// Those before it, if there is one.
-pub(crate) fn earlier_of<'a>(path: &ClientPath, findings: &'a [Finding]) -> &'a [Finding]
-    ensures { result.now ≡ earlier_on path.now findings.now }
+/// Those before it.
+pub(crate) fn earlier_at(findings: &[Finding], place: Option<usize>) -> &[Finding]
+    requires { IfSome place (λ p. p < length findings.now) }
+    ensures { result.now ≡ earlier_at findings.now place }
 {
-    let Some(place) = place_of(path, findings) else {
+    let Some(place) = place else {
         return &findings[..0];
     };
     &findings[..place]
 }
 
+/// The outcome of the first of the findings, if that tries a client.
+pub(crate) fn first_outcome(findings: &[Finding]) -> Option<&Outcome>
+    ensures { option_copied result ≡ outcome_in findings.now }
+{
+    match findings.first() {
+        Some(Finding::Tried { outcome, .. }) => Some(outcome),
+        _ => None,
+    }
+}
+
 /// Writes the line of the client, if it is told of, behind those of the grants before it.
+fn write_tries(
+    alloc: Global,
+    path: &ClientPath,
+    findings: &[Finding],
+    text: &mut Vec<u8>,
+) -> Result<(), AllocError>
+    ensures { OnOk result (text.new.items ≡ text.old.items ++ explained_text (picked_tries path.now findings.now)) }
+{
+    let place = place_of(path, findings);
+    let earlier = earlier_at(findings, place);
+    write_grants(alloc, earlier, text)?;
+    let own = own_at(findings, place);
+    write_all(alloc, own, text)
+}
+
+/// Writes the line of an agent on which nobody is tried, or else of the client, behind those of the grants before it.
 fn write_client(
     alloc: Global,
     path: &ClientPath,
     findings: &[Finding],
     text: &mut Vec<u8>,
 ) -> Result<(), AllocError>
-    ensures { OnOk result (text.new.items ≡ text.old.items ++ explained_text (filter is_grant (earlier_on path.now findings.now) ++ own_on path.now findings.now)) }
+    ensures { OnOk result (text.new.items ≡ text.old.items ++ explained_text (filter bars_all findings.now ++ picked_tries path.now findings.now)) }
 {
-    let earlier = earlier_of(path, findings);
-    write_grants(alloc, earlier, text)?;
-    let own = own_of(path, findings);
-    write_all(alloc, own, text)
+    write_barred(alloc, findings, text)?;
+    write_tries(alloc, path, findings, text)
 }
 
 /// Writes the lines of what is picked of one list of findings behind a text: of those of one agent, or of the clients that want no offers.

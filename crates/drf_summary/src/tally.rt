@@ -1,19 +1,24 @@
 //! What comes of each client, counted over agents.
-ghost use Rattle.std.specs.Prelude.{◌≡◌, ℕ, ◌+◌, ◌-◌, ◌^◌, min, map, List, [], ◌∷◌, ◌++◌, if◌then◌else◌, IfOk, OnOk};
+ghost use Rattle.std.specs.Prelude.{◌≡◌, codes, map, List, [], ◌∷◌, ◌++◌, IfOk, OnOk};
 ghost use Rattle.std.specs.List.{flat_map, list_any};
-ghost use Rattle.drf_explain.specs.declared.finding.Finding.{Finding};
+ghost use Rattle.std.specs.Option.{option_copied};
 ghost use Rattle.drf_rows.specs.Client.{path_of};
 ghost use Rattle.drf_rows.specs.declared.rows.Rows.{Rows};
 ghost use Rattle.drf_rows.specs.Held.{client_of, active_clients};
-ghost use Rattle.serde_json.specs.View.{view};
-ghost use Rattle.drf_summary.specs.Pick.{is_grant};
-ghost use Rattle.drf_summary.specs.Tally.{active_in, active_one, is_held_back, is_over_limit, is_below_threshold, is_reserved, tally_of, tally_text, tally_value, tallies_of, with_list};
+ghost use Rattle.drf_role.specs.Parts.{text_of};
+ghost use Rattle.serde_json.specs.Data.{number, put as with_member, string, unsigned};
+ghost use Rattle.serde_json.specs.View.{members_view, view};
+ghost use Rattle.drf_summary.specs.Passers.{Turn, one_more};
+ghost use Rattle.drf_summary.specs.Pick.{is_inactive, is_nothing_free};
+ghost use Rattle.drf_summary.specs.Tally.{active_in, active_one, more_if, tally_lines, tally_of, tally_text, tally_value, tallies_of, with_counts, with_outcome, with_turn};
 
-use crate::pick::{earlier_of, is_grant, own_of};
-use drf_explain::{Finding, Outcome};
+use crate::passer::{Passers, is_passed};
+use crate::passer_line::write_passers;
+use crate::pick::{earlier_at, first_outcome, is_inactive, is_nothing_free, own_at, place_of};
+use drf_explain::{Finding, Outcome, TurnTold};
 use drf_role::{ClientPath, NodePath};
-use drf_rows::{ClientRow, FrameworkRow, Rows};
-use serde_json::{Value, json};
+use drf_rows::{ClientRow, FrameworkRow, Report, Rows};
+use serde_json::{Map, Value, json, put};
 use std::alloc::{AllocError, Global};
 
 /// On how many agents a client is told what. A number stays at 2^64 - 1 once there.
@@ -28,89 +33,51 @@ pub struct Tally {
     pub over_limit: u64,
     /// What it may have is not worth an offer.
     pub below_threshold: u64,
-    /// Nothing that is left is for its role.
+    /// All that was free has been granted.
+    pub nothing_left: u64,
+    /// Nothing that is free is for its role.
     pub reserved: u64,
-    /// It is granted nothing, and somebody before it was granted something.
+    /// Nobody is tried, as the agent is inactive.
+    pub inactive: u64,
+    /// Nobody is tried, as nothing of it is free.
+    pub nothing_free: u64,
+    /// It is granted nothing, behind somebody who is granted something, and would be granted something, were it the first to be tried.
     pub passed: u64,
+    /// Who was granted something there.
+    pub passers: Passers,
 }
 
-/// A number, and one more if there is one more to count.
-fn counted(count: u64, more: bool) -> u64
-    ensures { result ≡ min (count + (if more then 1 else 0)) (2 ^ 64 - 1) }
+/// One more.
+fn raise(count: &mut u64)
+    ensures { count.new ≡ one_more count.old }
 {
-    if more { count.saturating_add(1) } else { count }
+    *count = count.saturating_add(1);
 }
 
-fn is_held_back(finding: &Finding) -> bool
-    ensures { result ≡ is_held_back finding.now }
+/// One more, if there is one more to count.
+fn raise_if(more: bool, count: &mut u64)
+    ensures { count.new ≡ more_if more count.old }
 {
-    match finding {
-        Finding::Tried { outcome, .. } => matches!(outcome, Outcome::HeldBack { .. }),
-        _ => false,
+    if more {
+        raise(count);
     }
 }
 
-fn is_over_limit(finding: &Finding) -> bool
-    ensures { result ≡ is_over_limit finding.now }
+fn has_inactive(findings: &[Finding]) -> bool
+    ensures { result ≡ list_any is_inactive findings.now }
 {
-    match finding {
-        Finding::Tried { outcome, .. } => matches!(outcome, Outcome::OverLimit { .. }),
-        _ => false,
-    }
+    findings.iter().any(|finding| is_inactive(finding))
 }
 
-fn is_below_threshold(finding: &Finding) -> bool
-    ensures { result ≡ is_below_threshold finding.now }
+fn has_nothing_free(findings: &[Finding]) -> bool
+    ensures { result ≡ list_any is_nothing_free findings.now }
 {
-    match finding {
-        Finding::Tried { outcome, .. } => matches!(outcome, Outcome::BelowThreshold),
-        _ => false,
-    }
-}
-
-fn is_reserved(finding: &Finding) -> bool
-    ensures { result ≡ is_reserved finding.now }
-{
-    match finding {
-        Finding::Tried { outcome, .. } => matches!(outcome, Outcome::ReservedForOthers),
-        _ => false,
-    }
-}
-
-/// Whether any of the findings tells of a grant.
-fn has_grant(findings: &[Finding]) -> bool
-    ensures { result ≡ list_any is_grant findings.now }
-{
-    findings.iter().any(|finding| is_grant(finding))
-}
-
-fn has_held_back(findings: &[Finding]) -> bool
-    ensures { result ≡ list_any is_held_back findings.now }
-{
-    findings.iter().any(|finding| is_held_back(finding))
-}
-
-fn has_over_limit(findings: &[Finding]) -> bool
-    ensures { result ≡ list_any is_over_limit findings.now }
-{
-    findings.iter().any(|finding| is_over_limit(finding))
-}
-
-fn has_below_threshold(findings: &[Finding]) -> bool
-    ensures { result ≡ list_any is_below_threshold findings.now }
-{
-    findings.iter().any(|finding| is_below_threshold(finding))
-}
-
-fn has_reserved(findings: &[Finding]) -> bool
-    ensures { result ≡ list_any is_reserved findings.now }
-{
-    findings.iter().any(|finding| is_reserved(finding))
+    findings.iter().any(|finding| is_nothing_free(finding))
 }
 
 impl Tally {
     /// The tally of a client before it is told of.
-    fn new(client: ClientPath) -> Tally
+    fn new(alloc: Global, client: ClientPath) -> Tally
         ensures { result ≡ tally_of [] client }
     {
         Tally {
@@ -119,42 +86,69 @@ impl Tally {
             held_back: 0,
             over_limit: 0,
             below_threshold: 0,
+            nothing_left: 0,
             reserved: 0,
+            inactive: 0,
+            nothing_free: 0,
             passed: 0,
+            passers: Passers::new(alloc),
         }
     }
 
-    /// Counts what is told of the client on one agent.
-    fn take(&mut self, told: &[Finding])
-        ensures { self.new ≡ with_list told.now self.old }
+    /// Counts what comes of the client on one agent, if it is tried there.
+    fn count_outcome(&mut self, outcome: Option<&Outcome>)
+        ensures { self.new ≡ with_outcome (option_copied outcome.entry) self.old }
     {
-        let own = own_of(&self.client, told);
-        let earlier = earlier_of(&self.client, told);
-        let granted = has_grant(own);
-        let passed = has_grant(earlier) && !granted;
-        self.granted = counted(self.granted, granted);
-        self.held_back = counted(self.held_back, has_held_back(own));
-        self.over_limit = counted(self.over_limit, has_over_limit(own));
-        self.below_threshold = counted(self.below_threshold, has_below_threshold(own));
-        self.reserved = counted(self.reserved, has_reserved(own));
-        self.passed = counted(self.passed, passed);
+        let Some(outcome) = outcome else {
+            return;
+        };
+        match outcome {
+            Outcome::Grant(_) => raise(&mut self.granted),
+            Outcome::HeldBack { .. } => raise(&mut self.held_back),
+            Outcome::OverLimit { .. } => raise(&mut self.over_limit),
+            Outcome::BelowThreshold => raise(&mut self.below_threshold),
+            Outcome::NothingLeft => raise(&mut self.nothing_left),
+            Outcome::ReservedForOthers => raise(&mut self.reserved),
+        }
+    }
+
+    /// Counts what is told of the client's turn on one agent.
+    fn take(&mut self, told: &[Finding], untouched: &[Finding]) -> Result<(), AllocError>
+        ensures { OnOk result (self.new ≡ with_turn (told.now, untouched.now) self.old) }
+    {
+        let place = place_of(&self.client, told);
+        let own = own_at(told, place);
+        let earlier = earlier_at(told, place);
+        let passed = is_passed(&self.client, own, earlier, untouched);
+        self.count_outcome(first_outcome(own));
+        raise_if(has_inactive(told), &mut self.inactive);
+        raise_if(has_nothing_free(told), &mut self.nothing_free);
+        raise_if(passed, &mut self.passed);
+        self.passers.count_if(passed, earlier)
     }
 }
 
-/// Counts in each tally what is told on one agent.
-fn take_in_each(tallies: &mut [Tally], told: &[Finding])
-    ensures { tallies.new ≡ map (with_list told.now) tallies.old }
+/// Counts in each tally what is told of a turn.
+fn take_in_each(
+    tallies: &mut [Tally],
+    told: &[Finding],
+    untouched: &[Finding],
+) -> Result<(), AllocError>
+    ensures { OnOk result (tallies.new ≡ map (with_turn (told.now, untouched.now)) tallies.old) }
 {
     for tally in tallies.iter_mut() {
-        tally.take(told);
+        tally.take(told, untouched)?;
     }
+    Ok(())
 }
 
-/// Counts what is told of each client on one agent.
-pub fn take_list(tallies: &mut [Tally], told: &[Finding])
-    ensures { (rows : Rows) (lists : List (List Finding)) → tallies.old ≡ tallies_of rows lists → tallies.new ≡ tallies_of rows (lists ++ told.now ∷ []) }
+/// Counts what is told of each client in a turn.
+pub fn take_turn(tallies: &mut [Tally], turn: &TurnTold) -> Result<(), AllocError>
+    ensures { OnOk result ((rows : Rows) (turns : List Turn) → tallies.old ≡ tallies_of rows turns
+        → tallies.new ≡ tallies_of rows (turns ++ (turn.now.told.items, turn.now.untouched.items) ∷ [])) }
 {
-    take_in_each(tallies, told);
+    take_in_each(tallies, &turn.told, &turn.untouched)?;
+    Ok(())
 }
 
 /// Adds the tally of a client of a framework, if it wants offers.
@@ -168,7 +162,7 @@ fn add_tally(
 {
     if !client.suppressed {
         let client = ClientPath::new(alloc, &client.role, &framework.name)?;
-        tallies.push(Tally::new(client))?;
+        tallies.push(Tally::new(alloc, client))?;
     }
     Ok(())
 }
@@ -200,19 +194,59 @@ pub fn tallies(alloc: Global, rows: &Rows) -> Result<Vec<Tally>, AllocError>
     Ok(tallies)
 }
 
+/// Puts a number under a name.
+fn put_count(
+    alloc: Global,
+    members: &mut Map<String, Value>,
+    name: &str,
+    count: u64,
+) -> Result<(), AllocError>
+    ensures { OnOk result (members_view members.new.entries ≡ with_member name.now (number (unsigned count)) (members_view members.old.entries)) }
+{
+    let count = json!(in alloc; (count))?;
+    put(members, alloc, name, count)
+}
+
+/// Puts the counts of a tally.
+fn put_counts(
+    alloc: Global,
+    members: &mut Map<String, Value>,
+    tally: &Tally,
+) -> Result<(), AllocError>
+    ensures { OnOk result (members_view members.new.entries ≡ with_counts tally.now (members_view members.old.entries)) }
+{
+    put_count(alloc, members, "BelowThreshold", tally.below_threshold)?;
+    put_count(alloc, members, "Grant", tally.granted)?;
+    put_count(alloc, members, "HeldBack", tally.held_back)?;
+    put_count(alloc, members, "Inactive", tally.inactive)?;
+    put_count(alloc, members, "NothingFree", tally.nothing_free)?;
+    put_count(alloc, members, "NothingLeft", tally.nothing_left)?;
+    put_count(alloc, members, "OverLimit", tally.over_limit)?;
+    put_count(alloc, members, "ReservedForOthers", tally.reserved)?;
+    put_count(alloc, members, "passed", tally.passed)?;
+    Ok(())
+}
+
+/// Puts the client of a tally.
+fn put_client(
+    alloc: Global,
+    members: &mut Map<String, Value>,
+    client: &ClientPath,
+) -> Result<(), AllocError>
+    ensures { OnOk result (members_view members.new.entries ≡ with_member (codes "client") (string (text_of client.now)) (members_view members.old.entries)) }
+{
+    let node = client.node(client.len())?;
+    let text = json!(in alloc; (node.text()))?;
+    put(members, alloc, "client", text)
+}
+
 fn tally_value(alloc: Global, tally: &Tally) -> Result<Value, AllocError>
     ensures { IfOk result (λ value. view value ≡ tally_value tally.now) }
 {
-    let client = tally.client.node(tally.client.len())?;
-    json!(in alloc; {
-        "BelowThreshold": (tally.below_threshold),
-        "Grant": (tally.granted),
-        "HeldBack": (tally.held_back),
-        "OverLimit": (tally.over_limit),
-        "ReservedForOthers": (tally.reserved),
-        "client": (client.text()),
-        "passed": (tally.passed)
-    })
+    let mut members = Map::new(alloc);
+    put_counts(alloc, &mut members, tally)?;
+    put_client(alloc, &mut members, &tally.client)?;
+    Ok(Value::Object(members))
 }
 
 fn tally_line(alloc: Global, tally: &Tally) -> Result<Vec<u8>, AllocError>
@@ -224,13 +258,31 @@ fn tally_line(alloc: Global, tally: &Tally) -> Result<Vec<u8>, AllocError>
     Ok(text)
 }
 
-/// Writes the lines of tallies behind a text: compact JSON, the keys in order of bytes.
-pub fn write_tallies(alloc: Global, tallies: &[Tally], text: &mut Vec<u8>) -> Result<(), AllocError>
-    ensures { OnOk result (text.new.items ≡ text.old.items ++ flat_map tally_text tallies.now) }
+fn write_tally(
+    alloc: Global,
+    report: &Report,
+    tally: &Tally,
+    text: &mut Vec<u8>,
+) -> Result<(), AllocError>
+    ensures { OnOk result (text.new.items ≡ text.old.items ++ tally_lines report.now tally.now) }
+{
+    let line = tally_line(alloc, tally)?;
+    text.extend_from_slice(&line)?;
+    write_passers(alloc, report, &tally.client, tally.passers.as_slice(), text)
+}
+
+/// Writes the lines of tallies behind a text, each before those of who passes the client, with the shares that a report tells: compact JSON,
+/// the keys in order of bytes.
+pub fn write_tallies(
+    alloc: Global,
+    report: &Report,
+    tallies: &[Tally],
+    text: &mut Vec<u8>,
+) -> Result<(), AllocError>
+    ensures { OnOk result (text.new.items ≡ text.old.items ++ flat_map (tally_lines report.now) tallies.now) }
 {
     for tally in tallies {
-        let line = tally_line(alloc, tally)?;
-        text.extend_from_slice(&line)?;
+        write_tally(alloc, report, tally, text)?;
     }
     Ok(())
 }

@@ -21,12 +21,12 @@ use Rattle.drf_gates.specs.Quota.{Allowance, IsAllowanceOf, IsRaisedBy}
 use Rattle.drf_rows.specs.Client.{Client, path_of}
 use Rattle.drf_rows.specs.Consistent.{IsConsistent}
 use Rattle.drf_rows.specs.Cycle.{free_of, grant, is_allocatable, with_offer}
-use Rattle.drf_rows.specs.laws.CycleLaws.{entitlement-unlimited}
+use Rattle.drf_row_laws.specs.CycleLaws.{entitlement-unlimited}
 use Rattle.drf_rows.specs.Filters.{is_held_back}
 use Rattle.drf_rows.specs.Quota.{consumption, entitlement, headroom, headroom_at, headrooms, unreserved_in}
-use Rattle.drf_rows.specs.laws.QuotaLaws.{consumption-with_offer, consumption_is_part_of_total}
-use Rattle.drf_rows.specs.laws.EntitlementLaws.{entitled_by_units}
-use Rattle.drf_rows.specs.laws.ReportedShares.{small_total}
+use Rattle.drf_row_laws.specs.QuotaLaws.{consumption-with_offer, consumption_is_part_of_total}
+use Rattle.drf_row_laws.specs.EntitlementLaws.{entitled_by_units}
+use Rattle.drf_row_laws.specs.ReportedShares.{small_total}
 use Rattle.drf_rows.specs.declared.rows.AgentRow.{AgentRow}
 use Rattle.drf_rows.specs.declared.rows.FilterRow.{FilterRow}
 use Rattle.drf_rows.specs.declared.rows.LimitRow.{LimitRow}

@@ -13,7 +13,7 @@ use Rattle.drf_bundle.specs.declared.resource.Resource.{Resource}
 use Rattle.drf_gates.specs.Quota.{Allowance}
 use Rattle.drf_rows.specs.Client.{Client, path_of}
 use Rattle.drf_rows.specs.Cycle.{free_of, is_allocatable, with_offer, tried, all_tried, turn, turn_order, at_moment}
-use Rattle.drf_rows.specs.laws.CycleLaws.{all_tried_none}
+use Rattle.drf_row_laws.specs.CycleLaws.{all_tried_none}
 use Rattle.drf_rows.specs.Filters.{is_in_force, holds_back}
 use Rattle.drf_rows.specs.Held.{is_registered}
 use Rattle.drf_rows.specs.Offers.{is_empty}
@@ -23,7 +23,7 @@ use Rattle.drf_rows.specs.declared.rows.AgentRow.{AgentRow}
 use Rattle.drf_rows.specs.declared.rows.FilterRow.{FilterRow}
 use Rattle.drf_rows.specs.declared.rows.OfferRow.{OfferRow}
 use Rattle.drf_rows.specs.declared.rows.Rows.{Rows}
-use Rattle.drf_explain.specs.Each.{told_of_each, each_on, each_on_active, each_on_all, each_by_agent}
+use Rattle.drf_explain.specs.Each.{told_here, told_of_each, each_on, each_on_active, untouched_on, untouched_on_active, turn_on, turns_on_all, turns_by_agent}
 use Rattle.drf_explain.specs.Explained.{outcome, outcome_by, told_of_all, told_of_active, told_of_agent, after_agent, told_of_agents, suppressed_of, explained}
 use Rattle.drf_explain.specs.ExplainedLaws.{filter_weaker, in_force_before, nothing_free}
 use Rattle.drf_explain.specs.Gates.{AreGatesOf}
@@ -37,7 +37,7 @@ use Rattle.drf_tables.specs.declared.tables.Left as tables_word
 use Rattle.drf_tables.specs.DraftLaws.{agents-with_offers}
 use Rattle.drf_core.specs.Drafting.{IsDrafting, IsTried, is_open_at, turn_at}
 use Rattle.drf_core.specs.Entitling.{IsEntitlement, IsQuotaOf}
-use Rattle.drf_core.specs.Explaining.{IsOutcomeOf, IsTelling, left_to_tell, left_told, told_at, told_by, told_here, told_on}
+use Rattle.drf_core.specs.Explaining.{IsOutcomeOf, IsTelling, left_to_tell, left_told, told_at, told_by, told_on, untouched_at}
 use Rattle.drf_core.proofs.drafting.Cycle.{begins_at}
 use Rattle.drf_core.proofs.drafting.Turn.{AreWaiting, element_at, ordered_from, turn_at-closed}
 
@@ -77,7 +77,7 @@ gates-live rows agent gates are = record {
 -- ---- what comes of a client
 
 pub finding-is : (rows : Rows) (agent : AgentRow) (path : Path) (quota : Option Allowance) (free part bundle : List Resource) (name : Text) (of : Path) (what : Outcome)
-    → ((client : Client) → path ≡ path_of client → what ≡ outcome_by rows agent client part bundle)
+    → ((client : Client) → path ≡ path_of client → what ≡ outcome_by rows agent client free part bundle)
     → part ≡ part_for (role_part path) free → IsEntitlement quota free (role_part path) bundle → IsQuotaOf rows quota
     → free ≡ free_of rows agent → name ≡ agent.name → of ≡ path → IsOutcomeOf rows agent path (Tried name of what)
 finding-is rows agent path quota free part bundle name of what comes parted entitled counted is_free named same client joined =
@@ -85,7 +85,7 @@ finding-is rows agent path quota free part bundle name of what comes parted enti
     let its_part : part ≡ part_for client.role (free_of rows agent) = parted ∙ (λ i. part_for (role i) (is_free i)) in
     let its_bundle : bundle ≡ entitlement rows (free_of rows agent) client =
     entitled rows client counted (sym role) ∙ ap (λ (f : List Resource). entitlement rows f client) is_free in
-    let its : what ≡ outcome rows agent client = comes client joined ∙ (λ i. outcome_by rows agent client (its_part i) (its_bundle i)) in
+    let its : what ≡ outcome rows agent client = comes client joined ∙ (λ i. outcome_by rows agent client (is_free i) (its_part i) (its_bundle i)) in
     let path_is : of ≡ path_of client = same ∙ joined in
     λ i. Tried (named i) (path_is i) (its i)
 
@@ -261,6 +261,9 @@ module _ (rows : Rows) (place : ℕ) (agent : AgentRow) (at : slice_get rows.age
   pub told_at-agent : (each : Bool) → told_at each rows place ≡ told_on each rows agent
   told_at-agent each = ap (λ o. option_map_or (told_on each rows) o []) at
 
+  pub untouched_at-agent : untouched_at rows place ≡ untouched_on rows agent
+  untouched_at-agent = ap (λ o. option_map_or (untouched_on rows) o []) at
+
   pub turn_at-agent : turn_at rows place ≡ after_agent rows agent
   turn_at-agent = ap (λ o. option_map_or (λ a. cond a.active (turn rows a) rows) o rows) at
 
@@ -294,6 +297,21 @@ module _ (rows : Rows) (place : ℕ) (agent : AgentRow) (at : slice_get rows.age
   pub told_at-tried : (each : Bool) → agent.active ≡ true → is_empty (free_of rows agent) ≡ false
       → told_by each rows agent (turn_order rows) ≡ told_at each rows place
   told_at-tried each active some = told_on-tried each active some ∙ sym (told_at-agent each)
+
+  -- where nobody is tried, nothing is told of anybody
+  pub untouched_at-idle : agent.active ≡ false → [] ≡ untouched_at rows place
+  untouched_at-idle idle = sym (untouched_at-agent ∙ ap (λ b. cond b (untouched_on_active rows agent) []) idle)
+
+  pub untouched_at-full : agent.active ≡ true → is_empty (free_of rows agent) ≡ true → [] ≡ untouched_at rows place
+  untouched_at-full active none =
+      sym (untouched_at-agent ∙ ap (λ b. cond b (untouched_on_active rows agent) []) active
+      ∙ ap (λ b. cond b [] (map (told_here rows agent) (turn_order rows))) none)
+
+  pub untouched_at-tried : agent.active ≡ true → is_empty (free_of rows agent) ≡ false
+      → map (told_here rows agent) (turn_order rows) ≡ untouched_at rows place
+  untouched_at-tried active some =
+      sym (untouched_at-agent ∙ ap (λ b. cond b (untouched_on_active rows agent) []) active
+      ∙ ap (λ b. cond b [] (map (told_here rows agent) (turn_order rows))) some)
 
   open-idle : agent.active ≡ false → is_open_at rows place ≡ false
   open-idle idle =
@@ -340,19 +358,32 @@ told-next rows before after i first findings next within same turned added so_fa
 -- behind the last agent nothing is left to be told
 pub none_left : (over : Bool) (rows : Rows) (offers : List OfferRow) (place : ℕ) → length rows.agents ≤ place → left_to_tell over rows offers place ≡ []
 none_left true rows offers place past = refl
-none_left false rows offers place past = ap (each_on_all (with_offers rows offers)) (drop_all place rows.agents past)
+none_left false rows offers place past = ap (turns_on_all (with_offers rows offers)) (drop_all place rows.agents past)
 
 -- the next agent is told of, and the others are left
 pub telling-next : (rows before after : Rows) (i : ℕ) (told : List Finding) → i < length rows.agents → before.agents ≡ rows.agents
     → after ≡ turn_at before i → told ≡ [] ++ told_at true before i
-    → each_on_all before (drop i rows.agents) ≡ told ∷ each_on_all after (drop (i + 1) rows.agents)
+    → turns_on_all before (drop i rows.agents) ≡ (told, untouched_at before i) ∷ turns_on_all after (drop (i + 1) rows.agents)
 telling-next rows before after i told within same turned said =
     let b = begins_at rows.agents i within in
     let at : slice_get before.agents i ≡ Some b.first = ap (λ as'. slice_get as' i) same ∙ b.at in
     let later : List AgentRow = drop (i + 1) rows.agents in
-    ap (each_on_all before) b.rest
-    ∙ ap (λ fs. fs ∷ each_on_all (after_agent before b.first) later) (sym (said ∙ told_at-agent before i b.first at true))
-    ∙ ap (λ (r : Rows). told ∷ each_on_all r later) (sym (turned ∙ turn_at-agent before i b.first at))
+    let each : each_on before b.first ≡ told = sym (said ∙ told_at-agent before i b.first at true) in
+    let untouched : untouched_on before b.first ≡ untouched_at before i = sym (untouched_at-agent before i b.first at) in
+    let next : after_agent before b.first ≡ after = sym (turned ∙ turn_at-agent before i b.first at) in
+    ap (turns_on_all before) b.rest ∙ (λ j. (each j, untouched j) ∷ turns_on_all (next j) later)
+
+-- what would be told of the next agent's clients, were each tried first
+pub untouched-next : (rows before : Rows) (i : ℕ) (told : List Finding) (turn : List Finding × List Finding) (turns : List (List Finding × List Finding))
+    → i < length rows.agents → before.agents ≡ rows.agents → told ≡ [] ++ untouched_at before i
+    → turns_on_all before (drop i rows.agents) ≡ turn ∷ turns → told ≡ turn.1
+untouched-next rows before i told turn turns within same said is =
+    let b = begins_at rows.agents i within in
+    let at : slice_get before.agents i ≡ Some b.first = ap (λ as'. slice_get as' i) same ∙ b.at in
+    let later : List AgentRow = drop (i + 1) rows.agents in
+    let whole : turn_on before b.first ∷ turns_on_all (after_agent before b.first) later ≡ turn ∷ turns = sym (ap (turns_on_all before) b.rest) ∙ is in
+    let first : turn_on before b.first ≡ turn = cc in
+    said ∙ untouched_at-agent before i b.first at ∙ ap (λ (t : List Finding × List Finding). t.1) first
 
 -- ---- the cycle
 
@@ -369,10 +400,10 @@ telling-stands content rows live settled offers lefts quota current drafting is_
 
 -- a telling begins with all agents
 pub telling-begins : (rows tables : Rows) (at moment : ℕ) → moment ≡ max rows.clock at → tables ≡ record rows { clock = moment }
-    → each_on_all tables tables.agents ≡ each_by_agent rows at
-unfolding each_by_agent
+    → turns_on_all tables tables.agents ≡ turns_by_agent rows at
+unfolding turns_by_agent
 telling-begins rows tables at moment late same =
-    ap (λ (r : Rows). each_on_all r r.agents) (same ∙ ap (λ n. record rows { clock = n }) late)
+    ap (λ (r : Rows). turns_on_all r r.agents) (same ∙ ap (λ n. record rows { clock = n }) late)
 
 pub explained-is : (rows tables live : Rows) (at moment : ℕ) (first findings : List Finding) → moment ≡ max rows.clock at
     → tables ≡ record rows { clock = moment } → live ≡ live_rows tables → first ≡ suppressed_of live

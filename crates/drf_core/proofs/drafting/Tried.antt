@@ -10,11 +10,11 @@ use Rattle.drf_role.specs.PathLaws.{role_part-client_path, framework_part-client
 use Rattle.drf_bundle.specs.Bundle.{rest, quantities_of}
 use Rattle.drf_bundle.specs.declared.resource.Resource.{Resource}
 use Rattle.drf_gates.specs.Quota.{Allowance}
-use Rattle.drf_rows.specs.laws.ListLaws.{each_at}
+use Rattle.drf_bundle.specs.ListLaws.{each_at}
 use Rattle.drf_rows.specs.Client.{Client, path_of}
 use Rattle.drf_rows.specs.Holdings.{of_offer}
 use Rattle.drf_rows.specs.Cycle.{free_of, grant, new_offer, with_offer, tried}
-use Rattle.drf_rows.specs.laws.CycleLaws.{free_of-with_offer}
+use Rattle.drf_row_laws.specs.CycleLaws.{free_of-with_offer}
 use Rattle.drf_rows.specs.Consistent.{IsAgent, IsConsistent}
 use Rattle.drf_rows.specs.Held.{is_registered}
 use Rattle.drf_rows.specs.declared.rows.AgentRow.{AgentRow}
@@ -31,7 +31,7 @@ use Rattle.drf_core.proofs.drafting.Drafts.{with_offers-push, is_registered-with
 use Rattle.drf_content.specs.laws.Offer.{content_of-with_offer}
 use Rattle.drf_content.specs.laws.Members.{has_client-registered}
 use Rattle.drf_content.specs.laws.Sound.{IsSound-content_of}
-use Rattle.drf_rows.specs.laws.ConsistentLaws.{bundles-consistent, IsConsistent-with_offer}
+use Rattle.drf_row_laws.specs.ConsistentLaws.{bundles-consistent, IsConsistent-with_offer}
 use Rattle.drf_laws.specs.TurnLaws.{IsPart}
 use Rattle.drf_laws.specs.laws.Turns.{grant-part}
 use Rattle.drf_laws.specs.laws.Clients.{path_of-injective}

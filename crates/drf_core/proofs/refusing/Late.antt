@@ -11,10 +11,10 @@ use Rattle.drf_rows.specs.LimitNumbers.{LimitNumbers}
 use Rattle.drf_rows.specs.Consistent.{IsConsistent}
 use Rattle.drf_rows.specs.Held.{cluster_total}
 use Rattle.drf_rows.specs.Members.{has_agent}
-use Rattle.drf_rows.specs.laws.ReservationLaws.{found_known}
+use Rattle.drf_row_laws.specs.ReservationLaws.{found_known}
 use Rattle.drf_rows.specs.Step.{first_case, too_many_names}
 use Rattle.drf_rows.specs.Totals.{with_other_total}
-use Rattle.drf_rows.specs.laws.TotalsLaws.{cluster_total-other_total}
+use Rattle.drf_row_laws.specs.TotalsLaws.{cluster_total-other_total}
 use Rattle.drf_rows.specs.declared.limits.TheConstants.{LARGEST_AMOUNT}
 use Rattle.drf_rows.specs.declared.rows.Rows.{Rows}
 use Rattle.drf_core.specs.Refusing.{cases_of_total}

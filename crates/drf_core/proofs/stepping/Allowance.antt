@@ -1,6 +1,6 @@
 -- What an event may add to what a sorter owes, from rows that have the same live rows.
-use Rattle.std.proofs.Common.{◌≡◌, ℕ, Bool, List, [], ◌∷◌, ◌++◌, Option, Some, None, refl, sym, ap, ◌∙◌, arith}
-use Rattle.std.specs.Option.{option_map_or, MatchOption}
+use Rattle.std.proofs.Common.{◌≡◌, ◌+◌, Bool, List, [], ◌∷◌, ◌++◌, Option, Some, None, refl, sym, ap, ◌∙◌, arith}
+use Rattle.std.specs.Option.{option_map_or}
 use Rattle.drf_rows.specs.LimitNumbers.{LimitNumbers}
 use Rattle.drf_rows.specs.Step.{live_rows, refusal_of, effect, rows_after, rows_after_all, new_offers}
 use Rattle.drf_rows.specs.declared.event.Event.{Event}
@@ -9,29 +9,32 @@ use Rattle.drf_rows.specs.declared.reply.Refusal.{Refusal}
 use Rattle.drf_rows.specs.declared.rows.OfferRow.{OfferRow}
 use Rattle.drf_rows.specs.declared.rows.Rows.{Rows}
 use Rattle.drf_sorter.specs.Work.{Work, Adds}
-use Rattle.drf_core.specs.Working.{allowance, allowed, allowance_of_all, bounded_sum, nodes_of, offered_to, touched}
+use Rattle.drf_core.specs.Working.{all_nodes, allowance, allowed, allowance_of_all, nodes_of, offered_to, touched}
 use Rattle.drf_laws.specs.laws.SameLive.{welcome_from, new_offers-live}
 
 module _ (limits : LimitNumbers) (rows old : Rows) (event : Event) (live : live_rows rows ≡ live_rows old) where
-  pub allowance-refused : (refusal : Refusal) → refusal_of limits rows event ≡ Some refusal → allowance limits old event ≡ Some 0
+  pub allowance-refused : (refusal : Refusal) → refusal_of limits rows event ≡ Some refusal → allowance limits old event ≡ 0
   allowance-refused refusal case = by (refusal_of limits old event) refl
     where
-      by : (found : Option Refusal) → refusal_of limits old event ≡ found → allowance limits old event ≡ Some 0
+      by : (found : Option Refusal) → refusal_of limits old event ≡ found → allowance limits old event ≡ 0
       by None none =
           let nothing : Some refusal ≡ None = sym case ∙ welcome_from limits old rows event (sym live) none in
           absurd cc
-      by (Some other) some = ap (λ (o : Option Refusal). option_map_or (λ refusal. Some 0) o (allowed old event)) some
+      by (Some other) some = ap (λ (o : Option Refusal). option_map_or (λ refusal. 0) o (allowed old event)) some
 
 module _ (rows old : Rows) (live : live_rows rows ≡ live_rows old) where
-  touched-same : (event : Event) → Some (nodes_of (touched (live_rows rows) event)) ≡ Some (nodes_of (touched (live_rows old) event))
-  touched-same event = ap (λ (r : Rows). Some (nodes_of (touched r event))) live
+  touched-same : (event : Event) → nodes_of (touched (live_rows rows) event) ≡ nodes_of (touched (live_rows old) event)
+  touched-same event = ap (λ (r : Rows). nodes_of (touched r event)) live
+
+  nodes-same : all_nodes (live_rows rows) ≡ all_nodes (live_rows old)
+  nodes-same = ap all_nodes live
 
   allowed-same : (event : Event) → new_offers rows (effect rows event) ≡ new_offers old (effect old event) → allowed rows event ≡ allowed old event
-  allowed-same (AddAgent agent total) new = refl
-  allowed-same (RemoveAgent agent) new = refl
+  allowed-same (AddAgent agent total) new = nodes-same
+  allowed-same (RemoveAgent agent) new = λ i. touched-same (RemoveAgent agent) i + nodes-same i
   allowed-same (ActivateAgent agent) new = refl
   allowed-same (DeactivateAgent agent) new = touched-same (DeactivateAgent agent)
-  allowed-same (SetAgent agent total) new = refl
+  allowed-same (SetAgent agent total) new = nodes-same
   allowed-same (AddFramework framework roles) new = refl
   allowed-same (RemoveFramework framework) new = touched-same (RemoveFramework framework)
   allowed-same (Accept a) new = touched-same (Accept a)
@@ -44,14 +47,14 @@ module _ (rows old : Rows) (live : live_rows rows ≡ live_rows old) where
   allowed-same (Unreserve agent role resources) new = refl
   allowed-same (SetWeight role weight) new = refl
   allowed-same (SetLimit role limit) new = refl
-  allowed-same (Cycle at) new = ap (λ (os : List OfferRow). Some (nodes_of (offered_to os))) new
+  allowed-same (Cycle at) new = ap (λ (os : List OfferRow). nodes_of (offered_to os)) new
   allowed-same Report new = refl
 
 pub allowance-accepted : (limits : LimitNumbers) (rows old : Rows) (event : Event) → live_rows rows ≡ live_rows old → refusal_of limits rows event ≡ None
     → allowed rows event ≡ allowance limits old event
 allowance-accepted limits rows old event live none =
     allowed-same rows old live event (new_offers-live limits rows old event live none)
-    ∙ sym (ap (λ (o : Option Refusal). option_map_or (λ refusal. Some 0) o (allowed old event)) (welcome_from limits rows old event live none))
+    ∙ sym (ap (λ (o : Option Refusal). option_map_or (λ refusal. 0) o (allowed old event)) (welcome_from limits rows old event live none))
 
 -- ---- a list of events
 
@@ -61,48 +64,30 @@ allowance-same_live limits rows old event live = by (refusal_of limits rows even
   where
     by : (found : Option Refusal) → refusal_of limits rows event ≡ found → allowance limits rows event ≡ allowance limits old event
     by None none =
-        ap (λ (o : Option Refusal). option_map_or (λ refusal. Some 0) o (allowed rows event)) none
+        ap (λ (o : Option Refusal). option_map_or (λ refusal. 0) o (allowed rows event)) none
         ∙ allowance-accepted limits rows old event live none
     by (Some refusal) some =
-        ap (λ (o : Option Refusal). option_map_or (λ refusal. Some 0) o (allowed rows event)) some
+        ap (λ (o : Option Refusal). option_map_or (λ refusal. 0) o (allowed rows event)) some
         ∙ sym (allowance-refused limits rows old event live refusal some)
-
-bounded_sum-nothing : (n : Option ℕ) → bounded_sum n (Some 0) ≡ n
-bounded_sum-nothing None = refl
-bounded_sum-nothing (Some n) = ap (λ (k : ℕ). Some k) (omega arith)
-
-nothing_first : (n : Option ℕ) → bounded_sum (Some 0) n ≡ n
-nothing_first None = refl
-nothing_first (Some n) = ap (λ (k : ℕ). Some k) (omega arith)
-
-bounded_sum-assoc : (n m k : Option ℕ) → bounded_sum (bounded_sum n m) k ≡ bounded_sum n (bounded_sum m k)
-bounded_sum-assoc None m k = refl
-bounded_sum-assoc (Some n) None k = refl
-bounded_sum-assoc (Some n) (Some m) None = refl
-bounded_sum-assoc (Some n) (Some m) (Some k) = ap (λ (l : ℕ). Some l) (omega arith)
 
 allowance_of_all-more : (limits : LimitNumbers) (rows : Rows) (events : List Event) (event : Event)
     → allowance_of_all limits rows (events ++ event ∷ [])
-    ≡ bounded_sum (allowance_of_all limits rows events) (allowance limits (rows_after_all limits rows events) event)
-allowance_of_all-more limits rows [] event = bounded_sum-nothing (allowance limits rows event) ∙ sym (nothing_first (allowance limits rows event))
+    ≡ allowance_of_all limits rows events + allowance limits (rows_after_all limits rows events) event
+allowance_of_all-more limits rows [] event = omega arith
 allowance_of_all-more limits rows (first ∷ events) event =
-    ap (bounded_sum (allowance limits rows first)) (allowance_of_all-more limits (rows_after limits rows first) events event)
-    ∙ sym (bounded_sum-assoc (allowance limits rows first) (allowance_of_all limits (rows_after limits rows first) events)
-    (allowance limits (rows_after_all limits (rows_after limits rows first) events) event))
+    omega (arith, allowance_of_all-more limits (rows_after limits rows first) events event)
 
 -- what is owed after one event more
-module _ (counted : Bool) (first middle last : Work) where
-  adds_both : (n m : Option ℕ) → MatchOption n (Unit {0}) (Adds counted first middle) → MatchOption m (Unit {0}) (Adds counted middle last)
-      → MatchOption (bounded_sum n m) (Unit {0}) (Adds counted first last)
-  adds_both None m one other = tt
-  adds_both (Some n) None one other = tt
-  adds_both (Some n) (Some m) one other = λ is. let a = one is in let b = other is in omega (arith, a, b)
-
-  pub work-more : (limits : LimitNumbers) (old rows : Rows) (events : List Event) (event : Event)
-      → live_rows rows ≡ live_rows (rows_after_all limits old events)
-      → MatchOption (allowance_of_all limits old events) (Unit {0}) (Adds counted first middle)
-      → MatchOption (allowance limits rows event) (Unit {0}) (Adds counted middle last)
-      → MatchOption (allowance_of_all limits old (events ++ event ∷ [])) (Unit {0}) (Adds counted first last)
-  work-more limits old rows events event live before next =
-      rw (allowance_of_all-more limits old events event, sym (allowance-same_live limits rows (rows_after_all limits old events) event live))
-      (adds_both (allowance_of_all limits old events) (allowance limits rows event) before next)
+pub work-more : (counted : Bool) (first middle last : Work) (limits : LimitNumbers) (old rows : Rows) (events : List Event) (event : Event)
+    → live_rows rows ≡ live_rows (rows_after_all limits old events)
+    → Adds counted first middle (allowance_of_all limits old events)
+    → Adds counted middle last (allowance limits rows event)
+    → Adds counted first last (allowance_of_all limits old (events ++ event ∷ []))
+work-more counted first middle last limits old rows events event live before next = λ is.
+    omega (
+      arith,
+      before is,
+      next is,
+      allowance_of_all-more limits old events event,
+      allowance-same_live limits rows (rows_after_all limits old events) event live,
+    )

@@ -1,12 +1,13 @@
 -- What can be saved of an allocator after an event.
 use Rattle.std.proofs.Common.{◌≡◌, [], ◌∷◌, sym, subst}
+use Rattle.drf_rows.specs.Consistent.{IsConsistent}
 use Rattle.drf_rows.specs.LimitNumbers.{LimitNumbers, IsWithinCeilings}
 use Rattle.drf_rows.specs.Step.{live_rows, rows_after}
-use Rattle.drf_rows.specs.laws.LiveLaws.{rows_after-same_live, live_rows-twice}
+use Rattle.drf_row_laws.specs.LiveLaws.{rows_after-same_live, live_rows-twice}
 use Rattle.drf_rows.specs.declared.event.Event.{Event}
 use Rattle.drf_rows.specs.declared.rows.Rows.{Rows}
-use Rattle.drf_laws.specs.Kept.{IsKept}
 use Rattle.drf_laws.specs.RunLaws.{IsGiven}
+use Rattle.drf_laws.specs.laws.Kept.{IsKept-forgot}
 use Rattle.drf_saved_laws.specs.SavedLaws.{IsSaveable}
 use Rattle.drf_saved_laws.specs.laws.Epochs.{live_saveable}
 use Rattle.drf_saved_laws.specs.laws.Runs.{saveable_rows_stay_so}
@@ -20,8 +21,10 @@ saveable_after limits rows event ceilings given can =
     (live_saveable limits (rows_after limits (live_rows rows) event)
     (saveable_rows_stay_so limits (live_rows rows) (event ∷ []) ceilings (given, tt) can))
 
--- rows with the same live rows stand as well, where they are kept
-pub standing_as : (limits : LimitNumbers) (old new : Rows) → IsStanding limits old → IsKept limits new → live_rows new ≡ live_rows old
-    → IsStanding limits new
-standing_as limits old new standing kept live =
-    record { kept = kept; saveable = subst (IsSaveable limits) (sym live) standing.saveable }
+-- rows still stand when filters were forgotten
+pub standing_forgot : (limits : LimitNumbers) (old forgot : Rows) → IsStanding limits old → live_rows forgot ≡ live_rows old
+    → forgot ≡ record old { filters = forgot.filters } → IsConsistent forgot → IsStanding limits forgot
+standing_forgot limits old forgot standing live others right = record {
+  kept = IsKept-forgot limits old forgot standing.kept others right;
+  saveable = subst (IsSaveable limits) (sym live) standing.saveable;
+}

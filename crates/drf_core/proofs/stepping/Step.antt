@@ -1,23 +1,29 @@
 -- Steps and runs of a core.
-use Rattle.std.proofs.Common.{◌≡◌, ℕ, zero, suc, ◌+◌, Option, List, [], ◌∷◌, ◌++◌, Some, None, take, refl, sym, ap, subst, ◌∙◌, add-one}
+use Rattle.std.proofs.Common.{◌≡◌, ℕ, zero, suc, ◌+◌, ◌<◌, Option, Result, Ok, Err, List, [], ◌∷◌, ◌++◌, Some, None, take, refl, sym, ap, subst, ◌∙◌, add-one}
 use Rattle.std.specs.Prelude.{slice_get}
+use Rattle.std.specs.Result.{OnErr}
 use Rattle.drf_rows.specs.LimitNumbers.{LimitNumbers}
 use Rattle.drf_rows.specs.Step.{live_rows, first_case, refusal_of, effect, rows_after, rows_after_all, reply_to, replies_to}
 use Rattle.drf_rows.specs.Consistent.{IsConsistent, IsNumberedByEvents}
-use Rattle.drf_rows.specs.laws.StepLaws.{rows_after-accepted}
-use Rattle.drf_rows.specs.laws.RunLaws.{rows_after_all-append, replies_to-append}
-use Rattle.drf_rows.specs.laws.LiveLaws.{reply_to-same_live, rows_after-same_live}
+use Rattle.drf_row_laws.specs.StepLaws.{rows_after-accepted}
+use Rattle.drf_row_laws.specs.RunLaws.{rows_after_all-append, replies_to-append}
+use Rattle.drf_row_laws.specs.LiveLaws.{reply_to-same_live, rows_after-same_live}
 use Rattle.drf_rows.specs.declared.event.Event.{Event}
 use Rattle.drf_rows.specs.declared.event.Event.TheVariants.{AddAgent, RemoveAgent, ActivateAgent, DeactivateAgent, SetAgent, AddFramework, RemoveFramework, Accept, Decline, Rescind, Finish, Suppress, Revive, Reserve, Unreserve, SetWeight, SetLimit, Cycle, Report}
 use Rattle.drf_rows.specs.declared.reply.Refusal.{Refusal}
 use Rattle.drf_rows.specs.declared.reply.Reply.{Reply}
 use Rattle.drf_rows.specs.declared.rows.Rows.{Rows}
-use Rattle.drf_core.specs.Machine.{Engine, IsAfter, IsAfterAll}
+use Rattle.drf_core.specs.Machine.{Engine, IsSame, IsAfter, IsAfterAll, HasStopped}
 use Rattle.drf_laws.specs.Kept.{AreFew, IsKept, IsCountable}
 use Rattle.drf_core.specs.Refusing.{cases_of_agent, cases_of_move, early_refusal_of}
-use Rattle.drf_laws.specs.laws.Kept.{countable_after, IsKept-forgot}
+use Rattle.drf_laws.specs.laws.Kept.{countable_after}
 use Rattle.drf_core.proofs.refusing.Tests.{told_early}
 use Rattle.drf_laws.specs.laws.SameLive.{welcome_from}
+
+-- what holds however a call ends holds where it fails
+pub on_err : {T E P : Type 0} (r : Result T E) → P → OnErr r P
+on_err (Ok x) fact = tt
+on_err (Err fault) fact = fact
 
 -- the elements up to one, and that one
 pub take_one_more : {X : Type 0} (xs : List X) (i : ℕ) (x : X) → slice_get xs i ≡ Some x → take (i + 1) xs ≡ take i xs ++ x ∷ []
@@ -26,18 +32,6 @@ take_one_more (y ∷ xs) zero x at = let same : y ≡ x = cc in ap (λ z. z ∷ 
 take_one_more (y ∷ xs) (suc i) x at = rw (add-one (suc i)) (ap (λ zs. y ∷ zs) (rw (add-one i) at (take_one_more xs i x at)))
 
 -- ---- a step
-
--- rows that stand for old ones: kept, and with the same live rows
-pub record IsReady (limits : LimitNumbers) (old rows : Rows) : Type 0 where
-  pub kept : IsKept limits rows
-  pub live : live_rows rows ≡ live_rows old
-
--- filters were forgotten, and then a test of refusal left the rows alone
-pub IsReady-tested : (limits : LimitNumbers) (old forgot tested : Rows) → IsKept limits old
-    → live_rows forgot ≡ live_rows old → forgot ≡ record old { filters = forgot.filters } → IsConsistent forgot → tested ≡ forgot
-    → IsReady limits old tested
-IsReady-tested limits old forgot tested kept live others right same =
-    subst (IsReady limits old) (sym same) (record { kept = IsKept-forgot limits old forgot kept others right; live = live })
 
 -- no early case holds of rows with the same live rows
 pub early_from : (limits : LimitNumbers) (rows old : Rows) (event : Event) → live_rows rows ≡ live_rows old
@@ -120,3 +114,19 @@ reply-more old middle events event reply before told =
     ∙ reply_to-same_live old.limits middle.rows (rows_after_all old.limits old.rows events) before.rows event in
     ap (λ (r : Reply). replies_to old.limits old.rows events ++ r ∷ []) same
     ∙ sym (replies_to-append old.limits old.rows events (event ∷ []))
+
+-- it stopped at the next event, and nothing changed
+pub HasStopped-at : (old middle new : Engine) (events : List Event) (number : ℕ) (event : Event) (before told : List Reply) (room : ℕ)
+    → slice_get events number ≡ Some event → IsAfterAll old middle (take number events) → IsSame middle new
+    → told ≡ before ++ replies_to old.limits old.rows (take number events)
+    → (0 < room → early_refusal_of middle.limits middle.rows event ≡ None) → HasStopped old new events before told room
+HasStopped-at old middle new events number event before told room at taken same replies early = record {
+  number = number;
+  event = event;
+  at = at;
+  ended = record { limits = same.limits ∙ taken.limits; rows = same.rows ∙ taken.rows };
+  replies = replies;
+  not_refused = λ some.
+      early_from old.limits middle.rows (rows_after_all old.limits old.rows (take number events)) event taken.rows
+      (subst (λ (l : LimitNumbers). early_refusal_of l middle.rows event ≡ None) taken.limits (early some));
+}

@@ -2,7 +2,7 @@ use Rattle.std.proofs.Common.{◌≡◌, sym, ap, subst, ◌∙◌, arith, lengt
 use Rattle.std.specs.Prelude.{max, List}
 use Rattle.drf_rows.specs.declared.rows.OfferRow.{OfferRow}
 use Rattle.drf_rows.specs.declared.rows.Rows.{Rows}
-use Rattle.drf_explain.specs.Each.{each_on_all}
+use Rattle.drf_explain.specs.Each.{turns_on_all}
 use Rattle.drf_tables.specs.Drafts.{with_offers}
 use Rattle.drf_core.specs.Entitling.{IsQuotaOf}
 use Rattle.drf_core.proofs.drafting.Cycle.{drafting-begins}
@@ -37,6 +37,6 @@ pub returns : goal.returns
 returns g c =
     let b = (goal.at.returns g c).After-quota_of in
     let rows : Rows = c.quota_of.new.tables.rows in
-    ap (λ (os : List OfferRow). each_on_all (with_offers rows os) rows.agents) c.new.ensures.items
+    ap (λ (os : List OfferRow). turns_on_all (with_offers rows os) rows.agents) c.new.ensures.items
     ∙ telling-begins c.args.tables.rows rows c.args.at c.max-moment.result
     (c.max-moment.ensures ∙ ap (λ n. max n c.args.at) c.clock.ensures) (moved g b)

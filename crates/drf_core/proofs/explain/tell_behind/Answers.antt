@@ -4,8 +4,9 @@ use Rattle.drf_role.specs.Path.{Path}
 use Rattle.drf_rows.specs.Client.{Client, path_of}
 use Rattle.drf_rows.specs.declared.rows.AgentRow.{AgentRow}
 use Rattle.drf_rows.specs.declared.rows.Rows.{Rows}
+use Rattle.drf_explain.specs.Each.{told_here}
 use Rattle.drf_explain.specs.declared.finding.Finding.{Finding}
-use Rattle.drf_core.specs.Explaining.{IsOutcomeOf, told_here}
+use Rattle.drf_core.specs.Explaining.{IsOutcomeOf}
 use Rattle.drf_core.proofs.drafting.Told.{next_behind, none_behind, some_first, fewer_wait}
 use Rattle.drf_core.proofs.explain.tell_behind.Goals as goal
 

@@ -4,9 +4,9 @@ use Rattle.drf_rows.specs.Client.{Client, path_of}
 use Rattle.drf_rows.specs.Cycle.{free_of}
 use Rattle.drf_rows.specs.declared.rows.AgentRow.{AgentRow}
 use Rattle.drf_rows.specs.declared.rows.Rows.{Rows}
+use Rattle.drf_explain.specs.Each.{told_here}
 use Rattle.drf_explain.specs.Gates.{AreGatesOf}
 use Rattle.drf_core.specs.Entitling.{IsQuotaOf}
-use Rattle.drf_core.specs.Explaining.{told_here}
 use Rattle.drf_core.proofs.explain.tell_behind.Given as goal
 
 -- those who wait are told of behind those who were

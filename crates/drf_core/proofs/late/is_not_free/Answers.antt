@@ -1,5 +1,5 @@
 use Rattle.std.proofs.Common.{not, sym, ap, ◌∙◌}
-use Rattle.drf_rows.specs.laws.TaskLaws.{covers_from}
+use Rattle.drf_rows.specs.TaskLaws.{covers_from}
 use Rattle.drf_laws.specs.laws.Tests.{not_free-known, not_free-unknown}
 use Rattle.drf_core.proofs.late.is_not_free.Goals as goal
 

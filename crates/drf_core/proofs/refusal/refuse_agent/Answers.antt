@@ -1,5 +1,5 @@
-use Rattle.std.proofs.Common.{◌≡◌, Bool, true, ◌∷◌, [], ◌++◌, ◌∙◌, refl}
-use Rattle.drf_rows.specs.Step.{first_case, refusal_of, too_many_agents}
+use Rattle.std.proofs.Common.{true, ◌∷◌, [], ◌∙◌, refl}
+use Rattle.drf_rows.specs.Step.{first_case, refusal_of}
 use Rattle.drf_rows.specs.declared.reply.Refusal.TheVariants.{HistoryFull, KnownAgent, TooLarge, TooMany}
 use Rattle.drf_core.proofs.refusal.refuse_agent.Goals as goal
 

@@ -1,4 +1,4 @@
-use Rattle.drf_explain.proofs.Reasons.{granted, held_back, over_limit, below_threshold, reserved}
+use Rattle.drf_explain.proofs.Reasons.{granted, held_back, over_limit, below_threshold, reserved, nothing_left}
 use Rattle.drf_explain.proofs.laws.reasons_law.Goals as goal
 
 pub returns-clause-granted : goal.returns-clause-granted
@@ -15,3 +15,6 @@ returns-clause-below_threshold c = below_threshold
 
 pub returns-clause-reserved : goal.returns-clause-reserved
 returns-clause-reserved c = reserved
+
+pub returns-clause-nothing_left : goal.returns-clause-nothing_left
+returns-clause-nothing_left c = nothing_left

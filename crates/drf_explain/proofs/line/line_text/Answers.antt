@@ -4,7 +4,7 @@ use Rattle.serde_json.specs.Written.{has_float, compact_text}
 use Rattle.drf_explain.specs.ExplainedText.{finding_value, finding_text}
 use Rattle.drf_explain.specs.declared.finding.Finding.{Finding}
 use Rattle.drf_explain.specs.declared.finding.Finding.TheVariants.{Suppressed, Inactive, NothingFree, Tried, Left}
-use Rattle.drf_explain.specs.declared.finding.Outcome.TheVariants.{Grant, HeldBack, OverLimit, BelowThreshold, ReservedForOthers}
+use Rattle.drf_explain.specs.declared.finding.Outcome.TheVariants.{Grant, HeldBack, OverLimit, BelowThreshold, NothingLeft, ReservedForOthers}
 use Rattle.drf_explain.proofs.line.line_text.Goals as goal
 
 no_float : (finding : Finding) → has_float (finding_value finding) ≡ false
@@ -15,6 +15,7 @@ no_float (Tried agent client (Grant bundle)) = refl
 no_float (Tried agent client (HeldBack until)) = refl
 no_float (Tried agent client (OverLimit role)) = refl
 no_float (Tried agent client BelowThreshold) = refl
+no_float (Tried agent client NothingLeft) = refl
 no_float (Tried agent client ReservedForOthers) = refl
 no_float (Left agent left clients) = refl
 

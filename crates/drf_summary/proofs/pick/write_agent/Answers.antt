@@ -1,4 +1,4 @@
-use Rattle.std.proofs.Common.{◌≡◌, ◌++◌, if◌then◌else◌, [], ap, ◌∙◌}
+use Rattle.std.proofs.Common.{◌++◌, if◌then◌else◌, [], ap, ◌∙◌}
 use Rattle.drf_explain.specs.ExplainedText.{finding_text}
 use Rattle.drf_summary.specs.Pick.{is_of_agent}
 use Rattle.drf_summary.proofs.Picked.{picked_more, picked_over}

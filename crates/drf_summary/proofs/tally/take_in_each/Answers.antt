@@ -1,11 +1,11 @@
-use Rattle.std.proofs.Common.{◌≡◌, ◌+◌, ap, ◌∙◌, refl, get_or, set}
-use Rattle.drf_summary.specs.Tally.{with_list}
+use Rattle.std.proofs.Common.{◌+◌, ap, ◌∙◌, refl, set}
+use Rattle.drf_summary.specs.Tally.{with_turn}
 use Rattle.drf_summary.proofs.Tallied.{map_next}
 use Rattle.drf_summary.proofs.tally.take_in_each.Goals as goal
 
 pub loop-tally-preserved : goal.loop-tally-preserved
 loop-tally-preserved c =
     let at = c.loop-tally in
-    ap (set at.tallies at.tally-index) c.take.ensures
-    ∙ map_next (with_list c.args.told.now) c.args.tallies.now at.tallies at.tally-index (at.tally-index + 1) c.tally-item.result
+    ap (set at.tallies at.tally-index) c.in_ok-take.ensures
+    ∙ map_next (with_turn (c.args.told.now, c.args.untouched.now)) c.args.tallies.now at.tallies at.tally-index (at.tally-index + 1) c.tally-item.result
     refl c.loop-tally-test.true at.invariant

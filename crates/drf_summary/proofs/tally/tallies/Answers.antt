@@ -1,4 +1,4 @@
-use Rattle.std.proofs.Common.{◌++◌, ap, ◌∙◌}
+use Rattle.std.proofs.Common.{ap, ◌∙◌}
 use Rattle.std.specs.List.{flat_map}
 use Rattle.drf_summary.proofs.Tallied.{added_more, added_over, blank_in, blank-frameworks}
 use Rattle.drf_summary.proofs.tally.tallies.Goals as goal

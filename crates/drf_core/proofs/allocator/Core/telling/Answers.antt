@@ -1,8 +1,8 @@
 use Rattle.std.proofs.Common.{sym, ap, ◌∙◌}
 use Rattle.std.proofs.lemmas.Result.{IfOk-weaker}
 use Rattle.drf_rows.specs.Step.{live_rows}
-use Rattle.drf_explain.specs.Each.{each_by_agent}
-use Rattle.drf_explain.specs.EachLaws.{live_rows_are_told}
+use Rattle.drf_explain.specs.Each.{turns_by_agent}
+use Rattle.drf_explain.specs.EachLaws.{live_turns_are_told}
 use Rattle.drf_core.specs.Machine.{Engine}
 use Rattle.drf_core.proofs.allocator.Core.telling.Goals as goal
 
@@ -10,6 +10,6 @@ pub returns : goal.returns
 returns g c =
     IfOk-weaker c.telling.result _ _
     (λ telling is. is
-    ∙ sym (live_rows_are_told c.self.inside.cluster.value.rows c.args.at)
-    ∙ ap (λ (e : Engine). each_by_agent (live_rows e.rows) c.args.at) c.self.view_is)
+    ∙ sym (live_turns_are_told c.self.inside.cluster.value.rows c.args.at)
+    ∙ ap (λ (e : Engine). turns_by_agent (live_rows e.rows) c.args.at) c.self.view_is)
     (rw c.deref.ensures at c.telling.ensures)

@@ -2,10 +2,15 @@ use Rattle.std.proofs.Common.{◌≡◌, ap, ◌∙◌, arith}
 use Rattle.drf_bundle.specs.Quantities.{plus}
 use Rattle.drf_bundle.specs.Bundle.{quantities_of}
 use Rattle.drf_rows.specs.Held.{cluster_total}
+use Rattle.drf_rows.specs.Report as report
 use Rattle.drf_rows.specs.declared.rows.Rows.{Rows}
+use Rattle.drf_sorter.specs.Work.{debt}
+use Rattle.drf_core.specs.Cluster.{ClusterState}
+use Rattle.drf_core.specs.Working.{all_nodes}
 use Rattle.drf_laws.specs.laws.Welcome.{welcome_agent, small_amounts}
 use Rattle.drf_laws.specs.laws.Kept.{sound_total, few_agents}
 use Rattle.drf_core.proofs.effects.Registered.{sorted-agent, effect-agent}
+use Rattle.drf_core.proofs.stepping.Work.{has_nodes}
 use Rattle.drf_core.proofs.cluster.Cluster.add_agent.Goals as goal
 
 pub plus-requires : goal.plus-requires
@@ -42,3 +47,16 @@ invariant_of-self-2 g c =
 pub returns-clause-ok : goal.returns-clause-ok
 returns-clause-ok g c =
     rw (← c.self.view_is) (effect-agent c.self.inside.tables.rows c.add_agent.new.self.rows c.args.agent c.args.total c.in_ok-add_agent.ensures.ok)
+
+pub returns-clause-work : goal.returns-clause-work
+returns-clause-work g c = λ counted.
+    let rows : Rows = c.self.inside.tables.rows in
+    let stale = c.set_total.ensures.stale (report.nodes_of rows)
+    (has_nodes rows (g.S.Sorter.content c.self.inside.sorter) c.self.invariant) counted in
+    omega (
+      arith,
+      stale,
+      c.set_total.ensures.made,
+      ap (λ (s : ClusterState). debt s.work) c.self.view_is,
+      ap (λ (s : ClusterState). all_nodes s.rows) c.self.view_is,
+    )

@@ -8,7 +8,7 @@ use Rattle.drf_content.specs.Content.{content_of}
 use Rattle.drf_rows.specs.declared.rows.OfferRow.{OfferRow}
 use Rattle.drf_core.specs.Drafting.{turns_of}
 use Rattle.drf_core.specs.Working.{nodes_of, offered_to}
-use Rattle.drf_rows.specs.laws.OfferLaws.{moment_early}
+use Rattle.drf_row_laws.specs.OfferLaws.{moment_early}
 use Rattle.drf_laws.specs.laws.Welcome.{early_cycle}
 use Rattle.drf_core.proofs.drafting.Cycle.{drafting-begins, turns_of-cycle, new_offers-cycle, content_of-clock}
 use Rattle.drf_core.proofs.cluster.Cluster.cycle.Goals.{After-offer_all}

@@ -1,12 +1,16 @@
-use Rattle.std.proofs.Common.{◌≡◌, List, ap, ◌∙◌, sym, not}
+use Rattle.std.proofs.Common.{◌≡◌, List, ap, ◌∙◌, sym, not, arith}
 use Rattle.std.specs.Prelude.{filter}
 use Rattle.drf_role.specs.Text.{same_text}
 use Rattle.drf_bundle.specs.declared.quantities.Entry.{Entry}
 use Rattle.drf_rows.specs.Endings.{all_on, without_ended}
 use Rattle.drf_rows.specs.Held.{cluster_total}
+use Rattle.drf_rows.specs.Report as report
 use Rattle.drf_rows.specs.declared.rows.Rows.{Rows}
+use Rattle.drf_sorter.specs.Work.{debt}
 use Rattle.drf_core.specs.Cluster.{ClusterState}
+use Rattle.drf_core.specs.Working.{all_nodes}
 use Rattle.drf_core.proofs.effects.Ended.{nothing_left, sorted-departed, effect-departed}
+use Rattle.drf_core.proofs.stepping.Work.{has_nodes}
 use Rattle.drf_core.proofs.cluster.Cluster.remove_agent.Goals as goal
 
 pub remove_agent-requires-clause-nothing : goal.remove_agent-requires-clause-nothing
@@ -35,3 +39,20 @@ pub returns-clause-ok : goal.returns-clause-ok
 returns-clause-ok g c =
     effect-departed c.args.self.now.rows c.self-2.inside.tables.rows c.remove_agent.new.self.rows c.args.agent.now
     (ap (λ (s : ClusterState). s.rows) c.self-2.view_is ∙ c.end.ensures.rows) c.remove_agent.ensures.rows
+
+pub returns-clause-work : goal.returns-clause-work
+returns-clause-work g c = λ counted.
+    let middle : Rows = c.self-2.inside.tables.rows in
+    let ended : middle ≡ without_ended c.args.self.now.rows (all_on c.args.agent.now) =
+    ap (λ (s : ClusterState). s.rows) c.self-2.view_is ∙ c.end.ensures.rows in
+    let nodes : all_nodes middle ≡ all_nodes c.args.self.now.rows = ap all_nodes ended in
+    let stale = c.set_total.ensures.stale (report.nodes_of middle)
+    (has_nodes middle (g.S.Sorter.content c.self-2.inside.sorter) c.self-2.invariant) counted in
+    omega (
+      arith,
+      stale,
+      c.set_total.ensures.made,
+      ap (λ (s : ClusterState). debt s.work) c.self-2.view_is,
+      c.end.ensures.work counted,
+      nodes,
+    )

@@ -1,7 +1,7 @@
 use Rattle.std.proofs.Common.{ap, ◌∙◌}
 use Rattle.std.proofs.lemmas.Result.{IfOk-weaker}
 use Rattle.drf_rows.specs.declared.rows.Rows.{Rows}
-use Rattle.drf_explain.specs.Each.{each_by_agent}
+use Rattle.drf_explain.specs.Each.{turns_by_agent}
 use Rattle.drf_core.specs.Cluster.{ClusterState}
 use Rattle.drf_core.proofs.cluster.Cluster.telling.Goals as goal
 
@@ -15,6 +15,6 @@ pub returns : goal.returns
 returns g c =
     IfOk-weaker c.begin_telling.result _ _
     (λ telling is. is
-    ∙ ap (λ (r : Rows). each_by_agent r c.args.at) c.in_ok-tables.ensures
-    ∙ ap (λ (s : ClusterState). each_by_agent s.rows c.args.at) c.self.view_is)
+    ∙ ap (λ (r : Rows). turns_by_agent r c.args.at) c.in_ok-tables.ensures
+    ∙ ap (λ (s : ClusterState). turns_by_agent s.rows c.args.at) c.self.view_is)
     c.begin_telling.ensures

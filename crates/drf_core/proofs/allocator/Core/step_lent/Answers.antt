@@ -1,0 +1,46 @@
+use Rattle.std.proofs.Common.{◌≡◌, None, refl, ap, subst, ◌∙◌, sym, arith}
+use Rattle.drf_rows.specs.Step.{reply_to}
+use Rattle.drf_rows.specs.declared.event.Event.{Event}
+use Rattle.drf_rows.specs.declared.rows.Rows.{Rows}
+use Rattle.drf_laws.specs.laws.SameLive.{refused_from}
+use Rattle.drf_sorter.specs.Work.{Adds}
+use Rattle.drf_core.specs.Machine.{Engine, IsAfter}
+use Rattle.drf_core.specs.Refusing.{early_refusal_of}
+use Rattle.drf_core.specs.Working.{allowance}
+use Rattle.drf_core.proofs.refusing.Tests.{told_early}
+use Rattle.drf_core.proofs.stepping.Allowance.{allowance-refused}
+use Rattle.drf_core.proofs.stepping.Step.{on_err}
+use Rattle.drf_core.proofs.allocator.Core.step_lent.Goals as goal
+
+pub returns-in-Some-clause-reply : goal.returns-in-Some-clause-reply
+returns-in-Some-clause-reply g c =
+    let limits = c.self.inside.limits in
+    let rows : Rows = c.self.inside.cluster.value.rows in
+    let event : Event = c.args.event.now in
+    let case = told_early limits rows event c.in-Some.refusal (sym (rw c.deref.ensures at c.early_refusal.ensures) ∙ c.in-Some.is) in
+    (refused_from limits rows rows event refl c.in-Some.refusal case).0 ∙ ap (λ (m : Engine). reply_to m.limits m.rows event) c.self.view_is
+
+pub returns-in-Some-clause-ok : goal.returns-in-Some-clause-ok
+returns-in-Some-clause-ok g c =
+    let limits = c.self.inside.limits in
+    let rows : Rows = c.self.inside.cluster.value.rows in
+    let event : Event = c.args.event.now in
+    let case = told_early limits rows event c.in-Some.refusal (sym (rw c.deref.ensures at c.early_refusal.ensures) ∙ c.in-Some.is) in
+    subst (λ (m : Engine). IsAfter m m event) c.self.view_is
+    (record { limits = refl; rows = (refused_from limits rows rows event refl c.in-Some.refusal case).1 })
+
+pub returns-in-Some-clause-work : goal.returns-in-Some-clause-work
+returns-in-Some-clause-work g c =
+    let limits = c.self.inside.limits in
+    let rows : Rows = c.self.inside.cluster.value.rows in
+    let event : Event = c.args.event.now in
+    let case = told_early limits rows event c.in-Some.refusal (sym (rw c.deref.ensures at c.early_refusal.ensures) ∙ c.in-Some.is) in
+    let nothing : allowance limits rows event ≡ 0 = allowance-refused limits rows rows event refl c.in-Some.refusal case in
+    subst (λ (m : Engine). Adds g.S.Sorter.COUNTED m.work m.work (allowance m.limits m.rows event)) c.self.view_is
+    (rw nothing (λ counted. omega arith))
+
+pub returns-in_err-event-clause-not_refused : goal.returns-in_err-event-clause-not_refused
+returns-in_err-event-clause-not_refused g c =
+    on_err c.from_residual.result
+    (subst (λ (m : Engine). early_refusal_of m.limits m.rows c.args.event.now ≡ None) c.self.view_is
+    (sym (rw c.deref.ensures at c.early_refusal.ensures) ∙ c.in_default.is))

@@ -1,0 +1,348 @@
+-- Each agent is counted once of a client, who passes it is told where it is passed, and there it could have been granted something.
+use Rattle.std.specs.Prelude.{◌≡◌, ℕ, suc, ◌+◌, ◌-◌, ◌^◌, ◌<◌, min, Bool, true, false, not, ◌&&◌, ◌||◌, List, [], ◌∷◌, length, map, filter, fold, Option, Some, None, is_some, if◌then◌else◌, take, drop, slice_get}
+use Rattle.std.specs.List.{AllByRecursion, flat_map, list_all, list_any, position, position_from}
+use Rattle.std.specs.Option.{option_map, option_map_or}
+use Rattle.std.proofs.Common.{refl, sym, ap, subst, ◌∙◌, inl, inr, cond, add-one, arith}
+use Rattle.std.proofs.lemmas.Bool.{cases_Bool, and_parts, false≢true}
+use Rattle.std.proofs.lemmas.Iterator.Adapters.{position_from-zero}
+use Rattle.drf_role.specs.Path.{Path, same_path}
+use Rattle.drf_role.specs.PathLaws.{same_path-true}
+use Rattle.drf_bundle.specs.Bundle.{part_for}
+use Rattle.drf_bundle.specs.declared.resource.Resource.{Resource}
+use Rattle.drf_explain.specs.Each.{each_on, told_here, told_of_each, turn_on, turns_by_agent, turns_on_all, untouched_on}
+use Rattle.drf_explain.specs.Explained.{after_agent, held_until, limiting_role, outcome, shortage}
+use Rattle.drf_explain.specs.ExplainedLaws.{held_back-until}
+use Rattle.drf_explain.specs.declared.finding.Finding.{Finding}
+use Rattle.drf_explain.specs.declared.finding.Finding.TheVariants.{Suppressed, Inactive, NothingFree, Tried, Left}
+use Rattle.drf_explain.specs.declared.finding.Outcome.{Outcome}
+use Rattle.drf_explain.specs.declared.finding.Outcome.TheVariants.{Grant, HeldBack, OverLimit, BelowThreshold, NothingLeft, ReservedForOthers}
+use Rattle.drf_rows.specs.Client.{Client, path_of}
+use Rattle.drf_rows.specs.Cycle.{at_moment, free_of, grant, is_allocatable, tried, turn_order}
+use Rattle.drf_rows.specs.Offers.{is_empty}
+use Rattle.drf_rows.specs.Quota.{consumption, entitlement}
+use Rattle.drf_rows.specs.declared.rows.AgentRow.{AgentRow}
+use Rattle.drf_rows.specs.declared.rows.Rows.{Rows}
+use Rattle.drf_summary.specs.Passers.{Turn, gets_something, granted_in, is_of, is_passed, passers_on, with_passer, with_passers_on}
+use Rattle.drf_summary.specs.Pick.{bars_all, earlier_on, is_grant, is_granted, is_inactive, is_nothing_free, is_of_client, outcome_in, outcome_on, own_on}
+use Rattle.drf_summary.specs.SumLaws.{CountsAddUp, EachHasItsPassers, EachIsPassedRightly, WouldBeGranted, is_accounted}
+use Rattle.drf_summary.specs.Tally.{comes_to, is_below_threshold, is_held_back, is_nothing_left, is_over_limit, is_reserved, tells_of}
+use Rattle.drf_summary.specs.declared.passer.Passer.{Passer}
+
+-- ---- each agent is counted once
+
+abbrev one_if : Bool → ℕ
+one_if test = if test then 1 else 0
+
+-- by how much one agent raises the counts of a client's outcomes
+abbrev outcomes_in : Option Outcome → ℕ
+outcomes_in o =
+    one_if (option_map_or is_granted o false) + one_if (option_map_or is_held_back o false) + one_if (option_map_or is_over_limit o false)
+    + one_if (option_map_or is_below_threshold o false) + one_if (option_map_or is_nothing_left o false) + one_if (option_map_or is_reserved o false)
+
+abbrev counted_on : Path → Turn → ℕ
+counted_on path turn = outcomes_in (outcome_on path turn.0) + one_if (tells_of is_inactive turn) + one_if (tells_of is_nothing_free turn)
+
+-- a search that begins one place later
+searched_later : {X : Type 0} (test : X → Bool) (i : ℕ) (xs : List X) → position_from test (i + 1) xs ≡ option_map suc (position_from test i xs)
+searched_later test i [] = refl
+searched_later test i (x ∷ xs) = by (test x) (searched_later test (i + 1) xs)
+  where
+    by : (found : Bool) → position_from test (i + 1 + 1) xs ≡ option_map suc (position_from test (i + 1) xs)
+        → cond found (Some (i + 1)) (position_from test (i + 1 + 1) xs)
+        ≡ option_map suc (cond found (Some i) (position_from test (i + 1) xs))
+    by true later = ap Some (add-one i)
+    by false later = later
+
+position-cons : {X : Type 0} (test : X → Bool) (x : X) (xs : List X)
+    → position test (x ∷ xs) ≡ cond (test x) (Some 0) (option_map suc (position test xs))
+position-cons test x xs =
+    position_from-zero test (x ∷ xs)
+    ∙ ap (cond (test x) (Some 0)) (searched_later test 0 xs ∙ ap (option_map suc) (sym (position_from-zero test xs)))
+
+-- the first of a client is the head, or the first behind it
+own-cons : (path : Path) (finding : Finding) (findings : List Finding)
+    → own_on path (finding ∷ findings) ≡ (if is_of_client path finding then finding ∷ [] else own_on path findings)
+own-cons path finding findings =
+    ap (λ found. option_map_or (λ place. take 1 (drop place (finding ∷ findings))) found []) (position-cons (is_of_client path) finding findings)
+    ∙ by (is_of_client path finding) (position (is_of_client path) findings)
+  where
+    by : (its : Bool) (found : Option ℕ)
+        → option_map_or (λ place. take 1 (drop place (finding ∷ findings))) (cond its (Some 0) (option_map suc found)) []
+        ≡ cond its (finding ∷ []) (option_map_or (λ place. take 1 (drop place findings)) found [])
+    by true found = refl
+    by false None = refl
+    by false (Some place) = refl
+
+one_outcome : (o : Outcome) → outcomes_in (Some o) ≡ 1
+one_outcome (Grant bundle) = refl
+one_outcome (HeldBack until) = refl
+one_outcome (OverLimit role) = refl
+one_outcome BelowThreshold = refl
+one_outcome NothingLeft = refl
+one_outcome ReservedForOthers = refl
+
+module _ (path : Path) where
+  tried_once : (rows : Rows) (agent : AgentRow) (clients : List Client) → list_any (is_of_client path) (told_of_each rows agent clients) ≡ true
+      → outcomes_in (outcome_on path (told_of_each rows agent clients)) ≡ 1
+  tried_once rows agent [] its = absurd (false≢true its)
+  tried_once rows agent (client ∷ clients) its =
+      let first : Finding = told_here rows agent client in
+      let later : List Finding = told_of_each (tried rows agent client) agent clients in
+      ap (λ fs. outcomes_in (outcome_in fs)) (own-cons path first later)
+      ∙ elim (cases_Bool (same_path (path_of client) path)) [
+        | inl here ↦ rw here (one_outcome (outcome rows agent client))
+        | inr other ↦ rw other (tried_once (tried rows agent client) agent clients (sym (ap (λ b. b || list_any (is_of_client path) later) other) ∙ its))
+      ]
+
+none_inactive : (rows : Rows) (agent : AgentRow) (clients : List Client) → list_any is_inactive (told_of_each rows agent clients) ≡ false
+none_inactive rows agent [] = refl
+none_inactive rows agent (client ∷ clients) = none_inactive (tried rows agent client) agent clients
+
+none_nothing_free : (rows : Rows) (agent : AgentRow) (clients : List Client) → list_any is_nothing_free (told_of_each rows agent clients) ≡ false
+none_nothing_free rows agent [] = refl
+none_nothing_free rows agent (client ∷ clients) = none_nothing_free (tried rows agent client) agent clients
+
+none_bars : (rows : Rows) (agent : AgentRow) (clients : List Client) → list_any bars_all (told_of_each rows agent clients) ≡ false
+none_bars rows agent [] = refl
+none_bars rows agent (client ∷ clients) = none_bars (tried rows agent client) agent clients
+
+module _ (path : Path) where
+  counted_once : (rows : Rows) (agent : AgentRow) → is_accounted path (turn_on rows agent) ≡ true → counted_on path (turn_on rows agent) ≡ 1
+  counted_once rows agent = by agent.active (is_empty (free_of rows agent))
+    where
+      told : Bool → Bool → List Finding
+      told active none = cond active (cond none (NothingFree agent.name ∷ []) (told_of_each rows agent (turn_order rows))) (Inactive agent.name ∷ [])
+
+      by : (active none : Bool) → is_accounted path (told active none, untouched_on rows agent) ≡ true
+          → counted_on path (told active none, untouched_on rows agent) ≡ 1
+      by true true its = refl
+      by true false its =
+          let order : List Client = turn_order rows in
+          let tried_here = tried_once path rows agent order
+          (sym (ap (λ b. b || list_any (is_of_client path) (told_of_each rows agent order)) (none_bars rows agent order)) ∙ its) in
+          rw (none_inactive rows agent order, none_nothing_free rows agent order) (omega (arith, tried_here))
+      by false none its = refl
+
+  each_counted_once : (rows : Rows) (agents : List AgentRow) → list_all (is_accounted path) (turns_on_all rows agents) ≡ true
+      → AllByRecursion (λ turn. counted_on path turn ≡ 1) (turns_on_all rows agents)
+  each_counted_once rows [] all = tt
+  each_counted_once rows (agent ∷ agents) all =
+      let parts = and_parts (is_accounted path (turn_on rows agent)) _ all in
+      (counted_once rows agent parts.0, each_counted_once (after_agent rows agent) agents parts.1)
+
+length-on_all : (rows : Rows) (agents : List AgentRow) → length (turns_on_all rows agents) ≡ length agents
+length-on_all rows [] = refl
+length-on_all rows (agent ∷ agents) = ap suc (length-on_all (after_agent rows agent) agents)
+
+-- the agents that pass a test, without a bound
+abbrev all_where : (Turn → Bool) → List Turn → ℕ
+all_where test turns = length (filter test turns)
+
+where-cons : (test : Turn → Bool) (turn : Turn) (turns : List Turn) → all_where test (turn ∷ turns) ≡ one_if (test turn) + all_where test turns
+where-cons test turn turns = elim (cases_Bool (test turn)) [ inl here ↦ rw here (omega arith) | inr past ↦ rw past (omega arith) ]
+
+few : (n : ℕ) → n < 2 ^ 64 → min n (2 ^ 64 - 1) ≡ n
+few n below = omega (arith, below)
+
+module _ (path : Path) where
+  counted : (turns : List Turn) → AllByRecursion (λ turn. counted_on path turn ≡ 1) turns
+      → all_where (comes_to is_granted path) turns + all_where (comes_to is_held_back path) turns + all_where (comes_to is_over_limit path) turns
+      + all_where (comes_to is_below_threshold path) turns + all_where (comes_to is_nothing_left path) turns
+      + all_where (comes_to is_reserved path) turns
+      + all_where (tells_of is_inactive) turns + all_where (tells_of is_nothing_free) turns ≡ length turns
+  counted [] all = refl
+  counted (turn ∷ turns) all =
+      let once : counted_on path turn ≡ 1 = all.0 in
+      let later = counted turns all.1 in
+      omega (
+        arith,
+        once,
+        later,
+        where-cons (comes_to is_granted path) turn turns,
+        where-cons (comes_to is_held_back path) turn turns,
+        where-cons (comes_to is_over_limit path) turn turns,
+        where-cons (comes_to is_below_threshold path) turn turns,
+        where-cons (comes_to is_nothing_left path) turn turns,
+        where-cons (comes_to is_reserved path) turn turns,
+        where-cons (tells_of is_inactive) turn turns,
+        where-cons (tells_of is_nothing_free) turn turns,
+      )
+
+pub counts_add_up : CountsAddUp
+unfolding turns_by_agent
+counts_add_up rows at path below all =
+    let turns : List Turn = turns_on_all (at_moment rows at) rows.agents in
+    let whole = counted path turns (each_counted_once path (at_moment rows at) rows.agents all) in
+    let long = length-on_all (at_moment rows at) rows.agents in
+    omega (
+      arith,
+      whole,
+      long,
+      few (all_where (comes_to is_granted path) turns) (omega (arith, whole, long, below)),
+      few (all_where (comes_to is_held_back path) turns) (omega (arith, whole, long, below)),
+      few (all_where (comes_to is_over_limit path) turns) (omega (arith, whole, long, below)),
+      few (all_where (comes_to is_below_threshold path) turns) (omega (arith, whole, long, below)),
+      few (all_where (comes_to is_nothing_left path) turns) (omega (arith, whole, long, below)),
+      few (all_where (comes_to is_reserved path) turns) (omega (arith, whole, long, below)),
+      few (all_where (tells_of is_inactive) turns) (omega (arith, whole, long, below)),
+      few (all_where (tells_of is_nothing_free) turns) (omega (arith, whole, long, below)),
+    )
+
+-- ---- who is passed has one who passes it
+
+some_passer : (passers : List Passer) (path : Path) → 0 < length (with_passer passers path)
+some_passer [] path = omega arith
+some_passer (p ∷ ps) path = elim (cases_Bool (list_any (is_of path) (p ∷ ps))) [
+  | inl here ↦ rw here (omega arith)
+  | inr past ↦ rw past (omega arith)
+]
+
+still_some : (passers : List Passer) (paths : List Path) → 0 < length passers → 0 < length (fold with_passer passers paths)
+still_some passers [] some = some
+still_some passers (path ∷ paths) some = still_some (with_passer passers path) paths (some_passer passers path)
+
+some_granted : (findings : List Finding) (passers : List Passer) → list_any is_grant findings ≡ true
+    → 0 < length (fold with_passer passers (flat_map granted_in findings))
+some_granted [] passers some = absurd (false≢true some)
+some_granted (Suppressed client ∷ findings) passers some = some_granted findings passers some
+some_granted (Inactive agent ∷ findings) passers some = some_granted findings passers some
+some_granted (NothingFree agent ∷ findings) passers some = some_granted findings passers some
+some_granted (Left agent left clients ∷ findings) passers some = some_granted findings passers some
+some_granted (Tried agent client (Grant bundle) ∷ findings) passers some =
+    still_some (with_passer passers client) (flat_map granted_in findings) (some_passer passers client)
+some_granted (Tried agent client (HeldBack until) ∷ findings) passers some = some_granted findings passers some
+some_granted (Tried agent client (OverLimit role) ∷ findings) passers some = some_granted findings passers some
+some_granted (Tried agent client BelowThreshold ∷ findings) passers some = some_granted findings passers some
+some_granted (Tried agent client NothingLeft ∷ findings) passers some = some_granted findings passers some
+some_granted (Tried agent client ReservedForOthers ∷ findings) passers some = some_granted findings passers some
+
+module _ (path : Path) where
+  passed_on : (turn : Turn) (passers : List Passer) → is_passed path turn ≡ true → 0 < length (with_passers_on path passers turn)
+  passed_on turn passers passed =
+      let behind = and_parts (list_any is_grant (earlier_on path turn.0) && not (gets_something path turn.0)) _ passed in
+      let before = and_parts (list_any is_grant (earlier_on path turn.0)) _ behind.0 in
+      subst (λ (b : Bool). 0 < length (fold with_passer passers (cond b (flat_map granted_in (earlier_on path turn.0)) []))) (sym passed)
+      (some_granted (earlier_on path turn.0) passers before.0)
+
+  unpassed_on : (turn : Turn) (passers : List Passer) → is_passed path turn ≡ false → with_passers_on path passers turn ≡ passers
+  unpassed_on turn passers none = ap (λ b. fold with_passer passers (cond b (flat_map granted_in (earlier_on path turn.0)) [])) none
+
+  more_on : (turn : Turn) (passers : List Passer) → 0 < length passers → 0 < length (with_passers_on path passers turn)
+  more_on turn passers some = still_some passers (passers_on path turn) some
+
+  more_over : (turns : List Turn) (passers : List Passer) → 0 < length passers → 0 < length (fold (with_passers_on path) passers turns)
+  more_over [] passers some = some
+  more_over (turn ∷ turns) passers some = more_over turns (with_passers_on path passers turn) (more_on turn passers some)
+
+  passed_over : (turns : List Turn) (passers : List Passer) → 0 < all_where (is_passed path) turns
+      → 0 < length (fold (with_passers_on path) passers turns)
+  passed_over [] passers some = absurd (omega (arith, some))
+  passed_over (turn ∷ turns) passers some = elim (cases_Bool (is_passed path turn)) [
+    | inl passed ↦ more_over turns (with_passers_on path passers turn) (passed_on turn passers passed)
+    | inr past ↦
+        let later : one_if (is_passed path turn) ≡ 0 = ap one_if past in
+        passed_over turns (with_passers_on path passers turn) (omega (arith, some, later, where-cons (is_passed path) turn turns))
+  ]
+
+  unpassed_over : (turns : List Turn) (passers : List Passer) → all_where (is_passed path) turns ≡ 0
+      → fold (with_passers_on path) passers turns ≡ passers
+  unpassed_over [] passers none = refl
+  unpassed_over (turn ∷ turns) passers none = elim (cases_Bool (is_passed path turn)) [
+    | inl passed ↦
+        let here : one_if (is_passed path turn) ≡ 1 = ap one_if passed in
+        absurd (omega (arith, none, here, where-cons (is_passed path) turn turns))
+    | inr past ↦
+        let here : one_if (is_passed path turn) ≡ 0 = ap one_if past in
+        ap (λ ps. fold (with_passers_on path) ps turns) (unpassed_on turn passers past)
+        ∙ unpassed_over turns passers (omega (arith, none, here, where-cons (is_passed path) turn turns))
+  ]
+
+pub each_has_its_passers : EachHasItsPassers
+each_has_its_passers turns path = record {
+  some = λ passed none.
+      let long : 0 < length (fold (with_passers_on path) [] turns) = passed_over path turns [] (omega (arith, passed)) in
+      let short : length (fold (with_passers_on path) [] turns) ≡ 0 = ap length none in
+      omega (arith, long, short);
+  none = λ zero. unpassed_over path turns [] (omega (arith, zero));
+}
+
+-- ---- who is passed could have been granted something
+
+no_grant : (worth left none : Bool) (role : Path)
+    → is_granted (if worth then OverLimit role else if left then NothingLeft else if none then ReservedForOthers else BelowThreshold) ≡ false
+no_grant true left none role = refl
+no_grant false true none role = refl
+no_grant false false true role = refl
+no_grant false false false role = refl
+
+granted_by : (worth : Bool) (until : Option ℕ) (bundle : List Resource) (short : Outcome) → is_granted short ≡ false
+    → is_granted (if worth then option_map_or HeldBack until (Grant bundle) else short) ≡ true
+    → (if worth && not (is_some until) then Some bundle else None) ≡ Some bundle
+granted_by true None bundle short none gets = refl
+granted_by true (Some until) bundle short none gets = absurd (false≢true gets)
+granted_by false until bundle short none gets = absurd (false≢true (sym none ∙ gets))
+
+-- what is told to be granted the cycle grants
+granted-outcome : (rows : Rows) (agent : AgentRow) (client : Client) → is_granted (outcome rows agent client) ≡ true
+    → grant rows agent client ≡ Some (entitlement rows (free_of rows agent) client)
+granted-outcome rows agent client gets =
+    let free : List Resource = free_of rows agent in
+    let part : List Resource = part_for client.role free in
+    let bundle : List Resource = entitlement rows free client in
+    let until : Option ℕ = held_until rows.filters rows.clock client agent.name bundle in
+    ap (λ held. if is_allocatable bundle && not held then Some bundle else None) (held_back-until rows.filters rows.clock client agent.name bundle)
+    ∙ granted_by (is_allocatable bundle) until bundle (shortage rows.limits (consumption rows) client.role free part)
+    (no_grant (is_allocatable part) (is_empty free) (is_empty part) (limiting_role rows.limits (consumption rows) client.role part)) gets
+
+module _ (rows : Rows) (agent : AgentRow) (path : Path) where
+  -- of some clients one is the client, and would be granted a bundle
+  record Found (clients : List Client) : Type 0 where
+    place : ℕ
+    client : Client
+    stands : slice_get clients place ≡ Some client
+    its : path_of client ≡ path
+    granted : grant rows agent client ≡ Some (entitlement rows (free_of rows agent) client)
+
+  found : (clients : List Client) → gets_something path (map (told_here rows agent) clients) ≡ true → Found clients
+  found [] gets = absurd (false≢true gets)
+  found (client ∷ clients) gets =
+      let first : Finding = told_here rows agent client in
+      let later : List Finding = map (told_here rows agent) clients in
+      let here = sym (ap (λ fs. option_map_or is_granted (outcome_in fs) false) (own-cons path first later)) ∙ gets in
+      elim (cases_Bool (same_path (path_of client) path)) [
+        | inl its ↦ record {
+          place = 0;
+          client = client;
+          stands = refl;
+          its = same_path-true (path_of client) path its;
+          granted =
+              granted-outcome rows agent client
+              (sym (ap (λ b. option_map_or is_granted (outcome_in (cond b (first ∷ []) (own_on path later))) false) its) ∙ here);
+        }
+        | inr other ↦
+            let behind = found clients (sym (ap (λ b. option_map_or is_granted (outcome_in (cond b (first ∷ []) (own_on path later))) false) other) ∙ here) in
+            record { place = suc behind.place; client = behind.client; stands = behind.stands; its = behind.its; granted = behind.granted }
+      ]
+
+  would_be : gets_something path (untouched_on rows agent) ≡ true → WouldBeGranted rows agent path
+  would_be = by agent.active (is_empty (free_of rows agent))
+    where
+      by : (active none : Bool)
+          → gets_something path (cond active (cond none [] (map (told_here rows agent) (turn_order rows))) []) ≡ true → WouldBeGranted rows agent path
+      by true true gets = absurd (false≢true gets)
+      by true false gets =
+          let of = found (turn_order rows) gets in record {
+            place = of.place;
+            client = of.client;
+            stands = of.stands;
+            its = of.its;
+            bundle = entitlement rows (free_of rows agent) of.client;
+            granted = of.granted;
+          }
+      by false none gets = absurd (false≢true gets)
+
+pub each_is_passed_rightly : EachIsPassedRightly
+each_is_passed_rightly rows agent path passed =
+    let told : List Finding = each_on rows agent in
+    let parts = and_parts (list_any is_grant (earlier_on path told) && not (gets_something path told)) _ passed in
+    would_be rows agent path parts.1

@@ -1,0 +1,12 @@
+use Rattle.std.proofs.Common.{◌∙◌, map}
+use Rattle.drf_summary.specs.Passers.{Turn}
+use Rattle.drf_summary.specs.Tally.{with_turn}
+use Rattle.drf_summary.proofs.Tallied.{tallies-next}
+use Rattle.drf_summary.proofs.tally.take_turn.Goals as goal
+
+pub returns : goal.returns
+returns c = λ rows turns so.
+    let turn : Turn = (c.args.turn.now.told.items, c.args.turn.now.untouched.items) in
+    c.in_ok-take_in_each.ensures
+    ∙ (λ i. map (with_turn (c.deref.ensures.value i, c.deref-2.ensures.value i)) (so i))
+    ∙ tallies-next rows turns turn

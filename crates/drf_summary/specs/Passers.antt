@@ -1,0 +1,108 @@
+-- Who passes a client: all who are granted something before it on agents where it is granted nothing, and would be granted something, were it
+-- the first.
+use Rattle.std.specs.Prelude.{ℕ, suc, ◌+◌, ◌-◌, ◌^◌, min, Bool, not, ◌&&◌, List, [], ◌∷◌, ◌++◌, map, fold, take, find, if◌then◌else◌, false, codes}
+use Rattle.std.specs.List.{flat_map, list_any}
+use Rattle.std.specs.Option.{option_map_or}
+use Rattle.serde_json.specs.Data.{Data, number, unsigned, string, object, member, no_members}
+use Rattle.serde_json.specs.Written.{compact_text}
+use Rattle.drf_role.specs.Text.{Text, same_text}
+use Rattle.drf_role.specs.Path.{Path, same_path}
+use Rattle.drf_role.specs.Parts.{text_of}
+use Rattle.drf_rows.specs.declared.report.NodeLine.{NodeLine}
+use Rattle.drf_rows.specs.declared.report.Report.{Report}
+use Rattle.drf_explain.specs.declared.finding.Finding.{Finding}
+use Rattle.drf_explain.specs.declared.finding.Finding.TheVariants.{Suppressed, Inactive, NothingFree, Tried, Left}
+use Rattle.drf_lines.specs.ReportLine.{fraction_text}
+use Rattle.drf_summary.specs.Pick.{earlier_on, is_grant, is_granted, outcome_in, own_on}
+use Rattle.drf_summary.specs.declared.passer.Passer.{Passer}
+
+-- ---- on an agent
+
+-- what is told of an agent's turn: of each client at its moment, and of each as if it were the first to be tried
+abbrev pub Turn : Type 0
+Turn = List Finding × List Finding
+
+-- the first of some findings tells of a grant
+abbrev pub begins_with_grant : List Finding → Bool
+begins_with_grant findings = option_map_or is_granted (outcome_in findings) false
+
+-- a client is told to be granted something
+abbrev pub gets_something : Path → List Finding → Bool
+gets_something path findings = begins_with_grant (own_on path findings)
+
+-- it is granted nothing, behind somebody who is granted something, and would be granted something, were it the first
+abbrev pub is_passed : Path → Turn → Bool
+is_passed path turn =
+    list_any is_grant (earlier_on path turn.0) && not (gets_something path turn.0) && gets_something path turn.1
+
+-- the client that a finding grants something
+abbrev pub granted_in : Finding → List Path
+granted_in (Suppressed client) = []
+granted_in (Inactive agent) = []
+granted_in (NothingFree agent) = []
+granted_in (Tried agent client outcome) = if is_granted outcome then client ∷ [] else []
+granted_in (Left agent left clients) = []
+
+-- where the client is passed, those that are granted something before it
+abbrev pub passers_on : Path → Turn → List Path
+passers_on path turn = if is_passed path turn then flat_map granted_in (earlier_on path turn.0) else []
+
+-- ---- over agents
+
+abbrev pub is_of : Path → Passer → Bool
+is_of path p = same_path p.client path
+
+-- a number, and one more; it stays at 2^64 - 1 once there
+abbrev pub one_more : ℕ → ℕ
+one_more count = min (count + 1) (2 ^ 64 - 1)
+
+-- one agent more of a client
+abbrev pub raised : Path → Passer → Passer
+raised path p = if is_of path p then record { client = p.client; agents = one_more p.agents } else p
+
+-- a client that is not among them is the last
+abbrev pub with_passer : List Passer → Path → List Passer
+with_passer passers path =
+    if list_any (is_of path) passers then map (raised path) passers else passers ++ record { client = path; agents = 1 } ∷ []
+
+-- those of one agent more
+abbrev pub with_passers_on : Path → List Passer → Turn → List Passer
+with_passers_on path passers turn = fold with_passer passers (passers_on path turn)
+
+-- each once, in the order in which they first pass
+abbrev pub passers_of : List Turn → Path → List Passer
+passers_of turns path = fold (with_passers_on path) [] turns
+
+-- ---- by what shares
+
+-- how many parts two paths share from the beginning
+abbrev pub shared_parts : Path → Path → ℕ
+shared_parts [] others = 0
+shared_parts (part ∷ parts) [] = 0
+shared_parts (part ∷ parts) (other ∷ others) = if same_text part other then suc (shared_parts parts others) else 0
+
+-- the node on the way to the first client that is compared with one on the way to the second: the first that they do not share
+abbrev pub parting : Path → Path → Path
+parting path other = take (suc (shared_parts path other)) path
+
+abbrev pub is_line_of : Path → NodeLine → Bool
+is_line_of node line = same_text (text_of line.path) (text_of node)
+
+-- the weighted share of a node that a report tells
+abbrev pub weighted_in : Report → Path → Text
+weighted_in report node = option_map_or (λ line. fraction_text line.weighted) (find (is_line_of node) report.nodes) []
+
+-- ---- the lines
+
+-- compact JSON, the keys in order of bytes
+abbrev pub passer_value : Report → Path → Passer → Data
+passer_value report path p = object (
+    member (codes "agents") (number (unsigned p.agents))
+    (member (codes "client") (string (text_of path))
+    (member (codes "own") (string (weighted_in report (parting path p.client)))
+    (member (codes "passed_by") (string (text_of p.client))
+    (member (codes "weighted") (string (weighted_in report (parting p.client path)))
+    no_members)))))
+
+unfoldable pub passer_text : Report → Path → Passer → List ℕ
+passer_text report path p = compact_text (passer_value report path p) ++ 10 ∷ []

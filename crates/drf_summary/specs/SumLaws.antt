@@ -1,0 +1,49 @@
+-- The counts of a summary add up to the agents; who is passed has somebody who passes it, and would be granted something, were it tried first.
+use Rattle.std.specs.Prelude.{◌≡◌, ◌≢◌, ℕ, ◌+◌, ◌^◌, ◌<◌, Bool, true, ◌||◌, List, [], Some, length, slice_get}
+use Rattle.std.specs.List.{list_all}
+use Rattle.drf_role.specs.Path.{Path}
+use Rattle.drf_bundle.specs.declared.resource.Resource.{Resource}
+use Rattle.drf_explain.specs.Each.{turn_on, turns_by_agent}
+use Rattle.drf_rows.specs.Client.{Client, path_of}
+use Rattle.drf_rows.specs.Cycle.{grant, turn_order}
+use Rattle.drf_rows.specs.declared.rows.AgentRow.{AgentRow}
+use Rattle.drf_rows.specs.declared.rows.Rows.{Rows}
+use Rattle.drf_summary.specs.Passers.{Turn, is_passed}
+use Rattle.drf_summary.specs.Pick.{bars_all, is_of_client}
+use Rattle.drf_summary.specs.Tally.{tally_of, tells_of}
+use Rattle.drf_summary.specs.declared.tally.Tally.{Tally}
+
+-- nobody is tried on the agent, or the client is
+abbrev pub is_accounted : Path → Turn → Bool
+is_accounted path turn = tells_of bars_all turn || tells_of (is_of_client path) turn
+
+-- on how many agents it gets something, or nothing for a cause that is counted
+abbrev pub accounted : Tally → ℕ
+accounted t =
+    t.granted + t.held_back + t.over_limit + t.below_threshold + t.nothing_left + t.reserved + t.inactive + t.nothing_free
+
+-- of a client that is tried wherever somebody is, these are all agents, each counted once
+abbrev pub CountsAddUp : Type 0
+CountsAddUp = (rows : Rows) (at : ℕ) (path : Path) → length rows.agents < 2 ^ 64
+    → list_all (is_accounted path) (turns_by_agent rows at) ≡ true → accounted (tally_of (turns_by_agent rows at) path) ≡ length rows.agents
+
+-- a client is passed on an agent just where it has passers
+pub record HasItsPassers (t : Tally) : Type 0 where
+  pub some : 0 < t.passed → t.passers ≢ []
+  pub none : t.passed ≡ 0 → t.passers ≡ []
+
+abbrev pub EachHasItsPassers : Type 0
+EachHasItsPassers = (turns : List Turn) (path : Path) → HasItsPassers (tally_of turns path)
+
+-- a client of the turn that begins would be granted a bundle by the cycle, were it the first to be tried
+pub record WouldBeGranted (rows : Rows) (agent : AgentRow) (path : Path) : Type 0 where
+  pub place : ℕ
+  pub client : Client
+  pub stands : slice_get (turn_order rows) place ≡ Some client
+  pub its : path_of client ≡ path
+  pub bundle : List Resource
+  pub granted : grant rows agent client ≡ Some bundle
+
+-- whoever is passed on an agent is passed over something that it could have had
+abbrev pub EachIsPassedRightly : Type 0
+EachIsPassedRightly = (rows : Rows) (agent : AgentRow) (path : Path) → is_passed path (turn_on rows agent) ≡ true → WouldBeGranted rows agent path

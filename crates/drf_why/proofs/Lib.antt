@@ -1,0 +1,4 @@
+mod Writes
+mod Due
+mod Lists
+mod Found

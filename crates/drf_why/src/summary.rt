@@ -1,0 +1,101 @@
+//! What is told of the next cycle, summed up: a line for each client.
+ghost use Rattle.std.specs.Prelude.{◌≡◌, ◌++◌, ◌≤◌, ◌^◌, true, List, IfOk, OnOk};
+ghost use Rattle.drf_core.specs.Machine.{live};
+ghost use Rattle.drf_explain.specs.Each.{turns_by_agent};
+ghost use Rattle.drf_journal.specs.Audited.{HasToldOfRows};
+ghost use Rattle.drf_journal.specs.Device.{IsNew};
+ghost use Rattle.drf_journal.specs.Ended.{HasCause, HasFlushed};
+ghost use Rattle.drf_rows.specs.Step.{live_rows};
+ghost use Rattle.drf_rows.specs.declared.limits.TheConstants.{LATEST_MOMENT};
+ghost use Rattle.drf_rows.specs.declared.rows.Rows.{Rows};
+ghost use Rattle.drf_summary.specs.Passers.{Turn};
+ghost use Rattle.drf_summary.specs.Tally.{tallies_of};
+ghost use Rattle.drf_why.specs.Asked.{summed_text};
+ghost use Rattle.drf_why.specs.Written.{HasWritten, output_of};
+
+use drf_core::{Core, Telling};
+use drf_explain::{suppressed, write_explained_lines};
+use drf_journal::{Device, ProgramSorter, RunFault, advance, write_whole};
+use drf_rows::Rows;
+use drf_summary::{Tally, take_turn, tallies, write_tallies};
+use std::alloc::{AllocError, Global};
+use std::io::{Read, Write};
+
+/// Counts what is told of each client on each agent.
+fn count_agents(
+    telling: &mut Telling<ProgramSorter>,
+    tallies: &mut [Tally],
+) -> Result<(), AllocError>
+    ensures { OnOk result ((rows : Rows) (turns : List Turn) → tallies.old ≡ tallies_of rows turns → tallies.new ≡ tallies_of rows (turns ++ telling.old)) }
+{
+    while let Some(turn) = telling.next_turn()? {
+        take_turn(tallies, &turn)?;
+    }
+    Ok(())
+}
+
+/// What the cycle at a moment, in milliseconds, comes to for each client.
+fn tallies_at(
+    alloc: Global,
+    core: &Core<ProgramSorter>,
+    rows: &Rows,
+    at: u64,
+) -> Result<Vec<Tally>, AllocError>
+    requires rows { rows.now ≡ live_rows core.now.rows }
+    requires early { at ≤ LATEST_MOMENT }
+    ensures { IfOk result (λ tallies. tallies.items ≡ tallies_of rows.now (turns_by_agent rows.now at)) }
+{
+    let mut found = tallies(alloc, rows)?;
+    let mut telling = core.telling(at)?;
+    count_agents(&mut telling, found.as_mut_slice())?;
+    Ok(found)
+}
+
+/// The summary of the cycle at a moment, in milliseconds.
+fn summary(alloc: Global, core: &Core<ProgramSorter>, at: u64) -> Result<Vec<u8>, AllocError>
+    requires { at ≤ LATEST_MOMENT }
+    ensures { IfOk result (λ text. text.items ≡ summed_text at (live_rows core.now.rows)) }
+{
+    let rows = core.rows()?;
+    let silent = suppressed(alloc, &rows)?;
+    let tallies = tallies_at(alloc, core, &rows, at)?;
+    let report = core.report()?;
+    let mut text = write_explained_lines(alloc, &silent)?;
+    write_tallies(alloc, &report, &tallies, &mut text)?;
+    Ok(text)
+}
+
+fn write_summary<W: Write>(
+    alloc: Global,
+    core: &Core<ProgramSorter>,
+    at: u64,
+    writer: &mut Device<W>,
+) -> Result<(), RunFault>
+    requires { at ≤ LATEST_MOMENT }
+    ensures { HasWritten (summed_text at (live_rows core.now.rows)) (output_of W.contents writer.old) (output_of W.contents writer.new) result }
+{
+    let text = summary(alloc, core, at)?;
+    write_whole(writer, &text)
+}
+
+/// Takes the events of a reader's lines, and then writes what the cycle at that moment, in milliseconds, comes to for each client over all agents.
+/// The clock never goes back: 0 is the moment at which it stands. Lines that are no events are passed over.
+pub fn tell_summary<R: Read, W: Write>(
+    alloc: Global,
+    core: Core<ProgramSorter>,
+    at: u64,
+    reader: &mut Device<R>,
+    writer: &mut Device<W>,
+) -> Result<(), RunFault>
+    requires early { at ≤ LATEST_MOMENT }
+    requires reader { IsNew reader.old.calls reader.old.failed }
+    requires writer { IsNew writer.old.calls writer.old.failed }
+    ensures told { HasToldOfRows (summed_text at) (live core) (R.remaining reader.old.inner) (R.remaining reader.new.inner)
+        (W.contents writer.old.inner) (W.contents writer.new.inner) result }
+    ensures cause { HasCause result reader.new.failed reader.new.calls writer.new.failed }
+    ensures flushed { writer.old.flushed ≡ true → HasFlushed result writer.new.flushed }
+    ensures reads { reader.new.calls ≤ 2 ^ 40 }
+{
+    let core = advance(alloc, core, reader)?;
+    write_summary(alloc, &core, at, writer)
+}

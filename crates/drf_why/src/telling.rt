@@ -1,0 +1,125 @@
+//! What is told of each client on each agent, of one agent, or of one client, agent by agent.
+ghost use Rattle.std.specs.Prelude.{◌≡◌, ◌∷◌, ◌≤◌, ◌^◌, map, true};
+ghost use Rattle.std.specs.List.{flat_map};
+ghost use Rattle.drf_core.specs.Machine.{live};
+ghost use Rattle.drf_explain.specs.ExplainedText.{explained_text};
+ghost use Rattle.drf_journal.specs.Audited.{HasToldOfRows};
+ghost use Rattle.drf_journal.specs.Device.{IsNew};
+ghost use Rattle.drf_journal.specs.Ended.{HasCause, HasFlushed};
+ghost use Rattle.drf_rows.specs.Step.{live_rows};
+ghost use Rattle.drf_rows.specs.declared.limits.TheConstants.{LATEST_MOMENT};
+ghost use Rattle.drf_summary.specs.Pick.{picked, picked_of};
+ghost use Rattle.drf_why.specs.Asked.{absent_text, asked_text};
+ghost use Rattle.drf_why.specs.Written.{HasWritten, output_of};
+
+use crate::whom::{Whom, absent_text, pick_of};
+use drf_core::{Core, Telling};
+use drf_explain::{Finding, suppressed};
+use drf_journal::{Device, ProgramSorter, RunFault, advance, write_whole};
+use drf_rows::Rows;
+use drf_summary::{Pick, write_picked};
+use std::alloc::Global;
+use std::io::{Read, Write};
+
+/// Writes what is picked of one list of findings.
+fn write_list<W: Write>(
+    alloc: Global,
+    pick: &Pick,
+    findings: &[Finding],
+    writer: &mut Device<W>,
+) -> Result<(), RunFault>
+    ensures { HasWritten (explained_text (picked pick.now findings.now)) (output_of W.contents writer.old) (output_of W.contents writer.new) result }
+{
+    let mut text = Vec::new(alloc);
+    write_picked(alloc, pick, findings, &mut text)?;
+    write_whole(writer, &text)
+}
+
+/// Writes what is picked of each agent, as soon as it is told of.
+fn write_agents<W: Write>(
+    alloc: Global,
+    pick: &Pick,
+    telling: &mut Telling<ProgramSorter>,
+    writer: &mut Device<W>,
+) -> Result<(), RunFault>
+    ensures { HasWritten (explained_text (flat_map (picked pick.now) (map (λ turn. turn.0) telling.old))) (output_of W.contents writer.old) (output_of W.contents writer.new) result }
+{
+    while let Some(findings) = telling.next_agent()? {
+        write_list(alloc, pick, &findings, writer)?;
+    }
+    Ok(())
+}
+
+/// Writes what is picked of the cycle at a moment, in milliseconds: of the clients that want no offers, and then of each agent.
+fn write_cycle<W: Write>(
+    alloc: Global,
+    core: &Core<ProgramSorter>,
+    rows: &Rows,
+    at: u64,
+    pick: &Pick,
+    writer: &mut Device<W>,
+) -> Result<(), RunFault>
+    requires rows { rows.now ≡ live_rows core.now.rows }
+    requires early { at ≤ LATEST_MOMENT }
+    ensures { HasWritten (explained_text (picked_of pick.now rows.now at)) (output_of W.contents writer.old) (output_of W.contents writer.new) result }
+{
+    let silent = suppressed(alloc, rows)?;
+    let mut telling = core.telling(at)?;
+    write_list(alloc, pick, &silent, writer)?;
+    write_agents(alloc, pick, &mut telling, writer)
+}
+
+/// Writes that nobody is told of, and why.
+fn write_absent<W: Write>(
+    alloc: Global,
+    rows: &Rows,
+    whom: Whom<'_>,
+    writer: &mut Device<W>,
+) -> Result<(), RunFault>
+    ensures { HasWritten (absent_text rows.now whom.entry) (output_of W.contents writer.old) (output_of W.contents writer.new) result }
+{
+    let text = absent_text(alloc, rows, whom)?;
+    write_whole(writer, &text)
+}
+
+/// Writes what is told of the cycle at a moment, in milliseconds.
+fn write_asked<W: Write>(
+    alloc: Global,
+    core: &Core<ProgramSorter>,
+    at: u64,
+    whom: Whom<'_>,
+    writer: &mut Device<W>,
+) -> Result<(), RunFault>
+    requires early { at ≤ LATEST_MOMENT }
+    ensures { HasWritten (asked_text whom.entry at (live_rows core.now.rows)) (output_of W.contents writer.old) (output_of W.contents writer.new) result }
+{
+    let rows = core.rows()?;
+    let Some(pick) = pick_of(alloc, &rows, whom)? else {
+        return write_absent(alloc, &rows, whom, writer);
+    };
+    write_cycle(alloc, core, &rows, at, &pick, writer)
+}
+
+/// Takes the events of a reader's lines, and then writes what the cycle at that moment, in milliseconds, would offer to each client on each
+/// agent, and where it would offer nothing, why: of all of them, or of whom is asked for. The clock never goes back: 0 is the moment at
+/// which it stands. Lines that are no events are passed over.
+pub fn tell_each<R: Read, W: Write>(
+    alloc: Global,
+    core: Core<ProgramSorter>,
+    at: u64,
+    whom: Whom<'_>,
+    reader: &mut Device<R>,
+    writer: &mut Device<W>,
+) -> Result<(), RunFault>
+    requires early { at ≤ LATEST_MOMENT }
+    requires reader { IsNew reader.old.calls reader.old.failed }
+    requires writer { IsNew writer.old.calls writer.old.failed }
+    ensures told { HasToldOfRows (asked_text whom.entry at) (live core) (R.remaining reader.old.inner) (R.remaining reader.new.inner)
+        (W.contents writer.old.inner) (W.contents writer.new.inner) result }
+    ensures cause { HasCause result reader.new.failed reader.new.calls writer.new.failed }
+    ensures flushed { writer.old.flushed ≡ true → HasFlushed result writer.new.flushed }
+    ensures reads { reader.new.calls ≤ 2 ^ 40 }
+{
+    let core = advance(alloc, core, reader)?;
+    write_asked(alloc, &core, at, whom, writer)
+}

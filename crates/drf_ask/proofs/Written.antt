@@ -1,19 +1,25 @@
 -- The lines that are written, and which of them are answers.
-use Rattle.std.proofs.Common.{◌≡◌, ℕ, Bool, true, false, not, cond, if◌then◌else◌, List, [], ◌∷◌, ◌++◌, map, Ok, Err, Result, refl, sym, ap, ◌∙◌, append_assoc}
+use Rattle.std.proofs.Common.{◌≡◌, ℕ, zero, suc, Bool, true, false, not, cond, if◌then◌else◌, All, List, [], ◌∷◌, ◌++◌, map, take, Ok, Err, Result, refl, sym, ap, ◌∙◌, append_assoc}
+use Rattle.std.proofs.lemmas.List.Elements.{All-nil, All-cons, All-head, All-tail}
 use Rattle.json.specs.Print.{escape_byte}
+use Rattle.serde_json.specs.Data.{Data}
+use Rattle.serde_json.specs.Written.{compact_text}
 use Rattle.drf_core.specs.Machine.{Machine}
 use Rattle.drf_rows.specs.declared.event.Event.{Event}
 use Rattle.drf_rows.specs.declared.reply.Reply.{Reply}
 use Rattle.drf_rows.specs.declared.reply.Reply.TheVariants.{Done, Offers, Report, Refused}
 use Rattle.drf_rows.specs.Step.{reply_to}
 use Rattle.drf_lines.specs.declared.fault.LineFault.{LineFault}
+use Rattle.drf_lines.specs.Fault.{fault_name, fault_number}
 use Rattle.drf_lines.specs.Meaning.{meaning_of}
-use Rattle.drf_lines.specs.ReplyLine.{reply_line, fault_line}
+use Rattle.drf_lines.specs.ReplyLine.{line_of, refused_value, reply_value, reply_line, fault_line}
+use Rattle.drf_lines.proofs.OneLines.{written_once}
 use Rattle.drf_journal.specs.JournalLaws.{OutputLineByLine}
+use Rattle.drf_journal.specs.Lines.{is_line_feed, IsWithinLine}
 use Rattle.drf_journal.specs.Output.{kept_of, reply_line_after, output_of}
 use Rattle.drf_journal.specs.State.{machine_after, machine_after_lines, answer_to}
-use Rattle.drf_ask.specs.Answer.{answer_line}
-use Rattle.drf_ask.specs.Asked.{after_asked, after_all_asked, event_lines_of, Written, event_written, written_of, text_of_all, without_answers, begins_as_answer, IsWrittenInLines, AnswersAreMarked, AnswersStandBeside, QuestionsChangeNothing}
+use Rattle.drf_ask.specs.Answer.{answer_value, answer_line}
+use Rattle.drf_ask.specs.Asked.{after_asked, after_all_asked, event_lines_of, Written, event_written, written_of, text_of_all, without_answers, begins_as_answer, IsWrittenInLines, IsLine, EachIsLine, AnswersAreMarked, AnswersStandBeside, QuestionsChangeNothing}
 use Rattle.drf_ask.specs.Question.{is_question}
 use Rattle.drf_ask.proofs.Answers.{answer_begins}
 
@@ -39,6 +45,63 @@ in_lines machine echo [] = refl
 in_lines machine echo (line ∷ lines) =
     line_text (is_question line) echo machine line _ (written_of (after_asked machine line) echo lines)
     (in_lines (after_asked machine line) echo lines)
+
+-- ---- each of them is one line
+
+within_take : (n : ℕ) (line : List ℕ) → IsWithinLine line → IsWithinLine (take n line)
+within_take zero line is = All-nil (λ b. is_line_feed b ≡ false)
+within_take (suc n) [] is = is
+within_take (suc n) (b ∷ line) is =
+    All-cons (λ b. is_line_feed b ≡ false) b (take n line) (All-head (λ b. is_line_feed b ≡ false) b line is)
+    (within_take n line (All-tail (λ b. is_line_feed b ≡ false) b line is))
+
+value_is_line : (value : Data) → IsLine (line_of value)
+value_is_line value = (compact_text value, (written_once value, refl))
+
+reply_is_line : (reply : Reply) → IsLine (reply_line reply)
+unfolding reply_line
+reply_is_line reply = value_is_line (reply_value reply)
+
+fault_is_line : (fault : LineFault) → IsLine (fault_line fault)
+unfolding fault_line
+fault_is_line fault = value_is_line (refused_value (fault_name fault) (fault_number fault))
+
+reply_written : (machine : Machine) (meaning : Result Event LineFault) → IsLine (reply_line_after machine.limits machine.rows meaning)
+reply_written machine (Ok event) = reply_is_line (reply_to machine.limits machine.rows event)
+reply_written machine (Err fault) = fault_is_line fault
+
+answer_is_line : (echo : Bool) (machine : Machine) (line : List ℕ) → IsLine (answer_line echo machine line)
+answer_is_line true machine line =
+    let text = compact_text (answer_value machine line) in
+    (63 ∷ text, (All-cons (λ b. is_line_feed b ≡ false) 63 text refl (written_once (answer_value machine line)), refl))
+answer_is_line false machine line = value_is_line (answer_value machine line)
+
+event_is_line : (echo : Bool) (machine : Machine) (line : List ℕ) (others : List Written) → IsWithinLine line
+    → All (λ (w : Written). IsLine w.text) others → All (λ (w : Written). IsLine w.text) (event_written echo machine line ++ others)
+event_is_line true machine line others is rest =
+    let reply : Written = record { is_answer = false; text = reply_line_after machine.limits machine.rows (meaning_of line) } in
+    All-cons (λ (w : Written). IsLine w.text) (record { is_answer = false; text = kept_of line ++ 10 ∷ [] }) (reply ∷ others)
+    (kept_of line, (within_take 65537 line is, refl))
+    (All-cons (λ (w : Written). IsLine w.text) reply others (reply_written machine (meaning_of line)) rest)
+event_is_line false machine line others is rest =
+    All-cons (λ (w : Written). IsLine w.text)
+    (record { is_answer = false; text = reply_line_after machine.limits machine.rows (meaning_of line) }) others
+    (reply_written machine (meaning_of line)) rest
+
+each_written : (asks : Bool) (echo : Bool) (machine : Machine) (line : List ℕ) (others : List Written) → IsWithinLine line
+    → All (λ (w : Written). IsLine w.text) others
+    → All (λ (w : Written). IsLine w.text)
+    ((if asks then record { is_answer = true; text = answer_line echo machine line } ∷ [] else event_written echo machine line) ++ others)
+each_written true echo machine line others is rest =
+    All-cons (λ (w : Written). IsLine w.text) (record { is_answer = true; text = answer_line echo machine line }) others
+    (answer_is_line echo machine line) rest
+each_written false echo machine line others is rest = event_is_line echo machine line others is rest
+
+pub each_is_line : EachIsLine
+each_is_line machine echo [] are = All-nil (λ (w : Written). IsLine w.text)
+each_is_line machine echo (line ∷ lines) are =
+    each_written (is_question line) echo machine line _ (All-head IsWithinLine line lines are)
+    (each_is_line (after_asked machine line) echo lines (All-tail IsWithinLine line lines are))
 
 -- ---- what is left without the answers
 

@@ -1,9 +1,10 @@
 -- What a run writes that is asked: for each line of its input, in order, the text for an event line or the answer to a question.
-use Rattle.std.specs.Prelude.{◌≡◌, ℕ, Bool, true, false, not, List, [], ◌∷◌, ◌++◌, take, map, filter, codes, if◌then◌else◌}
+use Rattle.std.specs.Prelude.{◌≡◌, ℕ, Bool, true, false, not, All, List, [], ◌∷◌, ◌++◌, take, map, filter, codes, if◌then◌else◌}
 use Rattle.std.specs.List.{flat_map}
 use Rattle.drf_core.specs.Machine.{Machine}
 use Rattle.drf_lines.specs.Meaning.{meaning_of}
 use Rattle.drf_role.specs.Text.{same_text}
+use Rattle.drf_journal.specs.Lines.{IsWithinLine}
 use Rattle.drf_journal.specs.Output.{kept_of, reply_line_after, output_of}
 use Rattle.drf_journal.specs.State.{machine_after, machine_after_lines, answer_to}
 use Rattle.drf_ask.specs.Answer.{answer_line}
@@ -75,6 +76,16 @@ abbrev pub IsWrittenInLines : Type 0
 IsWrittenInLines =
     (machine : Machine) (echo : Bool) (lines : List (List ℕ))
     → text_of_all (written_of machine echo lines) ≡ asked_of machine echo lines
+
+-- one line: a line feed stands at its end, and nowhere else
+abbrev pub IsLine : List ℕ → Type 0
+IsLine text = (line : List ℕ) × (IsWithinLine line × (text ≡ line ++ 10 ∷ []))
+
+-- each of them is one line, as no line of an input has a line feed in it
+abbrev pub EachIsLine : Type 0
+EachIsLine =
+    (machine : Machine) (echo : Bool) (lines : List (List ℕ)) → All IsWithinLine lines
+    → All (λ (written : Written). IsLine written.text) (written_of machine echo lines)
 
 -- a reader of the stream knows the answers by how they begin
 abbrev pub AnswersAreMarked : Type 0

@@ -39,7 +39,8 @@ fn push_text_for<S: Sorter>(
     answer_end(reader, core, echo, line, &[], text)
 }
 
-/// Takes a line's event, or answers its question, and writes the text for the line. The text that is lent is room for it.
+/// Takes a line's event, or answers its question, and writes the text for the line. The text that is lent is room for it. Where memory runs
+/// out for an answer the run ends, as for a reply: no line is passed over.
 #[tactic(auto, unfolding(crate::specs::Asking::HasPart))]
 fn answer_line<S: Sorter, W: Write>(
     reader: &mut LineReader,

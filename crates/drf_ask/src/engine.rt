@@ -21,7 +21,8 @@ const CHUNK: usize = 65_536;
 /// How often a run reads at most.
 const MAX_READS: u64 = 1_099_511_627_776;
 
-/// Answers the lines of a reader's bytes on a writer, each as soon as it ended, and tells how many of them are no questions.
+/// Answers the lines of a reader's bytes on a writer, and tells how many of them are no questions. However it ends, the text is out for all
+/// lines that had ended before the last 65,536 bytes.
 fn serve_asked<S: Sorter, R: Read, W: Write>(
     alloc: Global,
     asking: &mut Asking<S>,
@@ -56,8 +57,10 @@ fn serve_asked<S: Sorter, R: Read, W: Write>(
 }
 
 /// Runs an allocator that can be asked over the lines of a reader, by the sorter that the program uses, and tells how many of them are no
-/// questions. The limits are those of the allocator. Each line is answered, and its answer flushed, before the next read. With `echo` each
-/// event line is written before its reply, and answers to questions begin with `?`, as no event line does then.
+/// questions. The limits are those of the allocator. With `echo` each event line is written before its reply, and answers to questions begin
+/// with `?`, as no event line does then. However it ends, the text is out for all lines that had ended before the last 65,536 bytes, and
+/// flushed, unless the writer failed or began unflushed. `Memory` is told also where memory runs out for an answer: no later line is answered
+/// then.
 pub fn run_asked<R: Read, W: Write>(
     alloc: Global,
     core: Core<ProgramSorter>,

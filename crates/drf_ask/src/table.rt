@@ -43,43 +43,19 @@ pub(crate) fn push_tables(
     ensures { OnOk result (text.new.items ≡ text.old.items ++ compact_text (tables_value limits.now rows.now)) }
 {
     let clients = count_clients(rows.frameworks.as_slice());
-    put_table(
-        text,
-        "{\"agents\":",
-        rows.agents.len() as u64,
-        limits.agents(),
-    )?;
+    let agents = rows.agents.len() as u64;
+    let filters = rows.filters.len() as u64;
+    let frameworks = rows.frameworks.len() as u64;
+    let role_limits = rows.limits.len() as u64;
+    let names = scalar_names as u64;
+    let weights = rows.weights.len() as u64;
+    put_table(text, "{\"agents\":", agents, limits.agents())?;
     put_table(text, ",\"clients\":", clients, limits.clients())?;
     put_table(text, ",\"events\":", rows.events, limits.events())?;
-    put_table(
-        text,
-        ",\"filters\":",
-        rows.filters.len() as u64,
-        limits.filters(),
-    )?;
-    put_table(
-        text,
-        ",\"frameworks\":",
-        rows.frameworks.len() as u64,
-        limits.frameworks(),
-    )?;
-    put_table(
-        text,
-        ",\"limits\":",
-        rows.limits.len() as u64,
-        limits.limits(),
-    )?;
-    put_table(
-        text,
-        ",\"scalar_names\":",
-        scalar_names as u64,
-        limits.scalar_names(),
-    )?;
-    put_table(
-        text,
-        ",\"weights\":",
-        rows.weights.len() as u64,
-        limits.weights(),
-    )?;
+    put_table(text, ",\"filters\":", filters, limits.filters())?;
+    put_table(text, ",\"frameworks\":", frameworks, limits.frameworks())?;
+    put_table(text, ",\"limits\":", role_limits, limits.limits())?;
+    put_table(text, ",\"scalar_names\":", names, limits.scalar_names())?;
+    put_table(text, ",\"weights\":", weights, limits.weights())?;
     put(text, "}")
 }

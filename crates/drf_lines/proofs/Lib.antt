@@ -6,6 +6,7 @@ pub mod LineValues
 pub mod LineNumbers
 pub mod Ranges
 pub mod KeyCounts
+pub mod KeyStarts
 pub mod LineReads
 pub mod Meanings
 pub mod Texts

@@ -1,10 +1,18 @@
 -- The numbers of a line, above and below 0.
-use Rattle.std.proofs.Common.{◌≡◌, ℕ, ◌<◌, ◌^◌, Bool, true, false, cond, ◌==◌, List, get_or, drop, Option, Some, None, refl, sym, ap, ◌∙◌, arith}
+use Rattle.std.proofs.Common.{◌≡◌, ℕ, ◌+◌, ◌<◌, ◌≤◌, ◌^◌, Bool, true, false, cond, ◌==◌, List, [], ◌∷◌, ◌++◌, length, get_or, take, drop, Option, Some, None, refl, sym, ap, ◌∙◌, arith, append-nil, ne_eqb}
 use Rattle.std.specs.Prelude.{◌&&◌, nat_lt, nat_le}
 use Rattle.std.specs.Option.{SomeIff}
+use Rattle.std.proofs.Math.Nat.{pow-le-pow_right}
+use Rattle.std.proofs.lemmas.Int.Digits.{digits_value-lt}
+use Rattle.std.proofs.lemmas.List.{length-take-le}
+use Rattle.std.proofs.lemmas.Str.{digit_value_digit}
+use Rattle.std.specs.Char.{digit_value, is_ascii_digit}
+use Rattle.std.specs.Int.{IsInRange}
 use Rattle.std.specs.Float.{binary64, float_is_finite}
+use Rattle.std.specs.Str.Parse.{AllDigits, digits_value}
 use Rattle.std.proofs.lemmas.Bool.Decides.{nat_tests}
-use Rattle.fast_float.specs.Text.{Parts, IsInteger, scan, digits_of, nearest, with_sign}
+use Rattle.fast_float.specs.Text.{Parts, IsInteger, IsWellFormed, scan, digits_of, nearest, with_sign}
+use Rattle.fast_float.proofs.Writing.{scan-text_of}
 use Rattle.serde_json.specs.Data.{unsigned, negative, float}
 use Rattle.serde_json.specs.Find.{as_u64}
 use Rattle.serde_json.specs.Read.{is_integer, number_of, number_from, float_of}
@@ -41,3 +49,51 @@ pub whole_read : (p : Parts) (r : Option ℕ) → SomeIff r (IsInteger p × (dig
     → r ≡ as_u64 (known_number (number_from false p))
 whole_read p None h = sym (ap (λ o. as_u64 (known_number o)) (above_none p h) ∙ float_is_none p (float_is_finite (nearest binary64 false p)))
 whole_read p (Some n) h = sym (ap (λ o. as_u64 (known_number o)) (above_some p h.0) ∙ ap Some (sym h.1))
+
+-- ---- a text of digits alone
+
+abbrev digits : List ℕ → Parts
+digits ds = record { whole = ds; point = false; fraction = []; exponent_negative = false; exponent = []; len = length (ds ++ []) }
+
+digits_scanned : (ds : List ℕ) → AllDigits 10 ds → scan ds ≡ digits ds
+digits_scanned ds all =
+    let formed : IsWellFormed (digits ds) =
+    record { whole_digits = all; fraction_digits = tt; exponent_digits = tt; no_point = λ _. refl; no_exponent = λ _. refl; len_is = refl } in
+    ap scan (sym (append-nil ds)) ∙ scan-text_of (digits ds) formed
+
+no_minus : (ds : List ℕ) → AllDigits 10 ds → 0 < length ds → get_or ds 0 0 ≡ 45 → ⊥
+no_minus [] all some e = omega arith
+no_minus (d ∷ ds) all some e = let digit : digit_value d < 10 = all.0 in let minus : d ≡ 45 = e in grind arith
+
+number_of-digits : (ds : List ℕ) → AllDigits 10 ds → 0 < length ds → digits_value 10 ds < 2 ^ 64 → number_of ds ≡ Some (unsigned (digits_value 10 ds))
+number_of-digits ds all some small =
+    number_above ds (ne_eqb (get_or ds 0 0) 45 (no_minus ds all some))
+    ∙ ap (number_from false) (digits_scanned ds all)
+    ∙ above_some (digits ds) ((some, refl, refl), rw append-nil small)
+    ∙ ap (λ text. Some (unsigned (digits_value 10 text))) (append-nil ds)
+
+digits_below : (ds : List ℕ) (n : ℕ) → AllDigits 10 ds → length ds ≤ n → digits_value 10 ds < 10 ^ n
+digits_below ds n all few =
+    let below : digits_value 10 ds < 10 ^ length ds = digits_value-lt 10 ds all in
+    let ten : 0 < 10 = omega arith in
+    let more : 10 ^ length ds ≤ 10 ^ n = pow-le-pow_right ten few in
+    omega (arith, below, more)
+
+pub number_of-few : (ds : List ℕ) → AllDigits 10 ds → 0 < length ds → length ds ≤ 19 → number_of ds ≡ Some (unsigned (digits_value 10 ds))
+number_of-few ds all some few = let small : digits_value 10 ds < 10 ^ 19 = digits_below ds 19 all few in number_of-digits ds all some (omega (arith, small))
+
+-- before the last of 19 digits there is room for it
+pub front_below : (bytes : List ℕ) (i : ℕ) → i < length bytes → length bytes ≤ 19 → AllDigits 10 (take i bytes) → digits_value 10 (take i bytes) < 10 ^ 18
+front_below bytes i inside few all = digits_below (take i bytes) 18 all (omega (arith, length-take-le i bytes (omega arith)))
+
+-- a byte that is a digit stands for its distance from `0`
+pub digit_is : (byte : ℕ) → is_ascii_digit byte ≡ true → (digit_value byte + 48 ≡ byte) × (digit_value byte < 10)
+digit_is byte e =
+    let inside : IsInRange 48 57 byte = grind arith in
+    let is : digit_value byte + 48 ≡ byte = digit_value_digit byte inside in
+    (is, omega (arith, is, inside.1))
+
+-- ---- what is known of a number that was read
+
+pub whole_known : (text : List ℕ) (n : ℕ) → number_of text ≡ Some (unsigned n) → Some n ≡ as_u64 (known_number (number_of text))
+whole_known text n e = sym (ap (λ o. as_u64 (known_number o)) e)

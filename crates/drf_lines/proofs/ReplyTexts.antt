@@ -1,6 +1,6 @@
 -- The texts of replies, one after another.
 use Rattle.std.proofs.Common.{◌≡◌, ℕ, ◌+◌, ◌<◌, ◌≤◌, ◌^◌, true, List, [], ◌∷◌, ◌++◌, map, drop, get_or, length, decimal, refl, sym, ap, ◌∙◌, append_assoc, append-nil, cond, subst, IsUtf8, Result, Ok, Err, OnOk, arith}
-use Rattle.std.specs.Prelude.{nat_lt}
+use Rattle.std.specs.Prelude.{nat_lt, All}
 use Rattle.std.specs.List.{list_all}
 use Rattle.std.proofs.lemmas.Bool.{and_parts, not-true, eqb-false, leb-true, le-leb, lt-ltb, ne_eqb}
 use Rattle.std.proofs.lemmas.Fmt.{decimal_is_IsNumeral_wide}
@@ -8,6 +8,7 @@ use Rattle.std.proofs.lemmas.List.Folds.{list_all-append}
 use Rattle.std.proofs.lemmas.Str.Parse.{digit_from_value}
 use Rattle.std.specs.Str.Parse.{AllDigits}
 use Rattle.std.proofs.lemmas.List.{at_drop_more, at_drop_all}
+use Rattle.std.proofs.lemmas.List.Elements.{All-tail}
 use Rattle.std.proofs.lemmas.Str.{IsUtf8-append, IsUtf8-drop, IsCharBoundary-after_ascii}
 use Rattle.std.specs.Result.{is_ok}
 use Rattle.json.proofs.Printed.Utf8.{IsUtf8-are_ascii, IsUtf8-quoted}
@@ -17,6 +18,7 @@ use Rattle.json.proofs.Printed.Strings.{escape_byte_plain}
 use Rattle.serde_json.specs.Data.{Data, array}
 use Rattle.serde_json.specs.View.{items_of}
 use Rattle.serde_json.specs.Written.{compact_text, items_text, comma_if}
+use Rattle.drf_role.specs.Name.{IsNameByte}
 use Rattle.drf_lines.specs.Written.{is_plain_byte, KeepsUtf8}
 
 -- some bytes and then others
@@ -41,6 +43,14 @@ plain_is_kept [] e = refl
 plain_is_kept (x ∷ xs) e =
     let tests = and_parts (is_plain_byte x) (list_all is_plain_byte xs) e in
     λ i. plain_byte x tests.0 i ++ plain_is_kept xs tests.1 i
+
+name_byte_is_plain : (x : ℕ) → IsNameByte x → is_plain_byte x ≡ true
+name_byte_is_plain x is = grind arith
+
+-- names need no escape
+pub name_is_plain : (text : List ℕ) → All IsNameByte text → list_all is_plain_byte text ≡ true
+name_is_plain [] all = refl
+name_is_plain (x ∷ xs) all = rw (name_byte_is_plain x (all 0 x (omega arith)), name_is_plain xs (All-tail IsNameByte x xs all)) refl
 
 -- digits need no escape
 digits_are_plain : (digits : List ℕ) → AllDigits 10 digits → list_all is_plain_byte digits ≡ true

@@ -23,6 +23,17 @@ fault_name NotJson = codes "NotJson"
 fault_name BadShape = codes "BadShape"
 fault_name BadText = codes "BadText"
 
+-- the text that `Display` writes of it
+abbrev pub fault_text : LineFault → List ℕ
+fault_text LineTooLong = codes "too long"
+fault_text NotJson = codes "not JSON"
+fault_text BadShape = codes "not the shape of an event"
+fault_text BadText = codes "a text is not what its key asks for"
+
+abbrev pub error_text : LineError → List ℕ
+error_text (Fault fault) = fault_text fault
+error_text Memory = codes "out of memory"
+
 infixr 10 ◌>>=◌
 -- a step, and the next one with what it found
 abbrev pub ◌>>=◌ : {A B : Type 0} → Result A LineFault → (A → Result B LineFault) → Result B LineFault

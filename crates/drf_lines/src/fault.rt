@@ -3,19 +3,16 @@ ghost use Rattle.std.specs.Prelude.{◌≡◌};
 
 use drf_role::{NameFault, RoleFault};
 use std::alloc::{AllocError, AllocFailed};
-use thiserror::Error;
+use std::error::Error;
+use std::fmt;
 
 /// Why a line is no event.
-#[derive(Clone, Copy, Debug, PartialEq, Eq, Error)]
+#[derive(Clone, Copy, Debug, PartialEq, Eq)]
 pub enum LineFault {
     /// It has more than 65,536 bytes.
-    #[error("too long")]
     LineTooLong,
-    #[error("not JSON")]
     NotJson,
-    #[error("not the shape of an event")]
     BadShape,
-    #[error("a text is not what its key asks for")]
     BadText,
 }
 
@@ -47,14 +44,47 @@ impl LineFault {
     }
 }
 
+// Written out, since no contract says what a derived message is.
+impl fmt::Display for LineFault {
+    ghost use Rattle.std.specs.Prelude.{Some};
+    ghost use Rattle.drf_lines.specs.Fault.{fault_text};
+
+    ghost output = { λ fault. Some (fault_text fault) };
+
+    fn fmt<W: fmt::Write>(&self, f: &mut fmt::Formatter<W>) -> fmt::Result {
+        match self {
+            LineFault::LineTooLong => f.write_str("too long"),
+            LineFault::NotJson => f.write_str("not JSON"),
+            LineFault::BadShape => f.write_str("not the shape of an event"),
+            LineFault::BadText => f.write_str("a text is not what its key asks for"),
+        }
+    }
+}
+
+impl Error for LineFault {}
+
 /// Why a line gave no event: it is none, or memory ran out.
-#[derive(Clone, Copy, Debug, PartialEq, Eq, Error)]
+#[derive(Clone, Copy, Debug, PartialEq, Eq)]
 pub enum LineError {
-    #[error("{0}")]
     Fault(LineFault),
-    #[error("out of memory")]
     Memory,
 }
+
+impl fmt::Display for LineError {
+    ghost use Rattle.std.specs.Prelude.{Some};
+    ghost use Rattle.drf_lines.specs.Fault.{error_text};
+
+    ghost output = { λ error. Some (error_text error) };
+
+    fn fmt<W: fmt::Write>(&self, f: &mut fmt::Formatter<W>) -> fmt::Result {
+        match self {
+            LineError::Fault(fault) => fault.fmt(f),
+            LineError::Memory => f.write_str("out of memory"),
+        }
+    }
+}
+
+impl Error for LineError {}
 
 impl From<LineFault> for LineError {
     ghost use Rattle.drf_lines.specs.declared.fault.LineError.TheVariants.{Fault};

@@ -1,12 +1,12 @@
-//! The writer of a fraction. Its digits need no escape.
-ghost use Rattle.std.specs.Prelude.{◌≡◌, ◌∷◌, ◌++◌, [], OnOk};
+//! Writers of a fraction. Its digits need no escape.
+ghost use Rattle.std.specs.Prelude.{◌≡◌, ◌∷◌, ◌++◌, [], IfOk, OnOk, string_bytes};
 ghost use Rattle.json.specs.Print.{escape};
 ghost use Rattle.drf_lines.specs.ReportLine.{fraction_text};
 ghost use Rattle.drf_lines.specs.Written.{KeepsFront};
 
 use crate::member::{put, put_byte};
 use itoa::{Buffer, write_digits};
-use std::alloc::AllocError;
+use std::alloc::{AllocError, Global};
 
 /// The most bytes of two numbers below 2^64 with `/` between them.
 const SHORT_FRACTION: usize = 41;
@@ -49,4 +49,16 @@ pub fn put_fraction(
         return put_short_fraction(line, part as u64, whole as u64);
     }
     put_long_fraction(line, part, whole)
+}
+
+/// Writes a fraction alone.
+pub fn write_fraction(alloc: Global, fraction: (u128, u128)) -> Result<String, AllocError>
+    ensures { IfOk result (λ text. string_bytes text ≡ fraction_text fraction) }
+{
+    let (part, whole) = fraction;
+    let mut text = String::new(alloc);
+    text.push_str(Buffer::new().format(part))?;
+    text.push('/')?;
+    text.push_str(Buffer::new().format(whole))?;
+    Ok(text)
 }

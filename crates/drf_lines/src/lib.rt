@@ -32,6 +32,7 @@ mod words;
 pub use agents::push_agent_row;
 pub use event_line::{push_event, write_event};
 pub use fault::{LineError, LineFault};
+pub use fraction::write_fraction;
 pub use frameworks::push_framework_row;
 pub use held::{push_filter_row, push_offer_row, push_task_row};
 pub use laws::{held_lines_example, no_state_lines_example, one_line_law, state_lines_example};

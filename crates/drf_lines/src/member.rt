@@ -1,5 +1,6 @@
 //! Members of an object that is being written. What stands before it stays, also where memory ends.
-ghost use Rattle.std.specs.Prelude.{◌≡◌, ◌<◌, ◌^◌, ◌∷◌, ◌++◌, [], Ok, IfOk, OnOk, decimal, nat_lt};
+ghost use Rattle.std.specs.Prelude.{◌≡◌, ◌<◌, ◌^◌, ◌∷◌, ◌++◌, [], true, Ok, IfOk, OnOk, decimal, nat_lt};
+ghost use Rattle.std.specs.List.{list_all};
 ghost use Rattle.json.specs.Print.{escape, quoted, token_text};
 ghost use Rattle.json.specs.Token.{boolean};
 ghost use Rattle.serde_json.specs.Written.{comma_if};
@@ -7,7 +8,7 @@ ghost use Rattle.drf_role.specs.Parts.{text_of};
 ghost use Rattle.drf_text.specs.Written.{bundle_text};
 ghost use Rattle.drf_lines.specs.Resources.{bundle_in};
 ghost use Rattle.drf_lines.specs.Words.{name_in, role_in};
-ghost use Rattle.drf_lines.specs.Written.{IsText, KeepsFront, KeepsUtf8};
+ghost use Rattle.drf_lines.specs.Written.{is_plain_byte, IsText, KeepsFront, KeepsUtf8};
 
 use crate::plain::is_plain;
 use drf_bundle::Bundle;
@@ -69,6 +70,18 @@ pub fn put_text(line: &mut Vec<u8>, before: &str, text: &str) -> Result<(), Allo
     put_string(line, text)
 }
 
+/// The same, where no byte of the text needs an escape.
+fn put_plain(line: &mut Vec<u8>, before: &str, text: &str) -> Result<(), AllocError>
+    requires { list_all is_plain_byte text.now ≡ true }
+    ensures ok { OnOk result (line.new.items ≡ line.old.items ++ (before.now ++ (escape text.now ++ 34 ∷ []))) }
+    ensures front { KeepsFront line.old.items line.new.items }
+    ensures utf8 { OnOk result (KeepsUtf8 line.old.items line.new.items) }
+{
+    put(line, before)?;
+    put(line, text)?;
+    put_byte(line, b'"')
+}
+
 /// Writes what stands before a number, and the number.
 pub fn put_number(line: &mut Vec<u8>, before: &str, value: u64) -> Result<(), AllocError>
     ensures ok { OnOk result (line.new.items ≡ line.old.items ++ (before.now ++ decimal value)) }
@@ -113,7 +126,7 @@ pub fn put_name(line: &mut Vec<u8>, before: &str, name: &Name) -> Result<(), All
     ensures read { OnOk result (name_in name.now ≡ Ok name.now) }
     ensures text { IsText name.now }
 {
-    put_text(line, before, name.text())
+    put_plain(line, before, name.text())
 }
 
 /// Writes what stands before a role with its first `"`, and the role. It is read as this role.

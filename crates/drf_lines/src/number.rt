@@ -1,10 +1,32 @@
 //! The numbers of a line.
-ghost use Rattle.std.specs.Prelude.{◌≡◌, ◌<◌, ◌==◌, length, slice_index, is_some, true, false, IsTrue};
+ghost use Rattle.std.specs.Prelude.{◌≡◌, ◌<◌, ◌==◌, length, slice_index, is_some, true, false, Some, IfSome, IsTrue};
+ghost use Rattle.serde_json.specs.Data.{unsigned};
 ghost use Rattle.serde_json.specs.Find.{as_u64};
 ghost use Rattle.serde_json.specs.Read.{number_of, number_from};
 ghost use Rattle.drf_lines.specs.LineValue.{known_number, number_in};
 
 use fast_float::Numeral;
+
+/// So many digits are a number below 2^64, whichever they are.
+const FEW_DIGITS: usize = 19;
+
+/// The whole number of a text that is a few digits alone, as most numbers of a line are.
+fn read_digits(text: &str) -> Option<u64>
+    ensures { IfSome result (λ whole. number_of text.now ≡ Some (unsigned whole)) }
+{
+    let bytes = text.as_bytes();
+    if bytes.is_empty() || bytes.len() > FEW_DIGITS {
+        return None;
+    }
+    let mut whole = 0;
+    for byte in bytes {
+        if !byte.is_ascii_digit() {
+            return None;
+        }
+        whole = 10 * whole + u64::from(*byte - b'0');
+    }
+    Some(whole)
+}
 
 fn has_minus(bytes: &[u8]) -> bool
     ensures value { result ≡ (slice_index bytes.now 0 == 45) }
@@ -20,8 +42,8 @@ fn whole_above(numeral: &Numeral<'_>) -> Option<u64>
     numeral.to_u64()
 }
 
-/// The whole number below 2^64 that a number is.
-pub fn whole_number(text: &str) -> Option<u64>
+/// The whole number below 2^64 that a number in any form is.
+fn whole_of_any(text: &str) -> Option<u64>
     ensures { result ≡ as_u64 (number_in text.now) }
 {
     let bytes = text.as_bytes();
@@ -29,6 +51,16 @@ pub fn whole_number(text: &str) -> Option<u64>
         return None;
     }
     whole_above(&Numeral::scan(bytes))
+}
+
+/// The whole number below 2^64 that a number is.
+pub fn whole_number(text: &str) -> Option<u64>
+    ensures { result ≡ as_u64 (number_in text.now) }
+{
+    match read_digits(text) {
+        Some(whole) => Some(whole),
+        None => whole_of_any(text),
+    }
 }
 
 /// Whether a number at or above 0 is in the range of a double.
@@ -54,8 +86,8 @@ fn is_in_range_below(numeral: &Numeral<'_>) -> bool
     numeral.to_float::<f64>(true).is_finite()
 }
 
-/// Whether a number is in the range of a double.
-pub fn is_number_in_range(text: &str) -> bool
+/// Whether a number in any form is in the range of a double.
+fn is_any_in_range(text: &str) -> bool
     ensures { result ≡ is_some (number_of text.now) }
 {
     let bytes = text.as_bytes();
@@ -63,4 +95,14 @@ pub fn is_number_in_range(text: &str) -> bool
         return is_in_range_below(&Numeral::scan(&bytes[1..]));
     }
     is_in_range_above(&Numeral::scan(bytes))
+}
+
+/// Whether a number is in the range of a double.
+pub fn is_number_in_range(text: &str) -> bool
+    ensures { result ≡ is_some (number_of text.now) }
+{
+    match read_digits(text) {
+        Some(_) => true,
+        None => is_any_in_range(text),
+    }
 }

@@ -1,5 +1,5 @@
 //! What stands in a JSON object.
-ghost use Rattle.std.specs.Prelude.{◌≡◌, ◌≤◌, ◌==◌, map, option_map, option_and_then};
+ghost use Rattle.std.specs.Prelude.{◌≡◌, ◌≤◌, ◌==◌, IsTrue, length, map, slice_index, option_map, option_and_then};
 ghost use Rattle.json.specs.Value.{members_view};
 ghost use Rattle.serde_json.specs.Data.{no_members};
 ghost use Rattle.serde_json.specs.Find.{get, as_str, as_bool, as_array};
@@ -50,6 +50,42 @@ fn has_keys(members: &[(&str, LineValue<'_>)], count: usize) -> bool
     found == count
 }
 
+/// The byte that a key begins with, 0 for the empty key.
+fn first_byte(key: &str) -> u8
+    ensures { result ≡ slice_index key.now 0 }
+{
+    if key.is_empty() {
+        return 0;
+    }
+    key.as_bytes()[0]
+}
+
+/// Whether each key begins with a byte of its own, as those of most lines do. They are different then.
+fn begin_apart(members: &[(&str, LineValue<'_>)]) -> bool
+    ensures { IsTrue result → member_count (members_of (members_view members.now) no_members) ≡ length members.now }
+{
+    let mut seen = [false; 256];
+    for member in members {
+        let first = first_byte(member.0) as usize;
+        if seen[first] {
+            return false;
+        }
+        seen[first] = true;
+    }
+    true
+}
+
+/// The same, by first bytes alone where these tell the keys apart.
+fn has_count(members: &[(&str, LineValue<'_>)], count: usize) -> bool
+    requires { count ≤ 8 }
+    ensures { result ≡ (member_count (members_of (members_view members.now) no_members) == count) }
+{
+    if begin_apart(members) {
+        return members.len() == count;
+    }
+    has_keys(members, count)
+}
+
 /// Whether the value is an object of that many members.
 #[tactic(auto, unfolding(crate::specs::Object::has_members, crate::specs::LineValue::line_view))]
 fn has_members(value: &LineValue<'_>, count: usize) -> bool
@@ -57,7 +93,7 @@ fn has_members(value: &LineValue<'_>, count: usize) -> bool
     ensures { result ≡ has_members count (line_view value.now) }
 {
     match value {
-        LineValue::Object(members) => has_keys(members, count),
+        LineValue::Object(members) => has_count(members, count),
         _ => false,
     }
 }

@@ -11,7 +11,7 @@ use Rattle.drf_journal.specs.declared.fault.RunFault.{RunFault}
 use Rattle.drf_journal.specs.declared.fault.RunFault.TheVariants.{Read, Write, Memory}
 use Rattle.drf_lint.specs.declared.diagnosis.Diagnosis.{Diagnosis}
 use Rattle.drf_lint.specs.Judged.{form_of, forms_of, faults_of, fault_count, IsDiagnosis, IsToldOf, AreTold, AreJudged}
-use Rattle.drf_lint.specs.Linted.{AreJudgedInPart}
+use Rattle.drf_lint.specs.Linted.{AreJudgedInPart, IsFrontOf, HasAllOf}
 use Rattle.drf_lint.specs.Lint.{HasJudged, HasJudgedInPart, HasStoppedAt, IsStop}
 use Rattle.drf_lint.specs.Told.{told_line}
 
@@ -110,6 +110,38 @@ part-more write lines line written told more faults wrote tells judged is_told =
       judged = judged-more write lines line written told more faults (faults_of (meaning_of line)) judged is_told refl;
       written_front = (drop wrote form, ap (λ l. written ++ l) (sym (take-append-drop wrote form)) ∙ sym (append_assoc written (take wrote form) (drop wrote form)));
       told_front = (drop tells more, ap (λ l. told ++ l) (sym (take-append-drop tells more)) ∙ sym (append_assoc told (take tells more) (drop tells more)));
+    }
+
+-- ---- what comes of the first of some lines comes first
+
+front-behind : (a b c : List ℕ) → IsFrontOf a b → IsFrontOf b c → IsFrontOf a c
+front-behind a b c one other = (one.0 ++ other.0, other.1 ∙ ap (λ l. l ++ other.0) one.1 ∙ append_assoc a one.0 other.0)
+
+told-first : (number : ℕ) (front more : List (List ℕ)) (text : List ℕ) → AreTold number (front ++ more) text
+    → (tellings : List ℕ) × (AreTold number front tellings × IsFrontOf tellings text)
+told-first number [] more text told = ([], (refl, (text, refl)))
+told-first number (line ∷ front) more text told =
+    let rest = told-first (number + 1) front more told.other told.goes_on in (
+      told.one ++ rest.0,
+      (
+        record { one = told.one; other = rest.0; first = told.first; goes_on = rest.1.0; text_is = refl },
+        (rest.1.1.0, told.text_is ∙ ap (λ l. told.one ++ l) rest.1.1.1 ∙ sym (append_assoc told.one rest.0 rest.1.1.0)),
+      ),
+    )
+
+pub all-of-first : (write : Bool) (front more : List (List ℕ)) (written told written_then told_then : List ℕ) (faults : ℕ)
+    → AreJudged write (front ++ more) written told faults → IsFrontOf written written_then → IsFrontOf told told_then
+    → HasAllOf write front written_then told_then
+all-of-first write front more written told written_then told_then faults judged grown told_grown =
+    let tells = told-first 1 front more told judged.tellings in
+    let forms = flat_map-append (λ l. form_of write (meaning_of l)) front more in
+    record {
+      forms = forms_of write front;
+      tellings = tells.0;
+      faults = fault_count front;
+      judged = record { forms = refl; tellings = tells.1.0; count = refl };
+      forms_first = front-behind (forms_of write front) written written_then (forms_of write more, judged.forms ∙ forms) grown;
+      tellings_first = front-behind tells.0 told told_then tells.1.1 told_grown;
     }
 
 -- ---- what is done with a line

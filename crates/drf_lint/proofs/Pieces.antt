@@ -1,126 +1,74 @@
 -- A lint after a piece of its input.
-use Rattle.std.proofs.Common.{◌≡◌, ◌==◌, if◌then◌else◌, ℕ, ◌+◌, ◌≤◌, ◌<◌, Bool, true, false, ◌||◌, OnOk, IfErr, List, [], ◌∷◌, ◌++◌, length, get_or, take, drop, Option, Result, Ok, Err, inr, refl, sym, ap, ◌∙◌, subst, append_assoc, append-nil, suc, add-one, take-append-drop, arith}
+use Rattle.std.proofs.Common.{◌≡◌, ℕ, ◌+◌, ◌≤◌, ◌<◌, Bool, true, false, ◌||◌, OnOk, IfErr, List, [], ◌∷◌, ◌++◌, length, get_or, take, drop, Option, Result, Ok, Err, refl, sym, ap, ◌∙◌, subst, append_assoc, append-nil, suc, add-one, take-append-drop, arith}
 use Rattle.std.proofs.Math.Seq.{drop-cons}
 use Rattle.std.proofs.KnownBytes.{Appends-nil, Appends-trans}
-use Rattle.std.proofs.lemmas.Bool.{false≢true, ne_eqb}
+use Rattle.std.proofs.lemmas.Bool.{false≢true}
 use Rattle.std.proofs.lemmas.List.{length-append}
-use Rattle.std.proofs.lemmas.List.Elements.{All-nil, All-append}
-use Rattle.std.proofs.lemmas.List.Splits.{slice_split_at, slice_split_none}
 use Rattle.drf_lines.specs.Meaning.{meaning_of}
 use Rattle.drf_lines.specs.declared.fault.LineFault.{LineFault}
 use Rattle.drf_rows.specs.declared.event.Event.{Event}
 use Rattle.drf_journal.specs.declared.fault.RunFault.{RunFault}
 use Rattle.drf_journal.specs.declared.fault.RunFault.TheVariants.{Read, Write, Memory}
-use Rattle.drf_journal.specs.JournalLaws.{LinesInTwo}
-use Rattle.drf_journal.specs.Lines.{is_line_feed, all_but_last, last_part, ended_lines_of, open_line_of, lines_of, IsWithinLine}
+use Rattle.drf_journal.specs.JournalLaws.{LineFeedEndsLine, LineGoesOn, EndedLinesStay}
+use Rattle.drf_journal.specs.Lines.{ended_lines_of, open_line_of, IsWithinLine}
 use Rattle.drf_journal.specs.Output.{kept_of}
-use Rattle.drf_journal.specs.Resumed.{IsCutBehindLine}
 use Rattle.drf_lint.specs.Judged.{form_of, faults_of, IsToldOf, AreJudged}
 use Rattle.drf_lint.specs.Linted.{AreJudgedInPart}
 use Rattle.drf_lint.specs.Lint.{Lint, HasJudged, HasJudgedInPart, HasJudgedNothing, HasStoppedAt, HasEnded, HasClosed, IsLintedTo, IsStoppedIn, HasTaken, HasStoppedIn}
 use Rattle.drf_lint.proofs.Kept.{kept-append, length-goes_on, length-kept, meaning-goes_on, meaning-kept}
 use Rattle.drf_lint.proofs.Judges.{told-other, judged-other, part-other, judged-more, part-more}
 
--- ---- lines
-
-pub within-nil : IsWithinLine []
-within-nil = All-nil (λ b. is_line_feed b ≡ false)
-
-pub within-append : (front more : List ℕ) → IsWithinLine front → IsWithinLine more → IsWithinLine (front ++ more)
-within-append front more one other = All-append (λ b. is_line_feed b ≡ false) front more one other
-
-abbrev last_line : List ℕ → List (List ℕ)
-last_line line = if length line == 0 then [] else line ∷ []
-
-line_ended : (line : List ℕ) → IsWithinLine line → lines_of (line ++ 10 ∷ []) ≡ line ∷ []
-unfolding lines_of ended_lines_of open_line_of
-line_ended line within =
-    let parts = slice_split_at is_line_feed line 10 [] within refl in
-    λ i. all_but_last (parts i) ++ last_line (last_part (parts i))
-
-pub lines-nil : lines_of [] ≡ []
-unfolding lines_of ended_lines_of open_line_of
-lines-nil = refl
-
-pub line-alone : (line : List ℕ) → IsWithinLine line → 0 < length line → lines_of line ≡ line ∷ []
-unfolding lines_of ended_lines_of open_line_of
-line-alone line within some =
-    let parts = slice_split_none is_line_feed line within in
-    let test : (length line == 0) ≡ false = ne_eqb (length line) 0 (λ e. omega arith) in
-    (λ i. all_but_last (parts i) ++ last_line (last_part (parts i))) ∙ ap (λ (t : Bool). if t then [] else line ∷ []) test
+-- what `line_law` tells
+pub record Laws : Type 0 where
+  pub feed : LineFeedEndsLine
+  pub within : LineGoesOn
+  pub stay : EndedLinesStay
 
 -- ---- the line at hand ends
 
-module _ (two : LinesInTwo) (read : List ℕ) (lint : Lint) (before told_then : List ℕ) (state : IsLintedTo read lint before told_then)
-    (end : List ℕ) (within : IsWithinLine end) where
+module _ (read : List ℕ) (lint : Lint) (before told_then : List ℕ) (state : IsLintedTo read lint before told_then) (end : List ℕ) where
   abbrev line : List ℕ
-  line = state.behind_last ++ end
+  line = open_line_of read ++ end
 
-  abbrev ended : List ℕ
-  ended = state.ended ++ (line ++ 10 ∷ [])
-
-  pub cut-ended : read ++ (end ++ 10 ∷ []) ≡ ended
-  cut-ended =
-      ap (λ l. l ++ (end ++ 10 ∷ [])) state.cut ∙ append_assoc state.ended state.behind_last (end ++ 10 ∷ [])
-      ∙ ap (λ l. state.ended ++ l) (sym (append_assoc state.behind_last end (10 ∷ [])))
-
-  pub behind-ended : IsCutBehindLine ended
-  behind-ended = inr (state.ended ++ line, sym (append_assoc state.ended line (10 ∷ [])))
-
-  pub lines-ended : lines_of ended ≡ lines_of state.ended ++ line ∷ []
-  lines-ended =
-      two state.ended (line ++ 10 ∷ []) state.behind
-      ∙ ap (λ l. lines_of state.ended ++ l) (line_ended line (within-append state.behind_last end state.within within))
-
-  number : lint.lines + 1 ≡ length (lines_of state.ended) + 1
+  number : lint.lines + 1 ≡ length (ended_lines_of read) + 1
   number = ap (λ n. n + 1) state.lines
 
   -- the bytes that are kept, and the line, mean the same
   means : meaning_of (lint.front ++ end) ≡ meaning_of line
-  means = ap (λ l. meaning_of (l ++ end)) state.front ∙ meaning-goes_on state.behind_last end
+  means = ap (λ l. meaning_of (l ++ end)) state.front ∙ meaning-goes_on (open_line_of read) end
 
   shorter : length (lint.front ++ end) ≤ length line
-  shorter = subst (λ l. length (l ++ end) ≤ length line) (sym state.front) (length-goes_on state.behind_last end)
+  shorter = subst (λ l. length (l ++ end) ≤ length line) (sym state.front) (length-goes_on (open_line_of read) end)
 
   module _ (faults : ℕ) (w0 w1 e0 e1 : Option (List ℕ)) (judged : HasJudged lint.write (lint.lines + 1) (lint.front ++ end) faults w0 w1 e0 e1) where
-    pub all-judged : AreJudged lint.write (lines_of ended) (before ++ form_of lint.write (meaning_of (lint.front ++ end)))
+    pub all-judged : AreJudged lint.write (ended_lines_of read ++ line ∷ []) (before ++ form_of lint.write (meaning_of (lint.front ++ end)))
         (told_then ++ judged.told) (lint.faults + faults)
     all-judged =
         let here = subst (λ n. IsToldOf n (lint.front ++ end) (meaning_of (lint.front ++ end)) judged.told) number judged.is_told in
         let is_told = told-other _ (lint.front ++ end) line means shorter judged.told here in
-        let more = judged-more lint.write (lines_of state.ended) line before told_then judged.told lint.faults faults state.judged is_told
+        let more = judged-more lint.write (ended_lines_of read) line before told_then judged.told lint.faults faults state.judged is_told
         (judged.count ∙ ap faults_of means) in
-        subst (λ ls. AreJudged lint.write ls (before ++ form_of lint.write (meaning_of (lint.front ++ end))) (told_then ++ judged.told) (lint.faults + faults))
-        (sym lines-ended)
-        (subst (λ m. AreJudged lint.write (lines_of state.ended ++ line ∷ []) (before ++ form_of lint.write m) (told_then ++ judged.told) (lint.faults + faults))
-        (sym means) more)
+        subst (λ m. AreJudged lint.write (ended_lines_of read ++ line ∷ []) (before ++ form_of lint.write m) (told_then ++ judged.told) (lint.faults + faults))
+        (sym means) more
 
   module _ (w0 w1 e0 e1 : Option (List ℕ)) (part : HasJudgedInPart lint.write (lint.lines + 1) (lint.front ++ end) w0 w1 e0 e1) where
-    pub in-part : AreJudgedInPart lint.write (lines_of state.ended ++ line ∷ [])
+    pub in-part : AreJudgedInPart lint.write (ended_lines_of read ++ line ∷ [])
         (before ++ take part.front.0 (form_of lint.write (meaning_of (lint.front ++ end)))) (told_then ++ take part.told_front.0 part.told)
     in-part =
         let here = subst (λ n. IsToldOf n (lint.front ++ end) (meaning_of (lint.front ++ end)) part.told) number part.is_told in
         let is_told = told-other _ (lint.front ++ end) line means shorter part.told here in
-        subst (λ m. AreJudgedInPart lint.write (lines_of state.ended ++ line ∷ [])
+        subst (λ m. AreJudgedInPart lint.write (ended_lines_of read ++ line ∷ [])
         (before ++ take part.front.0 (form_of lint.write m)) (told_then ++ take part.told_front.0 part.told))
         (sym means)
-        (part-more lint.write (lines_of state.ended) line before told_then part.told lint.faults part.front.0 part.told_front.0 state.judged is_told)
+        (part-more lint.write (ended_lines_of read) line before told_then part.told lint.faults part.front.0 part.told_front.0 state.judged is_told)
 
 -- ---- a lint goes on
 
 moved : (read other before before_other told told_other : List ℕ) (lint : Lint)
     → read ≡ other → before ≡ before_other → told ≡ told_other → IsLintedTo read lint before told → IsLintedTo other lint before_other told_other
-moved read other before before_other told told_other lint one two three state = record {
-  ended = state.ended;
-  behind_last = state.behind_last;
-  cut = sym one ∙ state.cut;
-  behind = state.behind;
-  within = state.within;
-  front = state.front;
-  lines = state.lines;
-  judged = subst (λ w. AreJudged lint.write (lines_of state.ended) w told_other lint.faults) two
-      (subst (λ t. AreJudged lint.write (lines_of state.ended) before t lint.faults) three state.judged);
-}
+moved read other before before_other told told_other lint one two three state =
+    subst (λ r. IsLintedTo r lint before_other told_other) one
+    (subst (λ w. IsLintedTo read lint w told_other) two (subst (λ t. IsLintedTo read lint before t) three state))
 
 same_lint : (read before told : List ℕ) (old new : Lint) → new ≡ old → IsLintedTo read old before told → IsLintedTo read new before told
 same_lint read before told old new same state = subst (λ l. IsLintedTo read l before told) (sym same) state
@@ -156,9 +104,9 @@ taken-then a b old mid new w0 w1 w2 e0 e1 e2 one other = record {
 }
 
 -- by a line
-pub taken-line : (two : LinesInTwo) (old : Lint) (end : List ℕ) (new : Lint) (w0 w1 e0 e1 : Option (List ℕ)) → IsWithinLine end
+pub taken-line : (laws : Laws) (old : Lint) (end : List ℕ) (new : Lint) (w0 w1 e0 e1 : Option (List ℕ)) → IsWithinLine end
     → old.faults ≤ old.lines → HasEnded old end new w0 w1 e0 e1 → HasTaken (end ++ 10 ∷ []) old new w0 w1 e0 e1
-taken-line two old end new w0 w1 e0 e1 within counted ends =
+taken-line laws old end new w0 w1 e0 e1 within counted ends =
     let next : Lint = record { write = old.write; front = []; lines = old.lines + 1; faults = old.faults + ends.faults } in
     let few : ends.faults ≤ 1 = one_at_most (meaning_of (old.front ++ end)) ends.faults ends.judged.count in
     record {
@@ -169,18 +117,15 @@ taken-line two old end new w0 w1 e0 e1 within counted ends =
       write = ap (λ (l : Lint). l.write) ends.new_is;
       few = let lines = ap (λ (l : Lint). l.lines) ends.new_is in let sum = length-append end (10 ∷ []) in omega arith;
       counted = let lines = ap (λ (l : Lint). l.lines) ends.new_is in let faults = ap (λ (l : Lint). l.faults) ends.new_is in omega arith;
-      goes_on = λ read before told state. same_lint (read ++ (end ++ 10 ∷ [])) _ _ next new ends.new_is (record {
-        ended = ended two read old before told state end within;
-        behind_last = [];
-        cut = cut-ended two read old before told state end within ∙ sym (append-nil _);
-        behind = behind-ended two read old before told state end within;
-        within = within-nil;
-        front = refl;
-        lines =
-            ap (λ n. n + 1) state.lines
-            ∙ sym (ap length (lines-ended two read old before told state end within) ∙ length-append (lines_of state.ended) (line two read old before told state end within ∷ []));
-        judged = all-judged two read old before told state end within ends.faults w0 w1 e0 e1 ends.judged;
-      });
+      goes_on = λ read before told state.
+          let cut = laws.feed read end within in
+          same_lint (read ++ (end ++ 10 ∷ [])) _ _ next new ends.new_is (record {
+            front = ap kept_of (sym cut.1);
+            lines = ap (λ n. n + 1) state.lines ∙ sym (ap length cut.0 ∙ length-append (ended_lines_of read) ((open_line_of read ++ end) ∷ []));
+            judged = subst (λ ls. AreJudged old.write ls (before ++ form_of old.write (meaning_of (old.front ++ end))) (told ++ ends.judged.told)
+                (old.faults + ends.faults)) (sym cut.0)
+                (all-judged read old before told state end ends.faults w0 w1 e0 e1 ends.judged);
+          });
     }
   where
     one_at_most : (meaning : Result Event LineFault) (faults : ℕ) → faults ≡ faults_of meaning → faults ≤ 1
@@ -188,9 +133,9 @@ taken-line two old end new w0 w1 e0 e1 within counted ends =
     one_at_most (Err fault) faults is = omega arith
 
 -- by bytes of the line at hand
-pub taken-rest : (old : Lint) (rest : List ℕ) (new : Lint) (w e : Option (List ℕ)) → IsWithinLine rest
+pub taken-rest : (laws : Laws) (old : Lint) (rest : List ℕ) (new : Lint) (w e : Option (List ℕ)) → IsWithinLine rest
     → old.faults ≤ old.lines → new ≡ record old { front = kept_of (old.front ++ rest) } → HasTaken rest old new w w e e
-taken-rest old rest new w e within counted is = record {
+taken-rest laws old rest new w e within counted is = record {
   written = [];
   told = [];
   appended = Appends-nil w;
@@ -200,15 +145,11 @@ taken-rest old rest new w e within counted is = record {
   counted = let lines = ap (λ (l : Lint). l.lines) is in let faults = ap (λ (l : Lint). l.faults) is in omega arith;
   goes_on = λ read before told state.
       let next : Lint = record old { front = kept_of (old.front ++ rest) } in
+      let on = laws.within read rest within in
       let goes : IsLintedTo (read ++ rest) next before told = record {
-        ended = state.ended;
-        behind_last = state.behind_last ++ rest;
-        cut = ap (λ l. l ++ rest) state.cut ∙ append_assoc state.ended state.behind_last rest;
-        behind = state.behind;
-        within = within-append state.behind_last rest state.within within;
-        front = ap (λ l. kept_of (l ++ rest)) state.front ∙ kept-append state.behind_last rest;
-        lines = state.lines;
-        judged = state.judged;
+        front = ap (λ l. kept_of (l ++ rest)) state.front ∙ kept-append (open_line_of read) rest ∙ ap kept_of (sym on.1);
+        lines = state.lines ∙ ap length (sym on.0);
+        judged = subst (λ ls. AreJudged old.write ls before told old.faults) (sym on.0) state.judged;
       } in
       same_lint (read ++ rest) _ _ next new is
       (moved _ _ before (before ++ []) told (told ++ []) next refl (sym (append-nil before)) (sym (append-nil told)) goes);
@@ -238,52 +179,51 @@ judged-nil write lines written told faults judged =
     (subst (λ t. AreJudged write lines written t faults) (sym (append-nil told)) judged)
 
 -- before a line, or bytes of one, came
-pub stopped-memory : (two : LinesInTwo) (piece : List ℕ) (old : Lint) (w0 w1 e0 e1 : Option (List ℕ))
+pub stopped-memory : (laws : Laws) (piece : List ℕ) (old : Lint) (w0 w1 e0 e1 : Option (List ℕ))
     → HasJudgedNothing w0 w1 e0 e1 → HasStoppedIn Memory piece old w0 w1 e0 e1
-stopped-memory two piece old w0 w1 e0 e1 none = record {
+stopped-memory laws piece old w0 w1 e0 e1 none = record {
   written = [];
   told = [];
   appended = none.nothing;
   told_appended = none.nothing_told;
-  stops = λ read before told state. record {
-    lines = lines_of state.ended;
-    left = lines_of (state.behind_last ++ piece);
-    first =
-        ap (λ l. lines_of (l ++ piece)) state.cut ∙ ap lines_of (append_assoc state.ended state.behind_last piece)
-        ∙ two state.ended (state.behind_last ++ piece) state.behind;
-    stop = tt;
-    linted = (old.faults, judged-nil old.write (lines_of state.ended) before told old.faults state.judged);
-  };
+  stops = λ read before told state.
+      let others = laws.stay read piece in record {
+        lines = ended_lines_of read;
+        left = others.0;
+        first = others.1;
+        stop = tt;
+        linted = (old.faults, judged-nil old.write (ended_lines_of read) before told old.faults state.judged);
+      };
 }
 
 -- at a line
-stopped-write : (two : LinesInTwo) (old : Lint) (end more : List ℕ) (w0 w1 e0 e1 : Option (List ℕ)) → IsWithinLine end
+stopped-write : (laws : Laws) (old : Lint) (end more : List ℕ) (w0 w1 e0 e1 : Option (List ℕ)) → IsWithinLine end
     → HasJudgedInPart old.write (old.lines + 1) (old.front ++ end) w0 w1 e0 e1
     → HasStoppedIn Write ((end ++ 10 ∷ []) ++ more) old w0 w1 e0 e1
-stopped-write two old end more w0 w1 e0 e1 within part =
+stopped-write laws old end more w0 w1 e0 e1 within part =
     let form = form_of old.write (meaning_of (old.front ++ end)) in record {
       written = take part.front.0 form;
       told = take part.told_front.0 part.told;
       appended = part.front.1;
       told_appended = part.told_front.1;
-      stops = λ read before told state. record {
-        lines = lines_of state.ended ++ line two read old before told state end within ∷ [];
-        left = lines_of more;
-        first =
-            ap lines_of (sym (append_assoc read (end ++ 10 ∷ []) more) ∙ ap (λ l. l ++ more) (cut-ended two read old before told state end within))
-            ∙ two (ended two read old before told state end within) more (behind-ended two read old before told state end within)
-            ∙ ap (λ ls. ls ++ lines_of more) (lines-ended two read old before told state end within);
-        stop = tt;
-        linted = in-part two read old before told state end within w0 w1 e0 e1 part;
-      };
+      stops = λ read before told state.
+          let others = laws.stay (read ++ (end ++ 10 ∷ [])) more in record {
+            lines = ended_lines_of read ++ (open_line_of read ++ end) ∷ [];
+            left = others.0;
+            first =
+                ap ended_lines_of (sym (append_assoc read (end ++ 10 ∷ []) more)) ∙ others.1
+                ∙ ap (λ ls. ls ++ others.0) (laws.feed read end within).0;
+            stop = tt;
+            linted = in-part read old before told state end w0 w1 e0 e1 part;
+          };
     }
 
-pub stopped-line : (two : LinesInTwo) (fault : RunFault) (old : Lint) (end more : List ℕ) (w0 w1 e0 e1 : Option (List ℕ)) → IsWithinLine end
+pub stopped-line : (laws : Laws) (fault : RunFault) (old : Lint) (end more : List ℕ) (w0 w1 e0 e1 : Option (List ℕ)) → IsWithinLine end
     → HasStoppedAt fault old.write (old.lines + 1) (old.front ++ end) w0 w1 e0 e1
     → HasStoppedIn fault ((end ++ 10 ∷ []) ++ more) old w0 w1 e0 e1
-stopped-line two Read old end more w0 w1 e0 e1 within stop = absurd stop
-stopped-line two Write old end more w0 w1 e0 e1 within stop = stopped-write two old end more w0 w1 e0 e1 within stop
-stopped-line two Memory old end more w0 w1 e0 e1 within stop = stopped-memory two _ old w0 w1 e0 e1 stop
+stopped-line laws Read old end more w0 w1 e0 e1 within stop = absurd stop
+stopped-line laws Write old end more w0 w1 e0 e1 within stop = stopped-write laws old end more w0 w1 e0 e1 within stop
+stopped-line laws Memory old end more w0 w1 e0 e1 within stop = stopped-memory laws _ old w0 w1 e0 e1 stop
 
 -- ---- a piece, of which a front was taken
 
@@ -303,7 +243,7 @@ cut_at rest at inside feed =
     ∙ ap (λ n. 10 ∷ drop n rest) (sym (add-one at)))
     ∙ sym (append_assoc (take at rest) (10 ∷ []) (drop (at + 1) rest))
 
-module _ (two : LinesInTwo) (old mid : Lint) (piece rest : List ℕ) (w0 w w1 e0 e e1 : Option (List ℕ)) (took : TookFront old mid piece rest w0 w e0 e) where
+module _ (laws : Laws) (old mid : Lint) (piece rest : List ℕ) (w0 w w1 e0 e e1 : Option (List ℕ)) (took : TookFront old mid piece rest w0 w e0 e) where
   pub front-line : (at : ℕ) (new : Lint) → at < length rest → get_or rest at 0 ≡ 10 → IsWithinLine (take at rest)
       → HasEnded mid (take at rest) new w w1 e e1 → TookFront old new piece (drop (at + 1) rest) w0 w1 e0 e1
   front-line at new inside feed within ends = record {
@@ -312,7 +252,7 @@ module _ (two : LinesInTwo) (old mid : Lint) (piece rest : List ℕ) (w0 w w1 e0
         took.whole ∙ ap (λ l. took.passed ++ l) (cut_at rest at inside feed)
         ∙ sym (append_assoc took.passed (take at rest ++ 10 ∷ []) (drop (at + 1) rest));
     taken = taken-then took.passed (take at rest ++ 10 ∷ []) old mid new w0 w w1 e0 e e1 took.taken
-        (taken-line two mid (take at rest) new w w1 e e1 within took.taken.counted ends);
+        (taken-line laws mid (take at rest) new w w1 e e1 within took.taken.counted ends);
   }
 
   pub front-stopped : (fault : RunFault) (at : ℕ) → at < length rest → get_or rest at 0 ≡ 10 → IsWithinLine (take at rest)
@@ -321,17 +261,17 @@ module _ (two : LinesInTwo) (old mid : Lint) (piece rest : List ℕ) (w0 w w1 e0
       subst (λ p. HasStoppedIn fault p old w0 w1 e0 e1)
       (sym (took.whole ∙ ap (λ l. took.passed ++ l) (cut_at rest at inside feed)))
       (stopped-then fault took.passed _ old mid w0 w w1 e0 e e1 took.taken
-      (stopped-line two fault mid (take at rest) (drop (at + 1) rest) w w1 e e1 within stop))
+      (stopped-line laws fault mid (take at rest) (drop (at + 1) rest) w w1 e e1 within stop))
 
   pub front-memory : HasJudgedNothing w w1 e e1 → HasStoppedIn Memory piece old w0 w1 e0 e1
   front-memory none =
       subst (λ p. HasStoppedIn Memory p old w0 w1 e0 e1) (sym took.whole)
-      (stopped-then Memory took.passed rest old mid w0 w w1 e0 e e1 took.taken (stopped-memory two rest mid w w1 e e1 none))
+      (stopped-then Memory took.passed rest old mid w0 w w1 e0 e e1 took.taken (stopped-memory laws rest mid w w1 e e1 none))
 
   pub front-rest : (new : Lint) → IsWithinLine rest → new ≡ record mid { front = kept_of (mid.front ++ rest) } → HasTaken piece old new w0 w e0 e
   front-rest new within is =
       subst (λ p. HasTaken p old new w0 w e0 e) (sym took.whole)
-      (taken-then took.passed rest old mid new w0 w w e0 e e took.taken (taken-rest mid rest new w e within took.taken.counted is))
+      (taken-then took.passed rest old mid new w0 w w e0 e e took.taken (taken-rest laws mid rest new w e within took.taken.counted is))
 
 -- ---- of a line as much is judged as is kept
 

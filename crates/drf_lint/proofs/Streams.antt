@@ -1,21 +1,49 @@
 -- What a lint has read, written and told so far, and how it ends.
-use Rattle.std.proofs.Common.{◌≡◌, ℕ, ◌+◌, ◌^◌, ◌≤◌, ◌<◌, Bool, true, false, List, [], ◌∷◌, ◌++◌, length, take, Option, Ok, Err, ⊎_elim, inl, refl, sym, ap, ◌∙◌, subst, append-nil, arith}
+use Rattle.std.proofs.Common.{◌≡◌, ℕ, ◌+◌, ◌-◌, ◌^◌, ◌≤◌, ◌<◌, Bool, true, false, List, [], ◌∷◌, ◌++◌, length, take, drop, Option, Ok, Err, ⊎_elim, inl, inr, refl, sym, ap, ◌∙◌, subst, append_assoc, append-nil, take-append-drop, if◌then◌else◌, ◌==◌, arith}
 use Rattle.std.specs.Io.KnownBytes.{Appends, Consumes, Keeps, IsAtEnd}
 use Rattle.std.proofs.KnownBytes.{Appends-nil, Appends-trans, Consumes-nil, Consumes-trans, Consumes-kept}
-use Rattle.std.proofs.lemmas.Bool.{cases_lt, false≢true}
+use Rattle.std.proofs.lemmas.Bool.{cases_lt, false≢true, ne_eqb}
+use Rattle.std.proofs.lemmas.List.{length-append, take-append-le}
 use Rattle.drf_lines.specs.Meaning.{meaning_of}
 use Rattle.drf_journal.specs.declared.fault.RunFault.{RunFault}
 use Rattle.drf_journal.specs.declared.fault.RunFault.TheVariants.{Read, Write, Memory}
 use Rattle.drf_journal.specs.Ended.{HasCause}
-use Rattle.drf_journal.specs.JournalLaws.{LinesInTwo}
-use Rattle.drf_journal.specs.Lines.{lines_of}
+use Rattle.drf_journal.specs.Lines.{ended_lines_of, open_line_of, lines_of}
 use Rattle.drf_journal.specs.Output.{kept_of}
 use Rattle.drf_lint.specs.Judged.{form_of, AreJudged}
-use Rattle.drf_lint.specs.Linted.{AreLinted, HasLinted, AreJudgedInPart, HaveLeft}
+use Rattle.drf_lint.specs.Linted.{AreLinted, AreReached, HasAllOf, HasLinted, AreJudgedInPart, IsFrontOf}
 use Rattle.drf_lint.specs.Lint.{Lint, begun, HasJudged, HasJudgedInPart, HasJudgedNothing, HasStoppedAt, HasEnded, HasClosed, IsLintedTo, IsStop, HasTaken, HasStoppedIn}
 use Rattle.drf_lint.proofs.Kept.{length-kept, meaning-kept}
-use Rattle.drf_lint.proofs.Judges.{judged-other, part-other, judged-more, part-more}
-use Rattle.drf_lint.proofs.Pieces.{within-nil, lines-nil, line-alone}
+use Rattle.drf_lint.proofs.Judges.{all-of-first, judged-other, part-other, judged-more, part-more}
+use Rattle.drf_lint.proofs.Pieces.{Laws}
+
+-- ---- the lines of what was read
+
+none_ended : ended_lines_of [] ≡ []
+unfolding ended_lines_of
+none_ended = refl
+
+none_open : open_line_of [] ≡ []
+unfolding open_line_of
+none_open = refl
+
+all_lines : (read : List ℕ) → (last : List (List ℕ)) × (lines_of read ≡ ended_lines_of read ++ last)
+unfolding lines_of
+all_lines read = (if length (open_line_of read) == 0 then [] else open_line_of read ∷ [], refl)
+
+lines_closed : (read : List ℕ) → open_line_of read ≡ [] → lines_of read ≡ ended_lines_of read
+unfolding lines_of
+lines_closed read none =
+    ap (λ (l : List ℕ). ended_lines_of read ++ (if length l == 0 then [] else l ∷ [])) none ∙ append-nil (ended_lines_of read)
+
+lines_open : (read : List ℕ) → 0 < length (open_line_of read) → lines_of read ≡ ended_lines_of read ++ open_line_of read ∷ []
+unfolding lines_of
+lines_open read some =
+    let test : (length (open_line_of read) == 0) ≡ false = ne_eqb (length (open_line_of read)) 0 (λ e. omega arith) in
+    ap (λ (t : Bool). ended_lines_of read ++ (if t then [] else open_line_of read ∷ [])) test
+
+few_lines : (all lines left : List (List ℕ)) → all ≡ lines ++ left → length lines ≤ length all
+few_lines all lines left whole = let same = ap length whole in let sum = length-append lines left in omega arith
 
 -- what stands between reader and writers when a lint reads again
 pub record IsLinting (write : Bool) (u0 u w0 w e0 e : Option (List ℕ)) (lint : Lint) : Type 0 where
@@ -38,18 +66,13 @@ linting-begins write lint u w e is = subst (IsLinting write u u w w e e) (sym is
   told_appended = Appends-nil e;
   write_is = refl;
   state = record {
-    ended = [];
-    behind_last = [];
-    cut = refl;
-    behind = inl refl;
-    within = within-nil;
-    front = refl;
-    lines = ap length (sym lines-nil);
-    judged = subst (λ ls. AreJudged write ls [] [] 0) (sym lines-nil) (record { forms = refl; tellings = refl; count = refl });
+    front = ap kept_of (sym none_open);
+    lines = ap length (sym none_ended);
+    judged = subst (λ ls. AreJudged write ls [] [] 0) (sym none_ended) (record { forms = refl; tellings = refl; count = refl });
   };
 })
 
-module _ (write : Bool) (u0 u u1 w0 w w1 e0 e e1 : Option (List ℕ)) (lint : Lint) (linting : IsLinting write u0 u w0 w e0 e lint) where
+module _ (laws : Laws) (write : Bool) (u0 u u1 w0 w w1 e0 e e1 : Option (List ℕ)) (lint : Lint) (linting : IsLinting write u0 u w0 w e0 e lint) where
   pub linting-takes : (piece : List ℕ) (new : Lint) → Consumes u u1 piece → HasTaken piece lint new w w1 e e1
       → IsLinting write u0 u1 w0 w1 e0 e1 new
   linting-takes piece new more taken = record {
@@ -63,140 +86,162 @@ module _ (write : Bool) (u0 u u1 w0 w w1 e0 e e1 : Option (List ℕ)) (lint : Li
     state = taken.goes_on linting.read linting.written linting.told linting.state;
   }
 
-  have_left : (fault : RunFault) (left : List (List ℕ)) → IsStop fault → HaveLeft (Err fault) left
-  have_left Read left stop = absurd stop
-  have_left Write left stop = tt
-  have_left Memory left stop = tt
+  judged_so_far : AreJudged write (ended_lines_of linting.read) linting.written linting.told lint.faults
+  judged_so_far =
+      subst (λ wr. AreJudged wr (ended_lines_of linting.read) linting.written linting.told lint.faults) linting.write_is linting.state.judged
+
+  -- all is out that comes of the lines that had ended in a front of what was read
+  all_of_front : (count : ℕ) (written told : List ℕ) → IsFrontOf linting.written written → IsFrontOf linting.told told
+      → HasAllOf write (ended_lines_of (take count linting.read)) written told
+  all_of_front count written told grown told_grown =
+      let first = ended_lines_of (take count linting.read) in
+      let others = laws.stay (take count linting.read) (drop count linting.read) in
+      let parted : ended_lines_of linting.read ≡ first ++ others.0 = ap ended_lines_of (sym (take-append-drop count linting.read)) ∙ others.1 in
+      all-of-first write first others.0 linting.written linting.told written told lint.faults
+      (subst (λ ls. AreJudged write ls linting.written linting.told lint.faults) parted judged_so_far) grown told_grown
+
+  all_as_before : (count : ℕ) → HasAllOf write (ended_lines_of (take count linting.read)) linting.written linting.told
+  all_as_before count =
+      all_of_front count linting.written linting.told ([], sym (append-nil linting.written)) ([], sym (append-nil linting.told))
+
+  are_reached : (fault : RunFault) (read : List ℕ) (lines : List (List ℕ)) → IsStop fault → length lines ≤ length (ended_lines_of read)
+      → AreReached (Err fault) read lines
+  are_reached Read read lines stop few = absurd stop
+  are_reached Write read lines stop few = tt
+  are_reached Memory read lines stop few = few
 
   -- it stops within a piece
-  pub linted-stops : (fault : RunFault) (piece : List ℕ) → Consumes u u1 piece → HasStoppedIn fault piece lint w w1 e e1
-      → HasLinted write u0 u1 w0 w1 e0 e1 (Err fault)
-  linted-stops fault piece more stopped =
-      let stop = stopped.stops linting.read linting.written linting.told linting.state in record {
-        read = linting.read ++ piece;
-        written = linting.written ++ stopped.written;
-        told = linting.told ++ stopped.told;
+  pub linted-stops : (fault : RunFault) (piece : List ℕ) → length piece ≤ 65536 → Consumes u u1 piece
+      → HasStoppedIn fault piece lint w w1 e e1 → HasLinted write u0 u1 w0 w1 e0 e1 (Err fault)
+  linted-stops fault piece short more stopped =
+      let read = linting.read ++ piece in
+      let written = linting.written ++ stopped.written in
+      let told = linting.told ++ stopped.told in
+      let stop = stopped.stops linting.read linting.written linting.told linting.state in
+      let last = all_lines read in
+      let few = few_lines (ended_lines_of read) stop.lines stop.left stop.first in
+      let front : take (length read - 65536) read ≡ take (length read - 65536) linting.read =
+      take-append-le _ linting.read piece (let sum = length-append linting.read piece in omega arith) in
+      record {
+        read = read;
+        written = written;
+        told = told;
         consumed = Consumes-trans u0 u u1 linting.read piece linting.consumed more;
         appended = Appends-trans w0 w w1 linting.written stopped.written linting.appended stopped.appended;
         told_appended = Appends-trans e0 e e1 linting.told stopped.told linting.told_appended stopped.told_appended;
         lines = stop.lines;
-        left = stop.left;
-        first = stop.first;
-        linted = subst (λ wr. AreLinted wr (Err fault) stop.lines (linting.written ++ stopped.written) (linting.told ++ stopped.told)) linting.write_is stop.linted;
-        have_left = have_left fault stop.left stop.stop;
+        left = stop.left ++ last.0;
+        first = last.1 ∙ ap (λ ls. ls ++ last.0) stop.first ∙ append_assoc stop.lines stop.left last.0;
+        linted = subst (λ wr. AreLinted wr (Err fault) stop.lines written told) linting.write_is stop.linted;
+        reached = are_reached fault read stop.lines stop.stop few;
+        ended = inl few;
+        prompt = subst (λ (l : List ℕ). HasAllOf write (ended_lines_of l) written told) (sym front)
+            (all_of_front (length read - 65536) written told (stopped.written, refl) (stopped.told, refl));
         whole = tt;
       }
 
-  lines_all : LinesInTwo → lines_of linting.read ≡ lines_of linting.state.ended ++ lines_of linting.state.behind_last
-  lines_all two = ap lines_of linting.state.cut ∙ two linting.state.ended linting.state.behind_last linting.state.behind
-
-  judged_so_far : AreJudged write (lines_of linting.state.ended) linting.written linting.told lint.faults
-  judged_so_far =
-      subst (λ wr. AreJudged wr (lines_of linting.state.ended) linting.written linting.told lint.faults) linting.write_is linting.state.judged
-
-  one_at_most : length (lines_of linting.state.behind_last) ≤ 1
-  one_at_most =
-      ⊎_elim
-      (λ (some : 0 < length linting.state.behind_last). let is = ap length (line-alone linting.state.behind_last linting.state.within some) in omega arith)
-      (λ (none : length linting.state.behind_last ≤ 0).
-      let nothing : linting.state.behind_last ≡ [] = nothing_in linting.state.behind_last none in
-      let is = ap length (ap lines_of nothing ∙ lines-nil) in omega arith)
-      (cases_lt 0 (length linting.state.behind_last))
-    where
-      nothing_in : (bytes : List ℕ) → length bytes ≤ 0 → bytes ≡ []
-      nothing_in [] none = refl
-      nothing_in (b ∷ bytes) none = absurd (omega arith)
-
   -- a read fails
-  pub linted-unread : LinesInTwo → Keeps u u1 → HasLinted write u0 u1 w0 w e0 e (Err Read)
-  linted-unread two kept = record {
-    read = linting.read;
-    written = linting.written;
-    told = linting.told;
-    consumed = Consumes-kept u0 u u1 linting.read linting.consumed kept;
-    appended = linting.appended;
-    told_appended = linting.told_appended;
-    lines = lines_of linting.state.ended;
-    left = lines_of linting.state.behind_last;
-    first = lines_all two;
-    linted = (lint.faults, judged_so_far);
-    have_left = one_at_most;
-    whole = tt;
-  }
+  pub linted-unread : Keeps u u1 → HasLinted write u0 u1 w0 w e0 e (Err Read)
+  linted-unread kept =
+      let last = all_lines linting.read in record {
+        read = linting.read;
+        written = linting.written;
+        told = linting.told;
+        consumed = Consumes-kept u0 u u1 linting.read linting.consumed kept;
+        appended = linting.appended;
+        told_appended = linting.told_appended;
+        lines = ended_lines_of linting.read;
+        left = last.0;
+        first = last.1;
+        linted = (lint.faults, judged_so_far);
+        reached = refl;
+        ended = inl (omega arith);
+        prompt = all_as_before (length linting.read - 65536);
+        whole = tt;
+      }
 
   -- ---- the input is at its end
 
-  module _ (two : LinesInTwo) (at_end : Consumes u u1 []) where
+  module _ (none_read : Consumes u u1 []) (at_end : IsAtEnd u1) where
     still_consumed : Consumes u0 u1 linting.read
-    still_consumed = subst (Consumes u0 u1) (append-nil linting.read) (Consumes-trans u0 u u1 linting.read [] linting.consumed at_end)
+    still_consumed = subst (Consumes u0 u1) (append-nil linting.read) (Consumes-trans u0 u u1 linting.read [] linting.consumed none_read)
 
-    none_open : length lint.front ≡ 0 → linting.state.behind_last ≡ []
-    none_open none = by_length linting.state.behind_last (ap length (sym linting.state.front) ∙ none)
+    abbrev ended : List (List ℕ)
+    ended = ended_lines_of linting.read
+
+    -- the line at hand
+    abbrev last : List ℕ
+    last = open_line_of linting.read
+
+    none_kept : length lint.front ≡ 0 → last ≡ []
+    none_kept none = by_length last (ap length (sym linting.state.front) ∙ none)
       where
         by_length : (bytes : List ℕ) → length (kept_of bytes) ≡ 0 → bytes ≡ []
         by_length [] none = refl
         by_length (b ∷ bytes) none = absurd (omega (arith, none))
 
-    some_open : 0 < length lint.front → 0 < length linting.state.behind_last
-    some_open some = let kept = length-kept linting.state.behind_last in let same = ap length linting.state.front in omega arith
+    alone : 0 < length lint.front → lines_of linting.read ≡ ended ++ last ∷ []
+    alone some = lines_open linting.read (let kept = length-kept last in let same = ap length linting.state.front in omega arith)
 
-    alone : 0 < length lint.front → lines_of linting.read ≡ lines_of linting.state.ended ++ linting.state.behind_last ∷ []
-    alone some =
-        lines_all two ∙ ap (λ l. lines_of linting.state.ended ++ l) (line-alone linting.state.behind_last linting.state.within (some_open some))
-
-    number : lint.lines + 1 ≡ length (lines_of linting.state.ended) + 1
+    number : lint.lines + 1 ≡ length ended + 1
     number = ap (λ n. n + 1) linting.state.lines
 
-    closed-none : (new : Lint) → length lint.front ≡ 0 → new ≡ lint → HasJudgedNothing w w1 e e1 → IsAtEnd u1
+    closed-none : (new : Lint) → length lint.front ≡ 0 → new ≡ lint → HasJudgedNothing w w1 e e1
         → HasLinted write u0 u1 w0 w1 e0 e1 (Ok new.faults)
-    closed-none new none same nothing ended = record {
-      read = linting.read;
-      written = linting.written;
-      told = linting.told;
-      consumed = still_consumed;
-      appended = subst (Appends w0 w1) (append-nil linting.written) (Appends-trans w0 w w1 linting.written [] linting.appended nothing.nothing);
-      told_appended = subst (Appends e0 e1) (append-nil linting.told) (Appends-trans e0 e e1 linting.told [] linting.told_appended nothing.nothing_told);
-      lines = lines_of linting.state.ended;
-      left = [];
-      first = lines_all two ∙ ap (λ l. lines_of linting.state.ended ++ l) (ap lines_of (none_open none) ∙ lines-nil);
-      linted = subst (λ f. AreJudged write (lines_of linting.state.ended) linting.written linting.told f) (ap (λ (l : Lint). l.faults) (sym same)) judged_so_far;
-      have_left = refl;
-      whole = ended;
-    }
+    closed-none new none same nothing =
+        let all = lines_closed linting.read (none_kept none) in record {
+          read = linting.read;
+          written = linting.written;
+          told = linting.told;
+          consumed = still_consumed;
+          appended = subst (Appends w0 w1) (append-nil linting.written) (Appends-trans w0 w w1 linting.written [] linting.appended nothing.nothing);
+          told_appended = subst (Appends e0 e1) (append-nil linting.told) (Appends-trans e0 e e1 linting.told [] linting.told_appended nothing.nothing_told);
+          lines = ended;
+          left = [];
+          first = all ∙ sym (append-nil ended);
+          linted = subst (λ f. AreJudged write ended linting.written linting.told f) (ap (λ (l : Lint). l.faults) (sym same)) judged_so_far;
+          reached = sym all;
+          ended = inr at_end;
+          prompt = all_as_before (length linting.read - 65536);
+          whole = at_end;
+        }
 
-    closed-some : (new : Lint) → 0 < length lint.front → HasEnded lint [] new w w1 e e1 → IsAtEnd u1
+    closed-some : (new : Lint) → 0 < length lint.front → HasEnded lint [] new w w1 e e1
         → HasLinted write u0 u1 w0 w1 e0 e1 (Ok new.faults)
-    closed-some new some ends ended =
-        let last = linting.state.behind_last in
+    closed-some new some ends =
         let front_is : lint.front ++ [] ≡ kept_of last = append-nil lint.front ∙ linting.state.front in
         let here = subst (λ n. HasJudged lint.write n (lint.front ++ []) ends.faults w w1 e e1) number ends.judged in
-        let kept = subst (λ l. HasJudged lint.write (length (lines_of linting.state.ended) + 1) l ends.faults w w1 e e1) front_is here in
+        let kept = subst (λ l. HasJudged lint.write (length ended + 1) l ends.faults w w1 e e1) front_is here in
         let whole = judged-other lint.write _ ends.faults (kept_of last) last w w1 e e1 (meaning-kept last) (length-kept last) kept in
-        let more = judged-more lint.write (lines_of linting.state.ended) last linting.written linting.told whole.told lint.faults ends.faults
+        let form = form_of lint.write (meaning_of last) in
+        let more = judged-more lint.write ended last linting.written linting.told whole.told lint.faults ends.faults
         linting.state.judged whole.is_told whole.count in
         record {
           read = linting.read;
-          written = linting.written ++ form_of lint.write (meaning_of last);
+          written = linting.written ++ form;
           told = linting.told ++ whole.told;
           consumed = still_consumed;
-          appended = Appends-trans w0 w w1 linting.written _ linting.appended whole.appended;
+          appended = Appends-trans w0 w w1 linting.written form linting.appended whole.appended;
           told_appended = Appends-trans e0 e e1 linting.told whole.told linting.told_appended whole.told_appended;
-          lines = lines_of linting.state.ended ++ last ∷ [];
+          lines = ended ++ last ∷ [];
           left = [];
           first = alone some ∙ sym (append-nil _);
-          linted = subst (λ f. AreJudged write (lines_of linting.state.ended ++ last ∷ []) (linting.written ++ form_of lint.write (meaning_of last)) (linting.told ++ whole.told) f)
+          linted = subst (λ f. AreJudged write (ended ++ last ∷ []) (linting.written ++ form) (linting.told ++ whole.told) f)
               (ap (λ (l : Lint). l.faults) (sym ends.new_is))
-              (subst (λ wr. AreJudged wr (lines_of linting.state.ended ++ last ∷ []) (linting.written ++ form_of lint.write (meaning_of last)) (linting.told ++ whole.told) (lint.faults + ends.faults)) linting.write_is more);
-          have_left = refl;
-          whole = ended;
+              (subst (λ wr. AreJudged wr (ended ++ last ∷ []) (linting.written ++ form) (linting.told ++ whole.told) (lint.faults + ends.faults))
+              linting.write_is more);
+          reached = sym (alone some);
+          ended = inr at_end;
+          prompt = all_of_front (length linting.read - 65536) (linting.written ++ form) (linting.told ++ whole.told) (form, refl) (whole.told, refl);
+          whole = at_end;
         }
 
-    pub linted-closed : (new : Lint) → HasClosed lint new w w1 e e1 → IsAtEnd u1 → HasLinted write u0 u1 w0 w1 e0 e1 (Ok new.faults)
-    linted-closed new closed ended =
+    pub linted-closed : (new : Lint) → HasClosed lint new w w1 e e1 → HasLinted write u0 u1 w0 w1 e0 e1 (Ok new.faults)
+    linted-closed new closed =
         ⊎_elim
-        (λ (some : 0 < length lint.front). closed-some new some (closed.some some) ended)
+        (λ (some : 0 < length lint.front). closed-some new some (closed.some some))
         (λ (few : length lint.front ≤ 0). let none : length lint.front ≡ 0 = omega arith in
-        let same = closed.none none in closed-none new none same.0 same.1 ended)
+        let same = closed.none none in closed-none new none same.0 same.1)
         (cases_lt 0 (length lint.front))
 
     -- it stops at the last line
@@ -208,20 +253,21 @@ module _ (write : Bool) (u0 u u1 w0 w w1 e0 e e1 : Option (List ℕ)) (lint : Li
       consumed = still_consumed;
       appended = subst (Appends w0 w1) (append-nil linting.written) (Appends-trans w0 w w1 linting.written [] linting.appended nothing.nothing);
       told_appended = subst (Appends e0 e1) (append-nil linting.told) (Appends-trans e0 e e1 linting.told [] linting.told_appended nothing.nothing_told);
-      lines = lines_of linting.state.ended;
-      left = linting.state.behind_last ∷ [];
+      lines = ended;
+      left = last ∷ [];
       first = alone some;
       linted = (lint.faults, judged_so_far);
-      have_left = tt;
+      reached = omega arith;
+      ended = inr at_end;
+      prompt = all_as_before (length linting.read - 65536);
       whole = tt;
     }
 
     close-write : HasJudgedInPart lint.write (lint.lines + 1) lint.front w w1 e e1 → 0 < length lint.front
         → HasLinted write u0 u1 w0 w1 e0 e1 (Err Write)
     close-write part some =
-        let last = linting.state.behind_last in
         let here = subst (λ n. HasJudgedInPart lint.write n lint.front w w1 e e1) number part in
-        let kept = subst (λ l. HasJudgedInPart lint.write (length (lines_of linting.state.ended) + 1) l w w1 e e1) linting.state.front here in
+        let kept = subst (λ l. HasJudgedInPart lint.write (length ended + 1) l w w1 e e1) linting.state.front here in
         let whole = part-other lint.write _ (kept_of last) last w w1 e e1 (meaning-kept last) (length-kept last) kept in
         let wrote = take whole.front.0 (form_of lint.write (meaning_of last)) in
         let tells = take whole.told_front.0 whole.told in
@@ -232,13 +278,15 @@ module _ (write : Bool) (u0 u u1 w0 w w1 e0 e e1 : Option (List ℕ)) (lint : Li
           consumed = still_consumed;
           appended = Appends-trans w0 w w1 linting.written wrote linting.appended whole.front.1;
           told_appended = Appends-trans e0 e e1 linting.told tells linting.told_appended whole.told_front.1;
-          lines = lines_of linting.state.ended ++ last ∷ [];
+          lines = ended ++ last ∷ [];
           left = [];
           first = alone some ∙ sym (append-nil _);
-          linted = subst (λ wr. AreJudgedInPart wr (lines_of linting.state.ended ++ last ∷ []) (linting.written ++ wrote) (linting.told ++ tells)) linting.write_is
-              (part-more lint.write (lines_of linting.state.ended) last linting.written linting.told whole.told lint.faults whole.front.0 whole.told_front.0
+          linted = subst (λ wr. AreJudgedInPart wr (ended ++ last ∷ []) (linting.written ++ wrote) (linting.told ++ tells)) linting.write_is
+              (part-more lint.write ended last linting.written linting.told whole.told lint.faults whole.front.0 whole.told_front.0
               linting.state.judged whole.is_told);
-          have_left = tt;
+          reached = tt;
+          ended = inr at_end;
+          prompt = all_of_front (length linting.read - 65536) (linting.written ++ wrote) (linting.told ++ tells) (wrote, refl) (tells, refl);
           whole = tt;
         }
 

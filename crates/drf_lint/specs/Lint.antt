@@ -5,9 +5,8 @@ use Rattle.drf_lines.specs.Meaning.{meaning_of}
 use Rattle.drf_journal.specs.declared.fault.RunFault.{RunFault}
 use Rattle.drf_journal.specs.declared.fault.RunFault.TheVariants.{Read, Write, Memory}
 use Rattle.drf_journal.specs.Device.{AppendsFrontOf}
-use Rattle.drf_journal.specs.Lines.{lines_of, IsWithinLine}
+use Rattle.drf_journal.specs.Lines.{ended_lines_of, open_line_of}
 use Rattle.drf_journal.specs.Output.{kept_of}
-use Rattle.drf_journal.specs.Resumed.{IsCutBehindLine}
 use Rattle.drf_lint.specs.declared.linter.Linter.{Linter}
 use Rattle.drf_lint.specs.Judged.{form_of, faults_of, IsToldOf, AreJudged}
 use Rattle.drf_lint.specs.Linted.{AreLinted}
@@ -20,7 +19,7 @@ pub record Lint : Type 0 where
   pub faults : ℕ
 
 abbrev pub lint_of : Linter → Lint
-lint_of l = record { write = l.write; front = l.front.items; lines = l.lines; faults = l.faults }
+lint_of l = record { write = l.write; front = l.front; lines = l.lines; faults = l.faults }
 
 -- a lint that has read nothing
 abbrev pub begun : Bool → Lint
@@ -52,9 +51,11 @@ pub record HasJudgedNothing (written_before written_after told_before told_after
 
 -- at the line of that number a lint has stopped
 abbrev pub HasStoppedAt : RunFault → Bool → ℕ → List ℕ → (written_before written_after told_before told_after : Option (List ℕ)) → Type 0
-HasStoppedAt Read write number line w0 w1 e0 e1 = ⊥
-HasStoppedAt Write write number line w0 w1 e0 e1 = HasJudgedInPart write number line w0 w1 e0 e1
-HasStoppedAt Memory write number line w0 w1 e0 e1 = HasJudgedNothing w0 w1 e0 e1
+HasStoppedAt Read write number line written_before written_after told_before told_after = ⊥
+HasStoppedAt Write write number line written_before written_after told_before told_after =
+    HasJudgedInPart write number line written_before written_after told_before told_after
+HasStoppedAt Memory write number line written_before written_after told_before told_after =
+    HasJudgedNothing written_before written_after told_before told_after
 
 -- the line at hand has ended with these bytes, and was judged
 pub record HasEnded (old : Lint) (end : List ℕ) (new : Lint)
@@ -72,25 +73,20 @@ pub record HasClosed (old new : Lint) (written_before written_after told_before 
 
 -- of the bytes that were read all lines that have ended were judged, to which this was written and told; the rest is of the line at hand
 pub record IsLintedTo (read : List ℕ) (lint : Lint) (written told : List ℕ) : Type 0 where
-  pub ended : List ℕ
-  pub behind_last : List ℕ
-  pub cut : read ≡ ended ++ behind_last
-  pub behind : IsCutBehindLine ended
-  pub within : IsWithinLine behind_last
-  pub front : lint.front ≡ kept_of behind_last
-  pub lines : lint.lines ≡ length (lines_of ended)
-  pub judged : AreJudged lint.write (lines_of ended) written told lint.faults
+  pub front : lint.front ≡ kept_of (open_line_of read)
+  pub lines : lint.lines ≡ length (ended_lines_of read)
+  pub judged : AreJudged lint.write (ended_lines_of read) written told lint.faults
 
 -- no lint stops for a read fault within its input
 abbrev pub IsStop : RunFault → Type 0
 IsStop Read = ⊥
 IsStop fault = Unit {0}
 
--- of the lines that begin the bytes this was written and told before a lint stopped
+-- of the first lines that had ended in the bytes this was written and told before a lint stopped
 pub record IsStoppedIn (fault : RunFault) (write : Bool) (read written told : List ℕ) : Type 0 where
   pub lines : List (List ℕ)
   pub left : List (List ℕ)
-  pub first : lines_of read ≡ lines ++ left
+  pub first : ended_lines_of read ≡ lines ++ left
   pub stop : IsStop fault
   pub linted : AreLinted write (Err fault) lines written told
 

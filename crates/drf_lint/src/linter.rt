@@ -1,34 +1,20 @@
 //! What a lint keeps between reads.
-ghost use Rattle.std.specs.Prelude.{◌≡◌, ◌+◌, ◌<◌, ◌≤◌, ◌^◌, ◌++◌, ◌∷◌, ◌||◌, [], Ok, length, false, true, if◌then◌else◌, IsTrue, ◌↔◌, IfOk, IfErr, OnOk, OnErr};
+ghost use Rattle.std.specs.Prelude.{◌≡◌, ◌+◌, ◌<◌, ◌≤◌, ◌^◌, ◌++◌, ◌||◌, [], Ok, length, false, true, if◌then◌else◌, IfOk, IfErr, OnOk, OnErr};
 ghost use Rattle.std.specs.Io.KnownBytes.{Appends};
 ghost use Rattle.drf_journal.specs.declared.fault.RunFault.TheVariants.{Memory};
 ghost use Rattle.drf_journal.specs.Device.{AppendsFrontOf};
 ghost use Rattle.drf_journal.specs.Ended.{HasCause, HasFlushed};
-ghost use Rattle.drf_journal.specs.Lines.{IsWithinLine};
-ghost use Rattle.drf_journal.specs.Output.{kept_of};
 ghost use Rattle.drf_lint.specs.Judged.{form_of};
 ghost use Rattle.drf_lint.specs.Lint.{begun, lint_of, HasClosed, HasEnded, HasJudged, HasStoppedAt, HasStoppedIn, HasTaken, IsStop};
 ghost use Rattle.drf_lint.specs.Told.{told_line};
 
 use crate::diagnosis::{Diagnosis, NoEvent, diagnose};
 use crate::told::told_line;
-use drf_journal::{Device, RunFault, cut_law, line_feed_in, write_whole};
+use drf_journal::{Device, OpenLine, RunFault, line_feed_in, line_law, write_whole};
 use drf_lines::{LineReader, write_event};
 use drf_rows::Event;
-use std::alloc::{AllocError, Global};
+use std::alloc::Global;
 use std::io::Write;
-
-/// How many bytes of a line are kept: one more than it may have, so that one that is too long is told from the longest.
-const KEPT: usize = 65_537;
-
-/// Adds bytes of a line, as far as they are kept.
-fn keep(front: &mut Vec<u8>, more: &[u8]) -> Result<(), AllocError>
-    ensures { OnOk result (front.new.items ≡ kept_of (front.old.items ++ more.now)) }
-{
-    front.extend_from_slice(more)?;
-    front.truncate(KEPT);
-    Ok(())
-}
 
 /// Writes an event in its written form, where events are written.
 fn write_form<W: Write>(
@@ -108,7 +94,7 @@ pub(crate) struct Linter {
     /// Whether events are written.
     write: bool,
     /// What is kept of the line that is not whole yet.
-    front: Vec<u8>,
+    front: OpenLine,
     /// How many lines have ended.
     lines: u64,
     /// How many of these are no events.
@@ -124,7 +110,7 @@ impl Linter {
     {
         Linter {
             write,
-            front: Vec::new(alloc),
+            front: OpenLine::new(alloc),
             lines: 0,
             faults: 0,
             reader: LineReader::new(alloc),
@@ -136,13 +122,6 @@ impl Linter {
         ensures { result ≡ self.now.faults }
     {
         self.faults
-    }
-
-    /// Whether nothing is kept of a line.
-    fn is_between(&self) -> bool
-        ensures { IsTrue result ↔ (length self.now.front.items ≡ 0) }
-    {
-        self.front.is_empty()
     }
 
     /// The bytes end the line at hand: judges it.
@@ -157,20 +136,20 @@ impl Linter {
         requires counted { self.old.faults ≤ self.old.lines }
         ensures ok { OnOk result (HasEnded (lint_of self.old) end.now (lint_of self.new)
             (W.contents writer.old.inner) (W.contents writer.new.inner) (E.contents errors.old.inner) (E.contents errors.new.inner)) }
-        ensures err { IfErr result (λ fault. HasStoppedAt fault self.old.write (self.old.lines + 1) (self.old.front.items ++ end.now)
+        ensures err { IfErr result (λ fault. HasStoppedAt fault self.old.write (self.old.lines + 1) (self.old.front ++ end.now)
             (W.contents writer.old.inner) (W.contents writer.new.inner) (E.contents errors.old.inner) (E.contents errors.new.inner)) }
         ensures cause { writer.old.failed ≡ false → errors.old.failed ≡ false → HasCause result false 0 (writer.new.failed || errors.new.failed) }
         ensures flushed { writer.old.flushed ≡ true → HasFlushed result writer.new.flushed }
         ensures told_flushed { errors.old.flushed ≡ true → HasFlushed result errors.new.flushed }
     {
-        keep(&mut self.front, end)?;
+        self.front.keep(end)?;
         let number = self.lines + 1;
         let is_event = judge(
             alloc,
             &mut self.reader,
             self.write,
             number,
-            &self.front,
+            self.front.bytes(),
             writer,
             errors,
         )?;
@@ -200,13 +179,14 @@ impl Linter {
         ensures flushed { writer.old.flushed ≡ true → HasFlushed result writer.new.flushed }
         ensures told_flushed { errors.old.flushed ≡ true → HasFlushed result errors.new.flushed }
     {
-        cut_law();
+        // The contract of this call tells how lines come in pieces.
+        line_law();
         let mut rest = piece;
         while let Some(at) = line_feed_in(rest) {
             self.end_line(alloc, &rest[..at], writer, errors)?;
             rest = &rest[at + 1..];
         }
-        keep(&mut self.front, rest)?;
+        self.front.keep(rest)?;
         Ok(())
     }
 
@@ -221,13 +201,13 @@ impl Linter {
         requires counted { self.old.faults ≤ self.old.lines }
         ensures ok { OnOk result (HasClosed (lint_of self.old) (lint_of self.new)
             (W.contents writer.old.inner) (W.contents writer.new.inner) (E.contents errors.old.inner) (E.contents errors.new.inner)) }
-        ensures err { IfErr result (λ fault. (0 < length self.old.front.items) × HasStoppedAt fault self.old.write (self.old.lines + 1) self.old.front.items
+        ensures err { IfErr result (λ fault. (0 < length self.old.front) × HasStoppedAt fault self.old.write (self.old.lines + 1) self.old.front
             (W.contents writer.old.inner) (W.contents writer.new.inner) (E.contents errors.old.inner) (E.contents errors.new.inner)) }
         ensures cause { writer.old.failed ≡ false → errors.old.failed ≡ false → HasCause result false 0 (writer.new.failed || errors.new.failed) }
         ensures flushed { writer.old.flushed ≡ true → HasFlushed result writer.new.flushed }
         ensures told_flushed { errors.old.flushed ≡ true → HasFlushed result errors.new.flushed }
     {
-        if self.is_between() {
+        if self.front.is_empty() {
             return Ok(());
         }
         self.end_line(alloc, &[], writer, errors)

@@ -6,7 +6,7 @@ ghost use Rattle.drf_lint.specs.Lint.{begun, lint_of};
 ghost use Rattle.drf_lint.specs.Linted.{HasLinted};
 
 use crate::linter::Linter;
-use drf_journal::{Device, RunFault, cut_law};
+use drf_journal::{Device, RunFault, line_law};
 use std::alloc::Global;
 use std::io::{Read, Write};
 
@@ -36,7 +36,8 @@ fn lint<R: Read, W: Write, E: Write>(
     ensures told_flushed { errors.old.flushed ≡ true → HasFlushed result errors.new.flushed }
     ensures reads { reader.new.calls ≤ 2 ^ 40 }
 {
-    cut_law();
+    // The contract of this call tells how lines come in pieces.
+    line_law();
     let mut buffer = vec![in alloc; 0u8; CHUNK]?;
     let chunk = buffer.as_mut_slice();
     for _turn in 0..MAX_READS {

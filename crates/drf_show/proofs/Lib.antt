@@ -1,3 +1,4 @@
+mod Known
 mod Parts
 mod Sums
 mod Widths

@@ -6,6 +6,7 @@ use Rattle.drf_rows.specs.Report.{report_of}
 use Rattle.drf_rows.specs.Held.{standing_of}
 use Rattle.drf_rows.specs.Step.{live_rows}
 use Rattle.drf_rows.specs.declared.rows.Rows.{Rows}
+use Rattle.drf_content.specs.Content.{content_of}
 use Rattle.drf_show.specs.ShownText.{ShownTable, behind}
 use Rattle.drf_show.specs.declared.form.Form.{Form}
 
@@ -13,6 +14,11 @@ use Rattle.drf_show.specs.declared.form.Form.{Form}
 pub report_live : (rows : Rows) → report_of rows ≡ report_of (live_rows rows)
 unfolding report_of standing_of
 report_live rows = refl
+
+-- and a sorter holds the same of them
+pub content_live : (rows : Rows) → content_of rows ≡ content_of (live_rows rows)
+unfolding content_of
+content_live rows = refl
 
 -- tables one after another are those behind what stands there
 behind_text : (form : Form) (text : List ℕ) (tables : List ShownTable)

@@ -1,5 +1,5 @@
 -- Sums of what frameworks have.
-use Rattle.std.specs.Prelude.{◌≡◌, ℕ, ◌+◌, ◌^◌, ◌<◌, ◌≤◌, Bool, true, false, List, [], ◌∷◌, ◌++◌, drop, filter, fold, get_or, length, map, sum_by, take, if◌then◌else◌, IsTrue}
+use Rattle.std.specs.Prelude.{◌≡◌, ℕ, ◌+◌, ◌^◌, ◌<◌, ◌≤◌, Bool, true, false, ◌&&◌, List, [], ◌∷◌, ◌++◌, drop, filter, fold, get_or, length, map, sum_by, take, if◌then◌else◌, IsTrue}
 use Rattle.std.specs.Borrow.{Bor}
 use Rattle.std.proofs.Common.{refl, sym, ap, ◌∙◌, arith, inl, inr}
 use Rattle.std.proofs.lemmas.Bool.{cases_Bool}
@@ -13,17 +13,20 @@ use Rattle.drf_bundle.specs.declared.quantities.Entry.{Entry}
 use Rattle.drf_bundle.specs.declared.resource.Resource.{Resource}
 use Rattle.drf_role.specs.Path.{Path, same_path}
 use Rattle.drf_role.specs.Text.{Text, same_text}
-use Rattle.drf_rows.specs.Client.{Client}
-use Rattle.drf_rows.specs.Held.{client_of}
+use Rattle.drf_role.specs.PathLaws.{same_path-client_path}
+use Rattle.drf_rows.specs.Client.{Client, path_of}
+use Rattle.drf_rows.specs.Held.{client_of, standing_of}
+use Rattle.drf_rows.specs.Report.{sum_of, terms_of}
+use Rattle.drf_rows.specs.Share.{weighted_share_of}
 use Rattle.drf_rows.specs.Holdings.{Holding, amount_in, of_offer, of_task}
 use Rattle.drf_rows.specs.declared.rows.ClientRow.{ClientRow}
 use Rattle.drf_rows.specs.declared.rows.FrameworkRow.{FrameworkRow}
 use Rattle.drf_rows.specs.declared.rows.Rows.{Rows}
-use Rattle.drf_rows.specs.laws.ReportedShares.{small_total}
-use Rattle.drf_rows.specs.laws.TotalLaws.{held-le-total}
+use Rattle.drf_row_laws.specs.ReportedShares.{small_total}
+use Rattle.drf_row_laws.specs.TotalLaws.{held-le-total}
 use Rattle.drf_show.specs.Consuming.{IsFit}
 use Rattle.drf_show.specs.Had.{AreSmall, Part, client_line_by, parts_for, parts_of, sum_for, sum_with}
-use Rattle.drf_show.specs.Shown.{client_line, had_of, is_its}
+use Rattle.drf_show.specs.Shown.{client_line, had_of}
 
 abbrev pub part_amount : Text → Part → ℕ
 part_amount label p = amount_of (quantities_of p.1) label
@@ -114,6 +117,9 @@ sum_with-le role sum p label ordered = by (same_path p.0 role)
 
 -- ---- what a client has
 
+abbrev is_its : Client → Holding → Bool
+is_its client h = same_text h.client.framework client.framework && same_path h.client.role client.role
+
 had-from : (client : Client) (start : List Entry) (hs : List Holding)
     → fold (λ sum (p : Part). plus sum (quantities_of p.1)) start (filter (λ (p : Part). same_path p.0 client.role) (parts_for client.framework hs))
     ≡ fold (λ sum (h : Holding). plus sum (quantities_of h.bundle)) start (filter (is_its client) hs)
@@ -128,18 +134,22 @@ had-from client start (h ∷ hs) = elim (cases_Bool (same_text h.client.framewor
 
 -- the parts of its framework that are for its role are what a client has
 pub had_is : (client : Client) (hs : List Holding) → sum_for client.role (parts_for client.framework hs) ≡ had_of client hs
-had_is client hs = ap without_zeros (had-from client [] hs)
+had_is client hs =
+    ap without_zeros (had-from client [] hs)
+    ∙ (λ i. without_zeros (sum_of (filter (λ h. sym (same_path-client_path h.client.role client.role h.client.framework client.framework) i) hs)))
 
 -- so its line is that of the rows
-pub client_line_is : (rows : Rows) (offered used : Text → List Part) (framework : FrameworkRow) (client : ClientRow)
+pub client_line_is : (rows : Rows) (weighted : Path → ℕ × ℕ) (offered used : Text → List Part) (framework : FrameworkRow) (client : ClientRow)
+    → ((node : Path) → weighted node ≡ terms_of (weighted_share_of (standing_of rows) node))
     → ((name : Text) → offered name ≡ parts_for name (map of_offer rows.offers))
     → ((name : Text) → used name ≡ parts_for name (map of_task rows.tasks))
-    → client_line_by offered used framework client ≡ client_line rows framework client
-client_line_is rows offered used framework client offers tasks = λ i. record {
+    → client_line_by weighted offered used framework client ≡ client_line rows framework client
+client_line_is rows weighted offered used framework client shares offers tasks = λ i. record {
   framework = framework.name;
   role = client.role;
   suppressed = client.suppressed;
   count = client.count;
+  weighted = shares (path_of (client_of framework client)) i;
   offered = (ap (sum_for client.role) (offers framework.name) ∙ had_is (client_of framework client) (map of_offer rows.offers)) i;
   used = (ap (sum_for client.role) (tasks framework.name) ∙ had_is (client_of framework client) (map of_task rows.tasks)) i;
 }

@@ -15,6 +15,7 @@ use Rattle.drf_show.specs.declared.limits.LimitLine.{LimitLine}
 pub record IsFit (rows : Rows) : Type 0 where
   pub consistent : IsConsistent rows
   pub agents : length rows.agents ≤ 4096
+  pub next_offer : rows.next_offer < 2 ^ 64
   pub clients : length (clients_of rows) < 2 ^ 64
 
 -- the roles that pass a test consume so much more of a scalar

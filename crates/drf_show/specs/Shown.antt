@@ -1,20 +1,19 @@
 -- What is shown of an allocator's rows besides what they say themselves and what a report tells of them, in a line for each: the agents with
 -- what is free and held there, the clients with what is offered to them and used in their tasks, the limits beside what is consumed, the
--- filters in force with the time that is left, and how full the tables are beside their limits.
-use Rattle.std.specs.Prelude.{ℕ, ◌-◌, Bool, ◌&&◌, List, [], ◌∷◌, length, map, fold, filter, flat_map}
-use Rattle.drf_role.specs.Text.{same_text}
-use Rattle.drf_role.specs.Path.{Path, same_path}
+-- filters with the time that is left, and how full the tables are beside their limits.
+use Rattle.std.specs.Prelude.{ℕ, ◌-◌, List, [], ◌∷◌, length, map, fold, filter, flat_map}
+use Rattle.drf_role.specs.Path.{Path}
 use Rattle.drf_bundle.specs.Bundle.{rest}
 use Rattle.drf_bundle.specs.Quantities.{with_amount, without_zeros}
 use Rattle.drf_bundle.specs.declared.quantities.Entry.{Entry}
-use Rattle.drf_rows.specs.Client.{Client}
+use Rattle.drf_rows.specs.Client.{Client, path_of}
 use Rattle.drf_rows.specs.Cycle.{free_of}
-use Rattle.drf_rows.specs.Filters.{in_force, number_in_force}
-use Rattle.drf_rows.specs.Held.{client_of, clients_of, cluster_total}
-use Rattle.drf_rows.specs.Holdings.{Holding, holdings_of, is_on, of_offer, of_task}
+use Rattle.drf_rows.specs.Held.{client_of, clients_of, cluster_total, standing_of}
+use Rattle.drf_rows.specs.Holdings.{Holding, holdings_of, is_of, is_on, of_offer, of_task}
 use Rattle.drf_rows.specs.LimitNumbers.{LimitNumbers}
 use Rattle.drf_rows.specs.Quota.{consumption}
-use Rattle.drf_rows.specs.Report.{sum_of}
+use Rattle.drf_rows.specs.Report.{sum_of, terms_of}
+use Rattle.drf_rows.specs.Share.{weighted_share_of}
 use Rattle.drf_rows.specs.declared.rows.AgentRow.{AgentRow}
 use Rattle.drf_rows.specs.declared.rows.ClientRow.{ClientRow}
 use Rattle.drf_rows.specs.declared.rows.FilterRow.{FilterRow}
@@ -47,21 +46,18 @@ agent_lines rows = map (agent_line rows) rows.agents
 
 -- ---- clients
 
--- the client holds it
-abbrev pub is_its : Client → Holding → Bool
-is_its client h = same_text h.client.framework client.framework && same_path h.client.role client.role
-
 -- the scalars that a client has of some holdings
 abbrev pub had_of : Client → List Holding → List Entry
-had_of client holdings = without_zeros (sum_of (filter (is_its client) holdings))
+had_of client holdings = without_zeros (sum_of (filter (is_of (path_of client)) holdings))
 
--- a client: how many offers it got, what is offered to it, and what its tasks use
+-- a client: how many offers it got, its weighted share, what is offered to it, and what its tasks use
 abbrev pub client_line : Rows → FrameworkRow → ClientRow → ClientLine
 client_line rows framework client = record {
   framework = framework.name;
   role = client.role;
   suppressed = client.suppressed;
   count = client.count;
+  weighted = terms_of (weighted_share_of (standing_of rows) (path_of (client_of framework client)));
   offered = had_of (client_of framework client) (map of_offer rows.offers);
   used = had_of (client_of framework client) (map of_task rows.tasks);
 }
@@ -95,9 +91,8 @@ filter_line clock f = record {
   resources = f.bundle;
 }
 
--- those in force
 abbrev pub filter_lines : Rows → List FilterLine
-filter_lines rows = map (filter_line rows.clock) (in_force rows.clock rows.filters)
+filter_lines rows = map (filter_line rows.clock) rows.filters
 
 -- ---- how full the tables are
 
@@ -105,8 +100,7 @@ filter_lines rows = map (filter_line rows.clock) (in_force rows.clock rows.filte
 abbrev pub table_line : CountedTable → ℕ → ℕ → TableLine
 table_line table rows limit = record { table = table; rows = rows; limit = limit }
 
--- agents, the names of the scalars that they have, frameworks, their clients, weights, limits, filters in force, and the events that were
--- accepted
+-- agents, the names of the scalars that they have, frameworks, their clients, weights, limits, filters, and the events that were accepted
 abbrev pub table_lines : LimitNumbers → Rows → List TableLine
 table_lines limits rows =
     table_line Agents (length rows.agents) limits.agents
@@ -115,6 +109,6 @@ table_lines limits rows =
     ∷ table_line Clients (length (clients_of rows)) limits.clients
     ∷ table_line Weights (length rows.weights) limits.weights
     ∷ table_line Limits (length rows.limits) limits.limits
-    ∷ table_line Filters (number_in_force rows.clock rows.filters) limits.filters
+    ∷ table_line Filters (length rows.filters) limits.filters
     ∷ table_line Events rows.events limits.events
     ∷ []

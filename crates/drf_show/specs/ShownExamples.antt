@@ -4,9 +4,9 @@ use Rattle.drf_bundle.specs.declared.quantities.Entry.{Entry}
 use Rattle.drf_role.specs.Path.{Path}
 use Rattle.drf_rows.specs.LimitNumbers.{ceilings}
 use Rattle.drf_rows.specs.Step.{opening, rows_after_all}
-use Rattle.drf_rows.specs.examples.Examples.{cpus, mem, framework_in}
-use Rattle.drf_rows.specs.examples.LifeExamples.{accept_for}
-use Rattle.drf_rows.specs.examples.QuotaExamples.{cpus_limit}
+use Rattle.drf_worked.specs.Examples.{cpus, mem, framework_in}
+use Rattle.drf_worked.specs.LifeExamples.{accept_for}
+use Rattle.drf_worked.specs.QuotaExamples.{cpus_limit}
 use Rattle.drf_rows.specs.declared.event.Event.{Event}
 use Rattle.drf_rows.specs.declared.event.Event.TheVariants.{AddAgent, Cycle, Suppress}
 use Rattle.drf_rows.specs.declared.rows.Rows.{Rows}
@@ -58,6 +58,7 @@ small_clients =
       role = role_a;
       suppressed = true;
       count = 1;
+      weighted = (1, 4);
       offered = [];
       used = cpus_of 1000 ∷ [];
     }
@@ -66,6 +67,7 @@ small_clients =
       role = codes "b" ∷ [];
       suppressed = false;
       count = 1;
+      weighted = (1, 1);
       offered = cpus_of 3000 ∷ record { label = codes "mem"; amount = 1024000 } ∷ [];
       used = [];
     }

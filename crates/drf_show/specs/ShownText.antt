@@ -90,7 +90,7 @@ agent_shown a = record {
 
 abbrev pub client_heads : Cells
 client_heads =
-    codes "FRAMEWORK" ∷ codes "ROLE" ∷ codes "SUPPRESSED" ∷ codes "COUNT" ∷ codes "OFFERED" ∷ codes "USED" ∷ []
+    codes "FRAMEWORK" ∷ codes "ROLE" ∷ codes "SUPPRESSED" ∷ codes "COUNT" ∷ codes "WEIGHTED" ∷ codes "OFFERED" ∷ codes "USED" ∷ []
 
 abbrev pub client_value : ClientLine → Data
 client_value c = object (
@@ -101,11 +101,12 @@ client_value c = object (
     (member (codes "row") (string (codes "client"))
     (member (codes "suppressed") (boolean c.suppressed)
     (member (codes "used") (string (quantities_text c.used))
-    no_members)))))))
+    (member (codes "weighted") (string (fraction_text c.weighted))
+    no_members))))))))
 
 abbrev pub client_shown : ClientLine → ShownRow
 client_shown c = record {
-  cells = c.framework ∷ text_of c.role ∷ flag_cell c.suppressed ∷ decimal c.count ∷ quantities_cell c.offered ∷ quantities_cell c.used ∷ [];
+  cells = c.framework ∷ text_of c.role ∷ flag_cell c.suppressed ∷ decimal c.count ∷ fraction_text c.weighted ∷ quantities_cell c.offered ∷ quantities_cell c.used ∷ [];
   line = compact_text (client_value c);
 }
 

@@ -1,11 +1,12 @@
 //! The cells of a row.
-ghost use Rattle.std.specs.Prelude.{◌≡◌, ◌∷◌, ◌++◌, [], decimal, map, string_bytes, IfOk, OnOk};
+ghost use Rattle.std.specs.Prelude.{◌≡◌, ◌∷◌, ◌++◌, [], decimal, map, string_bytes, OnOk};
 ghost use Rattle.drf_role.specs.Parts.{text_of};
 ghost use Rattle.drf_text.specs.Written.{amount_text};
 ghost use Rattle.drf_lines.specs.ReportLine.{fraction_text};
 ghost use Rattle.drf_show.specs.ShownText.{bundle_cell, flag_cell, quantities_cell, text_cell};
 
 use drf_bundle::{Bundle, Quantities};
+use drf_lines::write_fraction;
 use drf_role::{Name, Role};
 use drf_text::{write_bundle, write_quantities, write_weight};
 use itoa::Buffer;
@@ -25,18 +26,6 @@ impl Model for Row {
     ghost Value = { Cells };
 
     ghost view = { λ row. map string_bytes row.texts.items };
-}
-
-/// A fraction as text.
-pub(crate) fn write_fraction(alloc: Global, fraction: (u128, u128)) -> Result<String, AllocError>
-    ensures { IfOk result (λ text. string_bytes text ≡ fraction_text fraction) }
-{
-    let (part, whole) = fraction;
-    let mut text = String::new(alloc);
-    text.push_str(Buffer::new().format(part))?;
-    text.push('/')?;
-    text.push_str(Buffer::new().format(whole))?;
-    Ok(text)
 }
 
 impl Row {

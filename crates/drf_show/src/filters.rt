@@ -1,7 +1,6 @@
-//! The filters in force.
+//! Filters.
 ghost use Rattle.std.specs.Prelude.{◌≡◌, map, IfOk};
 ghost use Rattle.serde_json.specs.View.{view};
-ghost use Rattle.drf_rows.specs.Filters.{in_force};
 ghost use Rattle.drf_show.specs.Shown.{filter_line};
 ghost use Rattle.drf_show.specs.ShownText.{filter_value};
 
@@ -40,19 +39,16 @@ fn filter_line(clock: u64, filter: &FilterRow) -> Result<FilterLine, AllocError>
     })
 }
 
-/// A line for each filter in force.
+/// A line for each filter.
 pub(crate) fn filter_lines(
     alloc: Global,
     clock: u64,
     filters: &[FilterRow],
 ) -> Result<Vec<FilterLine>, AllocError>
-    ensures { IfOk result (λ lines. lines.items ≡ map (filter_line clock) (in_force clock filters.now)) }
+    ensures { IfOk result (λ lines. lines.items ≡ map (filter_line clock) filters.now) }
 {
-    let mut lines = Vec::new(alloc);
+    let mut lines = Vec::with_capacity(alloc, filters.len())?;
     for filter in filters {
-        if filter.until <= clock {
-            continue;
-        }
         lines.push(filter_line(clock, filter)?)?;
     }
     Ok(lines)

@@ -1,5 +1,5 @@
-//! What stands in an allocator, for people and for programs: its numbers, agents, clients, nodes, weights, limits, offers, tasks, filters in
-//! force and how full its tables are, in aligned tables or as lines of JSON.
+//! What stands in an allocator, for people and for programs: its numbers, agents, clients, nodes, weights, limits, offers, tasks, filters
+//! and how full its tables are, in aligned tables or as lines of JSON.
 #![tactic(auto)]
 
 mod agents;
@@ -10,12 +10,12 @@ mod consumption;
 mod filters;
 mod form;
 mod had;
-mod heads;
 mod holdings;
 mod json;
 mod laws;
 mod limits;
 mod nodes;
+mod numbers;
 mod shown;
 mod stream;
 mod tables;

@@ -3,9 +3,10 @@ ghost use Rattle.std.specs.Prelude.{◌≡◌, IfOk};
 ghost use Rattle.serde_json.specs.View.{view};
 ghost use Rattle.drf_show.specs.ShownText.{node_value};
 
-use crate::cells::{Row, write_fraction};
+use crate::cells::Row;
 use crate::json::push_value;
 use crate::shown::Shown;
+use drf_lines::write_fraction;
 use drf_rows::NodeLine;
 use drf_text::write_quantities;
 use serde_json::{Value, json};

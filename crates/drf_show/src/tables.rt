@@ -2,7 +2,6 @@
 ghost use Rattle.std.specs.Prelude.{◌≡◌, ◌<◌, ◌^◌, ◌∷◌, ◌++◌, [], length, IfOk, OnOk};
 ghost use Rattle.serde_json.specs.View.{view};
 ghost use Rattle.drf_bundle.specs.Quantities.{without_zeros};
-ghost use Rattle.drf_rows.specs.Filters.{number_in_force};
 ghost use Rattle.drf_rows.specs.Held.{clients_in, clients_of, cluster_total};
 ghost use Rattle.drf_show.specs.Shown.{table_line, table_lines};
 ghost use Rattle.drf_show.specs.ShownText.{table_name, table_value};
@@ -10,7 +9,7 @@ ghost use Rattle.drf_show.specs.ShownText.{table_name, table_value};
 use crate::cells::Row;
 use crate::json::push_value;
 use crate::shown::Shown;
-use drf_rows::{FilterRow, FrameworkRow, Limits, Rows};
+use drf_rows::{FrameworkRow, Limits, Rows};
 use serde_json::{Value, json};
 use std::alloc::{AllocError, Global};
 
@@ -65,21 +64,8 @@ fn count_clients(frameworks: &[FrameworkRow]) -> u64
     count
 }
 
-/// How many filters are in force.
-fn count_in_force(clock: u64, filters: &[FilterRow]) -> u64
-    ensures { result ≡ number_in_force clock filters.now }
-{
-    let mut count = 0;
-    for filter in filters {
-        if clock < filter.until {
-            count += 1;
-        }
-    }
-    count
-}
-
 /// Adds the line of a table.
-fn push_table_line(
+fn push_count(
     lines: &mut Vec<TableLine>,
     table: CountedTable,
     rows: u64,
@@ -105,37 +91,21 @@ pub(crate) fn table_lines(
     use CountedTable::{
         Agents, Clients, Events, Filters, Frameworks, Limits, ScalarNames, Weights,
     };
+    let agents = rows.agents.len() as u64;
+    let frameworks = rows.frameworks.len() as u64;
     let clients = count_clients(rows.frameworks.as_slice());
-    let filters = count_in_force(rows.clock, rows.filters.as_slice());
+    let weights = rows.weights.len() as u64;
+    let limited = rows.limits.len() as u64;
+    let filters = rows.filters.len() as u64;
     let mut lines = Vec::new(alloc);
-    push_table_line(
-        &mut lines,
-        Agents,
-        rows.agents.len() as u64,
-        limits.agents(),
-    )?;
-    push_table_line(&mut lines, ScalarNames, scalar_names, limits.scalar_names())?;
-    push_table_line(
-        &mut lines,
-        Frameworks,
-        rows.frameworks.len() as u64,
-        limits.frameworks(),
-    )?;
-    push_table_line(&mut lines, Clients, clients, limits.clients())?;
-    push_table_line(
-        &mut lines,
-        Weights,
-        rows.weights.len() as u64,
-        limits.weights(),
-    )?;
-    push_table_line(
-        &mut lines,
-        Limits,
-        rows.limits.len() as u64,
-        limits.limits(),
-    )?;
-    push_table_line(&mut lines, Filters, filters, limits.filters())?;
-    push_table_line(&mut lines, Events, rows.events, limits.events())?;
+    push_count(&mut lines, Agents, agents, limits.agents())?;
+    push_count(&mut lines, ScalarNames, scalar_names, limits.scalar_names())?;
+    push_count(&mut lines, Frameworks, frameworks, limits.frameworks())?;
+    push_count(&mut lines, Clients, clients, limits.clients())?;
+    push_count(&mut lines, Weights, weights, limits.weights())?;
+    push_count(&mut lines, Limits, limited, limits.limits())?;
+    push_count(&mut lines, Filters, filters, limits.filters())?;
+    push_count(&mut lines, Events, rows.events, limits.events())?;
     Ok(lines)
 }
 

@@ -4,6 +4,7 @@ ghost use Rattle.drf_rows.specs.Consistent.{IsConsistent};
 ghost use Rattle.drf_rows.specs.Report.{report_of};
 ghost use Rattle.drf_rows.specs.Step.{live_rows};
 ghost use Rattle.drf_saved_laws.specs.SavedLaws.{IsSaveable};
+ghost use Rattle.drf_content.specs.Content.{content_of};
 ghost use Rattle.drf_show.specs.Consuming.{IsFit};
 ghost use Rattle.drf_show.specs.ShownText.{agent_table, behind, client_table, count_table, filter_table, head_table, limit_table, node_table, rows_text, shown, table_in};
 
@@ -60,16 +61,18 @@ fn push_agents(
     push_behind(alloc, form, &lines, text)
 }
 
-fn push_clients(
+fn push_clients<S: Sorter>(
     alloc: Global,
     form: Form,
+    sorter: &S,
     rows: &Rows,
     text: &mut Vec<u8>,
 ) -> Result<(), AllocError>
-    requires { IsFit rows.now }
+    requires fit { IsFit rows.now }
+    requires content { S.content sorter.now ≡ content_of rows.now }
     ensures { OnOk result (text.new.items ≡ text.old.items ++ behind form (client_table rows.now)) }
 {
-    let lines = client_lines(alloc, rows)?;
+    let lines = client_lines(alloc, sorter, rows)?;
     push_behind(alloc, form, &lines, text)
 }
 
@@ -111,22 +114,24 @@ fn push_counts(
 }
 
 /// Adds all tables.
-fn push_tables(
+fn push_tables<S: Sorter>(
     rt: &(impl Threads + Sync),
     alloc: Global,
     form: Form,
+    sorter: &S,
     rows: &Rows,
     report: &Report,
     limits: &Limits,
     text: &mut Vec<u8>,
 ) -> Result<(), AllocError>
     requires fit { IsFit rows.now }
+    requires content { S.content sorter.now ≡ content_of rows.now }
     requires report { report.now ≡ report_of rows.now }
     ensures { OnOk result (text.new.items ≡ text.old.items ++ rows_text form limits.now rows.now) }
 {
     push_head(alloc, form, rows, text)?;
     push_agents(rt, alloc, form, rows, text)?;
-    push_clients(alloc, form, rows, text)?;
+    push_clients(alloc, form, sorter, rows, text)?;
     push_behind(alloc, form, report.nodes.as_slice(), text)?;
     push_behind(alloc, form, rows.weights.as_slice(), text)?;
     push_limits(alloc, form, rows, text)?;
@@ -137,7 +142,7 @@ fn push_tables(
 }
 
 /// The text that shows an allocator's live rows, where it has those limits: its numbers, agents, clients, the nodes of its report, weights,
-/// limits, offers, tasks and filters in force, and how full its tables are. It changes nothing.
+/// limits, offers, tasks and filters, and how full its tables are. It changes nothing.
 pub fn show<S: Sorter>(
     rt: &(impl Threads + Sync),
     alloc: Global,
@@ -153,6 +158,7 @@ pub fn show<S: Sorter>(
     let rows = core.rows()?;
     let report = core.report()?;
     let mut text = Vec::new(alloc);
-    push_tables(rt, alloc, form, &rows, &report, limits, &mut text)?;
+    let sorter = core.sorter();
+    push_tables(rt, alloc, form, sorter, &rows, &report, limits, &mut text)?;
     Ok(text)
 }

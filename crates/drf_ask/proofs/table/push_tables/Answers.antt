@@ -18,7 +18,7 @@ returns c =
     c.put_table-7.new.text.items
     c.put_table-8.new.text.items
     c.put.new.text.items
-    c.len.result c.count_clients-clients.result c.args.rows.now.events c.len-2.result c.len-3.result c.len-4.result c.args.scalar_names c.len-5.result
+    c.len-agents.result c.count_clients-clients.result c.args.rows.now.events c.len-filters.result c.len-frameworks.result c.len-role_limits.result c.args.scalar_names c.len-weights.result
     c.agents.result c.clients.result c.events.result c.filters.result c.frameworks.result c.limits.result c.scalar_names.result c.weights.result
     c.in_ok-put_table.ensures
     c.in_ok-put_table-2.ensures
@@ -28,5 +28,5 @@ returns c =
     c.in_ok-put_table-6.ensures
     c.in_ok-put_table-7.ensures
     c.in_ok-put_table-8.ensures end
-    c.len.ensures (c.count_clients-clients.ensures ∙ ap (λ fs. length (clients_in fs)) c.as_slice.ensures) refl c.len-2.ensures c.len-3.ensures c.len-4.ensures c.requires.names c.len-5.ensures
+    c.len-agents.ensures (c.count_clients-clients.ensures ∙ ap (λ fs. length (clients_in fs)) c.as_slice.ensures) refl c.len-filters.ensures c.len-frameworks.ensures c.len-role_limits.ensures c.requires.names c.len-weights.ensures
     c.agents.ensures.value c.clients.ensures.value c.events.ensures.value c.filters.ensures.value c.frameworks.ensures.value c.limits.ensures.value c.scalar_names.ensures.value c.weights.ensures.value) c.put.ensures

@@ -1,10 +1,12 @@
 use Rattle.std.proofs.Common.{◌≡◌, ◌*◌, ◌≤◌, true, false, length}
 use Rattle.drf_lint.specs.Lint.{lint_of}
+use Rattle.drf_lint.proofs.Pieces.{Laws}
 use Rattle.drf_lint.proofs.Streams.{IsLinting}
 use Rattle.drf_lint.proofs.stream.lint.Given as goal
 
 abbrev pub invariant-loop-turn : goal.invariant-loop-turn
 invariant-loop-turn g l = record {
+  laws : Laws;
   linting : IsLinting l.fn.linter.write (g.R.Read.remaining l.fn.reader.inner) (g.R.Read.remaining l.reader.inner)
       (g.W.Write.contents l.fn.writer.inner) (g.W.Write.contents l.writer.inner)
       (g.E.Write.contents l.fn.errors.inner) (g.E.Write.contents l.errors.inner) (lint_of l.linter);

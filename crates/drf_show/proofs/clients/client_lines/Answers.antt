@@ -1,22 +1,61 @@
-use Rattle.std.proofs.Common.{◌≡◌, List, IfOk, flat_map, map, subst, ap, ◌∙◌}
+use Rattle.std.proofs.Common.{◌≡◌, List, IfOk, flat_map, map, subst, sym, ap, ◌∙◌}
+use Rattle.std.specs.List.{Contains}
+use Rattle.drf_role.specs.Path.{Path}
 use Rattle.drf_rows.specs.Holdings.{of_offer, of_task}
+use Rattle.drf_rows.specs.Held.{standing_of}
+use Rattle.drf_rows.specs.Report.{terms_of}
+use Rattle.drf_rows.specs.Share.{Standing, weighted_share_of}
 use Rattle.drf_rows.specs.declared.rows.FrameworkRow.{FrameworkRow}
-use Rattle.drf_show.specs.Had.{client_line_by, parts_for, parts_in}
+use Rattle.drf_sorter.specs.Content.{Content, IsSound}
+use Rattle.drf_content.specs.laws.Order.{standing-content_of}
+use Rattle.drf_content.specs.laws.Sound.{IsSound-content_of}
+use Rattle.drf_show.specs.Had.{AreSmall, KnowsClients, lines_by, parts_for, parts_in, weighted_in}
 use Rattle.drf_show.specs.Shown.{client_line}
 use Rattle.drf_show.specs.declared.clients.ClientLine.{ClientLine}
-use Rattle.drf_show.proofs.Sums.{client_line_is}
+use Rattle.drf_show.proofs.Known.{knows_clients}
+use Rattle.drf_show.proofs.Sums.{client_line_is, offers_small, tasks_small}
 use Rattle.drf_show.proofs.clients.client_lines.Goals as goal
 
-pub returns : goal.returns
-returns c =
+pub lines_of-requires-clause-sound : goal.lines_of-requires-clause-sound
+lines_of-requires-clause-sound g c =
     let rows = c.args.rows.now in
+    let fit = c.requires.fit in
+    subst IsSound (sym c.requires.content) (IsSound-content_of rows fit.consistent fit.agents fit.next_offer)
+
+pub lines_of-requires-clause-offered : goal.lines_of-requires-clause-offered
+lines_of-requires-clause-offered g c = λ name.
+    let rows = c.args.rows.now in
+    subst AreSmall
+    (sym (c.in_ok-offered.ensures name ∙ ap (λ os. parts_for name (map of_offer os)) c.as_slice.ensures))
+    (offers_small rows c.requires.fit name)
+
+pub lines_of-requires-clause-used : goal.lines_of-requires-clause-used
+lines_of-requires-clause-used g c = λ name.
+    let rows = c.args.rows.now in
+    subst AreSmall
+    (sym (c.in_ok-used.ensures name ∙ ap (λ ts. parts_for name (map of_task ts)) c.as_slice-2.ensures))
+    (tasks_small rows c.requires.fit name)
+
+pub lines_of-requires-clause-known : goal.lines_of-requires-clause-known
+lines_of-requires-clause-known g c = λ f there.
+    subst (λ (content : Content). KnowsClients content f) (sym c.requires.content)
+    (knows_clients c.args.rows.now f (subst (λ (fs : List FrameworkRow). Contains fs f) c.as_slice-3.ensures there))
+
+pub returns : goal.returns
+returns g c =
+    let rows = c.args.rows.now in
+    let content = g.S.Sorter.content c.args.sorter.now in
+    let weighted = weighted_in content in
     let offered = parts_in c.in_ok-offered.offered in
     let used = parts_in c.in_ok-used.used in
-    let each : (f : FrameworkRow) → map (client_line_by offered used f) f.clients ≡ map (client_line rows f) f.clients =
-    λ f i. map (λ k. client_line_is rows offered used f k
+    let shares : (node : Path) → weighted node ≡ terms_of (weighted_share_of (standing_of rows) node) =
+    λ node. ap (λ (content : Content). weighted_in content node) c.requires.content
+    ∙ ap (λ (s : Standing). terms_of (weighted_share_of s node)) (standing-content_of rows c.requires.fit.consistent) in
+    let each : (f : FrameworkRow) → lines_by weighted offered used f ≡ map (client_line rows f) f.clients =
+    λ f i. map (λ k. client_line_is rows weighted offered used f k shares
     (λ name. c.in_ok-offered.ensures name ∙ ap (λ os. parts_for name (map of_offer os)) c.as_slice.ensures)
     (λ name. c.in_ok-used.ensures name ∙ ap (λ ts. parts_for name (map of_task ts)) c.as_slice-2.ensures) i) f.clients in
     subst (λ (ls : List ClientLine). IfOk c.lines_of.result (λ lines. lines.items ≡ ls))
-    (ap (λ (fs : List FrameworkRow). flat_map (λ (f : FrameworkRow). map (client_line_by offered used f) f.clients) fs) c.as_slice-3.ensures
+    (ap (flat_map (lines_by weighted offered used)) c.as_slice-3.ensures
     ∙ (λ i. flat_map (λ f. each f i) rows.frameworks))
     c.lines_of.ensures

@@ -1,9 +1,8 @@
-use Rattle.std.proofs.Common.{◌≡◌, map, take}
+use Rattle.std.proofs.Common.{◌≡◌, take}
 use Rattle.std.specs.List.{flat_map}
-use Rattle.drf_rows.specs.declared.rows.FrameworkRow.{FrameworkRow}
-use Rattle.drf_show.specs.Had.{client_line_by, parts_in}
+use Rattle.drf_show.specs.Had.{lines_by, parts_in, weighted_in}
 use Rattle.drf_show.proofs.clients.lines_of.Given as goal
 
 abbrev pub invariant-loop-framework : goal.invariant-loop-framework
-invariant-loop-framework l =
-    l.lines.items ≡ flat_map (λ (f : FrameworkRow). map (client_line_by (parts_in l.offered) (parts_in l.used) f) f.clients) (take l.framework-index l.frameworks)
+invariant-loop-framework g l =
+    l.lines.items ≡ flat_map (lines_by (weighted_in (g.S.Sorter.content l.sorter)) (parts_in l.offered) (parts_in l.used)) (take l.framework-index l.frameworks)

@@ -11,6 +11,7 @@ tail_of rest at inside = take_all _ _ (simp length-drop (omega arith))
 
 pub loop-at-init : goal.loop-at-init
 loop-at-init g c = record {
+  laws = record { feed = c.line_law.ensures.feed; within = c.line_law.ensures.within; stay = c.line_law.ensures.ended };
   front = front-begins (lint_of c.args.self.now) c.args.piece.now _ _ c.requires.counted;
   few = omega arith;
   counted = c.requires.counted;
@@ -26,10 +27,11 @@ loop-at-preserved g c =
     let found = c.in-Some.ensures.found in
     let now = c.loop-at.invariant in
     let ends = c.in_ok-end_line.ensures in
-    let front = front-line c.cut_law.ensures.lines (lint_of c.args.self.now) (lint_of c.loop-at.self) c.args.piece.now rest _ _ _ _ _ _ now.front
+    let front = front-line c.loop-at.invariant.laws (lint_of c.args.self.now) (lint_of c.loop-at.self) c.args.piece.now rest _ _ _ _ _ _ now.front
     at (lint_of c.end_line.new.self) found.0 found.1 found.2 ends.ok in
     let left : length (drop (at + 1) rest) ≡ length rest - (at + 1) = length-drop (at + 1) rest in
     rw (tail_of rest at found.0) (record {
+      laws = now.laws;
       front = front;
       few = let few = now.few in let lines = ap (λ (l : Lint). l.lines) ends.ok.new_is in omega arith;
       counted = front.taken.counted;
@@ -43,7 +45,7 @@ returns-in_err-end_line-clause-err g c =
     let p = err_from_is_err_and c.from_residual.result c.from_residual.ensures.1 in
     let found = c.in-Some.ensures.found in
     rw (p.1, p.2)
-    (front-stopped c.cut_law.ensures.lines (lint_of c.args.self.now) (lint_of c.loop-at.self) c.args.piece.now c.loop-at.rest.now _ _ _ _ _ _ c.loop-at.invariant.front
+    (front-stopped c.loop-at.invariant.laws (lint_of c.args.self.now) (lint_of c.loop-at.self) c.args.piece.now c.loop-at.rest.now _ _ _ _ _ _ c.loop-at.invariant.front
     _ c.in-Some.at found.0 found.1 found.2 c.in_err-end_line.ensures.err)
 
 pub returns-in_err-end_line-clause-cause : goal.returns-in_err-end_line-clause-cause
@@ -56,7 +58,7 @@ pub returns-in_err-keep-clause-err : goal.returns-in_err-keep-clause-err
 returns-in_err-keep-clause-err g c =
     let p = err_from_is_err_and c.from_residual-in_err-keep.result c.from_residual-in_err-keep.ensures.1 in
     rw (p.1, p.2)
-    (front-memory c.cut_law.ensures.lines (lint_of c.args.self.now) (lint_of c.loop-at.self) c.args.piece.now c.loop-at.rest.now _ _ _ _ _ _ c.loop-at.invariant.front
+    (front-memory c.loop-at.invariant.laws (lint_of c.args.self.now) (lint_of c.loop-at.self) c.args.piece.now c.loop-at.rest.now _ _ _ _ _ _ c.loop-at.invariant.front
     (judged-nothing _ _))
 
 pub returns-in_err-keep-clause-cause : goal.returns-in_err-keep-clause-cause
@@ -68,7 +70,7 @@ returns-in_err-keep-clause-cause g c = λ one other.
 pub returns-clause-ok : goal.returns-clause-ok
 returns-clause-ok g c =
     let now = c.loop-at.self in
-    front-rest c.cut_law.ensures.lines (lint_of c.args.self.now) (lint_of now) c.args.piece.now c.loop-at.rest.now _ _ None _ _ None c.loop-at.invariant.front
+    front-rest c.loop-at.invariant.laws (lint_of c.args.self.now) (lint_of now) c.args.piece.now c.loop-at.rest.now _ _ None _ _ None c.loop-at.invariant.front
     _ c.in_default.ensures.none
     (λ i. record { write = now.write; front = c.in_ok-keep.ensures i; lines = now.lines; faults = now.faults })
 

@@ -11,7 +11,7 @@ bounds_said : (rows : List Row) (task : Task) → SaysTask rows task → IsWithi
 bounds_said rows (Run echo ask) says = tt
 bounds_said rows Check says = tt
 bounds_said rows Audit says = tt
-bounds_said rows (Explain at) says = says.early
+bounds_said rows (Explain at scope) says = says.0.early
 bounds_said rows (Save epoch) says = tt
 bounds_said rows (Show json) says = tt
 bounds_said rows (Lint write) says = tt

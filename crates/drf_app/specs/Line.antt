@@ -1,7 +1,7 @@
 -- The form of the command line, and what its words ask for.
-use Rattle.std.specs.Prelude.{◌≡◌, ◌≤◌, ⊤, ℕ, Bool, true, false, List, [], Some, None, codes, option_map}
+use Rattle.std.specs.Prelude.{◌≡◌, ◌≤◌, ⊤, ℕ, Bool, true, false, List, [], ◌∷◌, Option, Some, None, codes, option_map, if◌then◌else◌}
 use Rattle.std.specs.Str.Parse.{IsNumeral, digits_value, without_leading_plus}
-use Rattle.clap.specs.Words.{App, Row, Rule, Shape, Text, HasKind, fault_of, first_of, new_app, new_rule, one_of, subcommand_of, with_rule, with_subcommand}
+use Rattle.clap.specs.Words.{App, Row, Rule, Shape, Text, HasKind, all_of, fault_of, first_of, new_app, new_rule, one_of, subcommand_of, with_rule, with_subcommand}
 use Rattle.clap.specs.Simple.{on_top}
 use Rattle.clap.specs.declared.builder.action.ArgAction.TheVariants.{Set, SetTrue}
 use Rattle.clap.specs.declared.builder.value_parser.ValueParser.TheVariants.{Unsigned}
@@ -10,6 +10,10 @@ use Rattle.drf_rows.specs.declared.limits.TheConstants.{LATEST_MOMENT}
 use Rattle.drf_start.specs.Line.{from_option}
 use Rattle.drf_told.specs.Entered.{IsNameOf}
 use Rattle.drf_app.specs.declared.line.Request.{Request}
+use Rattle.drf_why.specs.declared.whom.Whom.{Whom}
+use Rattle.drf_why.specs.declared.whom.Whom.TheVariants as whom
+use Rattle.drf_app.specs.declared.line.Scope.{Scope}
+use Rattle.drf_app.specs.declared.line.Scope.TheVariants.{Short, Each, Summary, Several}
 use Rattle.drf_app.specs.declared.line.Task.{Task}
 use Rattle.drf_app.specs.declared.line.Task.TheVariants.{Run, Check, Audit, Explain, Save, Show, Lint}
 
@@ -33,9 +37,17 @@ check_line = with_rule (new_app (codes "check")) from_option
 abbrev pub audit_line : App
 audit_line = with_rule (new_app (codes "audit")) from_option
 
--- `explain [--at MOMENT]`
+abbrev pub client_option : Rule
+client_option = record (new_rule (codes "client")) { long = Some (codes "client"); value_names = 2; action = Some Set }
+
+abbrev pub agent_option : Rule
+agent_option = record (new_rule (codes "agent")) { long = Some (codes "agent"); value_names = 1; action = Some Set }
+
+-- `explain [--at MOMENT] [--each] [--client FRAMEWORK ROLE] [--agent NAME] [--summary]`
 abbrev pub explain_line : App
-explain_line = with_rule (with_rule (new_app (codes "explain")) moment_option) from_option
+explain_line =
+    with_rule (with_rule (with_rule (with_rule (with_rule (with_rule (new_app (codes "explain")) moment_option) (flag (codes "each"))) client_option)
+    agent_option) (flag (codes "summary"))) from_option
 
 -- `save [--epoch]`
 abbrev pub save_line : App
@@ -74,12 +86,56 @@ pub record SaysMoment (rows : List Row) (at : ℕ) : Type 0 where
       → digits_value 10 (without_leading_plus text) ≤ LATEST_MOMENT → at ≡ digits_value 10 (without_leading_plus text)
   pub early : at ≤ LATEST_MOMENT
 
+-- what is asked for, by its texts
+pub data Asked : Type 0 where
+  short : Asked
+  all : Asked
+  agent : Text → Asked
+  client : Text → Text → Asked
+  sums : Asked
+  several : Asked
+
+abbrev pub asked_of : Whom → Asked
+asked_of whom.All = all
+asked_of (whom.Agent name) = agent name.now
+asked_of (whom.Client framework role) = client framework.now role.now
+
+abbrev pub asked_for : Scope → Asked
+asked_for Short = short
+asked_for (Each whom) = asked_of whom
+asked_for Summary = sums
+asked_for Several = several
+
+abbrev pub asked_of_client : List Text → Asked
+asked_of_client [] = several
+asked_of_client (framework ∷ []) = several
+asked_of_client (framework ∷ role ∷ []) = client framework role
+asked_of_client (framework ∷ role ∷ more ∷ others) = several
+
+-- by what is said of `--each`, `--summary`, `--agent` and `--client`, of which one may be said beside the first
+abbrev pub asked_by : Bool → Bool → Option Text → Option (List Text) → Asked
+asked_by each false None None = if each then all else short
+asked_by each true None None = sums
+asked_by each false (Some name) None = agent name
+asked_by each true (Some name) None = several
+asked_by each false None (Some texts) = asked_of_client texts
+asked_by each true None (Some texts) = several
+asked_by each summary (Some name) (Some texts) = several
+
+-- what they say of whom to tell
+pub record SaysScope (rows : List Row) (scope : Scope) : Type 0 where
+  pub each : Bool
+  pub summary : Bool
+  pub is_each : HasFlag rows (codes "each") each
+  pub is_summary : HasFlag rows (codes "summary") summary
+  pub asked : asked_for scope ≡ asked_by each summary (first_of (codes "agent") rows) (all_of (codes "client") rows)
+
 -- the name of the command that does a task
 abbrev pub name_of : Task → Text
 name_of (Run echo ask) = codes "run"
 name_of Check = codes "check"
 name_of Audit = codes "audit"
-name_of (Explain at) = codes "explain"
+name_of (Explain at scope) = codes "explain"
 name_of (Save epoch) = codes "save"
 name_of (Show json) = codes "show"
 name_of (Lint write) = codes "lint"
@@ -93,7 +149,7 @@ abbrev pub SaysTask : List Row → Task → Type 0
 SaysTask rows (Run echo ask) = HasFlag rows (codes "echo") echo × HasFlag rows (codes "ask") ask
 SaysTask rows Check = ⊤
 SaysTask rows Audit = ⊤
-SaysTask rows (Explain at) = SaysMoment rows at
+SaysTask rows (Explain at scope) = SaysMoment rows at × SaysScope rows scope
 SaysTask rows (Save epoch) = HasFlag rows (codes "epoch") epoch
 SaysTask rows (Show json) = HasFlag rows (codes "json") json
 SaysTask rows (Lint write) = HasFlag rows (codes "write") write
@@ -110,7 +166,7 @@ abbrev pub IsWithinBounds : Task → Type 0
 IsWithinBounds (Run echo ask) = ⊤
 IsWithinBounds Check = ⊤
 IsWithinBounds Audit = ⊤
-IsWithinBounds (Explain at) = at ≤ LATEST_MOMENT
+IsWithinBounds (Explain at scope) = at ≤ LATEST_MOMENT
 IsWithinBounds (Save epoch) = ⊤
 IsWithinBounds (Show json) = ⊤
 IsWithinBounds (Lint write) = ⊤

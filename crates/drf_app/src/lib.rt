@@ -2,11 +2,12 @@
 #![tactic(auto)]
 
 mod check;
+mod explain;
 mod line;
 mod lint;
 mod run;
 mod show;
 mod tasks;
 
-pub use line::{Request, Task};
+pub use line::{Request, Scope, Task};
 pub use tasks::command;

@@ -1,18 +1,32 @@
 //! The words of the command line, and what they ask for.
-ghost use Rattle.std.specs.Prelude.{◌≡◌, map, false, MatchResult, IfOk};
+ghost use Rattle.std.specs.Prelude.{◌≡◌, map, false, MatchResult, IfOk, option_map};
 ghost use Rattle.clap.specs.Words.{app_of, found_of, rows_of, rule_of};
-ghost use Rattle.drf_app.specs.Line.{audit_line, check_line, explain_line, lint_line, run_line, save_line, show_line, drf_line, flag, name_of, Asks, HasFlag, IsCommand, IsRefused, SaysMoment, SaysTask};
+ghost use Rattle.drf_app.specs.Line.{agent_option, asked_by, asked_for, asked_of_client, audit_line, check_line, client_option, explain_line, lint_line, moment_option, run_line, save_line, show_line, drf_line, flag, name_of, Asks, HasFlag, IsCommand, IsRefused, SaysMoment, SaysScope, SaysTask};
 
 use clap::builder::ValueParser;
 use clap::{Arg, ArgAction, ArgMatches, Command, Error};
 use drf_rows::LATEST_MOMENT;
 use drf_start::from_option;
+use drf_why::Whom;
 use std::alloc::{AllocError, Global};
 use std::convert::AsStr;
 
+/// What is told of the next cycle.
+#[derive(Clone, Copy, Debug)]
+pub enum Scope<'a> {
+    /// On each agent the clients in order, as long as what is left is worth an offer.
+    Short,
+    /// Each client on each agent, or whom the words name.
+    Each(Whom<'a>),
+    /// What all that comes to for each client.
+    Summary,
+    /// The words ask for several of these.
+    Several,
+}
+
 /// What a command does.
 #[derive(Clone, Copy, Debug)]
-pub enum Task {
+pub enum Task<'a> {
     /// The replies to event lines; with `echo` each line, as it was read, before its reply; with `ask` the answers to lines that ask.
     Run { echo: bool, ask: bool },
     /// Whether a journal is right.
@@ -21,7 +35,7 @@ pub enum Task {
     Audit,
     /// What the cycle at a moment in milliseconds would offer after the events of event lines, and why it would offer nothing. The clock
     /// never goes back: 0 is the moment at which it stands.
-    Explain { at: u64 },
+    Explain { at: u64, scope: Scope<'a> },
     /// The state after the events of event lines; with `epoch` as a cluster begins anew that keeps its tasks.
     Save { epoch: bool },
     /// The state after the events of event lines, as tables; with `json` as lines for programs.
@@ -33,12 +47,15 @@ pub enum Task {
 /// What the words ask for.
 #[derive(Clone, Copy, Debug)]
 pub struct Request<'a> {
-    pub task: Task,
+    pub task: Task<'a>,
     /// The file with the state that the task begins with; without it there are no rows.
     pub from: Option<&'a str>,
 }
 
 const VERSION: &str = "0.1.0";
+
+/// What help calls the two values of `--client`.
+const CLIENT_NAMES: &[&str] = &["FRAMEWORK", "ROLE"];
 
 fn flag<'a>(alloc: Global, name: &'a str, help: &'a str) -> Arg<'a>
     ensures rule { rule_of result ≡ flag name.now }
@@ -89,20 +106,64 @@ fn audit_line<'a>(alloc: Global) -> Result<Command<'a>, AllocError>
         .arg(from_option(alloc))
 }
 
-fn explain_line<'a>(alloc: Global) -> Result<Command<'a>, AllocError>
-    ensures { IfOk result (λ line. app_of line ≡ explain_line) }
+fn moment_option<'a>(alloc: Global) -> Arg<'a>
+    ensures rule { rule_of result ≡ moment_option }
+    ensures local { result.global ≡ false }
 {
-    let at = Arg::new(alloc, "at")
+    Arg::new(alloc, "at")
         .long("at")
         .help("The moment of that cycle, in milliseconds; without it, the last moment of the lines")
         .value_parser(ValueParser::Unsigned(0, LATEST_MOMENT))
-        .action(ArgAction::Set);
+        .action(ArgAction::Set)
+}
+
+fn client_option<'a>(alloc: Global) -> Arg<'a>
+    ensures rule { rule_of result ≡ client_option }
+    ensures local { result.global ≡ false }
+{
+    Arg::new(alloc, "client")
+        .long("client")
+        .value_names(CLIENT_NAMES)
+        .help(
+            "Tells of this framework in this role on each agent, and of whom is offered something there before it",
+        )
+        .action(ArgAction::Set)
+}
+
+fn agent_option<'a>(alloc: Global) -> Arg<'a>
+    ensures rule { rule_of result ≡ agent_option }
+    ensures local { result.global ≡ false }
+{
+    Arg::new(alloc, "agent")
+        .long("agent")
+        .value_name("NAME")
+        .help("Tells of each client on this agent")
+        .action(ArgAction::Set)
+}
+
+fn explain_line<'a>(alloc: Global) -> Result<Command<'a>, AllocError>
+    ensures { IfOk result (λ line. app_of line ≡ explain_line) }
+{
     Command::new(alloc, "explain")
         .about(
             "Tells what the next cycle would offer to whom, and why to others nothing, after the event lines of standard input",
         )
-        .after_help("Example: head -12 examples/day.jsonl | drf explain")
-        .arg(at)?
+        .after_help(
+            "Examples: head -12 examples/day.jsonl | drf explain, and with explain --summary or explain --client batch data in its place",
+        )
+        .arg(moment_option(alloc))?
+        .arg(flag(
+            alloc,
+            "each",
+            "Tells of each client on each agent, also where too little is left to offer",
+        ))?
+        .arg(client_option(alloc))?
+        .arg(agent_option(alloc))?
+        .arg(flag(
+            alloc,
+            "summary",
+            "Tells of each client on how many agents it is offered something, on how many nothing for which cause, and who was offered it",
+        ))?
         .arg(from_option(alloc))
 }
 
@@ -195,8 +256,49 @@ fn flag_of(command: &ArgMatches, name: &str) -> bool
     command.get_flag(name)
 }
 
+/// The scope that the two values of `--client` name.
+fn client_scope<'a>(client: &[&'a str]) -> Scope<'a>
+    ensures { asked_for result ≡ asked_of_client (map (λ text. text.now) client.now) }
+{
+    let [framework, role] = client else {
+        return Scope::Several;
+    };
+    Scope::Each(Whom::Client { framework, role })
+}
+
+/// The scope that those words name, of which one alone may be said beside `--each`.
+fn scope_by<'a>(
+    each: bool,
+    summary: bool,
+    agent: Option<&'a str>,
+    client: Option<&[&'a str]>,
+) -> Scope<'a>
+    ensures { asked_for result
+        ≡ asked_by each summary (option_map (λ name. name.now) agent.entry) (option_map (λ texts. map (λ text. text.now) texts.now) client.entry) }
+{
+    match (summary, agent, client) {
+        (false, None, None) if each => Scope::Each(Whom::All),
+        (false, None, None) => Scope::Short,
+        (true, None, None) => Scope::Summary,
+        (false, Some(name), None) => Scope::Each(Whom::Agent(name)),
+        (false, None, Some(client)) => client_scope(client),
+        _ => Scope::Several,
+    }
+}
+
+/// The scope that the words of a command say.
+fn scope_of<'a>(explain: &ArgMatches<'a>) -> Scope<'a>
+    ensures { SaysScope (rows_of (found_of explain.now)) result }
+{
+    let each = flag_of(explain, "each");
+    let summary = flag_of(explain, "summary");
+    let agent = explain.get_str("agent");
+    let client = explain.get_strs("client");
+    scope_by(each, summary, agent, client)
+}
+
 /// The task of the command of a name, and what its words say.
-fn task_of(name: &str, command: &ArgMatches) -> Task
+fn task_of<'a>(name: &str, command: &ArgMatches<'a>) -> Task<'a>
     requires { IsCommand name.now }
     ensures name { name.now ≡ name_of result }
     ensures says { SaysTask (rows_of (found_of command.now)) result }
@@ -214,7 +316,8 @@ fn task_of(name: &str, command: &ArgMatches) -> Task
     }
     if name == "explain" {
         let at = moment_of(command);
-        return Task::Explain { at };
+        let scope = scope_of(command);
+        return Task::Explain { at, scope };
     }
     if name == "save" {
         let epoch = flag_of(command, "epoch");

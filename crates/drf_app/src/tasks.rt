@@ -8,13 +8,14 @@ ghost use Rattle.drf_app.specs.Done.{HasDone, HasDoneFrom, HasObeyed};
 ghost use Rattle.drf_app.specs.Line.{IsWithinBounds};
 
 use crate::check::{check, verdict_status};
+use crate::explain::explain;
 use crate::line::{Request, Task, request_of};
 use crate::lint::lint;
 use crate::run::answer;
 use crate::show::show;
 use drf_core::Core;
 use drf_files::FileBytes;
-use drf_journal::{Device, ProgramSorter, run_audit, run_explain};
+use drf_journal::{Device, ProgramSorter, run_audit};
 use drf_resume::save;
 use drf_start::{begin, tell_start};
 use drf_told::{finish, refuse};
@@ -29,7 +30,7 @@ fn perform_from<R: Read, W: Write, E: Write>(
     rt: &(impl Threads + Sync),
     alloc: Global,
     core: Core<ProgramSorter>,
-    task: Task,
+    task: Task<'_>,
     input: &mut Device<R>,
     output: &mut Device<W>,
     errors: &mut Device<E>,
@@ -39,7 +40,7 @@ fn perform_from<R: Read, W: Write, E: Write>(
     requires input { IsNew input.old.calls input.old.failed }
     requires output { IsNew output.old.calls output.old.failed }
     requires errors { IsNew errors.old.calls errors.old.failed }
-    ensures done { HasDoneFrom (live core) task
+    ensures done { HasDoneFrom (live core) task.entry
         (record { input = stream_of R.remaining input.old; output = stream_of W.contents output.old; errors = stream_of E.contents errors.old })
         (record { input = stream_of R.remaining input.new; output = stream_of W.contents output.new; errors = stream_of E.contents errors.new })
         result }
@@ -59,10 +60,7 @@ fn perform_from<R: Read, W: Write, E: Write>(
             let ended = run_audit(rt, alloc, core, input, output);
             finish(ended, errors)
         }
-        Task::Explain { at } => {
-            let ended = run_explain(alloc, core, at, input, output);
-            finish(ended, errors)
-        }
+        Task::Explain { at, scope } => explain(alloc, core, at, scope, input, output, errors),
         Task::Save { epoch } => {
             let ended = save(alloc, core, epoch, input, output);
             finish(ended, errors)

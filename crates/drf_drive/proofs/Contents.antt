@@ -1,12 +1,12 @@
 -- Files that are read one after the other.
-use Rattle.std.proofs.Common.{◌≡◌, ℕ, ◌+◌, ◌<◌, List, [], ◌∷◌, ◌++◌, length, map, get_or, take, drop, sym, ap, ◌∙◌, subst, suc, add-one, take-append-drop}
+use Rattle.std.proofs.Common.{◌≡◌, ℕ, ◌+◌, ◌<◌, List, [], ◌∷◌, ◌++◌, length, map, get_or, take, drop, sym, ap, ◌∙◌, subst, suc, add-one, take-append-drop, refl, arith}
 use Rattle.std.proofs.Math.Seq.{take-suc, drop-cons}
 use Rattle.std.proofs.lemmas.List.{map-append}
 use Rattle.std.specs.Global.{Vec}
 use Rattle.drf_journal.specs.declared.fault.RunFault.{RunFault}
 use Rattle.drf_journal.specs.declared.fault.RunFault.TheVariants.{Read, Write, Memory}
 use Rattle.drf_files.specs.Files.{Known, IsFileFault, MayHave}
-use Rattle.drf_drive.specs.Files.{AreContents, IsUnread, bytes_of}
+use Rattle.drf_drive.specs.Files.{AreContents, IsUnread, bytes_of, fault_of}
 
 -- ---- a list up to an element
 
@@ -37,6 +37,12 @@ contents-push known [] (c ∷ contents) name bytes are is = absurd are
 contents-push known (n ∷ names) [] name bytes are is = absurd are
 contents-push known (n ∷ names) (c ∷ contents) name bytes are is = (are.0, contents-push known names contents name bytes are.1 is)
 
+pub contents-count : (known : Known) (names contents : List (List ℕ)) → AreContents known names contents → length contents ≡ length names
+contents-count known [] [] are = refl
+contents-count known [] (c ∷ contents) are = absurd are
+contents-count known (n ∷ names) [] are = absurd are
+contents-count known (n ∷ names) (c ∷ contents) are = let same = contents-count known names contents are.1 in omega arith
+
 -- one file more
 pub contents-next : {X : Type 0} (text : X → List ℕ) (known : Known) (xs : List X) (i : ℕ) (x : X) → i < length xs → x ≡ get_or xs i x
     → (contents : List (Vec ℕ)) (bytes : Vec ℕ) → AreContents known (map text (take i xs)) (bytes_of contents)
@@ -52,12 +58,13 @@ contents-next text known xs i x inside is contents bytes are one =
 -- or one that gives none
 pub contents-fault : {X : Type 0} (text : X → List ℕ) (known : Known) (xs : List X) (i : ℕ) (x : X) → i < length xs → x ≡ get_or xs i x
     → (contents : List (List ℕ)) → AreContents known (map text (take i xs)) contents
-    → (fault : RunFault) → IsFileFault (known (text x)) fault → IsUnread known (map text xs) fault
+    → (fault : RunFault) → IsFileFault (known (text x)) fault → IsUnread known (map text xs) (fault_of (length contents) fault)
 contents-fault text known xs i x inside is contents are Read none = record {
   before = map text (take i xs);
   name = text x;
   after = map text (drop (i + 1) xs);
   one = map-cut-next xs i x inside is text;
+  place = contents-count known (map text (take i xs)) contents are;
   contents = contents;
   read = are;
   unread = none;

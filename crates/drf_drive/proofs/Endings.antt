@@ -9,32 +9,31 @@ use Rattle.drf_board.specs.HistoryLaws.{legal-nil}
 use Rattle.drf_board.specs.declared.entry.Entry.{Entry}
 use Rattle.drf_core.specs.Machine.{Engine, Machine, live}
 use Rattle.drf_journal.specs.declared.fault.RunFault.TheVariants.{Read, Write, Memory}
-use Rattle.drf_master.specs.Closing.{AreOf}
+use Rattle.drf_master.specs.Closing.{AreOf, IsCloseFault}
 use Rattle.drf_master.specs.Journal.{Begins}
+use Rattle.drf_master.specs.Matching.{IsFault, receipts_of}
 use Rattle.drf_master.specs.Receipts.{Held, IsNewPass}
-use Rattle.drf_master.specs.Scripts.{HasStopped, IsDriveFault, IsStop}
-use Rattle.drf_master.specs.declared.driving.DriveFault.{DriveFault}
+use Rattle.drf_master.specs.Scripts.{HasStopped, HaveRun, IsUndriven, IsUnfit}
 use Rattle.drf_master.specs.declared.driving.DriveFault.TheVariants as driving
+use Rattle.drf_master.specs.declared.driving.Undriven.{Undriven}
+use Rattle.drf_master.specs.declared.driving.Undriven.TheVariants.{Undone, Unfit}
+use Rattle.drf_master.specs.declared.master.CloseRefused.{CloseRefused}
+use Rattle.drf_master.specs.declared.matching.CloseFault.{CloseFault}
 use Rattle.drf_master.specs.declared.matching.CloseFault.TheVariants as why
 use Rattle.drf_rows.specs.LimitNumbers.{LimitNumbers}
 use Rattle.drf_rows.specs.Step.{live_rows}
 use Rattle.drf_rows.specs.declared.event.Event.{Event}
 use Rattle.drf_rows.specs.declared.rows.Rows.{Rows}
-use Rattle.drf_rows.specs.laws.LiveLaws.{live_rows-twice}
-use Rattle.drf_drive.specs.Driven.{HasDrivenFiles, IsJournalOfFiles, IsNoJournal, IsRunFault, IsShuffleOf, told_as}
+use Rattle.drf_row_laws.specs.LiveLaws.{live_rows-twice}
+use Rattle.drf_drive.specs.Driven.{HasDrivenFiles, HasMisfit, IsHandedOn, IsJournalOfFiles, IsRunFault, IsShuffleOf, IsTellable, IsToldAs, IsToldUnfit}
 use Rattle.drf_files.specs.Files.{Known}
-use Rattle.drf_drive.specs.Files.{AreContents}
 use Rattle.drf_drive.specs.JournalText.{IsCutOff, journal_text}
 use Rattle.drf_drive.specs.Scripts.{HasScripts}
+use Rattle.drf_drive.specs.declared.script.Misfit.{Misfit}
 use Rattle.drf_drive.specs.declared.script.ScriptFault.{ScriptFault}
-use Rattle.drf_drive.specs.declared.script.ScriptFault.TheVariants.{Run, Line, Close}
+use Rattle.drf_drive.specs.declared.script.ScriptFault.TheVariants.{Run, Unread, Line, Close}
+use Rattle.drf_drive.proofs.Contents.{contents-count}
 use Rattle.drf_drive.proofs.Scripts.{scripts-count}
-
-contents-count : (known : Known) (names contents : List (List ℕ)) → AreContents known names contents → length contents ≡ length names
-contents-count known [] [] are = refl
-contents-count known [] (c ∷ contents) are = absurd are
-contents-count known (n ∷ names) [] are = absurd are
-contents-count known (n ∷ names) (c ∷ contents) are = let same = contents-count known names contents are.1 in omega arith
 
 -- a script for each file
 pub scripts-few : (known : Known) (names : List (List ℕ)) (scripts : List (Vec Event)) → HasScripts known names scripts
@@ -70,26 +69,17 @@ pub written-ends : (start : Machine) (known : Known) (names : List (List ℕ)) (
     → (r : Result (Unit {0}) ScriptFault) (old new : Option (List ℕ)) → OnOk r (Appends old new (journal_text journal))
     → IfErr r (IsCutOff old new (journal_text journal)) → HasDrivenFiles start known names old new r
 written-ends start known names journal right (Ok done) old new ok err = record { journal = journal; right = right; appended = ok }
+written-ends start known names journal right (Err (Unread file)) old new ok err = absurd err
 written-ends start known names journal right (Err (Run Read)) old new ok err = absurd err
 written-ends start known names journal right (Err (Run Write)) old new ok err = record { journal = journal; right = right; appended = err }
 written-ends start known names journal right (Err (Run Memory)) old new ok err = inr (record { journal = journal; right = right; appended = err })
 written-ends start known names journal right (Err (Line bad)) old new ok err = absurd err
-written-ends start known names journal right (Err Close) old new ok err = absurd err
+written-ends start known names journal right (Err (Close misfit)) old new ok err = absurd err
 
 -- no files have no scripts
 pub scripts-none : (known : Known) (names : List (List ℕ)) → length names ≡ 0 → HasScripts known names []
 scripts-none known [] none = record { contents = []; read = tt; meant = tt }
 scripts-none known (n ∷ names) none = absurd (omega arith)
-
--- a master's drive ends so
-pub told-fault : (limits : LimitNumbers) (start : Rows) (scripts : List (Vec Event)) (fault : DriveFault) → IsNoJournal limits start scripts fault
-    → IsRunFault limits start scripts (told_as fault)
-told-fault limits start scripts driving.Stopped is = absurd is
-told-fault limits start scripts driving.Memory is = tt
-told-fault limits start scripts (driving.Close why.Stranger) is = (why.Stranger, is)
-told-fault limits start scripts (driving.Close why.Missing) is = (why.Missing, is)
-told-fault limits start scripts (driving.Close (why.Mismatch place)) is = (why.Mismatch place, is)
-told-fault limits start scripts (driving.Close why.Memory) is = tt
 
 -- ---- under a gate that is open
 
@@ -102,52 +92,64 @@ not-stopped asked worker (s ∷ scripts) (inl stop) = stop.stopped
 not-stopped asked worker (s ∷ scripts) (inr later) = not-stopped asked (worker + 1) scripts later.1
 
 -- no worker is stopped, and no pass is another master's
-pub no-journal : (limits : LimitNumbers) (start : Rows) (asked : ℕ → ℕ → Type 0) (key : ℕ) (passes : List Held) (scripts : List (Vec Event)) → All (IsNewPass key) passes
-    → (fault : DriveFault) → IsDriveFault limits start asked never key passes scripts fault → IsNoJournal limits start scripts fault
-no-journal limits start asked key passes scripts new driving.Stopped is = not-stopped asked 0 scripts is.1
-no-journal limits start asked key passes scripts new driving.Memory is = tt
-no-journal limits start asked key passes scripts new (driving.Close why.Stranger) is =
-    absurd (is (All-weaker (IsNewPass key) (λ (h : Held). h.key ≡ key) (λ pass is. is.key) passes new))
-no-journal limits start asked key passes scripts new (driving.Close why.Missing) is = record {
-  passes = passes;
-  unused = All-weaker (IsNewPass key) (λ (h : Held). h.receipts ≡ []) (λ pass is. is.receipts) passes new;
-  replies = is.replies;
-  lists = is.lists;
-  run = is.run;
-  journal = is.journal;
-  legal = is.legal;
-  misfit = is.misfit;
-}
-no-journal limits start asked key passes scripts new (driving.Close (why.Mismatch place)) is = record {
-  passes = passes;
-  unused = All-weaker (IsNewPass key) (λ (h : Held). h.receipts ≡ []) (λ pass is. is.receipts) passes new;
-  replies = is.replies;
-  lists = is.lists;
-  run = is.run;
-  journal = is.journal;
-  legal = is.legal;
-  misfit = is.misfit;
-}
-no-journal limits start asked key passes scripts new (driving.Close why.Memory) is = record {
-  passes = passes;
-  unused = All-weaker (IsNewPass key) (λ (h : Held). h.receipts ≡ []) (λ pass is. is.receipts) passes new;
-  replies = is.replies;
-  lists = is.lists;
-  run = is.run;
-  journal = is.journal;
-  legal = is.legal;
-  misfit = is.misfit;
-}
+module _ (limits : LimitNumbers) (start : Rows) (asked : ℕ → ℕ → Type 0) (key : ℕ) (passes : List Held) (scripts : List (Vec Event)) (new : All (IsNewPass key) passes) where
+  pub tellable : {K : Type 0} (undriven : Undriven K) → IsUndriven limits start asked never key passes scripts undriven → IsTellable undriven
+  tellable (Undone driving.Stopped) is = not-stopped asked 0 scripts is.1
+  tellable (Undone driving.Memory) is = tt
+  tellable (Undone (driving.Close why.Stranger)) is = is (All-weaker (IsNewPass key) (λ (h : Held). h.key ≡ key) (λ pass own. own.key) passes new)
+  tellable (Undone (driving.Close why.Missing)) is = is
+  tellable (Undone (driving.Close (why.Mismatch place))) is = is
+  tellable (Undone (driving.Close why.Memory)) is = is
+  tellable (Unfit refused) is = tt
+
+  fault-of : (journal : List Entry) (done : List Held) (fault : CloseFault) → AreOf key done → IsCloseFault journal key done fault
+      → IsFault journal (receipts_of done) fault
+  fault-of journal done why.Stranger own is = absurd (is own)
+  fault-of journal done why.Missing own is = is.1
+  fault-of journal done (why.Mismatch place) own is = is.1
+  fault-of journal done why.Memory own is = is.1
+
+  misfit-of : {K : Type 0} (refused : CloseRefused K) → IsUnfit limits start asked key passes scripts refused → (told : Misfit) → IsHandedOn refused told
+      → HasMisfit limits start scripts told
+  misfit-of refused is told on =
+      let handed = sym on.passes in
+      let found = sym on.journal in
+      record {
+        passes = passes;
+        unused = All-weaker (IsNewPass key) (λ (h : Held). h.receipts ≡ []) (λ pass own. own.receipts) passes new;
+        replies = is.replies;
+        run = subst (λ (ps : Vec Held). HaveRun passes scripts is.replies (receipts_of ps.items)) handed is.run.run;
+        legal = subst (IsLegal limits start) found is.handed_back.legal;
+        fault = subst (λ (x : List Entry × (Vec Held × CloseFault)). IsFault x.0 (receipts_of x.1.0.items) x.1.1)
+            (λ i. (found i, (handed i, sym on.fault i)))
+            (fault-of refused.book.entries refused.passes.items refused.fault is.run.own_done is.handed_back.fault);
+        found = λ memory. on.found (sym on.fault ∙ memory);
+      }
+
+  unfit-told : {K : Type 0} (refused : CloseRefused K) → IsUnfit limits start asked key passes scripts refused → (told : ScriptFault) → IsToldUnfit refused told
+      → IsRunFault limits start scripts told
+  unfit-told refused is (Unread file) on = absurd on
+  unfit-told refused is (Run Read) on = absurd on
+  unfit-told refused is (Run Write) on = absurd on
+  unfit-told refused is (Run Memory) on = tt
+  unfit-told refused is (Line bad) on = absurd on
+  unfit-told refused is (Close told) on = misfit-of refused is told on
+
+  pub no-journal : {K : Type 0} (undriven : Undriven K) → IsUndriven limits start asked never key passes scripts undriven → (told : ScriptFault) → IsToldAs undriven told
+      → IsRunFault limits start scripts told
+  no-journal (Undone fault) is told on = subst (IsRunFault limits start scripts) (sym on) tt
+  no-journal (Unfit refused) is told on = unfit-told refused is told on
 
 -- scripts that gave no journal leave nothing written
 pub unrun-ends : (start : Machine) (known : Known) (names : List (List ℕ)) (scripts : List (Vec Event)) → HasScripts known names scripts
     → (old new : Option (List ℕ)) → new ≡ old → (fault : ScriptFault) → IsRunFault start.limits start.rows scripts fault
     → HasDrivenFiles start known names old new (Err fault)
+unrun-ends start known names scripts meant old new same (Unread file) is = absurd is
 unrun-ends start known names scripts meant old new same (Run Read) is = absurd is
 unrun-ends start known names scripts meant old new same (Run Write) is = absurd is
 unrun-ends start known names scripts meant old new same (Run Memory) is = inl same
 unrun-ends start known names scripts meant old new same (Line bad) is = absurd is
-unrun-ends start known names scripts meant old new same Close is = (same, record { scripts = scripts; meant = meant; fault = is.0; misfit = is.1 })
+unrun-ends start known names scripts meant old new same (Close misfit) is = (same, record { scripts = scripts; meant = meant; handed_back = is })
 
 -- ---- a core as callers see it
 

@@ -9,7 +9,7 @@ use Rattle.drf_drive.specs.Files.{bytes_of}
 use Rattle.drf_drive.specs.Scripts.{AreEventsOf, AreScripts, AreWhole, HaveBadLine, HaveStopped, IsScript, IsScriptOf, IsStoppedBy, IsWhole, as_meant, meanings_of}
 use Rattle.drf_drive.specs.declared.script.Script.{Script}
 use Rattle.drf_drive.specs.declared.script.ScriptFault.{ScriptFault}
-use Rattle.drf_drive.specs.declared.script.ScriptFault.TheVariants.{Run, Line, Close}
+use Rattle.drf_drive.specs.declared.script.ScriptFault.TheVariants.{Run, Unread, Line, Close}
 use Rattle.drf_drive.proofs.Cuts.{lines-nil}
 
 -- ---- the lines of a file
@@ -41,10 +41,11 @@ whole-count (s ∷ scripts) (e ∷ events) are = ap (λ (n : ℕ). suc n) (whole
 -- the next one is not whole
 pub stopped-next : (scripts before : List Script) (script : Script) (after : List Script) (events : List (Vec Event)) (fault : ScriptFault)
     → scripts ≡ before ++ script ∷ after → AreWhole before events → IsStoppedBy (length events) script fault → HaveStopped scripts fault
+stopped-next scripts before script after events (Unread file) split whole stopped = stopped
 stopped-next scripts before script after events (Run Read) split whole stopped = stopped
 stopped-next scripts before script after events (Run Write) split whole stopped = stopped
 stopped-next scripts before script after events (Run Memory) split whole stopped = tt
-stopped-next scripts before script after events Close split whole stopped = stopped
+stopped-next scripts before script after events (Close misfit) split whole stopped = stopped
 stopped-next scripts before script after events (Line bad) split whole stopped = record {
   before = before;
   script = script;
@@ -120,10 +121,11 @@ cut-at (f ∷ files) (s ∷ before) script after (e ∷ events) of whole =
 -- if one is not, its line is the first that is no event
 pub scripts-stopped : (files : List (Vec ℕ)) (scripts : List Script) → AreScriptsOf files scripts → (fault : ScriptFault) → HaveStopped scripts fault
     → HaveBadLine (bytes_of files) fault
+scripts-stopped files scripts of (Unread file) stopped = stopped
 scripts-stopped files scripts of (Run Read) stopped = stopped
 scripts-stopped files scripts of (Run Write) stopped = stopped
 scripts-stopped files scripts of (Run Memory) stopped = tt
-scripts-stopped files scripts of Close stopped = stopped
+scripts-stopped files scripts of (Close misfit) stopped = stopped
 scripts-stopped files scripts of (Line bad) stopped =
     let cut = cut-at files stopped.before stopped.script stopped.after stopped.events (subst (AreScriptsOf files) stopped.scripts_are of) stopped.whole in
     record {

@@ -10,11 +10,11 @@ use Rattle.drf_lines.specs.declared.fault.LineError.TheVariants as errors
 use Rattle.drf_lines.specs.declared.fault.LineFault.{LineFault}
 use Rattle.drf_rows.specs.declared.event.Event.{Event}
 use Rattle.drf_files.specs.Files.{Known}
-use Rattle.drf_drive.specs.Files.{AreContents, IsUnread}
+use Rattle.drf_drive.specs.Files.{AreContents, HasUnread}
 use Rattle.drf_drive.specs.declared.script.BadLine.{BadLine}
 use Rattle.drf_drive.specs.declared.script.Script.{Script}
 use Rattle.drf_drive.specs.declared.script.ScriptFault.{ScriptFault}
-use Rattle.drf_drive.specs.declared.script.ScriptFault.TheVariants.{Run, Line, Close}
+use Rattle.drf_drive.specs.declared.script.ScriptFault.TheVariants.{Run, Unread, Line, Close}
 
 -- what the lines of a file mean, line by line
 abbrev pub meanings_of : List ℕ → List (Result Event LineFault)
@@ -93,9 +93,10 @@ pub record HasRefused (known : Known) (names : List (List ℕ)) (bad : BadLine) 
 
 -- a file cannot be read, or one has a bad line, or memory ran out
 abbrev pub IsUnreadable : Known → List (List ℕ) → ScriptFault → Type 0
-IsUnreadable known names (Run fault) = IsUnread known names fault
+IsUnreadable known names (Unread file) = HasUnread known names file
+IsUnreadable known names (Run Memory) = ⊤
 IsUnreadable known names (Line bad) = HasRefused known names bad
-IsUnreadable known names Close = ⊥
+IsUnreadable known names _ = ⊥
 
 -- ---- scripts
 

@@ -1,26 +1,39 @@
 //! The bytes of files, one after the other.
-ghost use Rattle.std.specs.Prelude.{map, IfOk, IfErr};
-ghost use Rattle.drf_drive.specs.Files.{AreContents, IsUnread, bytes_of};
+ghost use Rattle.std.specs.Prelude.{◌≡◌, map, IfOk, IfErr};
+ghost use Rattle.drf_drive.specs.Files.{AreContents, IsUnread, bytes_of, fault_of};
 
+use crate::script::ScriptFault;
 use drf_files::FileBytes;
 use drf_journal::RunFault;
 use std::alloc::Global;
 use std::convert::AsStr;
+
+// What is told where the file at that place gave no bytes.
+fn fault_of(file: usize, fault: RunFault) -> ScriptFault
+    ensures { result ≡ fault_of file fault }
+{
+    match fault {
+        RunFault::Read => ScriptFault::Unread(file),
+        RunFault::Write | RunFault::Memory => ScriptFault::Run(fault),
+    }
+}
 
 /// The bytes of all files, in order.
 pub(crate) fn read_files<F: FileBytes, S: AsStr>(
     alloc: Global,
     files: &mut F,
     names: &[S],
-) -> Result<Vec<Vec<u8>>, RunFault>
+) -> Result<Vec<Vec<u8>>, ScriptFault>
     ensures contents { IfOk result (λ contents. AreContents (F.known files.old) (map S.text names.now) (bytes_of contents.items)) }
     ensures fault { IfErr result (IsUnread (F.known files.old) (map S.text names.now)) }
 {
     let mut contents = Vec::new(alloc);
     for name in names {
         contents.reserve(1)?;
-        let bytes = files.bytes(name.as_str())?;
-        contents.push_reserved(bytes);
+        match files.bytes(name.as_str()) {
+            Ok(bytes) => contents.push_reserved(bytes),
+            Err(fault) => return Err(fault_of(contents.len(), fault)),
+        }
     }
     Ok(contents)
 }

@@ -8,4 +8,4 @@ mod run;
 mod script;
 
 pub use run::run_drive;
-pub use script::{BadLine, ScriptFault};
+pub use script::{BadLine, Misfit, ScriptFault};

@@ -4,17 +4,19 @@ ghost use Rattle.drf_board.specs.History.{IsLegal};
 ghost use Rattle.drf_core.specs.Machine.{live};
 ghost use Rattle.drf_files.specs.Files.{Known};
 ghost use Rattle.drf_master.specs.Journal.{Begins};
-ghost use Rattle.drf_drive.specs.Driven.{HasDrivenFiles, IsNoJournal, IsRunFault, IsShuffleOf};
+ghost use Rattle.drf_drive.specs.Driven.{HasDrivenFiles, IsRunFault, IsShuffleOf, IsTellable, IsToldAs, IsToldUnfit};
 ghost use Rattle.drf_drive.specs.JournalText.{is_write_fault};
 ghost use Rattle.drf_drive.specs.Scripts.{HasScripts};
 
 use crate::journal::{write_journal, write_nothing};
-use crate::script::{ScriptFault, read_scripts};
+use crate::script::{Misfit, ScriptFault, read_scripts};
 use drf_board::{Brand, Entry, Naming, Slate};
 use drf_core::Core;
 use drf_files::FileBytes;
 use drf_journal::{Device, RunFault};
-use drf_master::{CloseFault, DriveFault, Master, MasterSorter, OpenGate, drive};
+use drf_master::{
+    CloseFault, CloseRefused, DriveFault, Master, MasterSorter, OpenGate, Undriven, drive,
+};
 use drf_rows::{Event, Limits};
 use std::alloc::Global;
 use std::convert::AsStr;
@@ -26,19 +28,45 @@ use std::thread::Threads;
 /// The key of the one master and its passes.
 const KEY: u64 = 0;
 
-impl From<DriveFault> for ScriptFault {
-    ghost use Rattle.std.specs.Prelude.{◌≡◌};
-    ghost use Rattle.drf_drive.specs.Driven.{told_as};
+// The journal and the passes that were handed back. The core goes.
+fn misfit_of<K: Naming>(refused: CloseRefused<K>) -> Misfit
+    ensures fault { result.fault ≡ refused.fault }
+    ensures journal { result.journal.items ≡ refused.book.entries }
+    ensures passes { result.passes ≡ refused.passes }
+{
+    let CloseRefused {
+        fault,
+        book,
+        told: _told,
+        passes,
+    } = refused;
+    Misfit {
+        fault,
+        journal: book.into_entries(),
+        passes,
+    }
+}
 
-    ghost from_gives = { λ fault gives. gives ≡ told_as fault };
+// What is told of passes that do not fit.
+fn tell_unfit<K: Naming>(refused: CloseRefused<K>) -> ScriptFault
+    ensures { IsToldUnfit refused result }
+{
+    if refused.fault == CloseFault::Memory {
+        drop(refused);
+        return ScriptFault::Run(RunFault::Memory);
+    }
+    ScriptFault::Close(misfit_of(refused))
+}
 
-    fn from(fault: DriveFault) -> ScriptFault {
-        match fault {
-            DriveFault::Memory | DriveFault::Close(CloseFault::Memory) => {
-                ScriptFault::Run(RunFault::Memory)
-            }
-            _ => ScriptFault::Close,
-        }
+// What is told of scripts that gave no book, where no worker was stopped and no pass was another master's.
+fn tell_undriven<K: Naming>(undriven: Undriven<K>) -> ScriptFault
+    requires { IsTellable undriven }
+    ensures { IsToldAs undriven result }
+{
+    match undriven {
+        Undriven::Unfit(refused) => tell_unfit(refused),
+        Undriven::Undone(DriveFault::Memory) => ScriptFault::Run(RunFault::Memory),
+        Undriven::Undone(_) => unreachable!(),
     }
 }
 
@@ -49,13 +77,13 @@ fn run_named<K: Naming + Send + Sync, W: Threads + Wait + Sync>(
     core: Core<MasterSorter>,
     slate: Slate,
     scripts: Vec<Vec<Event>>,
-) -> Result<Vec<Entry>, DriveFault>
+) -> Result<Vec<Entry>, ScriptFault>
     requires named { slate.name ≡ K.slate }
     requires start { Begins K.slate.limits K.start core }
     requires count { (1 ≤ length scripts.items) × (length scripts.items ≤ 64) }
     ensures legal { IfOk result (λ journal. IsLegal K.slate.limits K.start journal.items) }
     ensures shuffle { IfOk result (λ journal. IsShuffleOf scripts.items journal.items) }
-    ensures fault { IfErr result (IsNoJournal K.slate.limits K.start scripts.items) }
+    ensures fault { IfErr result (IsRunFault K.slate.limits K.start scripts.items) }
 {
     let count = scripts.len() as u64;
     let (master, passes, _viewers) = Master::<K, &W>::open_from(
@@ -63,7 +91,7 @@ fn run_named<K: Naming + Send + Sync, W: Threads + Wait + Sync>(
     )?;
     match drive(rt, alloc, master, passes, &OpenGate, scripts) {
         Ok(driven) => Ok(driven.into_entries()),
-        Err(fault) => Err(fault),
+        Err(undriven) => Err(tell_undriven(undriven)),
     }
 }
 
@@ -82,7 +110,7 @@ fn run_scripts<W: Threads + Wait + Sync>(
     ensures fault { IfErr result (IsRunFault limits (live core).rows scripts.items) }
 {
     let slate = Slate::open(0, limits)?;
-    Ok(run_named::<Brand, W>(rt, alloc, core, slate, scripts)?)
+    run_named::<Brand, W>(rt, alloc, core, slate, scripts)
 }
 
 // Runs scripts, which are what the lines of some files mean, and writes the journal.
@@ -109,9 +137,9 @@ fn drive_scripts<W: Threads + Wait + Sync, O: Write>(
 }
 
 /// Reads files of event lines, at most 64, runs each on a thread of its own, on one master that begins with a core, and writes the journal:
-/// for each call the line of the event and that of the reply. A file that cannot be read is told before any line that is no event, and of such lines the first one of
-/// the first file that has one. Nothing is written then. It is for a program that ends behind it: the memory of a journal that was written is
-/// not given back.
+/// for each call the line of the event and that of the reply. The first file that cannot be read is told, before any line that is no event,
+/// and of such lines the first one of the first file that has one. Nothing is written then, nor where the passes of the threads do not fit the
+/// journal: both are handed back. It is for a program that ends behind it: the memory of a journal that was written is not given back.
 pub fn run_drive<W: Threads + Wait + Sync, F: FileBytes, S: AsStr, O: Write>(
     rt: &W,
     alloc: Global,

@@ -5,9 +5,11 @@ ghost use Rattle.drf_drive.specs.Scripts.{AreScripts, AreWhole, HasScripts, Have
 
 use crate::files::read_files;
 use crate::lines::first_line;
+use drf_board::Entry;
 use drf_files::FileBytes;
 use drf_journal::RunFault;
 use drf_lines::{LineError, LineFault, LineReader};
+use drf_master::{CloseFault, Pass};
 use drf_rows::Event;
 use rayon::prelude::*;
 use std::alloc::{AllocError, Global};
@@ -24,15 +26,25 @@ pub struct BadLine {
     pub fault: LineFault,
 }
 
+/// A journal that was found at the end, the passes of the threads, and why they do not fit.
+#[derive(Drop)]
+pub struct Misfit {
+    pub fault: CloseFault,
+    pub journal: Vec<Entry>,
+    pub passes: Vec<Pass>,
+}
+
 /// Why files were not run to their ends, or their journal was not written whole.
-#[derive(Clone, Copy, Debug, PartialEq, Eq)]
+#[derive(Drop)]
 pub enum ScriptFault {
-    /// A file or a stream failed, or memory ran out.
+    /// The file at that place, from 0, cannot be read. All before it were.
+    Unread(usize),
+    /// The stream failed, or memory ran out.
     Run(RunFault),
     /// A line is no event: the first one of the first file that has such a line.
     Line(BadLine),
-    /// All lines are events, but the journal that was found is no shuffle of what the threads were told.
-    Close,
+    /// All lines are events, and each was called, but the journal that was found is no shuffle of what the threads were told.
+    Close(Misfit),
 }
 
 impl From<RunFault> for ScriptFault {

@@ -1,2 +1,1 @@
 mod Bounds
-mod Started

@@ -1,29 +1,38 @@
 //! A drive of files, and what is told of it.
-ghost use Rattle.std.specs.Prelude.{◌≡◌, ◌≤◌, [], true, false, length, map, slice_get, unwrap_or};
+ghost use Rattle.std.specs.Prelude.{◌≡◌, ◌≤◌, true, false, length, map};
 ghost use Rattle.drf_core.specs.Machine.{live};
 ghost use Rattle.drf_rows.specs.LimitNumbers.{ceilings};
 ghost use Rattle.drf_told.specs.Streams.{Stream, stream_of};
+ghost use Rattle.drf_told.specs.Told.{HasToldUnread};
 ghost use Rattle.drf_drive_app.specs.Done.{HasDriven};
-ghost use Rattle.drf_drive_app.specs.Drives.{HasToldDrive};
+ghost use Rattle.drf_drive_app.specs.Drives.{HasToldDrive, name_at};
 
 use drf_core::Core;
 use drf_drive::{ScriptFault, run_drive};
 use drf_files::FileBytes;
-use drf_journal::{Device, ProgramSorter};
+use drf_journal::{Device, ProgramSorter, RunFault};
 use drf_rows::Limits;
-use drf_told::{RefusedLine, finish, tell, tell_line};
+use drf_told::{RefusedLine, finish, tell, tell_file, tell_line};
 use std::alloc::Global;
 use std::io::Write;
 use std::sync::Wait;
 use std::thread::Threads;
 
 fn name_at<'a>(names: &[&'a str], file: usize) -> &'a str
-    ensures { result.now ≡ unwrap_or (slice_get (map (λ name. name.now) names.now) file) [] }
+    ensures { result.now ≡ name_at (map (λ name. name.now) names.now) file }
 {
     match names.get(file) {
         Some(name) => *name,
         None => "",
     }
+}
+
+/// Tells of the file at a place, which cannot be read.
+fn tell_unread<E: Write>(alloc: Global, names: &[&str], file: usize, errors: &mut Device<E>) -> u8
+    requires { errors.old.failed ≡ false }
+    ensures { HasToldUnread (name_at (map (λ name. name.now) names.now) file) result (E.contents errors.old.inner) (E.contents errors.new.inner) errors.new.failed }
+{
+    tell_file(alloc, name_at(names, file), RunFault::Read, errors)
 }
 
 /// Tells how a drive ended, and gives the program's status.
@@ -38,8 +47,9 @@ fn tell_end<E: Write>(
 {
     match ended {
         Ok(()) => 0,
+        Err(ScriptFault::Unread(file)) => tell_unread(alloc, names, file, errors),
         Err(ScriptFault::Run(fault)) => finish::<(), E>(Err(fault), errors),
-        Err(ScriptFault::Close) => {
+        Err(ScriptFault::Close(_misfit)) => {
             tell(errors, "drf: close fault\n");
             1
         }

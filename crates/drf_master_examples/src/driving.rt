@@ -164,7 +164,7 @@ fn drive_and_close<K: Naming + Send + Sync, W: Threads + Wait + Sync>(
 {
     match drive(rt, alloc, master, passes, meeting, scripts) {
         Ok(driven) => Ok(outcome_of(driven)),
-        Err(fault) => Err(fault),
+        Err(undriven) => Err(undriven.into_fault()),
     }
 }
 

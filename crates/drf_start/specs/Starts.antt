@@ -10,7 +10,7 @@ use Rattle.drf_state.specs.declared.fault.StateError.{StateError}
 use Rattle.drf_state.specs.declared.fault.StateError.TheVariants as error
 use Rattle.drf_state.specs.declared.fault.StateFault.{StateFault}
 use Rattle.drf_told.specs.Streams.{Streams}
-use Rattle.drf_told.specs.Told.{HasToldLine, IsTold, fault_line, refused_line}
+use Rattle.drf_told.specs.Told.{HasToldFile, HasToldLine, refused_line}
 use Rattle.drf_start.specs.declared.start.StartFault.{StartFault}
 use Rattle.drf_start.specs.declared.start.StartFault.TheVariants.{Run, Line}
 
@@ -46,7 +46,7 @@ start_fault_of error.Memory = Run Memory
 
 -- what is told of it, and the status
 abbrev pub HasToldStart : List ℕ → StartFault → ℕ → Option (List ℕ) → Option (List ℕ) → Bool → Type 0
-HasToldStart name (Run fault) answer old new failed = (answer ≡ 1) × IsTold (fault_line fault) old new failed
+HasToldStart name (Run fault) answer old new failed = HasToldFile name fault answer old new failed
 HasToldStart name (Line line fault) answer old new failed =
     HasToldLine (refused_line name line (state_fault_number fault) (state_fault_name fault)) answer old new failed
 

@@ -11,7 +11,7 @@ use drf_files::FileBytes;
 use drf_journal::{Device, ProgramSorter, RunFault};
 use drf_rows::Limits;
 use drf_state::{StateError, StateFault, read_state};
-use drf_told::{RefusedLine, finish, tell_line};
+use drf_told::{RefusedLine, tell_file, tell_line};
 use std::alloc::{AllocError, Global};
 use std::io::Write;
 
@@ -68,6 +68,7 @@ fn read_start<F: FileBytes>(
     name: &str,
 ) -> Result<Core<ProgramSorter>, StartFault>
     ensures ok { IfOk result (λ core. IsInFile (F.known files.old) name.now (live core)) }
+    ensures limits { IfOk result (λ core. core.limits ≡ ceilings) }
     ensures err { IfErr result (IsStartFault (F.known files.old) (Some name.now)) }
     ensures same { F.known files.new ≡ F.known files.old }
 {
@@ -78,6 +79,7 @@ fn read_start<F: FileBytes>(
 /// An allocator with no rows.
 fn open_start(alloc: Global) -> Result<Core<ProgramSorter>, StartFault>
     ensures ok { IfOk result (λ core. live core ≡ opened ceilings) }
+    ensures limits { IfOk result (λ core. core.limits ≡ ceilings) }
     ensures err { IfErr result (λ fault. fault ≡ Run Memory) }
 {
     Ok(Core::open(alloc, Limits::full())?)
@@ -90,6 +92,7 @@ pub fn begin<F: FileBytes>(
     from: Option<&str>,
 ) -> Result<Core<ProgramSorter>, StartFault>
     ensures ok { IfOk result (λ core. IsStart (F.known files.old) (option_map (λ name. name.now) from.entry) (live core)) }
+    ensures limits { IfOk result (λ core. core.limits ≡ ceilings) }
     ensures err { IfErr result (IsStartFault (F.known files.old) (option_map (λ name. name.now) from.entry)) }
     ensures same { F.known files.new ≡ F.known files.old }
 {
@@ -110,11 +113,12 @@ pub fn tell_start<E: Write>(
     ensures { HasToldStart (unwrap_or (option_map (λ name. name.now) from.entry) []) fault result
         (E.contents errors.old.inner) (E.contents errors.new.inner) errors.new.failed }
 {
+    let file = from.unwrap_or("");
     match fault {
-        StartFault::Run(fault) => finish::<(), E>(Err(fault), errors),
+        StartFault::Run(fault) => tell_file(alloc, file, fault, errors),
         StartFault::Line { number, fault } => {
             let line = RefusedLine {
-                file: from.unwrap_or(""),
+                file,
                 line: number,
                 fault: fault.number(),
                 name: fault.name(),

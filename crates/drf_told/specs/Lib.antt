@@ -1,3 +1,4 @@
+pub mod Names
 pub mod Told
 pub mod Streams
 pub mod Refused

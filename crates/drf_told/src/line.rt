@@ -1,8 +1,9 @@
 //! A line of a file that is not what it must be.
-ghost use Rattle.std.specs.Prelude.{◌≡◌, ◌∷◌, ◌++◌, [], false, OnOk, IfOk, codes, decimal, string_bytes};
+ghost use Rattle.std.specs.Prelude.{◌≡◌, ◌∷◌, ◌++◌, [], false, OnOk, IfOk, codes, decimal};
 ghost use Rattle.drf_told.specs.Told.{HasToldLine, refused_line};
 
-use crate::told::{finish, tell};
+use crate::name::push_name;
+use crate::told::{finish, tell_bytes};
 use drf_journal::{Device, RunFault};
 use itoa::Buffer;
 use std::alloc::{AllocError, Global};
@@ -21,29 +22,30 @@ pub struct RefusedLine<'a> {
 }
 
 // Adds a word and a number.
-fn push_number(text: &mut String, word: &str, number: u64) -> Result<(), AllocError>
-    ensures { OnOk result (string_bytes text.new ≡ string_bytes text.old ++ (word.now ++ decimal number)) }
+fn push_number(text: &mut Vec<u8>, word: &str, number: u64) -> Result<(), AllocError>
+    ensures { OnOk result (text.new.items ≡ text.old.items ++ (word.now ++ decimal number)) }
 {
-    text.push_str(word)?;
-    text.push_str(Buffer::new().format(number))
+    text.extend_from_slice(word.as_bytes())?;
+    text.extend_from_slice(Buffer::new().format(number).as_bytes())
 }
 
 // Adds the number and the name of a fault, and a line feed.
-fn push_fault(text: &mut String, number: u64, name: &str) -> Result<(), AllocError>
-    ensures { OnOk result (string_bytes text.new ≡ string_bytes text.old ++ ((codes " refused " ++ decimal number) ++ (32 ∷ name.now ++ 10 ∷ []))) }
+fn push_fault(text: &mut Vec<u8>, number: u64, name: &str) -> Result<(), AllocError>
+    ensures { OnOk result (text.new.items ≡ text.old.items ++ ((codes " refused " ++ decimal number) ++ (32 ∷ name.now ++ 10 ∷ []))) }
 {
     push_number(text, " refused ", number)?;
-    text.push(' ')?;
-    text.push_str(name)?;
-    text.push('\n')
+    text.push(b' ')?;
+    text.extend_from_slice(name.as_bytes())?;
+    text.push(b'\n')?;
+    Ok(())
 }
 
-fn refused_line(alloc: Global, line: RefusedLine<'_>) -> Result<String, AllocError>
-    ensures { IfOk result (λ text. string_bytes text ≡ refused_line line.entry.file.now line.entry.line line.entry.fault line.entry.name.now) }
+fn refused_line(alloc: Global, line: RefusedLine<'_>) -> Result<Vec<u8>, AllocError>
+    ensures { IfOk result (λ text. text.items ≡ refused_line line.entry.file.now line.entry.line line.entry.fault line.entry.name.now) }
 {
-    let mut text = String::new(alloc);
-    text.push_str("drf: ")?;
-    text.push_str(line.file)?;
+    let mut text = Vec::new(alloc);
+    text.extend_from_slice("drf: ".as_bytes())?;
+    push_name(&mut text, line.file)?;
     push_number(&mut text, " line ", line.line)?;
     push_fault(&mut text, line.fault, line.name)?;
     Ok(text)
@@ -57,7 +59,7 @@ pub fn tell_line<E: Write>(alloc: Global, line: RefusedLine<'_>, errors: &mut De
 {
     match refused_line(alloc, line) {
         Ok(text) => {
-            tell(errors, text.as_str());
+            tell_bytes(errors, &text);
             3
         }
         Err(_) => finish::<(), E>(Err(RunFault::Memory), errors),

@@ -18,12 +18,20 @@ fn fault_line(fault: RunFault) -> &'static str
     }
 }
 
+/// Writes bytes as far as the device takes them. Where that fails, the status alone tells of it.
+pub(crate) fn tell_bytes<W: Write>(errors: &mut Device<W>, bytes: &[u8])
+    requires { errors.old.failed ≡ false }
+    ensures { IsTold bytes.now (W.contents errors.old.inner) (W.contents errors.new.inner) errors.new.failed }
+{
+    let _ = write_whole(errors, bytes);
+}
+
 /// Writes a text as far as the device takes it. Where that fails, the status alone tells of it.
 pub fn tell<W: Write>(errors: &mut Device<W>, text: &str)
     requires { errors.old.failed ≡ false }
     ensures { IsTold text.now (W.contents errors.old.inner) (W.contents errors.new.inner) errors.new.failed }
 {
-    let _ = write_whole(errors, text.as_bytes());
+    tell_bytes(errors, text.as_bytes());
 }
 
 /// Tells of a fault, and gives the program's status.

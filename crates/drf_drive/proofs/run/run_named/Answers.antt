@@ -4,7 +4,7 @@ use Rattle.std.proofs.lemmas.List.Elements.{All-weaker}
 use Rattle.drf_board.specs.declared.entry.Entry.{Entry}
 use Rattle.drf_master.specs.Receipts.{Held, IsNewPass}
 use Rattle.drf_drive.specs.Driven.{IsShuffleOf}
-use Rattle.drf_drive.proofs.Endings.{no-journal}
+use Rattle.drf_drive.proofs.Endings.{no-journal, tellable}
 use Rattle.drf_drive.proofs.run.run_named.Goals as goal
 
 pub returns-in-Ok-clause-shuffle : goal.returns-in-Ok-clause-shuffle
@@ -19,9 +19,17 @@ returns-in-Ok-clause-shuffle g c =
       driven = c.in-Ok.ensures.driven;
     })
 
+pub tell_undriven-requires : goal.tell_undriven-requires
+tell_undriven-requires g c =
+    let key = c.in_ok-master.master.key in
+    let passes = c.in_ok-master.passes.items in
+    let new = subst (λ (k : ℕ). All (IsNewPass k) passes) (sym c.in_ok-master.ensures.key) c.in_ok-master.ensures.passes.1 in
+    tellable g.K.Naming.slate.limits g.K.Naming.start _ key passes c.args.scripts.items new c.in-Err.undriven c.in-Err.ensures.undriven
+
 pub returns-clause-fault : goal.returns-clause-fault
 returns-clause-fault g c =
     let key = c.in_ok-master.master.key in
     let passes = c.in_ok-master.passes.items in
     let new = subst (λ (k : ℕ). All (IsNewPass k) passes) (sym c.in_ok-master.ensures.key) c.in_ok-master.ensures.passes.1 in
-    no-journal g.K.Naming.slate.limits g.K.Naming.start _ key passes c.args.scripts.items new c.in-Err.fault c.in-Err.ensures.fault
+    no-journal g.K.Naming.slate.limits g.K.Naming.start _ key passes c.args.scripts.items new c.in-Err.undriven c.in-Err.ensures.undriven
+    c.tell_undriven.result c.tell_undriven.ensures

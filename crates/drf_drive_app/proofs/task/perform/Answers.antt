@@ -1,14 +1,9 @@
-use Rattle.std.specs.Prelude.{option_map}
 use Rattle.std.proofs.Common.{ℕ, ◌≤◌, ◌≡◌, List, Bor, length, map, sym, subst, inl, inr}
 use Rattle.drf_core.specs.Machine.{live}
 use Rattle.drf_files.specs.Files.{Known}
 use Rattle.drf_told.specs.Streams.{Streams, stream_of}
 use Rattle.drf_drive_app.specs.Done.{HasDriven}
-use Rattle.drf_drive_app.proofs.Started.{start-limits}
 use Rattle.drf_drive_app.proofs.task.perform.Goals as goal
-
-pub drive_files-requires-clause-limits : goal.drive_files-requires-clause-limits
-drive_files-requires-clause-limits g c κs within = start-limits (g.F.FileBytes.known c.args.files.now) (option_map (λ name. name.now) c.args.task.from) c.in-Ok.core c.in-Ok.ensures.ok
 
 pub drive_files-requires-clause-few : goal.drive_files-requires-clause-few
 drive_files-requires-clause-few g c κs within =

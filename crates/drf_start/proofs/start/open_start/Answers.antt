@@ -1,4 +1,4 @@
-use Rattle.std.proofs.Common.{subst}
+use Rattle.std.proofs.Common.{subst, ◌∙◌}
 use Rattle.drf_core.specs.Machine.{IsOpened}
 use Rattle.drf_rows.specs.LimitNumbers.{LimitNumbers}
 use Rattle.drf_start.proofs.Started.{is_open}
@@ -8,3 +8,6 @@ pub returns-clause-ok : goal.returns-clause-ok
 returns-clause-ok c =
     let core = c.in_ok-open.field-0 in
     is_open core (subst (λ (limits : LimitNumbers). IsOpened limits core) c.full.ensures c.in_ok-open.ensures)
+
+pub returns-clause-limits : goal.returns-clause-limits
+returns-clause-limits c = c.in_ok-open.ensures.limits ∙ c.full.ensures

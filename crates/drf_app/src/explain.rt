@@ -1,0 +1,61 @@
+//! What is told of the next cycle.
+ghost use Rattle.std.specs.Prelude.{◌≡◌, ◌≤◌, ◌^◌, true, false};
+ghost use Rattle.drf_core.specs.Machine.{live};
+ghost use Rattle.drf_journal.specs.Device.{IsNew};
+ghost use Rattle.drf_rows.specs.declared.limits.TheConstants.{LATEST_MOMENT};
+ghost use Rattle.drf_told.specs.Streams.{stream_of};
+ghost use Rattle.drf_app.specs.Done.{HasExplained};
+
+use crate::line::Scope;
+use drf_core::Core;
+use drf_journal::{Device, ProgramSorter, run_explain};
+use drf_told::{finish, tell};
+use drf_why::{tell_each, tell_summary};
+use std::alloc::Global;
+use std::io::{Read, Write};
+
+/// Tells of the cycle at a moment, in milliseconds, that an allocator would make after the events of a reader's lines, and gives the program's
+/// status.
+#[tactic(auto, using(crate::proofs::Flushed::flushed_unless_failed))]
+pub(crate) fn explain<R: Read, W: Write, E: Write>(
+    alloc: Global,
+    core: Core<ProgramSorter>,
+    at: u64,
+    scope: Scope<'_>,
+    input: &mut Device<R>,
+    output: &mut Device<W>,
+    errors: &mut Device<E>,
+) -> u8
+    requires early { at ≤ LATEST_MOMENT }
+    requires input { IsNew input.old.calls input.old.failed }
+    requires output { IsNew output.old.calls output.old.failed }
+    requires errors { IsNew errors.old.calls errors.old.failed }
+    ensures explained { HasExplained (live core) at scope.entry
+        (record { input = stream_of R.remaining input.old; output = stream_of W.contents output.old; errors = stream_of E.contents errors.old })
+        (record { input = stream_of R.remaining input.new; output = stream_of W.contents output.new; errors = stream_of E.contents errors.new })
+        result }
+    ensures flushed { output.old.flushed ≡ true → output.new.failed ≡ false → output.new.flushed ≡ true }
+    ensures reads { input.new.calls ≤ 2 ^ 40 }
+{
+    match scope {
+        Scope::Short => {
+            let ended = run_explain(alloc, core, at, input, output);
+            finish(ended, errors)
+        }
+        Scope::Each(whom) => {
+            let ended = tell_each(alloc, core, at, whom, input, output);
+            finish(ended, errors)
+        }
+        Scope::Summary => {
+            let ended = tell_summary(alloc, core, at, input, output);
+            finish(ended, errors)
+        }
+        Scope::Several => {
+            tell(
+                errors,
+                "drf: explain takes one of --client, --agent and --summary at a time\n",
+            );
+            2
+        }
+    }
+}

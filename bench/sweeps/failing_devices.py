@@ -83,6 +83,11 @@ def is_tried_again(words, how):
     return words == ["drive"] and how == errno.EINTR
 
 
+def read_fault(words, path):
+    """What is told of it; a drive names the file."""
+    return f"drf: read fault: {path}\n".encode() if words == ["drive"] else b"drf: read fault\n"
+
+
 class Sweep:
     def __init__(self, program, shim, pool):
         self.program, self.driver, self.shim, self.pool = program, driver_of(program), shim, pool
@@ -114,7 +119,7 @@ class Sweep:
         cases = [(call, how) for call in calls if call > 0 for how in READ_FAULTS]
         for (call, how), done in zip(cases, self.pool.map(lambda case: self.ran(words, path, "read", *case, piece), cases)):
             came = given[: (call - 1) * piece].count(b"\n") * lines
-            failed = (1, b"".join(whole[1].splitlines(True)[:came]), b"drf: read fault\n")
+            failed = (1, b"".join(whole[1].splitlines(True)[:came]), read_fault(words, path))
             wanted = [whole if call > last or is_tried_again(words, how) else failed]
             # a file that is read whole may be asked again at its end
             wanted += [failed] * (words == ["drive"] and call > last)
@@ -139,7 +144,7 @@ class Sweep:
         for how in OPEN_FAULTS:
             done = self.ran(["drive"], path, "open", 1, how)
             self.faults += done != whole
-            self.note(done == (whole if is_tried_again(["drive"], how) else (1, b"", b"drf: read fault\n")), "drive", path, "open", how)
+            self.note(done == (whole if is_tried_again(["drive"], how) else (1, b"", read_fault(["drive"], path))), "drive", path, "open", how)
 
     def command(self, words, path):
         whole = self.ran(words, path)
@@ -166,8 +171,8 @@ def real_devices(program, path):
         ("nobody reads", '(sleep 0.3; "$0" run < "$1"; echo $? >&2) | true', (0, b"", b"drf: write fault\n1\n")),
         ("a full standard error", '"$0" run < / 2> /dev/full', (1, b"", b"")),
         ("no standard error", '"$0" run < / 2>&-', (1, b"", b"")),
-        ("a file that is not there", '"$2" drive "$1" /none', (1, b"", b"drf: read fault\n")),
-        ("a folder is driven", '"$2" drive "$1" /', (1, b"", b"drf: read fault\n")),
+        ("a file that is not there", '"$2" drive "$1" /none', (1, b"", b"drf: read fault: /none\n")),
+        ("a folder is driven", '"$2" drive "$1" /', (1, b"", b"drf: read fault: /\n")),
     ):
         done = subprocess.run(["bash", "-o", "pipefail", "-c", script, program, path, driver_of(program)], capture_output=True, timeout=60)
         ends.append((done.returncode, done.stdout, done.stderr) == wanted)

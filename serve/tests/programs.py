@@ -25,7 +25,7 @@ def find_programs():
         print("the proved drf is not built: its code without proofs is run", flush=True)
         drf = os.path.join(out, "drf-without-proofs")
         if not is_current(drf):
-            subprocess.run([sys.executable, os.path.join(ROOT, "bench", "unproved.py"), "drf", drf], check=True)
+            subprocess.run([sys.executable, os.path.join(ROOT, "bench", "tools", "unproved.py"), "drf", drf], check=True)
     return Programs(gateway, os.path.realpath(drf))
 
 

@@ -276,7 +276,7 @@ def the_example_sends_heartbeats(browser, room):
     service.end()
 
 
-# ---- what docs/SERVICE.md tells an operator to do
+# ---- what serve/README.md tells an operator to do
 
 def etcdctl(*words):
     """What it writes; it is tried again while a new leader is found."""

@@ -1,4 +1,6 @@
 mod Picked
 mod Tallied
+mod Firsts
 mod Passed
 mod Sums
+mod Passing

@@ -1,30 +1,25 @@
--- Each agent is counted once of a client, who passes it is told where it is passed, and there it could have been granted something.
-use Rattle.std.specs.Prelude.{◌≡◌, ℕ, suc, ◌+◌, ◌-◌, ◌^◌, ◌<◌, min, Bool, true, false, not, ◌&&◌, ◌||◌, List, [], ◌∷◌, length, map, filter, fold, Option, Some, None, is_some, if◌then◌else◌, take, drop, slice_get}
-use Rattle.std.specs.List.{AllByRecursion, flat_map, list_all, list_any, position, position_from}
-use Rattle.std.specs.Option.{option_map, option_map_or}
-use Rattle.std.proofs.Common.{refl, sym, ap, subst, ◌∙◌, inl, inr, cond, add-one, arith}
+-- Each agent is counted once of a client, and who passes it is told where it is passed.
+use Rattle.std.specs.Prelude.{◌≡◌, ℕ, suc, ◌+◌, ◌-◌, ◌^◌, ◌<◌, min, Bool, true, false, not, ◌||◌, List, [], ◌∷◌, length, filter, fold, Option, Some, if◌then◌else◌}
+use Rattle.std.specs.List.{AllByRecursion, list_all, list_any}
+use Rattle.std.specs.Option.{option_map_or}
+use Rattle.std.proofs.Common.{refl, sym, ap, ◌∙◌, inl, inr, cond, arith}
 use Rattle.std.proofs.lemmas.Bool.{cases_Bool, and_parts, false≢true}
-use Rattle.std.proofs.lemmas.Iterator.Adapters.{position_from-zero}
 use Rattle.drf_role.specs.Path.{Path, same_path}
-use Rattle.drf_role.specs.PathLaws.{same_path-true}
-use Rattle.drf_bundle.specs.Bundle.{part_for}
-use Rattle.drf_bundle.specs.declared.resource.Resource.{Resource}
-use Rattle.drf_explain.specs.Each.{each_on, told_here, told_of_each, turn_on, turns_by_agent, turns_on_all, untouched_on}
-use Rattle.drf_explain.specs.Explained.{after_agent, held_until, limiting_role, outcome, shortage}
-use Rattle.drf_explain.specs.ExplainedLaws.{held_back-until}
+use Rattle.drf_explain.specs.Each.{told_here, told_of_each, turn_on, turns_by_agent, turns_on_all, untouched_on}
+use Rattle.drf_explain.specs.Explained.{after_agent, outcome}
 use Rattle.drf_explain.specs.declared.finding.Finding.{Finding}
-use Rattle.drf_explain.specs.declared.finding.Finding.TheVariants.{Suppressed, Inactive, NothingFree, Tried, Left}
+use Rattle.drf_explain.specs.declared.finding.Finding.TheVariants.{Inactive, NothingFree}
 use Rattle.drf_explain.specs.declared.finding.Outcome.{Outcome}
 use Rattle.drf_explain.specs.declared.finding.Outcome.TheVariants.{Grant, HeldBack, OverLimit, BelowThreshold, NothingLeft, ReservedForOthers}
 use Rattle.drf_rows.specs.Client.{Client, path_of}
-use Rattle.drf_rows.specs.Cycle.{at_moment, free_of, grant, is_allocatable, tried, turn_order}
+use Rattle.drf_rows.specs.Cycle.{at_moment, free_of, tried, turn_order}
 use Rattle.drf_rows.specs.Offers.{is_empty}
-use Rattle.drf_rows.specs.Quota.{consumption, entitlement}
 use Rattle.drf_rows.specs.declared.rows.AgentRow.{AgentRow}
 use Rattle.drf_rows.specs.declared.rows.Rows.{Rows}
-use Rattle.drf_summary.specs.Passers.{Turn, gets_something, granted_in, is_of, is_passed, passers_on, with_passer, with_passers_on}
-use Rattle.drf_summary.specs.Pick.{bars_all, earlier_on, is_grant, is_granted, is_inactive, is_nothing_free, is_of_client, outcome_in, outcome_on, own_on}
-use Rattle.drf_summary.specs.SumLaws.{CountsAddUp, EachHasItsPassers, EachIsPassedRightly, WouldBeGranted, is_accounted}
+use Rattle.drf_summary.proofs.Firsts.{own-cons}
+use Rattle.drf_summary.specs.Passers.{Turn, is_of, is_passed, passers_on, with_passer, with_passers_on}
+use Rattle.drf_summary.specs.Pick.{bars_all, is_granted, is_inactive, is_nothing_free, is_of_client, outcome_in, outcome_on}
+use Rattle.drf_summary.specs.SumLaws.{CountsAddUp, EachHasItsPassers, is_accounted}
 use Rattle.drf_summary.specs.Tally.{comes_to, is_below_threshold, is_held_back, is_nothing_left, is_over_limit, is_reserved, tells_of}
 use Rattle.drf_summary.specs.declared.passer.Passer.{Passer}
 
@@ -41,37 +36,6 @@ outcomes_in o =
 
 abbrev counted_on : Path → Turn → ℕ
 counted_on path turn = outcomes_in (outcome_on path turn.0) + one_if (tells_of is_inactive turn) + one_if (tells_of is_nothing_free turn)
-
--- a search that begins one place later
-searched_later : {X : Type 0} (test : X → Bool) (i : ℕ) (xs : List X) → position_from test (i + 1) xs ≡ option_map suc (position_from test i xs)
-searched_later test i [] = refl
-searched_later test i (x ∷ xs) = by (test x) (searched_later test (i + 1) xs)
-  where
-    by : (found : Bool) → position_from test (i + 1 + 1) xs ≡ option_map suc (position_from test (i + 1) xs)
-        → cond found (Some (i + 1)) (position_from test (i + 1 + 1) xs)
-        ≡ option_map suc (cond found (Some i) (position_from test (i + 1) xs))
-    by true later = ap Some (add-one i)
-    by false later = later
-
-position-cons : {X : Type 0} (test : X → Bool) (x : X) (xs : List X)
-    → position test (x ∷ xs) ≡ cond (test x) (Some 0) (option_map suc (position test xs))
-position-cons test x xs =
-    position_from-zero test (x ∷ xs)
-    ∙ ap (cond (test x) (Some 0)) (searched_later test 0 xs ∙ ap (option_map suc) (sym (position_from-zero test xs)))
-
--- the first of a client is the head, or the first behind it
-own-cons : (path : Path) (finding : Finding) (findings : List Finding)
-    → own_on path (finding ∷ findings) ≡ (if is_of_client path finding then finding ∷ [] else own_on path findings)
-own-cons path finding findings =
-    ap (λ found. option_map_or (λ place. take 1 (drop place (finding ∷ findings))) found []) (position-cons (is_of_client path) finding findings)
-    ∙ by (is_of_client path finding) (position (is_of_client path) findings)
-  where
-    by : (its : Bool) (found : Option ℕ)
-        → option_map_or (λ place. take 1 (drop place (finding ∷ findings))) (cond its (Some 0) (option_map suc found)) []
-        ≡ cond its (finding ∷ []) (option_map_or (λ place. take 1 (drop place findings)) found [])
-    by true found = refl
-    by false None = refl
-    by false (Some place) = refl
 
 one_outcome : (o : Outcome) → outcomes_in (Some o) ≡ 1
 one_outcome (Grant bundle) = refl
@@ -201,31 +165,20 @@ still_some : (passers : List Passer) (paths : List Path) → 0 < length passers 
 still_some passers [] some = some
 still_some passers (path ∷ paths) some = still_some (with_passer passers path) paths (some_passer passers path)
 
-some_granted : (findings : List Finding) (passers : List Passer) → list_any is_grant findings ≡ true
-    → 0 < length (fold with_passer passers (flat_map granted_in findings))
-some_granted [] passers some = absurd (false≢true some)
-some_granted (Suppressed client ∷ findings) passers some = some_granted findings passers some
-some_granted (Inactive agent ∷ findings) passers some = some_granted findings passers some
-some_granted (NothingFree agent ∷ findings) passers some = some_granted findings passers some
-some_granted (Left agent left clients ∷ findings) passers some = some_granted findings passers some
-some_granted (Tried agent client (Grant bundle) ∷ findings) passers some =
-    still_some (with_passer passers client) (flat_map granted_in findings) (some_passer passers client)
-some_granted (Tried agent client (HeldBack until) ∷ findings) passers some = some_granted findings passers some
-some_granted (Tried agent client (OverLimit role) ∷ findings) passers some = some_granted findings passers some
-some_granted (Tried agent client BelowThreshold ∷ findings) passers some = some_granted findings passers some
-some_granted (Tried agent client NothingLeft ∷ findings) passers some = some_granted findings passers some
-some_granted (Tried agent client ReservedForOthers ∷ findings) passers some = some_granted findings passers some
+some_more : (passers : List Passer) (paths : List Path) → not (is_empty paths) ≡ true → 0 < length (fold with_passer passers paths)
+some_more passers [] some = absurd (false≢true some)
+some_more passers (path ∷ paths) some = still_some (with_passer passers path) paths (some_passer passers path)
+
+none_more : (passers : List Passer) (paths : List Path) → not (is_empty paths) ≡ false → fold with_passer passers paths ≡ passers
+none_more passers [] none = refl
+none_more passers (path ∷ paths) none = absurd (false≢true (sym none))
 
 module _ (path : Path) where
   passed_on : (turn : Turn) (passers : List Passer) → is_passed path turn ≡ true → 0 < length (with_passers_on path passers turn)
-  passed_on turn passers passed =
-      let behind = and_parts (list_any is_grant (earlier_on path turn.0) && not (gets_something path turn.0)) _ passed in
-      let before = and_parts (list_any is_grant (earlier_on path turn.0)) _ behind.0 in
-      subst (λ (b : Bool). 0 < length (fold with_passer passers (cond b (flat_map granted_in (earlier_on path turn.0)) []))) (sym passed)
-      (some_granted (earlier_on path turn.0) passers before.0)
+  passed_on turn passers passed = some_more passers (passers_on path turn) passed
 
   unpassed_on : (turn : Turn) (passers : List Passer) → is_passed path turn ≡ false → with_passers_on path passers turn ≡ passers
-  unpassed_on turn passers none = ap (λ b. fold with_passer passers (cond b (flat_map granted_in (earlier_on path turn.0)) [])) none
+  unpassed_on turn passers none = none_more passers (passers_on path turn) none
 
   more_on : (turn : Turn) (passers : List Passer) → 0 < length passers → 0 < length (with_passers_on path passers turn)
   more_on turn passers some = still_some passers (passers_on path turn) some
@@ -265,84 +218,3 @@ each_has_its_passers turns path = record {
       omega (arith, long, short);
   none = λ zero. unpassed_over path turns [] (omega (arith, zero));
 }
-
--- ---- who is passed could have been granted something
-
-no_grant : (worth left none : Bool) (role : Path)
-    → is_granted (if worth then OverLimit role else if left then NothingLeft else if none then ReservedForOthers else BelowThreshold) ≡ false
-no_grant true left none role = refl
-no_grant false true none role = refl
-no_grant false false true role = refl
-no_grant false false false role = refl
-
-granted_by : (worth : Bool) (until : Option ℕ) (bundle : List Resource) (short : Outcome) → is_granted short ≡ false
-    → is_granted (if worth then option_map_or HeldBack until (Grant bundle) else short) ≡ true
-    → (if worth && not (is_some until) then Some bundle else None) ≡ Some bundle
-granted_by true None bundle short none gets = refl
-granted_by true (Some until) bundle short none gets = absurd (false≢true gets)
-granted_by false until bundle short none gets = absurd (false≢true (sym none ∙ gets))
-
--- what is told to be granted the cycle grants
-granted-outcome : (rows : Rows) (agent : AgentRow) (client : Client) → is_granted (outcome rows agent client) ≡ true
-    → grant rows agent client ≡ Some (entitlement rows (free_of rows agent) client)
-granted-outcome rows agent client gets =
-    let free : List Resource = free_of rows agent in
-    let part : List Resource = part_for client.role free in
-    let bundle : List Resource = entitlement rows free client in
-    let until : Option ℕ = held_until rows.filters rows.clock client agent.name bundle in
-    ap (λ held. if is_allocatable bundle && not held then Some bundle else None) (held_back-until rows.filters rows.clock client agent.name bundle)
-    ∙ granted_by (is_allocatable bundle) until bundle (shortage rows.limits (consumption rows) client.role free part)
-    (no_grant (is_allocatable part) (is_empty free) (is_empty part) (limiting_role rows.limits (consumption rows) client.role part)) gets
-
-module _ (rows : Rows) (agent : AgentRow) (path : Path) where
-  -- of some clients one is the client, and would be granted a bundle
-  record Found (clients : List Client) : Type 0 where
-    place : ℕ
-    client : Client
-    stands : slice_get clients place ≡ Some client
-    its : path_of client ≡ path
-    granted : grant rows agent client ≡ Some (entitlement rows (free_of rows agent) client)
-
-  found : (clients : List Client) → gets_something path (map (told_here rows agent) clients) ≡ true → Found clients
-  found [] gets = absurd (false≢true gets)
-  found (client ∷ clients) gets =
-      let first : Finding = told_here rows agent client in
-      let later : List Finding = map (told_here rows agent) clients in
-      let here = sym (ap (λ fs. option_map_or is_granted (outcome_in fs) false) (own-cons path first later)) ∙ gets in
-      elim (cases_Bool (same_path (path_of client) path)) [
-        | inl its ↦ record {
-          place = 0;
-          client = client;
-          stands = refl;
-          its = same_path-true (path_of client) path its;
-          granted =
-              granted-outcome rows agent client
-              (sym (ap (λ b. option_map_or is_granted (outcome_in (cond b (first ∷ []) (own_on path later))) false) its) ∙ here);
-        }
-        | inr other ↦
-            let behind = found clients (sym (ap (λ b. option_map_or is_granted (outcome_in (cond b (first ∷ []) (own_on path later))) false) other) ∙ here) in
-            record { place = suc behind.place; client = behind.client; stands = behind.stands; its = behind.its; granted = behind.granted }
-      ]
-
-  would_be : gets_something path (untouched_on rows agent) ≡ true → WouldBeGranted rows agent path
-  would_be = by agent.active (is_empty (free_of rows agent))
-    where
-      by : (active none : Bool)
-          → gets_something path (cond active (cond none [] (map (told_here rows agent) (turn_order rows))) []) ≡ true → WouldBeGranted rows agent path
-      by true true gets = absurd (false≢true gets)
-      by true false gets =
-          let of = found (turn_order rows) gets in record {
-            place = of.place;
-            client = of.client;
-            stands = of.stands;
-            its = of.its;
-            bundle = entitlement rows (free_of rows agent) of.client;
-            granted = of.granted;
-          }
-      by false none gets = absurd (false≢true gets)
-
-pub each_is_passed_rightly : EachIsPassedRightly
-each_is_passed_rightly rows agent path passed =
-    let told : List Finding = each_on rows agent in
-    let parts = and_parts (list_any is_grant (earlier_on path told) && not (gets_something path told)) _ passed in
-    would_be rows agent path parts.1

@@ -2,3 +2,4 @@ pub mod Pick
 pub mod Passers
 pub mod Tally
 pub mod SumLaws
+pub mod PassLaws

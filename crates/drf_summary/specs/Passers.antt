@@ -1,6 +1,6 @@
--- Who passes a client: all who are granted something before it on agents where it is granted nothing, and would be granted something, were it
--- the first.
-use Rattle.std.specs.Prelude.{ℕ, suc, ◌+◌, ◌-◌, ◌^◌, min, Bool, not, ◌&&◌, List, [], ◌∷◌, ◌++◌, map, fold, take, find, if◌then◌else◌, false, codes}
+-- Who passes a client on an agent: it is granted nothing there, and they, before it, something of what it would have been granted, were it the
+-- first.
+use Rattle.std.specs.Prelude.{ℕ, suc, ◌+◌, ◌-◌, ◌^◌, min, Bool, not, ◌&&◌, List, [], ◌∷◌, ◌++◌, map, fold, take, find, if◌then◌else◌, nat_lt, false, codes}
 use Rattle.std.specs.List.{flat_map, list_any}
 use Rattle.std.specs.Option.{option_map_or}
 use Rattle.serde_json.specs.Data.{Data, number, unsigned, string, object, member, no_members}
@@ -8,19 +8,52 @@ use Rattle.serde_json.specs.Written.{compact_text}
 use Rattle.drf_role.specs.Text.{Text, same_text}
 use Rattle.drf_role.specs.Path.{Path, same_path}
 use Rattle.drf_role.specs.Parts.{text_of}
+use Rattle.drf_bundle.specs.Bundle.{Key, key_of, value_at}
+use Rattle.drf_bundle.specs.Value.{amount_in}
+use Rattle.drf_bundle.specs.declared.resource.Resource.{Resource}
+use Rattle.drf_rows.specs.Offers.{is_empty}
 use Rattle.drf_rows.specs.declared.report.NodeLine.{NodeLine}
 use Rattle.drf_rows.specs.declared.report.Report.{Report}
 use Rattle.drf_explain.specs.declared.finding.Finding.{Finding}
 use Rattle.drf_explain.specs.declared.finding.Finding.TheVariants.{Suppressed, Inactive, NothingFree, Tried, Left}
+use Rattle.drf_explain.specs.declared.finding.Outcome.{Outcome}
+use Rattle.drf_explain.specs.declared.finding.Outcome.TheVariants.{Grant, HeldBack, OverLimit, BelowThreshold, NothingLeft, ReservedForOthers}
 use Rattle.drf_lines.specs.ReportLine.{fraction_text}
-use Rattle.drf_summary.specs.Pick.{earlier_on, is_grant, is_granted, outcome_in, own_on}
+use Rattle.drf_summary.specs.Pick.{earlier_on, is_granted, outcome_in, own_on}
 use Rattle.drf_summary.specs.declared.passer.Passer.{Passer}
+
+-- ---- what is taken
+
+-- how much of a bundle there is under a name and a reservation
+abbrev pub amount_under : List Resource → Key → ℕ
+amount_under bundle key = option_map_or amount_in (value_at bundle key) 0
+
+-- there is something of the resource, and of the bundle something under the same name and reservation
+abbrev pub is_in_both : List Resource → Resource → Bool
+is_in_both bundle r = nat_lt 0 (amount_in r.value) && nat_lt 0 (amount_under bundle (key_of r))
+
+-- who is granted the first takes something of the second: under some name and reservation there is something of both
+abbrev pub takes_of : List Resource → List Resource → Bool
+takes_of taken bundle = list_any (is_in_both bundle) taken
 
 -- ---- on an agent
 
 -- what is told of an agent's turn: of each client at its moment, and of each as if it were the first to be tried
 abbrev pub Turn : Type 0
 Turn = List Finding × List Finding
+
+-- what an outcome grants
+abbrev pub bundle_of : Outcome → List Resource
+bundle_of (Grant bundle) = bundle
+bundle_of (HeldBack until) = []
+bundle_of (OverLimit role) = []
+bundle_of BelowThreshold = []
+bundle_of NothingLeft = []
+bundle_of ReservedForOthers = []
+
+-- what the first of some findings grants
+abbrev pub bundle_in : List Finding → List Resource
+bundle_in findings = option_map_or bundle_of (outcome_in findings) []
 
 -- the first of some findings tells of a grant
 abbrev pub begins_with_grant : List Finding → Bool
@@ -30,22 +63,29 @@ begins_with_grant findings = option_map_or is_granted (outcome_in findings) fals
 abbrev pub gets_something : Path → List Finding → Bool
 gets_something path findings = begins_with_grant (own_on path findings)
 
--- it is granted nothing, behind somebody who is granted something, and would be granted something, were it the first
-abbrev pub is_passed : Path → Turn → Bool
-is_passed path turn =
-    list_any is_grant (earlier_on path turn.0) && not (gets_something path turn.0) && gets_something path turn.1
+-- what the client would be granted, were it the first to be tried
+abbrev pub first_bundle : Path → Turn → List Resource
+first_bundle path turn = bundle_in (own_on path turn.1)
 
--- the client that a finding grants something
-abbrev pub granted_in : Finding → List Path
-granted_in (Suppressed client) = []
-granted_in (Inactive agent) = []
-granted_in (NothingFree agent) = []
-granted_in (Tried agent client outcome) = if is_granted outcome then client ∷ [] else []
-granted_in (Left agent left clients) = []
+-- the client that a finding grants something of a bundle
+abbrev pub taker_in : List Resource → Finding → List Path
+taker_in bundle (Suppressed client) = []
+taker_in bundle (Inactive agent) = []
+taker_in bundle (NothingFree agent) = []
+taker_in bundle (Tried agent client outcome) = if takes_of (bundle_of outcome) bundle then client ∷ [] else []
+taker_in bundle (Left agent left clients) = []
 
--- where the client is passed, those that are granted something before it
+-- those who take something of a bundle by earlier findings, where the client's own tells of no grant
+abbrev pub passers_by : List Finding → List Finding → List Resource → List Path
+passers_by own earlier bundle = if begins_with_grant own then [] else flat_map (taker_in bundle) earlier
+
+-- where it is granted nothing: those who are granted, before it, something of what it would be granted, were it the first
 abbrev pub passers_on : Path → Turn → List Path
-passers_on path turn = if is_passed path turn then flat_map granted_in (earlier_on path turn.0) else []
+passers_on path turn = passers_by (own_on path turn.0) (earlier_on path turn.0) (first_bundle path turn)
+
+-- somebody passes it
+abbrev pub is_passed : Path → Turn → Bool
+is_passed path turn = not (is_empty (passers_on path turn))
 
 -- ---- over agents
 

@@ -1,5 +1,5 @@
 -- What comes of each client, counted over agents.
-use Rattle.std.specs.Prelude.{ℕ, ◌-◌, ◌^◌, min, Bool, true, false, not, List, [], ◌∷◌, ◌++◌, Option, length, map, filter, if◌then◌else◌, codes}
+use Rattle.std.specs.Prelude.{ℕ, ◌-◌, ◌^◌, min, Bool, true, false, not, List, [], ◌∷◌, ◌++◌, Option, length, map, filter, fold, if◌then◌else◌, codes}
 use Rattle.std.specs.List.{flat_map, list_any}
 use Rattle.std.specs.Option.{option_map_or}
 use Rattle.serde_json.specs.Data.{Data, Members, number, unsigned, string, object, member, no_members, put}
@@ -16,10 +16,11 @@ use Rattle.drf_rows.specs.Client.{Client, path_of}
 use Rattle.drf_rows.specs.Held.{client_of, active_clients}
 use Rattle.drf_rows.specs.declared.rows.ClientRow.{ClientRow}
 use Rattle.drf_rows.specs.declared.rows.FrameworkRow.{FrameworkRow}
+use Rattle.drf_rows.specs.Offers.{is_empty}
 use Rattle.drf_rows.specs.Report.{report_of}
 use Rattle.drf_rows.specs.declared.report.Report.{Report}
 use Rattle.drf_rows.specs.declared.rows.Rows.{Rows}
-use Rattle.drf_summary.specs.Passers.{Turn, is_passed, one_more, passer_text, passers_of, with_passers_on}
+use Rattle.drf_summary.specs.Passers.{Turn, is_passed, one_more, passer_text, passers_of, with_passer, with_passers_on}
 use Rattle.drf_summary.specs.Pick.{is_granted, is_inactive, is_nothing_free, outcome_on}
 use Rattle.drf_summary.specs.declared.tally.Tally.{Tally}
 
@@ -121,6 +122,10 @@ with_outcome outcome t = record t {
   nothing_left = more_if (option_map_or is_nothing_left outcome false) t.nothing_left;
   reserved = more_if (option_map_or is_reserved outcome false) t.reserved;
 }
+
+-- and who passes it there
+abbrev pub with_passed : List Path → Tally → Tally
+with_passed passers t = record t { passed = more_if (not (is_empty passers)) t.passed; passers = fold with_passer t.passers passers }
 
 -- and all that is told of the turn
 abbrev pub with_turn : Turn → Tally → Tally

@@ -1,51 +1,14 @@
 //! Who passes a client (`specs/Passers`).
-ghost use Rattle.std.specs.Prelude.{◌≡◌, [], ◌++◌, ◌&&◌, fold, if◌then◌else◌, map, not, OnOk, IfOk};
+ghost use Rattle.std.specs.Prelude.{◌≡◌, [], ◌++◌, fold, map, OnOk};
 ghost use Rattle.std.specs.List.{flat_map, list_any};
-ghost use Rattle.drf_summary.specs.Passers.{begins_with_grant, gets_something, granted_in, is_of, raised, with_passer};
-ghost use Rattle.drf_summary.specs.Pick.{is_grant};
+ghost use Rattle.drf_summary.specs.Passers.{is_of, raised, taker_in, with_passer};
 
-use crate::pick::{first_outcome, is_grant, is_granted, own_at, place_of};
+use crate::taking::taker_in;
+use drf_bundle::Bundle;
 use drf_explain::Finding;
 use drf_role::ClientPath;
 use std::alloc::{AllocError, Global};
 use std::marker::Model;
-
-/// Whether any of the findings tells of a grant.
-fn has_grant(findings: &[Finding]) -> bool
-    ensures { result ≡ list_any is_grant findings.now }
-{
-    findings.iter().any(|finding| is_grant(finding))
-}
-
-/// Whether the first of the findings tells of a grant.
-fn begins_with_grant(findings: &[Finding]) -> bool
-    ensures { result ≡ begins_with_grant findings.now }
-{
-    match first_outcome(findings) {
-        Some(outcome) => is_granted(outcome),
-        None => false,
-    }
-}
-
-/// Whether a client would be granted something, were it the first to be tried.
-fn could_get_something(path: &ClientPath, untouched: &[Finding]) -> bool
-    ensures { result ≡ gets_something path.now untouched.now }
-{
-    let place = place_of(path, untouched);
-    begins_with_grant(own_at(untouched, place))
-}
-
-/// Whether a client is granted nothing, behind somebody who is granted something, and would be granted something, were it the first.
-pub(crate) fn is_passed(
-    path: &ClientPath,
-    own: &[Finding],
-    earlier: &[Finding],
-    untouched: &[Finding],
-) -> bool
-    ensures { result ≡ (list_any is_grant earlier.now && not (begins_with_grant own.now) && gets_something path.now untouched.now) }
-{
-    has_grant(earlier) && !begins_with_grant(own) && could_get_something(path, untouched)
-}
 
 /// A client that passes another one.
 #[derive(Debug, Drop)]
@@ -131,41 +94,27 @@ impl Passers {
         Ok(())
     }
 
-    /// Counts the client that a finding grants something, if it does.
-    fn count_granted(&mut self, finding: &Finding) -> Result<(), AllocError>
-        ensures { OnOk result (self.new ≡ fold with_passer self.old (granted_in finding.now)) }
+    /// Counts the client that a finding grants something of a bundle, if it does.
+    fn count_taker(&mut self, finding: &Finding, bundle: &Bundle) -> Result<(), AllocError>
+        ensures { OnOk result (self.new ≡ fold with_passer self.old (taker_in bundle.now finding.now)) }
     {
-        let Finding::Tried {
-            client,
-            outcome,
-            ..
-        } = finding
-        else {
-            return Ok(());
-        };
-        if !is_granted(outcome) {
-            return Ok(());
+        match taker_in(finding, bundle) {
+            Some(client) => self.count(client),
+            None => Ok(()),
         }
-        self.count(client)
     }
 
-    /// Counts the clients that findings grant something.
-    fn count_all(&mut self, findings: &[Finding]) -> Result<(), AllocError>
-        ensures { OnOk result (self.new ≡ fold with_passer self.old (flat_map granted_in findings.now)) }
+    /// Counts the clients that findings grant something of a bundle.
+    pub(crate) fn count_takers(
+        &mut self,
+        findings: &[Finding],
+        bundle: &Bundle,
+    ) -> Result<(), AllocError>
+        ensures { OnOk result (self.new ≡ fold with_passer self.old (flat_map (taker_in bundle.now) findings.now)) }
     {
         for finding in findings {
-            self.count_granted(finding)?;
+            self.count_taker(finding, bundle)?;
         }
         Ok(())
-    }
-
-    /// Counts them, if they pass.
-    pub(crate) fn count_if(&mut self, pass: bool, findings: &[Finding]) -> Result<(), AllocError>
-        ensures { OnOk result (self.new ≡ fold with_passer self.old (if pass then flat_map granted_in findings.now else [])) }
-    {
-        if !pass {
-            return Ok(());
-        }
-        self.count_all(findings)
     }
 }

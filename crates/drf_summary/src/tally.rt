@@ -8,13 +8,14 @@ ghost use Rattle.drf_rows.specs.Held.{client_of, active_clients};
 ghost use Rattle.drf_role.specs.Parts.{text_of};
 ghost use Rattle.serde_json.specs.Data.{number, put as with_member, string, unsigned};
 ghost use Rattle.serde_json.specs.View.{members_view, view};
-ghost use Rattle.drf_summary.specs.Passers.{Turn, one_more};
-ghost use Rattle.drf_summary.specs.Pick.{is_inactive, is_nothing_free};
-ghost use Rattle.drf_summary.specs.Tally.{active_in, active_one, more_if, tally_lines, tally_of, tally_text, tally_value, tallies_of, with_counts, with_outcome, with_turn};
+ghost use Rattle.drf_summary.specs.Passers.{Turn, bundle_in, one_more, passers_by};
+ghost use Rattle.drf_summary.specs.Pick.{is_inactive, is_nothing_free, own_on};
+ghost use Rattle.drf_summary.specs.Tally.{active_in, active_one, more_if, tally_lines, tally_of, tally_text, tally_value, tallies_of, with_counts, with_outcome, with_passed, with_turn};
 
-use crate::passer::{Passers, is_passed};
+use crate::passer::Passers;
 use crate::passer_line::write_passers;
 use crate::pick::{earlier_at, first_outcome, is_inactive, is_nothing_free, own_at, place_of};
+use crate::taking::{begins_with_grant, first_bundle, has_taker};
 use drf_explain::{Finding, Outcome, TurnTold};
 use drf_role::{ClientPath, NodePath};
 use drf_rows::{ClientRow, FrameworkRow, Report, Rows};
@@ -41,9 +42,9 @@ pub struct Tally {
     pub inactive: u64,
     /// Nobody is tried, as nothing of it is free.
     pub nothing_free: u64,
-    /// It is granted nothing, behind somebody who is granted something, and would be granted something, were it the first to be tried.
+    /// It is granted nothing, and somebody before it something of what it would be granted, were it the first to be tried.
     pub passed: u64,
-    /// Who was granted something there.
+    /// Who is granted that.
     pub passers: Passers,
 }
 
@@ -112,19 +113,38 @@ impl Tally {
         }
     }
 
+    /// Counts who passes the client on one agent, by what is told of it there, by what is told before that, and by what would come of each
+    /// client, were it the first.
+    fn count_passers(
+        &mut self,
+        own: &[Finding],
+        earlier: &[Finding],
+        untouched: &[Finding],
+    ) -> Result<(), AllocError>
+        ensures { OnOk result (self.new
+            ≡ with_passed (passers_by own.now earlier.now (bundle_in (own_on self.old.client untouched.now))) self.old) }
+    {
+        if begins_with_grant(own) {
+            return Ok(());
+        }
+        let Some(bundle) = first_bundle(&self.client, untouched) else {
+            return Ok(());
+        };
+        raise_if(has_taker(earlier, bundle), &mut self.passed);
+        self.passers.count_takers(earlier, bundle)
+    }
+
     /// Counts what is told of the client's turn on one agent.
     fn take(&mut self, told: &[Finding], untouched: &[Finding]) -> Result<(), AllocError>
         ensures { OnOk result (self.new ≡ with_turn (told.now, untouched.now) self.old) }
     {
         let place = place_of(&self.client, told);
         let own = own_at(told, place);
-        let earlier = earlier_at(told, place);
-        let passed = is_passed(&self.client, own, earlier, untouched);
         self.count_outcome(first_outcome(own));
         raise_if(has_inactive(told), &mut self.inactive);
         raise_if(has_nothing_free(told), &mut self.nothing_free);
-        raise_if(passed, &mut self.passed);
-        self.passers.count_if(passed, earlier)
+        self.count_passers(own, earlier_at(told, place), untouched)?;
+        Ok(())
     }
 }
 

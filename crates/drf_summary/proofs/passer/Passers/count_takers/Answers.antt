@@ -1,0 +1,11 @@
+use Rattle.drf_summary.specs.Passers.{taker_in}
+use Rattle.drf_summary.proofs.Passed.{counted_more, counted_over}
+use Rattle.drf_summary.proofs.passer.Passers.count_takers.Goals as goal
+
+pub loop-finding-preserved : goal.loop-finding-preserved
+loop-finding-preserved c =
+    counted_more (taker_in c.args.bundle.now) _ c.args.findings.now c.loop-finding.finding-index _ _ c.finding-item.result
+    c.loop-finding-test.true c.finding-item.is c.in_ok-count_taker.ensures c.loop-finding.invariant
+
+pub returns : goal.returns
+returns c = counted_over (taker_in c.args.bundle.now) _ c.args.findings.now c.loop-finding.finding-index _ c.loop-finding-test.false c.loop-finding.invariant

@@ -1,0 +1,107 @@
+//! Who takes something of what a client would have been granted (`specs/Passers`).
+ghost use Rattle.std.specs.Prelude.{◌≡◌, [], not};
+ghost use Rattle.std.specs.List.{flat_map, list_any};
+ghost use Rattle.std.specs.Option.{option_copied, option_map_or, option_to_list};
+ghost use Rattle.drf_rows.specs.Offers.{is_empty};
+ghost use Rattle.drf_summary.specs.Passers.{begins_with_grant, bundle_in, bundle_of, is_in_both, taker_in, takes_of};
+ghost use Rattle.drf_summary.specs.Pick.{own_on};
+
+use crate::pick::{first_outcome, is_granted, own_at, place_of};
+use drf_bundle::{Bundle, Resource};
+use drf_explain::{Finding, Outcome};
+use drf_role::ClientPath;
+
+/// Whether there is something of the resource, and of the bundle something under the same name and reservation.
+fn is_in_both(bundle: &Bundle, resource: &Resource) -> bool
+    ensures { result ≡ is_in_both bundle.now resource.now }
+{
+    match bundle.get(&resource.label, &resource.role) {
+        Some(value) => 0 < resource.value.amount() && 0 < value.amount(),
+        None => false,
+    }
+}
+
+/// Whether who is granted the first bundle takes something of the second.
+fn takes_of(taken: &Bundle, bundle: &Bundle) -> bool
+    ensures { result ≡ takes_of taken.now bundle.now }
+{
+    let resources = taken.entries();
+    resources
+        .iter()
+        .any(|resource| is_in_both(bundle, resource))
+}
+
+/// Whether an outcome grants something of a bundle.
+fn is_taking(outcome: &Outcome, bundle: &Bundle) -> bool
+    ensures { result ≡ takes_of (bundle_of outcome.now) bundle.now }
+{
+    match outcome {
+        Outcome::Grant(taken) => takes_of(taken, bundle),
+        _ => false,
+    }
+}
+
+/// The client that a finding grants something of a bundle, if it does.
+pub(crate) fn taker_in<'a>(finding: &'a Finding, bundle: &Bundle) -> Option<&'a ClientPath>
+    ensures { option_to_list (option_copied result) ≡ taker_in bundle.now finding.now }
+{
+    let Finding::Tried {
+        client,
+        outcome,
+        ..
+    } = finding
+    else {
+        return None;
+    };
+    if !is_taking(outcome, bundle) {
+        return None;
+    }
+    Some(client)
+}
+
+fn is_taker(finding: &Finding, bundle: &Bundle) -> bool
+    ensures { result ≡ not (is_empty (taker_in bundle.now finding.now)) }
+{
+    taker_in(finding, bundle).is_some()
+}
+
+fn any_taker(findings: &[Finding], bundle: &Bundle) -> bool
+    ensures { result ≡ list_any (λ finding. not (is_empty (taker_in bundle.now finding))) findings.now }
+{
+    findings.iter().any(|finding| is_taker(finding, bundle))
+}
+
+/// Whether any of the findings grants somebody something of a bundle.
+pub(crate) fn has_taker(findings: &[Finding], bundle: &Bundle) -> bool
+    ensures { result ≡ not (is_empty (flat_map (taker_in bundle.now) findings.now)) }
+{
+    any_taker(findings, bundle)
+}
+
+/// Whether the first of the findings tells of a grant.
+pub(crate) fn begins_with_grant(findings: &[Finding]) -> bool
+    ensures { result ≡ begins_with_grant findings.now }
+{
+    match first_outcome(findings) {
+        Some(outcome) => is_granted(outcome),
+        None => false,
+    }
+}
+
+/// What the first of the findings grants, if it does.
+fn bundle_in(findings: &[Finding]) -> Option<&Bundle>
+    ensures { option_map_or (λ bundle. bundle) (option_copied result) [] ≡ bundle_in findings.now }
+{
+    match first_outcome(findings) {
+        Some(Outcome::Grant(bundle)) => Some(bundle),
+        _ => None,
+    }
+}
+
+/// What a client would be granted, were it the first to be tried, if that is something.
+pub(crate) fn first_bundle<'a>(path: &ClientPath, untouched: &'a [Finding]) -> Option<&'a Bundle>
+    ensures { option_map_or (λ bundle. bundle) (option_copied result) [] ≡ bundle_in (own_on path.now untouched.now) }
+{
+    let place = place_of(path, untouched);
+    bundle_in(own_at(untouched, place))
+}

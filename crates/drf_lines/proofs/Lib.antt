@@ -1,4 +1,5 @@
 pub mod Exits
+pub mod KnownWords
 pub mod RoleLists
 pub mod Values
 pub mod KnownTexts

@@ -17,20 +17,20 @@ value_read line value utf8 e = rw (is_utf8-from_IsUtf8 line utf8, e)
 -- ---- the texts of an array, one after another
 
 -- the texts so far, and those of the items that are left
-abbrev pub texts_after : List (List ℕ) → List (Value Global) → Option (List (List ℕ))
+abbrev pub texts_after : {A : Type 0} → List (List ℕ) → List (Value A) → Option (List (List ℕ))
 texts_after texts values = option_map (λ more. texts ++ more) (texts_of (items_seen values))
 
-pub texts_after-nil : (values : List (Value Global)) → texts_after [] values ≡ texts_of (items_seen values)
+pub texts_after-nil : {A : Type 0} (values : List (Value A)) → texts_after [] values ≡ texts_of (items_seen values)
 texts_after-nil values = at (texts_of (items_seen values))
   where
     at : (o : Option (List (List ℕ))) → option_map (λ more. [] ++ more) o ≡ o
     at None = refl
     at (Some more) = refl
 
-pub texts_after-end : (texts : List (List ℕ)) → texts_after texts [] ≡ Some texts
+pub texts_after-end : (texts : List (List ℕ)) → texts_after {A = Global} texts [] ≡ Some texts
 texts_after-end texts = ap Some (append-nil texts)
 
-pub texts_after-text : (texts : List (List ℕ)) (value : Value Global) (values : List (Value Global)) (text : List ℕ)
+pub texts_after-text : {A : Type 0} (texts : List (List ℕ)) (value : Value A) (values : List (Value A)) (text : List ℕ)
     → as_str (line_view value) ≡ Some text
     → texts_after texts (value ∷ values) ≡ texts_after (texts ++ text ∷ []) values
 texts_after-text texts value values text e = rw e (at (texts_of (items_seen values)))
@@ -41,6 +41,6 @@ texts_after-text texts value values text e = rw e (at (texts_of (items_seen valu
     at None = refl
     at (Some more) = ap Some (sym (append_assoc texts (text ∷ []) more))
 
-pub texts_after-none : (texts : List (List ℕ)) (value : Value Global) (values : List (Value Global)) → as_str (line_view value) ≡ None
+pub texts_after-none : {A : Type 0} (texts : List (List ℕ)) (value : Value A) (values : List (Value A)) → as_str (line_view value) ≡ None
     → texts_after texts (value ∷ values) ≡ None
 texts_after-none texts value values e = rw e

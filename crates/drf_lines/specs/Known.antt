@@ -8,7 +8,7 @@ use Rattle.drf_lines.specs.Resources.{bundle_in}
 
 -- how many are known at most
 abbrev pub most_known : ℕ
-most_known = 128
+most_known = 512
 
 -- how many bytes each has at most
 abbrev pub longest_known : ℕ

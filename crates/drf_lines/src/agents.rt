@@ -15,10 +15,9 @@ ghost use Rattle.drf_lines.specs.Words.{name_in};
 ghost use Rattle.drf_lines.specs.Written.{KeepsFront, KeepsUtf8};
 
 use crate::fault::LineError;
-use crate::known::KnownBundles;
 use crate::member::{put_boolean, put_bundle, put_byte, put_name, put_text};
 use crate::object::{LineValue, boolean_at, keys, text_at};
-use crate::words::read_name;
+use crate::words::KnownWords;
 use drf_bundle::Bundle;
 use drf_role::Name;
 use drf_rows::AgentRow;
@@ -28,7 +27,7 @@ use std::alloc::{AllocError, Global};
 #[tactic(auto, unfolding(crate::specs::AgentEvents::its_total))]
 pub fn read_its_total(
     alloc: Global,
-    known: &mut KnownBundles,
+    known: &mut KnownWords,
     value: &LineValue<'_>,
 ) -> Result<(Name, Bundle), LineError>
     ensures { IsReadOf result (its_total (line_view value.now)) }
@@ -36,7 +35,7 @@ pub fn read_its_total(
     keys(value, 3)?;
     let agent = text_at(value, "agent")?;
     let total = text_at(value, "total")?;
-    Ok((read_name(alloc, agent)?, known.read(alloc, total)?))
+    Ok((known.name(alloc, agent)?, known.bundle(alloc, total)?))
 }
 
 /// An event of an agent and a total.
@@ -60,12 +59,16 @@ pub fn put_of_total(
 
 /// The agent of an event that has no other key.
 #[tactic(auto, unfolding(crate::specs::AgentEvents::agent_of))]
-pub fn read_its_agent(alloc: Global, value: &LineValue<'_>) -> Result<Name, LineError>
+pub fn read_its_agent(
+    alloc: Global,
+    known: &mut KnownWords,
+    value: &LineValue<'_>,
+) -> Result<Name, LineError>
     ensures { IsReadOf result (agent_of (line_view value.now)) }
 {
     keys(value, 2)?;
     let agent = text_at(value, "agent")?;
-    read_name(alloc, agent)
+    known.name(alloc, agent)
 }
 
 /// An event of an agent alone.
@@ -83,7 +86,7 @@ pub fn put_of_agent(line: &mut Vec<u8>, event: &str, agent: &Name) -> Result<(),
 #[tactic(auto, unfolding(crate::specs::AgentRows::agent_row))]
 pub fn read_agent_row(
     alloc: Global,
-    known: &mut KnownBundles,
+    known: &mut KnownWords,
     value: &LineValue<'_>,
 ) -> Result<AgentRow, LineError>
     ensures { IsReadOf result (agent_row (line_view value.now)) }
@@ -93,8 +96,8 @@ pub fn read_agent_row(
     let agent = text_at(value, "agent")?;
     let total = text_at(value, "total")?;
     Ok(AgentRow {
-        name: read_name(alloc, agent)?,
-        total: known.read(alloc, total)?,
+        name: known.name(alloc, agent)?,
+        total: known.bundle(alloc, total)?,
         active,
     })
 }

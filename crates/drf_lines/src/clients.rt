@@ -12,7 +12,7 @@ ghost use Rattle.drf_lines.specs.Written.{KeepsFront, KeepsUtf8};
 use crate::fault::LineError;
 use crate::member::{put_boolean, put_byte, put_comma, put_number, put_role};
 use crate::object::{LineValue, boolean_at, keys, number_at, text_at};
-use crate::words::read_role;
+use crate::words::KnownWords;
 use drf_rows::{ClientRow, Table};
 use std::alloc::{AllocError, Global};
 
@@ -55,23 +55,31 @@ pub fn client_texts<'a>(
 }
 
 #[tactic(auto, unfolding(crate::specs::FrameworkRows::client_in))]
-fn read_client(alloc: Global, client: &ClientText) -> Result<ClientRow, LineError>
+fn read_client(
+    alloc: Global,
+    known: &mut KnownWords,
+    client: &ClientText,
+) -> Result<ClientRow, LineError>
     ensures { IsReadOf result (client_in (client.now.role.now, client.now.count, client.now.suppressed)) }
 {
     Ok(ClientRow {
-        role: read_role(alloc, client.role)?,
+        role: known.role(alloc, client.role)?,
         count: client.count,
         suppressed: client.suppressed,
     })
 }
 
 /// Reads the clients of a framework.
-pub fn read_clients(alloc: Global, texts: &[ClientText]) -> Result<Table<ClientRow>, LineError>
+pub fn read_clients(
+    alloc: Global,
+    known: &mut KnownWords,
+    texts: &[ClientText],
+) -> Result<Table<ClientRow>, LineError>
     ensures { IsReadOf result (each_in client_in (map (λ client. (client.role.now, client.count, client.suppressed)) texts.now)) }
 {
     let mut clients = Vec::with_capacity(alloc, texts.len())?;
     for text in texts {
-        clients.push(read_client(alloc, text)?)?;
+        clients.push(read_client(alloc, known, text)?)?;
     }
     Ok(Table::from_vec(clients))
 }

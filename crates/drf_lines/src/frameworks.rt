@@ -21,53 +21,41 @@ use crate::clients::{client_texts, put_client_list, read_clients};
 use crate::fault::LineError;
 use crate::member::{put, put_byte, put_comma, put_name, put_role, put_text};
 use crate::object::{LineValue, keys, text_at, texts_at, values_at};
-use crate::words::{read_name, read_role};
+use crate::words::KnownWords;
 use drf_role::{Name, Role};
 use drf_rows::{Event, FrameworkRow, Table};
 use std::alloc::{AllocError, Global};
 
-/// Reads a role. Where it is one that was read before, it shares the text.
-fn read_role_again(alloc: Global, known: &Role, text: &str) -> Result<Role, LineError>
-    ensures { IsReadOf result (role_in text.now) }
-{
-    if known.text() == text {
-        return Ok(known.copy()?);
-    }
-    read_role(alloc, text)
-}
-
-/// Reads a role behind the last one of some.
-fn read_next_role(alloc: Global, last: Option<&Role>, text: &str) -> Result<Role, LineError>
-    ensures { IsReadOf result (role_in text.now) }
-{
-    match last {
-        Some(known) => read_role_again(alloc, known, text),
-        None => read_role(alloc, text),
-    }
-}
-
 /// Reads the roles of a framework, of which one may stand more than once.
-fn read_roles(alloc: Global, texts: &[&str]) -> Result<Table<Role>, LineError>
+fn read_roles(
+    alloc: Global,
+    known: &mut KnownWords,
+    texts: &[&str],
+) -> Result<Table<Role>, LineError>
     ensures { IsReadOf result (roles_in (map (λ text. text.now) texts.now)) }
 {
     let mut roles = Vec::with_capacity(alloc, texts.len())?;
     for text in texts {
-        let role = read_next_role(alloc, roles.last(), text)?;
+        let role = known.role(alloc, text)?;
         roles.push(role)?;
     }
     Ok(Table::from_vec(roles))
 }
 
 #[tactic(auto, unfolding(crate::specs::FrameworkEvents::framework_event))]
-pub fn read_framework(alloc: Global, value: &LineValue<'_>) -> Result<Event, LineError>
+pub fn read_framework(
+    alloc: Global,
+    known: &mut KnownWords,
+    value: &LineValue<'_>,
+) -> Result<Event, LineError>
     ensures { IsReadOf result (framework_event (line_view value.now)) }
 {
     keys(value, 3)?;
     let framework = text_at(value, "framework")?;
     let roles = texts_at(alloc, value, "roles")?;
     Ok(Event::AddFramework {
-        framework: read_name(alloc, framework)?,
-        roles: read_roles(alloc, &roles)?,
+        framework: known.name(alloc, framework)?,
+        roles: read_roles(alloc, known, &roles)?,
     })
 }
 
@@ -108,12 +96,16 @@ pub fn put_add_framework(
 
 /// The framework of an event that has no other key.
 #[tactic(auto, unfolding(crate::specs::FrameworkEvents::framework_of))]
-pub fn read_its_framework(alloc: Global, value: &LineValue<'_>) -> Result<Name, LineError>
+pub fn read_its_framework(
+    alloc: Global,
+    known: &mut KnownWords,
+    value: &LineValue<'_>,
+) -> Result<Name, LineError>
     ensures { IsReadOf result (framework_of (line_view value.now)) }
 {
     keys(value, 2)?;
     let framework = text_at(value, "framework")?;
-    read_name(alloc, framework)
+    known.name(alloc, framework)
 }
 
 /// An event of a framework alone.
@@ -130,13 +122,17 @@ pub fn put_of_framework(line: &mut Vec<u8>, event: &str, framework: &Name) -> Re
 
 /// The framework and the role of an event that has no other keys.
 #[tactic(auto, unfolding(crate::specs::FrameworkEvents::its_client))]
-pub fn read_its_client(alloc: Global, value: &LineValue<'_>) -> Result<(Name, Role), LineError>
+pub fn read_its_client(
+    alloc: Global,
+    known: &mut KnownWords,
+    value: &LineValue<'_>,
+) -> Result<(Name, Role), LineError>
     ensures { IsReadOf result (its_client (line_view value.now)) }
 {
     keys(value, 3)?;
     let framework = text_at(value, "framework")?;
     let role = text_at(value, "role")?;
-    Ok((read_name(alloc, framework)?, read_role(alloc, role)?))
+    Ok((known.name(alloc, framework)?, known.role(alloc, role)?))
 }
 
 /// An event of a framework in a role.
@@ -158,15 +154,19 @@ pub fn put_of_client(
 }
 
 #[tactic(auto, unfolding(crate::specs::FrameworkRows::framework_row))]
-pub fn read_framework_row(alloc: Global, value: &LineValue<'_>) -> Result<FrameworkRow, LineError>
+pub fn read_framework_row(
+    alloc: Global,
+    known: &mut KnownWords,
+    value: &LineValue<'_>,
+) -> Result<FrameworkRow, LineError>
     ensures { IsReadOf result (framework_row (line_view value.now)) }
 {
     keys(value, 3)?;
     let clients = client_texts(alloc, values_at(value, "clients")?)?;
     let framework = text_at(value, "framework")?;
     Ok(FrameworkRow {
-        name: read_name(alloc, framework)?,
-        clients: read_clients(alloc, clients.as_slice())?,
+        name: known.name(alloc, framework)?,
+        clients: read_clients(alloc, known, clients.as_slice())?,
     })
 }
 

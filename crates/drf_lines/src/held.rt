@@ -10,10 +10,9 @@ ghost use Rattle.drf_lines.specs.StateMeaning.{state_line_meaning};
 ghost use Rattle.drf_lines.specs.Written.{KeepsFront, KeepsUtf8};
 
 use crate::fault::{LineError, LineFault};
-use crate::known::KnownBundles;
 use crate::member::{put, put_bundle, put_byte, put_name, put_number, put_role};
 use crate::object::{LineValue, keys, number_at, text_at};
-use crate::words::{read_name, read_role};
+use crate::words::{KnownWords, read_name};
 use drf_role::{Name, Role};
 use drf_rows::{FilterRow, OfferRow, TaskRow};
 use std::alloc::{AllocError, Global};
@@ -41,20 +40,24 @@ fn owner_text<'a>(value: &LineValue<'a>) -> Result<OwnerText<'a>, LineFault>
 }
 
 #[tactic(auto, unfolding(crate::specs::HeldRows::owner_in))]
-fn read_owner(alloc: Global, owner: &OwnerText) -> Result<(Name, Name, Role), LineError>
+fn read_owner(
+    alloc: Global,
+    known: &mut KnownWords,
+    owner: &OwnerText,
+) -> Result<(Name, Name, Role), LineError>
     ensures { IsReadOf result (owner_in (owner.now.agent.now, owner.now.framework.now, owner.now.role.now)) }
 {
     Ok((
-        read_name(alloc, owner.agent)?,
-        read_name(alloc, owner.framework)?,
-        read_role(alloc, owner.role)?,
+        known.name(alloc, owner.agent)?,
+        known.name(alloc, owner.framework)?,
+        known.role(alloc, owner.role)?,
     ))
 }
 
 #[tactic(auto, unfolding(crate::specs::HeldRows::offer_row))]
 pub fn read_offer_row(
     alloc: Global,
-    known: &mut KnownBundles,
+    known: &mut KnownWords,
     value: &LineValue<'_>,
 ) -> Result<OfferRow, LineError>
     ensures { IsReadOf result (offer_row (line_view value.now)) }
@@ -63,20 +66,20 @@ pub fn read_offer_row(
     let owner = owner_text(value)?;
     let number = number_at(value, "offer")?;
     let resources = text_at(value, "resources")?;
-    let (agent, framework, role) = read_owner(alloc, &owner)?;
+    let (agent, framework, role) = read_owner(alloc, known, &owner)?;
     Ok(OfferRow {
         number,
         agent,
         framework,
         role,
-        bundle: known.read(alloc, resources)?,
+        bundle: known.bundle(alloc, resources)?,
     })
 }
 
 #[tactic(auto, unfolding(crate::specs::HeldRows::task_row))]
 pub fn read_task_row(
     alloc: Global,
-    known: &mut KnownBundles,
+    known: &mut KnownWords,
     value: &LineValue<'_>,
 ) -> Result<TaskRow, LineError>
     ensures { IsReadOf result (task_row (line_view value.now)) }
@@ -85,20 +88,20 @@ pub fn read_task_row(
     let owner = owner_text(value)?;
     let task = text_at(value, "task")?;
     let used = text_at(value, "use")?;
-    let (agent, framework, role) = read_owner(alloc, &owner)?;
+    let (agent, framework, role) = read_owner(alloc, known, &owner)?;
     Ok(TaskRow {
         name: read_name(alloc, task)?,
         agent,
         framework,
         role,
-        bundle: known.read(alloc, used)?,
+        bundle: known.bundle(alloc, used)?,
     })
 }
 
 #[tactic(auto, unfolding(crate::specs::HeldRows::filter_row))]
 pub fn read_filter_row(
     alloc: Global,
-    known: &mut KnownBundles,
+    known: &mut KnownWords,
     value: &LineValue<'_>,
 ) -> Result<FilterRow, LineError>
     ensures { IsReadOf result (filter_row (line_view value.now)) }
@@ -107,12 +110,12 @@ pub fn read_filter_row(
     let owner = owner_text(value)?;
     let resources = text_at(value, "resources")?;
     let until = number_at(value, "until")?;
-    let (agent, framework, role) = read_owner(alloc, &owner)?;
+    let (agent, framework, role) = read_owner(alloc, known, &owner)?;
     Ok(FilterRow {
         framework,
         role,
         agent,
-        bundle: known.read(alloc, resources)?,
+        bundle: known.bundle(alloc, resources)?,
         until,
     })
 }

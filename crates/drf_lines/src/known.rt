@@ -15,7 +15,7 @@ use std::marker::Model;
 use std::num::NonZeroUsize;
 
 /// How many texts are known at most.
-const MOST_KNOWN: usize = 128;
+const MOST_KNOWN: usize = 512;
 
 /// How many bytes each has at most.
 const LONGEST_KNOWN: usize = 128;

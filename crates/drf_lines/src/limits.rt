@@ -19,7 +19,7 @@ use crate::fault::LineError;
 use crate::member::{put, put_byte, put_role, put_text};
 use crate::object::{LineValue, keys, text_at};
 use crate::resources::read_quantities;
-use crate::words::read_role;
+use crate::words::KnownWords;
 use drf_bundle::Quantities;
 use drf_role::Role;
 use drf_rows::LimitRow;
@@ -28,13 +28,17 @@ use std::alloc::{AllocError, Global};
 
 /// The role and the limit of an event, or of a row, that has no other keys.
 #[tactic(auto, unfolding(crate::specs::LimitEvents::its_limit))]
-pub fn read_its_limit(alloc: Global, value: &LineValue<'_>) -> Result<(Role, Quantities), LineError>
+pub fn read_its_limit(
+    alloc: Global,
+    known: &mut KnownWords,
+    value: &LineValue<'_>,
+) -> Result<(Role, Quantities), LineError>
     ensures { IsReadOf result (its_limit (line_view value.now)) }
 {
     keys(value, 3)?;
     let role = text_at(value, "role")?;
     let limit = text_at(value, "limit")?;
-    Ok((read_role(alloc, role)?, read_quantities(alloc, limit)?))
+    Ok((known.role(alloc, role)?, read_quantities(alloc, limit)?))
 }
 
 /// Writes what stands before a limit with its first `"`, and the limit, amounts of 0 too. It is read as this limit.

@@ -14,7 +14,6 @@ ghost use Rattle.drf_lines.specs.StateMeaning.{state_line_meaning};
 use crate::agents::{read_its_agent, read_its_total};
 use crate::fault::{LineError, LineFault};
 use crate::frameworks::{read_framework, read_its_client, read_its_framework};
-use crate::known::KnownBundles;
 use crate::limits::read_its_limit;
 use crate::object::{LineValue, keys, number_at, text_at};
 use crate::offers::{read_accept, read_decline, read_finish, read_rescind};
@@ -22,20 +21,22 @@ use crate::range::is_in_range;
 use crate::reservations::read_its_reservation;
 use crate::state_line::read_state_object;
 use crate::weights::read_its_weight;
+use crate::words::KnownWords;
+use bumpalo::Bump;
 use drf_rows::Event;
 use drf_saved::StateLine;
-use json::{Error, Reader, Scratch};
+use json::{Error, Reader, Scratch, Value};
 use std::alloc::Global;
 
 /// How deep the arrays and objects of a line may nest.
 const MOST_DEPTH: usize = 127;
 
 /// The next JSON value of a reader.
-fn next_value<'a>(alloc: Global, reader: &mut Reader<'a>) -> Result<LineValue<'a>, LineError>
+fn next_value<'a>(arena: &'a Bump, reader: &mut Reader<'a>) -> Result<LineValue<'a>, LineError>
     ensures ok { IfOk result (λ found. value 127 reader.old ≡ Some (value_view found, reader.new)) }
     ensures err { IfErr result (λ error. IsRefused error (value 127 reader.old ≡ None)) }
 {
-    match LineValue::read(alloc, reader, MOST_DEPTH) {
+    match Value::read(arena, reader, MOST_DEPTH) {
         Ok(value) => Ok(value),
         Err(Error::Invalid) => Err(LineError::Fault(LineFault::NotJson)),
         Err(_) => Err(LineError::Memory),
@@ -44,14 +45,14 @@ fn next_value<'a>(alloc: Global, reader: &mut Reader<'a>) -> Result<LineValue<'a
 
 /// The JSON value of a text. Strings of it that have escapes are written to the scratch.
 fn text_value<'a>(
-    alloc: Global,
+    arena: &'a Bump,
     scratch: &'a mut Scratch,
     text: &'a str,
 ) -> Result<LineValue<'a>, LineError>
     ensures { IsReadAs line_view result (ok_or (read text.now) NotJson) }
 {
     let mut reader = Reader::new(text, scratch)?;
-    let value = next_value(alloc, &mut reader)?;
+    let value = next_value(arena, &mut reader)?;
     if reader.next().is_some() {
         return Err(LineError::Fault(LineFault::NotJson));
     }
@@ -63,7 +64,7 @@ fn text_value<'a>(
 
 /// The JSON value of a line.
 fn line_value<'a>(
-    alloc: Global,
+    arena: &'a Bump,
     scratch: &'a mut Scratch,
     line: &'a [u8],
 ) -> Result<LineValue<'a>, LineError>
@@ -71,7 +72,7 @@ fn line_value<'a>(
     ensures memory { IsErrOf result LineError.Memory → IsUtf8 line.now }
 {
     match std::str::from_utf8(line) {
-        Ok(text) => text_value(alloc, scratch, text),
+        Ok(text) => text_value(arena, scratch, text),
         Err(_) => Err(LineError::Fault(LineFault::NotJson)),
     }
 }
@@ -96,16 +97,16 @@ fn read_report(value: &LineValue<'_>) -> Result<Event, LineError>
 #[tactic(auto, unfolding(crate::specs::Meaning::event_in))]
 fn read_object(
     alloc: Global,
-    known: &mut KnownBundles,
+    known: &mut KnownWords,
     value: &LineValue<'_>,
 ) -> Result<Event, LineError>
     ensures { IsReadOf result (event_in (line_view value.now)) }
 {
     match text_at(value, "event")? {
         // Most lines are of these, so that they are looked for first.
-        "finish" => read_finish(alloc, value),
+        "finish" => read_finish(alloc, known, value),
         "accept" => read_accept(alloc, known, value),
-        "decline" => read_decline(alloc, value),
+        "decline" => read_decline(alloc, known, value),
         "rescind" => read_rescind(value),
         "cycle" => read_cycle(value),
         "add_agent" => {
@@ -113,28 +114,28 @@ fn read_object(
             Ok(Event::AddAgent { agent, total })
         }
         "remove_agent" => Ok(Event::RemoveAgent {
-            agent: read_its_agent(alloc, value)?,
+            agent: read_its_agent(alloc, known, value)?,
         }),
         "activate_agent" => Ok(Event::ActivateAgent {
-            agent: read_its_agent(alloc, value)?,
+            agent: read_its_agent(alloc, known, value)?,
         }),
         "deactivate_agent" => Ok(Event::DeactivateAgent {
-            agent: read_its_agent(alloc, value)?,
+            agent: read_its_agent(alloc, known, value)?,
         }),
         "set_agent" => {
             let (agent, total) = read_its_total(alloc, known, value)?;
             Ok(Event::SetAgent { agent, total })
         }
-        "add_framework" => read_framework(alloc, value),
+        "add_framework" => read_framework(alloc, known, value),
         "remove_framework" => Ok(Event::RemoveFramework {
-            framework: read_its_framework(alloc, value)?,
+            framework: read_its_framework(alloc, known, value)?,
         }),
         "suppress" => {
-            let (framework, role) = read_its_client(alloc, value)?;
+            let (framework, role) = read_its_client(alloc, known, value)?;
             Ok(Event::Suppress { framework, role })
         }
         "revive" => {
-            let (framework, role) = read_its_client(alloc, value)?;
+            let (framework, role) = read_its_client(alloc, known, value)?;
             Ok(Event::Revive { framework, role })
         }
         "reserve" => {
@@ -154,11 +155,11 @@ fn read_object(
             })
         }
         "set_weight" => {
-            let (role, weight) = read_its_weight(alloc, value)?;
+            let (role, weight) = read_its_weight(alloc, known, value)?;
             Ok(Event::SetWeight { role, weight })
         }
         "set_limit" => {
-            let (role, limit) = read_its_limit(alloc, value)?;
+            let (role, limit) = read_its_limit(alloc, known, value)?;
             Ok(Event::SetLimit { role, limit })
         }
         "report" => read_report(value),
@@ -169,26 +170,50 @@ fn read_object(
 /// How many bytes a line has at most, without its line feed.
 const LONGEST_LINE: usize = 65_536;
 
+/// An arena of more bytes is not kept for the next line.
+const LARGE_ARENA: usize = 65_536;
+
 /// A reader of lines, one after another. What a line needs to be read is kept for the next one.
-#[derive(Drop)]
 pub struct LineReader {
     alloc: Global,
+    arena: Bump,
     scratch: Scratch,
-    known: KnownBundles,
+    known: KnownWords,
+}
+
+// Written out, so that the proof of whoever drops a reader sees one call.
+impl Drop for LineReader {
+    fn drop(self) {
+        let LineReader {
+            alloc: _alloc,
+            arena: _arena,
+            scratch: _scratch,
+            known: _known,
+        } = self;
+    }
 }
 
 impl LineReader {
     /// A reader that has read nothing.
     pub fn new(alloc: Global) -> LineReader {
-        LineReader::knowing(alloc, KnownBundles::new())
+        LineReader::knowing(alloc, KnownWords::new(alloc))
     }
 
-    fn knowing(alloc: Global, known: KnownBundles) -> LineReader {
+    fn knowing(alloc: Global, known: KnownWords) -> LineReader {
         LineReader {
             alloc,
+            arena: Bump::new(alloc),
             scratch: Scratch::new(alloc),
             known,
         }
+    }
+
+    /// Gives back what a long line took.
+    fn empty_arena(&mut self) {
+        if self.arena.allocated_bytes() > LARGE_ARENA {
+            self.arena = Bump::new(self.alloc);
+        }
+        let _ = self.arena.reset();
     }
 
     /// Reads a line, which is an event or has a fault. All shapes are looked at before any text.
@@ -200,7 +225,8 @@ impl LineReader {
         if line.len() > LONGEST_LINE {
             return Err(LineError::Fault(LineFault::LineTooLong));
         }
-        let value = line_value(self.alloc, &mut self.scratch, line)?;
+        self.empty_arena();
+        let value = line_value(&self.arena, &mut self.scratch, line)?;
         read_object(self.alloc, &mut self.known, &value)
     }
 
@@ -209,7 +235,8 @@ impl LineReader {
         ensures read { IsReadOf result (state_line_meaning line.now) }
         ensures utf8 { IsErrOf result LineError.Memory → IsUtf8 line.now }
     {
-        let value = line_value(self.alloc, &mut self.scratch, line)?;
+        self.empty_arena();
+        let value = line_value(&self.arena, &mut self.scratch, line)?;
         read_state_object(self.alloc, &mut self.known, &value)
     }
 }
@@ -220,5 +247,5 @@ pub fn read_event(alloc: Global, line: &[u8]) -> Result<Event, LineError>
     ensures memory { IsErrOf result LineError.Memory → length line.now ≤ longest_line }
     ensures utf8 { IsErrOf result LineError.Memory → IsUtf8 line.now }
 {
-    LineReader::knowing(alloc, KnownBundles::none()).read(line)
+    LineReader::knowing(alloc, KnownWords::none(alloc)).read(line)
 }

@@ -1,6 +1,8 @@
 //! What stands in a JSON object.
 ghost use Rattle.std.specs.Prelude.{◌≡◌, ◌≤◌, ◌==◌, IsTrue, length, map, slice_index, option_map, option_and_then};
-ghost use Rattle.json.specs.Value.{members_view};
+ghost use Rattle.std.specs.Str.{bytes_eq};
+ghost use Rattle.json.specs.Find.{get_member};
+ghost use Rattle.json.specs.Value.{value_view, members_view};
 ghost use Rattle.serde_json.specs.Data.{no_members};
 ghost use Rattle.serde_json.specs.Find.{get, as_str, as_bool, as_array};
 ghost use Rattle.drf_lines.specs.Fault.{IsFoundAs, IsReadAs};
@@ -10,10 +12,12 @@ ghost use Rattle.drf_lines.specs.Object.{has_members, keys, keys_besides, member
 
 use crate::fault::{LineError, LineFault};
 use crate::number::whole_number;
+use bumpalo::Bump;
+use json::Value;
 use std::alloc::Global;
 
-/// The JSON value of a line, whose texts are borrowed.
-pub use json::Value as LineValue;
+/// The JSON value of a line, whose texts are borrowed. Its arrays and objects lie in an arena, which is emptied before the next line.
+pub type LineValue<'a> = Value<'a, &'a Bump>;
 
 /// How many keys an object is asked for at most.
 const MOST_KEYS: usize = 8;
@@ -93,7 +97,7 @@ fn has_members(value: &LineValue<'_>, count: usize) -> bool
     ensures { result ≡ has_members count (line_view value.now) }
 {
     match value {
-        LineValue::Object(members) => has_count(members, count),
+        Value::Object(members) => has_count(members, count),
         _ => false,
     }
 }
@@ -110,12 +114,43 @@ pub fn keys(value: &LineValue<'_>, count: usize) -> Result<(), LineFault>
     Ok(())
 }
 
+/// Whether two keys are the same. Most begin with different bytes.
+fn is_key(key: &str, name: &str) -> bool
+    ensures { result ≡ bytes_eq key.now name.now }
+{
+    if first_byte(key) != first_byte(name) {
+        return false;
+    }
+    key == name
+}
+
+/// The value of the last member of a name.
+fn find_member<'v, 'a>(
+    members: &'v [(&'a str, LineValue<'a>)],
+    name: &str,
+) -> Option<&'v LineValue<'a>>
+    ensures { option_map (λ found. value_view found.now) result ≡ get_member name.now (members_view members.now) }
+{
+    let mut left = members.len();
+    while left > 0 {
+        left -= 1;
+        let member = &members[left];
+        if is_key(member.0, name) {
+            return Some(&member.1);
+        }
+    }
+    None
+}
+
 /// What stands under a key.
 #[tactic(auto, unfolding(crate::specs::LineValue::line_view))]
 pub fn find<'v, 'a>(value: &'v LineValue<'a>, key: &str) -> Option<&'v LineValue<'a>>
     ensures { option_map (λ found. line_view found.now) result ≡ get key.now (line_view value.now) }
 {
-    value.get(key)
+    match value {
+        Value::Object(members) => find_member(members, key),
+        _ => None,
+    }
 }
 
 /// The text that a value is.
@@ -144,11 +179,11 @@ fn as_boolean(value: &LineValue<'_>) -> Option<bool>
 
 /// The items of an array.
 #[tactic(auto, unfolding(crate::specs::LineValue::line_view))]
-fn as_items<'v, 'a>(value: &'v LineValue<'a>) -> Option<&'v Vec<LineValue<'a>>>
+fn as_items<'v, 'a>(value: &'v LineValue<'a>) -> Option<&'v Vec<LineValue<'a>, &'a Bump>>
     ensures { option_map (λ items. items_seen items.now.items) result ≡ as_array (line_view value.now) }
 {
     match value {
-        LineValue::Array(items) => Some(items),
+        Value::Array(items) => Some(items),
         _ => None,
     }
 }
@@ -216,7 +251,7 @@ pub fn number_or(value: &LineValue<'_>, key: &str, usual: u64) -> Result<u64, Li
     }
 }
 
-fn items_at<'v, 'a>(value: &'v LineValue<'a>, key: &str) -> Option<&'v Vec<LineValue<'a>>>
+fn items_at<'v, 'a>(value: &'v LineValue<'a>, key: &str) -> Option<&'v Vec<LineValue<'a>, &'a Bump>>
     ensures { option_map (λ items. items_seen items.now.items) result ≡ option_and_then as_array (get key.now (line_view value.now)) }
 {
     as_items(find(value, key)?)

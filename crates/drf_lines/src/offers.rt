@@ -12,11 +12,10 @@ ghost use Rattle.drf_lines.specs.Written.{KeepsFront, KeepsUtf8};
 ghost use Rattle.drf_lines.specs.OfferEvents.{refusal_member, offer_members, accept_event, accept_value, decline_event, decline_value, rescind_event, rescind_value, finish_event, finish_value};
 
 use crate::fault::LineError;
-use crate::known::KnownBundles;
 use crate::member::{put, put_byte, put_name, put_number};
 use crate::object::{LineValue, keys, keys_besides, number_at, number_or, text_at};
 use crate::tasks::{put_start, put_task_list, read_tasks, task_texts};
-use crate::words::read_name;
+use crate::words::{KnownWords, read_name};
 use drf_bundle::Bundle;
 use drf_role::Name;
 use drf_rows::{Accept, Decline, Event};
@@ -28,7 +27,7 @@ const USUAL_REFUSAL: u64 = 5000;
 #[tactic(auto, unfolding(crate::specs::OfferEvents::accept_event))]
 pub fn read_accept(
     alloc: Global,
-    known: &mut KnownBundles,
+    known: &mut KnownWords,
     value: &LineValue<'_>,
 ) -> Result<Event, LineError>
     ensures { IsReadOf result (accept_event (line_view value.now)) }
@@ -39,7 +38,7 @@ pub fn read_accept(
     let at = number_at(value, "at")?;
     let refuse_ms = number_or(value, "refuse_ms", USUAL_REFUSAL)?;
     Ok(Event::Accept(Accept {
-        framework: read_name(alloc, framework)?,
+        framework: known.name(alloc, framework)?,
         offer,
         tasks: read_tasks(alloc, known, tasks.as_slice())?,
         at,
@@ -48,7 +47,11 @@ pub fn read_accept(
 }
 
 #[tactic(auto, unfolding(crate::specs::OfferEvents::decline_event))]
-pub fn read_decline(alloc: Global, value: &LineValue<'_>) -> Result<Event, LineError>
+pub fn read_decline(
+    alloc: Global,
+    known: &mut KnownWords,
+    value: &LineValue<'_>,
+) -> Result<Event, LineError>
     ensures { IsReadOf result (decline_event (line_view value.now)) }
 {
     keys_besides(value, "refuse_ms", 4)?;
@@ -57,7 +60,7 @@ pub fn read_decline(alloc: Global, value: &LineValue<'_>) -> Result<Event, LineE
     let at = number_at(value, "at")?;
     let refuse_ms = number_or(value, "refuse_ms", USUAL_REFUSAL)?;
     Ok(Event::Decline(Decline {
-        framework: read_name(alloc, framework)?,
+        framework: known.name(alloc, framework)?,
         offer,
         at,
         refuse_ms,
@@ -74,14 +77,18 @@ pub fn read_rescind(value: &LineValue<'_>) -> Result<Event, LineError>
 }
 
 #[tactic(auto, unfolding(crate::specs::OfferEvents::finish_event))]
-pub fn read_finish(alloc: Global, value: &LineValue<'_>) -> Result<Event, LineError>
+pub fn read_finish(
+    alloc: Global,
+    known: &mut KnownWords,
+    value: &LineValue<'_>,
+) -> Result<Event, LineError>
     ensures { IsReadOf result (finish_event (line_view value.now)) }
 {
     keys(value, 3)?;
     let framework = text_at(value, "framework")?;
     let task = text_at(value, "task")?;
     Ok(Event::Finish {
-        framework: read_name(alloc, framework)?,
+        framework: known.name(alloc, framework)?,
         task: read_name(alloc, task)?,
     })
 }

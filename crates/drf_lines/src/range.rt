@@ -4,11 +4,13 @@ ghost use Rattle.json.specs.Value.{value_view, items_view, members_view};
 ghost use Rattle.drf_lines.specs.LineValue.{is_in_range, items_in_range, members_in_range};
 
 use crate::number::is_number_in_range;
+use crate::object::LineValue;
+use bumpalo::Bump;
 use json::Value;
 
 /// Whether each number of the value is in the range of a double.
 #[cycle(is_in_range)]
-pub fn is_in_range(value: &Value<'_>) -> bool
+pub fn is_in_range(value: &LineValue<'_>) -> bool
     ensures { result ≡ is_in_range (value_view value.now) }
 {
     match value {
@@ -20,7 +22,7 @@ pub fn is_in_range(value: &Value<'_>) -> bool
 }
 
 #[cycle(is_in_range)]
-fn items_in_range(items: &Vec<Value<'_>>) -> bool
+fn items_in_range<'a>(items: &Vec<LineValue<'a>, &'a Bump>) -> bool
     ensures { result ≡ items_in_range (items_view items.now.items) }
 {
     for item in items {
@@ -32,7 +34,7 @@ fn items_in_range(items: &Vec<Value<'_>>) -> bool
 }
 
 #[cycle(is_in_range)]
-fn members_in_range(members: &Vec<(&str, Value<'_>)>) -> bool
+fn members_in_range<'a>(members: &Vec<(&'a str, LineValue<'a>), &'a Bump>) -> bool
     ensures { result ≡ members_in_range (members_view members.now.items) }
 {
     for member in members {

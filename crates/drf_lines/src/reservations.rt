@@ -11,10 +11,9 @@ ghost use Rattle.drf_lines.specs.Words.{name_in, role_in};
 ghost use Rattle.drf_lines.specs.Written.{KeepsFront, KeepsUtf8};
 
 use crate::fault::LineError;
-use crate::known::KnownBundles;
 use crate::member::{put_bundle, put_byte, put_name, put_role, put_text};
 use crate::object::{LineValue, keys, text_at};
-use crate::words::{read_name, read_role};
+use crate::words::KnownWords;
 use drf_bundle::Bundle;
 use drf_role::{Name, Role};
 use std::alloc::{AllocError, Global};
@@ -23,7 +22,7 @@ use std::alloc::{AllocError, Global};
 #[tactic(auto, unfolding(crate::specs::ReservationEvents::its_reservation))]
 pub fn read_its_reservation(
     alloc: Global,
-    known: &mut KnownBundles,
+    known: &mut KnownWords,
     value: &LineValue<'_>,
 ) -> Result<(Name, Role, Bundle), LineError>
     ensures { IsReadOf result (its_reservation (line_view value.now)) }
@@ -33,9 +32,9 @@ pub fn read_its_reservation(
     let role = text_at(value, "role")?;
     let resources = text_at(value, "resources")?;
     Ok((
-        read_name(alloc, agent)?,
-        read_role(alloc, role)?,
-        known.read(alloc, resources)?,
+        known.name(alloc, agent)?,
+        known.role(alloc, role)?,
+        known.bundle(alloc, resources)?,
     ))
 }
 

@@ -13,11 +13,11 @@ use crate::frameworks::{push_framework_row, read_framework_row};
 use crate::held::{
     push_filter_row, push_offer_row, push_task_row, read_filter_row, read_offer_row, read_task_row,
 };
-use crate::known::KnownBundles;
 use crate::limits::{push_limit_row, read_its_limit};
 use crate::member::{put, put_byte, put_number, put_text};
 use crate::object::{LineValue, keys, number_at, text_at};
 use crate::weights::{push_weight_row, read_its_weight};
+use crate::words::KnownWords;
 use drf_rows::{LimitRow, WeightRow};
 use drf_saved::{Head, SavedRow, StateLine};
 use std::alloc::{AllocError, Global};
@@ -50,7 +50,7 @@ fn read_end(value: &LineValue<'_>) -> Result<StateLine, LineError>
 #[tactic(auto, unfolding(crate::specs::StateMeaning::state_line_in))]
 pub fn read_state_object(
     alloc: Global,
-    known: &mut KnownBundles,
+    known: &mut KnownWords,
     value: &LineValue<'_>,
 ) -> Result<StateLine, LineError>
     ensures { IsReadOf result (state_line_in (line_view value.now)) }
@@ -58,13 +58,13 @@ pub fn read_state_object(
     let row = match text_at(value, "row")? {
         "state" => return Ok(StateLine::Head(read_head(value)?)),
         "agent" => SavedRow::Agent(read_agent_row(alloc, known, value)?),
-        "framework" => SavedRow::Framework(read_framework_row(alloc, value)?),
+        "framework" => SavedRow::Framework(read_framework_row(alloc, known, value)?),
         "weight" => {
-            let (role, weight) = read_its_weight(alloc, value)?;
+            let (role, weight) = read_its_weight(alloc, known, value)?;
             SavedRow::Weight(WeightRow { role, weight })
         }
         "limit" => {
-            let (role, limit) = read_its_limit(alloc, value)?;
+            let (role, limit) = read_its_limit(alloc, known, value)?;
             SavedRow::Limit(LimitRow { role, limit })
         }
         "offer" => SavedRow::Offer(read_offer_row(alloc, known, value)?),

@@ -11,10 +11,9 @@ ghost use Rattle.drf_lines.specs.TaskTexts.{each_in, task_text, is_few, if_few, 
 ghost use Rattle.drf_lines.specs.Written.{KeepsFront, KeepsUtf8};
 
 use crate::fault::{LineError, LineFault};
-use crate::known::KnownBundles;
 use crate::member::{put_bundle, put_byte, put_comma, put_name};
 use crate::object::{LineValue, find, keys, keys_besides, text_at, values_at};
-use crate::words::read_name;
+use crate::words::{KnownWords, read_name};
 use drf_bundle::Bundle;
 use drf_role::Name;
 use drf_rows::{MOST_TASKS, Table, TaskList};
@@ -106,19 +105,19 @@ pub fn task_texts<'a>(
 #[tactic(auto, unfolding(crate::specs::TaskTexts::start_in))]
 fn read_start(
     alloc: Global,
-    known: &mut KnownBundles,
+    known: &mut KnownWords,
     text: &TaskText,
 ) -> Result<(Name, Bundle), LineError>
     ensures { IsReadOf result (start_in (text.now.name.now, text.now.used.now)) }
 {
     let name = read_name(alloc, text.name)?;
-    let used = known.read(alloc, text.used)?;
+    let used = known.bundle(alloc, text.used)?;
     Ok((name, used))
 }
 
 fn read_starts(
     alloc: Global,
-    known: &mut KnownBundles,
+    known: &mut KnownWords,
     texts: &[TaskText],
 ) -> Result<Table<(Name, Bundle)>, LineError>
     ensures { IsReadOf result (each_in start_in (map (λ text. (text.name.now, text.used.now)) texts.now)) }
@@ -142,7 +141,7 @@ fn task_list(tasks: Table<(Name, Bundle)>) -> Result<TaskList, LineFault>
 #[tactic(auto, unfolding(crate::specs::TaskTexts::starts_in))]
 pub fn read_tasks(
     alloc: Global,
-    known: &mut KnownBundles,
+    known: &mut KnownWords,
     texts: &[TaskText],
 ) -> Result<TaskList, LineError>
     ensures { IsReadOf result (starts_in (map (λ text. (text.name.now, text.used.now)) texts.now)) }

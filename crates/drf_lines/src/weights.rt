@@ -19,7 +19,7 @@ use crate::fault::LineError;
 use crate::member::{put_byte, put_role, put_text};
 use crate::object::{LineValue, keys, text_at};
 use crate::resources::read_weight;
-use crate::words::read_role;
+use crate::words::KnownWords;
 use drf_role::Role;
 use drf_rows::WeightRow;
 use drf_text::{weight_round_trip_law, write_weight};
@@ -27,13 +27,17 @@ use std::alloc::{AllocError, Global};
 
 /// The role and the weight of an event, or of a row, that has no other keys.
 #[tactic(auto, unfolding(crate::specs::WeightEvents::its_weight))]
-pub fn read_its_weight(alloc: Global, value: &LineValue<'_>) -> Result<(Role, u64), LineError>
+pub fn read_its_weight(
+    alloc: Global,
+    known: &mut KnownWords,
+    value: &LineValue<'_>,
+) -> Result<(Role, u64), LineError>
     ensures { IsReadOf result (its_weight (line_view value.now)) }
 {
     keys(value, 3)?;
     let role = text_at(value, "role")?;
     let weight = text_at(value, "weight")?;
-    Ok((read_role(alloc, role)?, read_weight(weight)?))
+    Ok((known.role(alloc, role)?, read_weight(weight)?))
 }
 
 /// Writes what stands before a weight with its first `"`, and the weight. It is read as this weight.

@@ -68,6 +68,9 @@ key_at (e ∷ es) (suc i) x at =
     let later = key_at es i x at in
     record { key = later.key; at = later.at; name = later.name }
 
+pub value_at : {X : Type 0} (es : List (Text × X)) (i : ℕ) (e : Text × X) → slice_get es i ≡ Some e → slice_get (values_of es) i ≡ Some e.1
+value_at {X} es i e at = slice_get-map (λ (e : Text × X). e.1) es i ∙ ap (option_map (λ (e : Text × X). e.1)) at
+
 -- a key that is found is the one that was looked for
 pub key_found : {X : Type 0} (es : List (Text × X)) (i : ℕ) (key n : Text)
     → position (same_text n) (keys_of es) ≡ Some i → slice_get (keys_of es) i ≡ Some key → key ≡ n

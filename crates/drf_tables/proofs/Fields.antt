@@ -1,12 +1,12 @@
 -- The rows that the fields of tables stand for, before and after each change.
-use Rattle.std.specs.Prelude.{◌≡◌, ℕ, ◌+◌, ◌*◌, ◌<◌, ◌≤◌, ◌^◌, Bool, true, false, cond, List, [], ◌∷◌, ◌++◌, length, map, fold, slice_get, Option, Some, None, is_some, IfSome, nat_lt}
-use Rattle.std.specs.List.{AllByRecursion, position, position_or_len}
+use Rattle.std.specs.Prelude.{◌≡◌, ℕ, ◌+◌, ◌*◌, ◌<◌, ◌≤◌, ◌^◌, Bool, true, false, if◌then◌else◌, find, List, [], ◌∷◌, ◌++◌, length, map, fold, slice_get, Option, Some, None, is_some, IfSome}
+use Rattle.std.specs.List.{AllByRecursion}
+use Rattle.std.specs.Option.{option_map}
 use Rattle.std.specs.Global.{Vec}
 use Rattle.std.specs.Map.{lookup, keys_of, values_of}
 use Rattle.std.proofs.Common.{refl, sym, ap, ◌∙◌, zero, suc, inl, inr, arith}
 use Rattle.std.proofs.lemmas.Bool.{cases_Bool}
 use Rattle.std.proofs.lemmas.List.{map-append}
-use Rattle.std.proofs.lemmas.List.Folds.{find_at}
 use Rattle.indexmap.specs.IndexMap.{insert_entry}
 use Rattle.drf_role.specs.Text.{Text, same_text}
 use Rattle.drf_bundle.specs.Quantities.{amount_of, plus}
@@ -30,6 +30,7 @@ use Rattle.drf_tables.specs.Drafts.{with_offers}
 use Rattle.drf_tables.specs.DraftLaws.{offers_added, with_offers-added}
 use Rattle.drf_tables.specs.Counting.{counting_all}
 use Rattle.drf_tables.specs.Inside.{agent_row, framework_row, framework_rows, rows_of, rows_in, IsKnown}
+use Rattle.drf_tables.specs.Registered.{first_place}
 use Rattle.drf_rows.specs.Holdings.{holdings_of}
 use Rattle.drf_bundle.specs.ListLaws.{each_at}
 use Rattle.drf_bundle.specs.declared.resource.Resource.{Resource}
@@ -58,38 +59,47 @@ total_at (e ∷ agents) zero v a value row =
     (λ i. (sym same i).total) ∙ (λ i. (read i).total)
 total_at (e ∷ agents) (suc i) v a value row = total_at agents i v a value row
 
--- the rows come in the order of the entries
-first_row : (name : Text) (agents : List (Text × Agent))
-    → position_or_len (same_text name) (keys_of agents) ≡ position_or_len (λ a. same_text a.name name) (map agent_row agents)
-first_row name [] = refl
-first_row name (e ∷ agents) = elim (cases_Bool (same_text name e.0)) [
-  | inl here ↦ rw (same_text-swap e.0 name ∙ here, here) refl
-  | inr past ↦ rw (same_text-swap e.0 name ∙ past, past) (ap (λ n. 1 + n) (first_row name agents))
-]
-
-position-first : {X : Type 0} (test : X → Bool) (xs : List X) (i : ℕ) → position test xs ≡ Some i → position_or_len test xs ≡ i
-position-first test xs i found = elim (cases_Bool (nat_lt (position_or_len test xs) (length xs))) [
-  | inl inside ↦
-      let first : ◌≡◌ {A = Option ℕ} (Some (position_or_len test xs)) (Some i) =
-      sym (ap (λ (b : Bool). cond b (Some (position_or_len test xs)) None) inside) ∙ found in
-      cc
-  | inr outside ↦
-      let none : ◌≡◌ {A = Option ℕ} None (Some i) =
-      sym (ap (λ (b : Bool). cond b (Some (position_or_len test xs)) None) outside) ∙ found in
-      cc
-]
+pub name_at : (agents : List (Text × Agent)) (i : ℕ) (e : Text × Agent) (a : AgentRow)
+    → slice_get agents i ≡ Some e → slice_get (map agent_row agents) i ≡ Some a → e.0 ≡ a.name
+name_at [] i e a at row = cc
+name_at (f ∷ agents) zero e a at row =
+    let same : f ≡ e = cc in
+    let read : agent_row f ≡ a = cc in
+    (λ i. (sym same i).0) ∙ (λ i. (read i).name)
+name_at (f ∷ agents) (suc i) e a at row = name_at agents i e a at row
 
 -- the row at the place of a name is the agent's
+place_row : (name : Text) (agents : List (Text × Agent)) (i : ℕ) → first_place name agents ≡ Some i
+    → slice_get (map agent_row agents) i ≡ find (λ a. same_text a.name name) (map agent_row agents)
+place_row name [] i is = cc
+place_row name (e ∷ agents) i is = elim (cases_Bool (same_text name e.0)) [
+  | inl here ↦
+      let first : ◌≡◌ {A = Option ℕ} (Some zero) (Some i) =
+      sym (ap (λ (b : Bool). if b then Some zero else option_map (λ j. suc j) (first_place name agents)) here) ∙ is in
+      let none : zero ≡ i = cc in
+      rw (same_text-swap e.0 name ∙ here) (ap (λ (n : ℕ). slice_get (map agent_row (e ∷ agents)) n) (sym none))
+  | inr past ↦
+      let later : option_map (λ j. suc j) (first_place name agents) ≡ Some i =
+      sym (ap (λ (b : Bool). if b then Some zero else option_map (λ j. suc j) (first_place name agents)) past) ∙ is in
+      rw (same_text-swap e.0 name ∙ past) (next (λ j at. place_row name agents j at) (first_place name agents) refl i later)
+]
+  where
+    next : ((j : ℕ) → first_place name agents ≡ Some j → slice_get (map agent_row agents) j ≡ find (λ a. same_text a.name name) (map agent_row agents))
+        → (o : Option ℕ) → first_place name agents ≡ o → (i : ℕ) → option_map (λ j. suc j) o ≡ Some i
+        → slice_get (map agent_row (e ∷ agents)) i ≡ find (λ a. same_text a.name name) (map agent_row agents)
+    next row None at i is = cc
+    next row (Some j) at i is =
+        let same : suc j ≡ i = cc in
+        ap (λ (n : ℕ). slice_get (map agent_row (e ∷ agents)) n) (sym same) ∙ row j at
+
 pub row_at_place : (rows : Rows) (name : Text) (agents : List (Text × Agent)) (place : Option ℕ) → rows.agents ≡ map agent_row agents
-    → place ≡ position (same_text name) (keys_of agents)
+    → place ≡ first_place name agents
     → IfSome place (λ i. slice_get rows.agents i ≡ found_agent rows name)
 row_at_place rows name agents None same is = tt
 row_at_place rows name agents (Some i) same is =
-    let test : AgentRow → Bool = λ a. same_text a.name name in
-    let first = position-first (same_text name) (keys_of agents) i (sym is) in
-    let place : i ≡ position_or_len test rows.agents =
-    sym first ∙ first_row name agents ∙ ap (position_or_len test) (sym same) in
-    ap (slice_get rows.agents) place ∙ sym (find_at test rows.agents)
+    ap (λ (rs : List AgentRow). slice_get rs i) same
+    ∙ place_row name agents i (sym is)
+    ∙ ap (find (λ (a : AgentRow). same_text a.name name)) (sym same)
 
 pub agent_at : (agents : List (Text × Agent)) (i : ℕ) (v : Agent) (a : AgentRow)
     → slice_get (values_of agents) i ≡ Some v → slice_get (map agent_row agents) i ≡ Some a
@@ -125,12 +135,8 @@ module _ (t : Inside) where
   unfolding rows_of
   has_framework-rows_in name = known-lookup (λ f. f.name) framework_row name t.frameworks.entries (λ e. refl)
 
-  -- an agent that is inserted comes last
-  module _ (entries : List (Text × Agent)) (name : Text) (a : Agent) (new : has_agent (rows_in t) name ≡ false)
-      (inserted : entries ≡ insert_entry same_text t.agents.entries name a) where
-    pub last_agent : entries ≡ t.agents.entries ++ (name, a) ∷ []
-    last_agent = inserted ∙ insert_entry-new name a t.agents.entries (sym (has_agent-rows_in name) ∙ new)
-
+  -- an agent that is added comes last
+  module _ (entries : List (Text × Agent)) (name : Text) (a : Agent) (last_agent : entries ≡ t.agents.entries ++ (name, a) ∷ []) where
     pub rows_of-agent : a.active ≡ true
         → rows_of entries t.frameworks.entries t.holdings t.filters t.weights.entries t.quota.limits t.clock t.next_offer t.events
         ≡ agent_added (rows_in t) name a.total

@@ -1,8 +1,8 @@
 -- What is known of free parts, entry by entry.
-use Rattle.std.specs.Prelude.{◌≡◌, ℕ, ◌+◌, Bool, true, false, List, [], ◌∷◌, map, slice_get, slice_set, Option, Some, None, is_some, if◌then◌else◌}
+use Rattle.std.specs.Prelude.{◌≡◌, ℕ, ◌+◌, Bool, true, false, List, [], ◌∷◌, map, length, slice_get, slice_set, Option, Some, None, is_some, if◌then◌else◌}
 use Rattle.std.specs.List.{list_any, AllByRecursion}
 use Rattle.std.specs.Map.{lookup, keys_of, values_of}
-use Rattle.std.proofs.Common.{refl, sym, ap, ◌∙◌, zero, suc, add-one}
+use Rattle.std.proofs.Common.{refl, sym, ap, ◌∙◌, zero, suc, add-one, arith}
 use Rattle.std.proofs.lemmas.Bool.{and_parts, and_from}
 use Rattle.std.proofs.lemmas.List.{map-id}
 use Rattle.indexmap.specs.IndexMap.{set_value_at}
@@ -21,6 +21,7 @@ use Rattle.drf_rows.specs.declared.rows.Rows.{Rows}
 use Rattle.drf_tables.specs.Changing.{changed, with_active, are_settled}
 use Rattle.drf_tables.specs.Drafts.{frees_after}
 use Rattle.drf_tables.specs.Inside.{agent_row, frees_in, known_after, is_settled, IsKnown}
+use Rattle.drf_tables.specs.Registered.{with_free_at}
 use Rattle.drf_tables.specs.declared.tables.Agent.{Agent}
 use Rattle.drf_tables.specs.declared.tables.Left.{Left}
 use Rattle.drf_tables.proofs.Entries.{known-lookup, names-keys, changed_at, unknown_stay}
@@ -199,3 +200,23 @@ known-set hs (f ∷ es) zero e free at known right =
     by : (other : List Resource) → ◌≡◌ {A = Option (List Resource)} (Some free) (Some other) → other ≡ free
     by other is = cc
 known-set hs (f ∷ es) (suc i) e free at known right = (known.0, known-set hs es i e free at known.1 right)
+
+-- ---- a free part that is written at a place
+
+pub rows-free_at : (es : List (Text × Agent)) (i : ℕ) (free : List Resource) → map agent_row (with_free_at es i free) ≡ map agent_row es
+rows-free_at [] i free = refl
+rows-free_at (e ∷ es) zero free = refl
+rows-free_at (e ∷ es) (suc i) free = ap (λ (rs : List AgentRow). agent_row e ∷ rs) (rows-free_at es i free)
+
+pub frees-free_at : (es : List (Text × Agent)) (i : ℕ) (free : List Resource)
+    → frees_in (with_free_at es i free) ≡ slice_set (frees_in es) i (Some free)
+frees-free_at [] i free = refl
+frees-free_at (e ∷ es) zero free = refl
+frees-free_at (e ∷ es) (suc i) free = ap (λ (fs : List (Option (List Resource))). e.1.free ∷ fs) (frees-free_at es i free)
+
+pub length-free_at : (es : List (Text × Agent)) (i : ℕ) (free : List Resource) → length (with_free_at es i free) ≡ length es
+length-free_at [] i free = refl
+length-free_at (e ∷ es) zero free = refl
+length-free_at (e ∷ es) (suc i) free =
+    let later = length-free_at es i free in
+    omega (arith, later)

@@ -21,3 +21,5 @@ pub mod Moved
 pub mod Recounted
 pub mod Running
 pub mod CopyLemmas
+pub mod RegistryLemmas
+pub mod RegistryChanges

@@ -29,10 +29,8 @@ use Rattle.drf_tables.specs.Changing.{changed, with_held}
 use Rattle.drf_tables.specs.Inside.{agent_row, rows_in, rows_of, AreDerived}
 use Rattle.drf_tables.specs.declared.tables.Agent.{Agent}
 use Rattle.drf_tables.specs.declared.tables.Tables.TheInside.{Inside}
-use Rattle.drf_tables.proofs.Entries.{key_at, key_found}
 use Rattle.drf_tables.proofs.Fields.{agents_in}
 use Rattle.drf_tables.proofs.Held.{AreDerived-held, one_more-offer, one_more-task, rows-held}
-use Rattle.drf_tables.proofs.Known.{changed_entry}
 
 -- the rows with one more offer, and with one more task
 abbrev pub offer_put : Rows → OfferRow → Rows
@@ -87,16 +85,10 @@ module _ (rows : Rows) (name : Text) (role : Path) (bundle : List Resource) wher
 
 -- ---- what is left
 
--- what is left is written where the agent stands
-pub left_written : (es : List (Text × Agent)) (name : Text) (part : List Resource) (place : ℕ) (a b : Agent) (left : Option (List Resource))
-    → are_distinct (map (λ a. a.name) (map agent_row es)) ≡ true → position (same_text name) (keys_of es) ≡ Some place
-    → slice_get (values_of es) place ≡ Some a → slice_get (values_of es) place ≡ Some b → left ≡ option_map (λ known. rest known part) a.free
-    → set_value_at es place (record b { free = left }) ≡ map (changed name (with_held part)) es
-left_written es name part place a b left apart found at again is =
-    let same : a ≡ b = cc in
-    let key = key_at es place b again in
-    ap (λ (free : Option (List Resource)). set_value_at es place (record b { free = free })) (is ∙ (λ i. option_map (λ known. rest known part) (same i).free))
-    ∙ changed_entry name (with_held part) es place (key.key, b) apart key.at (key_found es place key.key name found key.name)
+-- what is left is free where one more is held
+pub left_held : (a : Agent) (part : List Resource) (left : Option (List Resource)) → left ≡ option_map (λ known. rest known part) a.free
+    → with_held part a ≡ record a { free = left }
+left_held a part left is = λ i. record a { free = sym is i }
 
 module _ (t : Inside) (kept : AreDerived (rows_in t) t.agents.entries t.total t.clients) (entries : List (Text × Agent)) (held : OffersAndTasks) where
   -- the rows with other agents and holdings

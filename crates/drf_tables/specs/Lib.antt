@@ -5,4 +5,5 @@ pub mod Inside
 pub mod Changing
 pub mod Counting
 pub mod Recounting
+pub mod Registered
 pub mod DraftLaws

@@ -1,5 +1,6 @@
 //! What roles consume, counted from the rows.
-ghost use Rattle.std.specs.Prelude.{◌≡◌, ◌+◌, ◌<◌, ◌^◌, Bool, map, OnOk};
+ghost use Rattle.std.specs.Prelude.{◌≡◌, ◌+◌, ◌<◌, ◌^◌, [], ◌∷◌, Bool, map, OnOk};
+ghost use Rattle.drf_gates.specs.Slots.{filled};
 ghost use Rattle.drf_role.specs.Text.{Text};
 ghost use Rattle.drf_role.specs.Path.{Path};
 ghost use Rattle.drf_rows.specs.Holdings.{of_offer, of_task};
@@ -8,12 +9,12 @@ ghost use Rattle.drf_gates.specs.Quota.{IsRaisedBy, used_where};
 ghost use Rattle.drf_holdings.specs.Listed.{task_row};
 ghost use Rattle.drf_tables.specs.Inside.{agent_row};
 
+use crate::registry::Registry;
 use crate::tables::Agent;
 use drf_gates::Quota;
 use drf_holdings::Task;
 use drf_role::Name;
 use drf_rows::OfferRow;
-use indexmap::IndexMap;
 use std::alloc::AllocError;
 use std::collections::btree_map::Values;
 
@@ -49,18 +50,31 @@ pub(crate) fn consume_tasks(
     Ok(())
 }
 
+/// What is consumed by what an agent has reserved, if there is one.
+fn consume_slot(quota: &mut Quota, slot: &Option<(Name, Agent)>) -> Result<(), AllocError>
+    requires { (test : Path → Bool) (label : Text)
+        → used_where test quota.old.used label + reserved_for test (map agent_row (filled (slot.now ∷ []))) label < 2 ^ 64 }
+    ensures ok { OnOk result (IsRaisedBy quota.old quota.new (λ test label. reserved_for test (map agent_row (filled (slot.now ∷ []))) label)) }
+    ensures limits { quota.new.limits ≡ quota.old.limits }
+{
+    match slot {
+        Some(entry) => quota.consume_reserved(&entry.1.total),
+        None => Ok(()),
+    }
+}
+
 /// What is consumed by what agents have reserved.
 pub(crate) fn consume_totals(
     quota: &mut Quota,
-    agents: &IndexMap<Name, Agent>,
+    agents: &Registry,
 ) -> Result<(), AllocError>
     requires { (test : Path → Bool) (label : Text)
         → used_where test quota.old.used label + reserved_for test (map agent_row agents.now.entries) label < 2 ^ 64 }
     ensures ok { OnOk result (IsRaisedBy quota.old quota.new (λ test label. reserved_for test (map agent_row agents.now.entries) label)) }
     ensures limits { quota.new.limits ≡ quota.old.limits }
 {
-    for (_, agent) in agents {
-        quota.consume_reserved(&agent.total)?;
+    for slot in agents.slots() {
+        consume_slot(quota, slot)?;
     }
     Ok(())
 }

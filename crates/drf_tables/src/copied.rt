@@ -1,12 +1,16 @@
 //! Copies of the tables.
-ghost use Rattle.std.specs.Prelude.{◌≡◌, IfOk, OnOk};
+ghost use Rattle.std.specs.Prelude.{◌≡◌, [], ◌∷◌, ◌++◌, false, is_some, Some, IfOk, OnOk};
+ghost use Rattle.std.specs.Map.{lookup};
 ghost use Rattle.indexmap.specs.IndexMap.{insert_entry};
 ghost use Rattle.drf_role.specs.Path.{same_path};
-ghost use Rattle.drf_role.specs.Text.{same_text};
+ghost use Rattle.drf_role.specs.Text.{Text, same_text};
 ghost use Rattle.drf_gates.specs.Quota.{IsSame};
+ghost use Rattle.drf_gates.specs.Slots.{filled};
 ghost use Rattle.drf_tables.specs.Inside.{framework_rows};
+ghost use Rattle.drf_tables.specs.declared.tables.Agent.{Agent};
 
 use crate::free_part::FreePart;
+use crate::registry::Registry;
 use crate::tables::{Agent, Tables};
 use drf_amount::Algebra;
 use drf_bundle::Quantities;
@@ -52,17 +56,29 @@ fn put_weight(weights: &mut IndexMap<Role, u64>, role: Role, weight: u64) -> Res
     Ok(())
 }
 
+/// Adds a copy of an agent, if there is one.
+fn copy_slot(copy: &mut Registry, slot: &Option<(Name, Agent)>) -> Result<(), AllocError>
+    requires { (e : Text × Agent) → slot.now ≡ Some e → is_some (lookup (same_text e.0) copy.old.entries) ≡ false }
+    ensures { OnOk result (copy.new.entries ≡ copy.old.entries ++ filled (slot.now ∷ [])) }
+{
+    let Some(entry) = slot else {
+        return Ok(());
+    };
+    let key = entry.0.copy()?;
+    let name = entry.0.copy()?;
+    let agent = copy_agent(&entry.1)?;
+    copy.reserve()?;
+    copy.add(key, name, agent);
+    Ok(())
+}
+
 /// The agents, copied in their order.
-fn copy_agents(agents: &IndexMap<Name, Agent>) -> Result<IndexMap<Name, Agent>, AllocError>
+fn copy_agents(agents: &Registry) -> Result<Registry, AllocError>
     ensures { IfOk result (λ copy. copy.entries ≡ agents.now.entries) }
 {
-    // The proof learns that no two have one name by this call alone.
-    let _ = agents.len();
-    let mut copy = IndexMap::new(*agents.allocator());
-    for (name, agent) in agents {
-        let name = name.copy()?;
-        let agent = copy_agent(agent)?;
-        put(&mut copy, name, agent)?;
+    let mut copy = Registry::new(*agents.allocator());
+    for slot in agents.slots() {
+        copy_slot(&mut copy, slot)?;
     }
     Ok(copy)
 }
@@ -103,9 +119,9 @@ fn copy_weights(weights: &IndexMap<Role, u64>) -> Result<IndexMap<Role, u64>, Al
 
 /// Agents and frameworks, copied.
 fn copy_members(
-    agents: &IndexMap<Name, Agent>,
+    agents: &Registry,
     frameworks: &IndexMap<Name, Vec<ClientRow>>,
-) -> Result<(IndexMap<Name, Agent>, IndexMap<Name, Vec<ClientRow>>), AllocError>
+) -> Result<(Registry, IndexMap<Name, Vec<ClientRow>>), AllocError>
     ensures agents { IfOk result (λ copy. copy.0.entries ≡ agents.now.entries) }
     ensures frameworks { IfOk result (λ copy. framework_rows copy.1.entries ≡ framework_rows frameworks.now.entries) }
 {

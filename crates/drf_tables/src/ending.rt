@@ -17,7 +17,6 @@ ghost use Rattle.drf_rows.specs.Ended.{ending_of};
 ghost use Rattle.drf_tables.specs.Ended.{HasEnded, rest_taken, with_accepted};
 
 use crate::filtering::filter_rest;
-use crate::members::give_back;
 use crate::recounting::release_held;
 use crate::settling::settle_all;
 use crate::tables::Tables;
@@ -70,7 +69,7 @@ impl Tables {
         ensures counted { self.new.counted ≡ self.old.counted }
     {
         let taken = self.holdings.take(ending)?;
-        give_back(&mut self.agents, &taken.agent, &taken.bundle);
+        self.agents.give_back(&taken.agent, &taken.bundle);
         release_held(&mut self.quota, self.is_counted, &taken.role, &taken.bundle);
         Some(taken)
     }
@@ -100,7 +99,7 @@ impl Tables {
         add_if(&mut self.filters, filter)?;
         match self.holdings.start(number, tasks) {
             Ok(offer) => {
-                give_back(&mut self.agents, &offer.agent, &rest);
+                self.agents.give_back(&offer.agent, &rest);
                 release_held(&mut self.quota, self.is_counted, &offer.role, &rest);
                 self.clock = moment;
                 Ok(Taken {

@@ -9,7 +9,7 @@ ghost use Rattle.drf_rows.specs.Members.{has_framework, with_activity, with_supp
 ghost use Rattle.drf_rows.specs.Step.{is_in_role};
 ghost use Rattle.drf_rows.specs.declared.rows.FrameworkRow.{FrameworkRow};
 
-use crate::members::{has_role, set_active, suppress, take_framework};
+use crate::members::{has_role, suppress, take_framework};
 use crate::recounting::release_agent;
 use crate::tables::Tables;
 use drf_bundle::Quantities;
@@ -42,7 +42,7 @@ impl Tables {
         ensures settled { self.new.settled ≡ self.old.settled }
         ensures counted { self.new.counted ≡ self.old.counted }
     {
-        set_active(&mut self.agents, agent, active);
+        self.agents.set_active(agent, active);
     }
 
     /// Suppresses a client.
@@ -81,7 +81,7 @@ impl Tables {
         ensures counted { self.new.counted ≡ self.old.counted }
     {
         release_agent(&mut self.quota, self.is_counted, &self.agents, agent);
-        let _ = self.agents.shift_remove(agent);
+        self.agents.remove(agent);
         self.filters.drop_agent(agent);
         self.total = total;
     }

@@ -14,6 +14,7 @@ mod members;
 mod moving;
 mod offers;
 mod recounting;
+mod registry;
 mod restoring;
 mod room;
 mod settling;

@@ -12,7 +12,6 @@ ghost use Rattle.drf_gates.specs.Quota.{IsAllowanceOf};
 ghost use Rattle.drf_tables.specs.Changing.{CanExchangeOn, CanHaveTotal};
 
 use crate::consuming::{consume_offers, consume_tasks, consume_totals};
-use crate::moving::{exchange, set_total};
 use crate::recounting::{consume_total, recount_total, release_agent, release_total};
 use crate::tables::Tables;
 use drf_bundle::{Bundle, Quantities};
@@ -107,7 +106,7 @@ impl Tables {
         ensures counted { self.new.counted ≡ self.old.counted }
     {
         consume_total(&mut self.quota, self.is_counted, new)?;
-        match exchange(&mut self.agents, agent, old, new) {
+        match self.agents.exchange(agent, old, new) {
             Ok(()) => {
                 release_total(&mut self.quota, self.is_counted, old);
                 Ok(())
@@ -128,7 +127,7 @@ impl Tables {
     {
         release_agent(&mut self.quota, self.is_counted, &self.agents, agent);
         self.is_counted = recount_total(&mut self.quota, self.is_counted, &total);
-        set_total(&mut self.agents, agent, total);
+        self.agents.set_total(agent, total);
         self.total = sum;
     }
 }

@@ -1,7 +1,9 @@
 //! The rows, as they are handed out.
-ghost use Rattle.std.specs.Prelude.{◌≡◌, map, IfOk};
+ghost use Rattle.std.specs.Prelude.{◌≡◌, [], ◌∷◌, ◌++◌, map, IfOk, OnOk};
+ghost use Rattle.drf_gates.specs.Slots.{filled};
 ghost use Rattle.drf_tables.specs.Inside.{agent_row, framework_rows, weight_rows};
 
+use crate::registry::Registry;
 use crate::tables::Agent;
 use drf_amount::Algebra;
 use drf_role::{Name, Role};
@@ -9,19 +11,33 @@ use drf_rows::{AgentRow, ClientRow, FrameworkRow, Table, WeightRow, copy_all};
 use indexmap::IndexMap;
 use std::alloc::{AllocError, Global};
 
+/// Lists an agent behind others, if there is one.
+fn push_row(
+    rows: &mut Vec<AgentRow>,
+    slot: &Option<(Name, Agent)>,
+) -> Result<(), AllocError>
+    ensures { OnOk result (rows.new.items ≡ rows.old.items ++ map agent_row (filled (slot.now ∷ []))) }
+{
+    let Some(entry) = slot else {
+        return Ok(());
+    };
+    rows.push(AgentRow {
+        name: entry.0.copy()?,
+        total: entry.1.total.copy()?,
+        active: entry.1.active,
+    })?;
+    Ok(())
+}
+
 pub(crate) fn agent_rows(
     alloc: Global,
-    agents: &IndexMap<Name, Agent>,
+    agents: &Registry,
 ) -> Result<Table<AgentRow>, AllocError>
     ensures { IfOk result (λ rows. rows ≡ map agent_row agents.now.entries) }
 {
     let mut rows = Vec::with_capacity(alloc, agents.len())?;
-    for (name, agent) in agents {
-        rows.push(AgentRow {
-            name: name.copy()?,
-            total: agent.total.copy()?,
-            active: agent.active,
-        })?;
+    for slot in agents.slots() {
+        push_row(&mut rows, slot)?;
     }
     Ok(Table::from_vec(rows))
 }

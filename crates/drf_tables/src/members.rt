@@ -1,5 +1,7 @@
 //! Agents and frameworks that change, found by name.
-ghost use Rattle.std.specs.Prelude.{◌≡◌, ◌+◌, ◌⊎◌, None, filter, map, not, true, if◌then◌else◌};
+ghost use Rattle.std.specs.Prelude.{◌≡◌, ◌+◌, ◌⊎◌, None, Some, filter, map, not, true, if◌then◌else◌};
+ghost use Rattle.std.specs.Map.{lookup};
+ghost use Rattle.std.specs.Option.{option_map};
 ghost use Rattle.std.specs.List.{list_any};
 ghost use Rattle.drf_role.specs.Path.{same_path};
 ghost use Rattle.drf_role.specs.Text.{same_text};
@@ -8,9 +10,11 @@ ghost use Rattle.drf_rows.specs.Members.{suppressed_in};
 ghost use Rattle.drf_rows.specs.declared.rows.ClientRow.{ClientRow};
 ghost use Rattle.drf_tables.specs.Changing.{changed, joined_free, with_active, HasFreed};
 ghost use Rattle.drf_tables.specs.Counting.{count_clients};
-ghost use Rattle.drf_tables.specs.Inside.{agent_row, framework_rows};
+ghost use Rattle.drf_tables.specs.Inside.{framework_rows};
+ghost use Rattle.drf_tables.specs.declared.tables.Agent.{Agent};
 
 use crate::free_part::FreePart;
+use crate::registry::{Registry, put_free};
 use crate::tables::Agent;
 use drf_amount::Algebra;
 use drf_bundle::Bundle;
@@ -26,24 +30,50 @@ fn freed(free: &Option<FreePart>, part: &Bundle) -> Option<FreePart>
     Some(FreePart::new(both))
 }
 
-/// Gives an agent a part back that is held there no longer. Where memory ends, what is free there is not known any more.
-pub(crate) fn give_back(agents: &mut IndexMap<Name, Agent>, name: &Name, part: &Bundle)
-    requires { are_distinct (map (λ a. a.name) (map agent_row agents.old.entries)) ≡ true }
-    ensures { HasFreed name.now part.now agents.old.entries agents.new.entries }
+/// Makes an agent active or inactive, if there is one.
+fn put_active(slot: &mut Option<(Name, Agent)>, active: bool)
+    ensures { slot.new ≡ option_map (λ e. (e.0, with_active active e.1)) slot.old }
 {
-    if let Some(place) = agents.get_index_of(name) {
-        let agent = &mut agents[place];
-        agent.free = freed(&agent.free, part);
+    if let Some(entry) = slot {
+        entry.1.active = active;
     }
 }
 
-/// Makes an agent active or inactive.
-pub(crate) fn set_active(agents: &mut IndexMap<Name, Agent>, name: &Name, active: bool)
-    requires { are_distinct (map (λ a. a.name) (map agent_row agents.old.entries)) ≡ true }
-    ensures { agents.new.entries ≡ map (changed name.now (with_active active)) agents.old.entries }
-{
-    if let Some(place) = agents.get_index_of(name) {
-        agents[place].active = active;
+impl Registry {
+    /// Gives an agent a part back that is held there no longer. Where memory ends, what is free there is not known any more.
+    pub(crate) fn give_back(&mut self, name: &Name, part: &Bundle)
+        ensures { HasFreed name.now part.now self.old.entries self.new.entries }
+    {
+        let Some(place) = self.places.get(name) else {
+            return;
+        };
+        let place = *place;
+        let Some(entry) = &self.slots[place] else {
+            return;
+        };
+        let free = freed(&entry.1.free, part);
+        put_free(&mut self.slots[place], free);
+    }
+
+    /// Makes an agent active or inactive.
+    pub(crate) fn set_active(&mut self, name: &Name, active: bool)
+        ensures { self.new.entries ≡ map (changed name.now (with_active active)) self.old.entries }
+    {
+        let Some(place) = self.places.get(name) else {
+            return;
+        };
+        put_active(&mut self.slots[*place], active);
+    }
+
+    /// Says what is free on the agent of a name, which changes it as is told.
+    pub(crate) fn set_free(&mut self, name: &Name, free: Option<FreePart>)
+        ensures { (change : Agent → Agent) (a : Agent) → lookup (same_text name.now) self.old.entries ≡ Some a → change a ≡ record a { free = free }
+            → self.new.entries ≡ map (changed name.now change) self.old.entries }
+    {
+        let Some(place) = self.places.get(name) else {
+            return;
+        };
+        put_free(&mut self.slots[*place], free);
     }
 }
 

@@ -1,21 +1,19 @@
 //! Agents whose totals change: a part is exchanged for another, or all of it.
-ghost use Rattle.std.specs.Prelude.{◌≡◌, ◌⊎◌, List, map, true, None, Some, OnOk, OnErr, IfOk};
+ghost use Rattle.std.specs.Prelude.{◌≡◌, ◌⊎◌, List, map, true, false, None, Some, OnOk, OnErr, IfOk};
 ghost use Rattle.std.specs.List.{AllByRecursion};
 ghost use Rattle.std.specs.Option.{option_map};
 ghost use Rattle.drf_role.specs.Text.{same_text};
 ghost use Rattle.drf_bundle.specs.Bundle.{rest};
 ghost use Rattle.drf_bundle.specs.declared.resource.Resource.{Resource};
-ghost use Rattle.drf_rows.specs.Consistent.{are_distinct};
 ghost use Rattle.drf_rows.specs.Totals.{CanExchange, exchanged};
-ghost use Rattle.drf_tables.specs.Changing.{CanExchangeAt, HasOther, changed, other_free, with_exchanged};
-ghost use Rattle.drf_tables.specs.Inside.{agent_row};
+ghost use Rattle.drf_tables.specs.Changing.{CanExchangeAt, HasOther, changed, other_free, with_exchanged, with_other};
 
 use crate::free_part::FreePart;
+use crate::registry::{Registry, put};
 use crate::tables::Agent;
 use drf_amount::{Algebra, is_same};
 use drf_bundle::Bundle;
 use drf_role::Name;
-use indexmap::IndexMap;
 use std::alloc::AllocError;
 
 /// The bundle with another part in the place of one that it has.
@@ -66,31 +64,18 @@ fn exchanged_free(
     }
 }
 
-/// Exchanges a part of an agent, in its total and in what is free there. An `Err` changes nothing.
-pub(crate) fn exchange(
-    agents: &mut IndexMap<Name, Agent>,
-    name: &Name,
-    old: &Bundle,
-    new: &Bundle,
-) -> Result<(), AllocError>
-    requires names { are_distinct (map (λ a. a.name) (map agent_row agents.old.entries)) ≡ true }
-    requires can { AllByRecursion (λ e. same_text e.0 name.now ≡ true → CanExchangeAt old.now new.now e.1) agents.old.entries }
-    ensures ok { OnOk result (agents.new.entries ≡ map (changed name.now (with_exchanged old.now new.now)) agents.old.entries) }
-    ensures err { OnErr result (agents.new.entries ≡ agents.old.entries) }
+/// An agent of which a part is exchanged, in its total and in what is free there.
+fn exchanged_agent(agent: &Agent, old: &Bundle, new: &Bundle) -> Result<Agent, AllocError>
+    requires { CanExchangeAt old.now new.now agent.now }
+    ensures { IfOk result (λ after. after ≡ with_exchanged old.now new.now agent.now) }
 {
-    let Some(place) = agents.get_index_of(name) else {
-        return Ok(());
-    };
-    let agent = &agents[place];
     let total = exchanged(&agent.total, old, new)?;
     let free = exchanged_free(&agent.free, &agent.total, &total, old, new)?;
-    let active = agent.active;
-    agents[place] = Agent {
+    Ok(Agent {
         total,
-        active,
+        active: agent.active,
         free,
-    };
-    Ok(())
+    })
 }
 
 /// What is left of another total, where as much is held of it as of the old one. Where nothing is, it shares what the total holds.
@@ -115,19 +100,54 @@ fn other_free(total: &Bundle, old: &Bundle, free: &Option<FreePart>) -> Option<F
     }
 }
 
-/// Gives an agent another total. Where memory ends, what is free there is not known any more.
-pub(crate) fn set_total(agents: &mut IndexMap<Name, Agent>, name: &Name, total: Bundle)
-    requires { are_distinct (map (λ a. a.name) (map agent_row agents.old.entries)) ≡ true }
-    ensures { HasOther name.now total agents.old.entries agents.new.entries }
+/// An agent with another total. Where memory ends, what is free there is not known any more.
+fn other_agent(agent: &Agent, total: Bundle) -> Agent
+    ensures { (result ≡ with_other true total agent.now) ⊎ (result ≡ with_other false total agent.now) }
 {
-    if let Some(place) = agents.get_index_of(name) {
-        let agent = &agents[place];
-        let free = other_free(&total, &agent.total, &agent.free);
-        let active = agent.active;
-        agents[place] = Agent {
-            total,
-            active,
-            free,
+    let free = other_free(&total, &agent.total, &agent.free);
+    Agent {
+        total,
+        active: agent.active,
+        free,
+    }
+}
+
+impl Registry {
+    /// Exchanges a part of an agent, in its total and in what is free there. An `Err` changes nothing.
+    pub(crate) fn exchange(
+        &mut self,
+        name: &Name,
+        old: &Bundle,
+        new: &Bundle,
+    ) -> Result<(), AllocError>
+        requires { AllByRecursion (λ e. same_text e.0 name.now ≡ true → CanExchangeAt old.now new.now e.1) self.old.entries }
+        ensures ok { OnOk result (self.new.entries ≡ map (changed name.now (with_exchanged old.now new.now)) self.old.entries) }
+        ensures err { OnErr result (self.new.entries ≡ self.old.entries) }
+    {
+        let Some(place) = self.places.get(name) else {
+            return Ok(());
         };
+        let place = *place;
+        let Some(entry) = &self.slots[place] else {
+            return Ok(());
+        };
+        let agent = exchanged_agent(&entry.1, old, new)?;
+        put(&mut self.slots[place], agent);
+        Ok(())
+    }
+
+    /// Gives an agent another total. Where memory ends, what is free there is not known any more.
+    pub(crate) fn set_total(&mut self, name: &Name, total: Bundle)
+        ensures { HasOther name.now total self.old.entries self.new.entries }
+    {
+        let Some(place) = self.places.get(name) else {
+            return;
+        };
+        let place = *place;
+        let Some(entry) = &self.slots[place] else {
+            return;
+        };
+        let agent = other_agent(&entry.1, total);
+        put(&mut self.slots[place], agent);
     }
 }

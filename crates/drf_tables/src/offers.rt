@@ -8,7 +8,8 @@ ghost use Rattle.drf_tables.specs.Counting.{counting, counting_all, first_number
 ghost use Rattle.drf_tables.specs.Inside.{agent_row, framework_rows, frees_in, known_after};
 
 use crate::free_part::FreePart;
-use crate::tables::{Agent, Left};
+use crate::registry::Registry;
+use crate::tables::Left;
 use drf_role::Name;
 use drf_rows::{ClientRow, OfferRow};
 use indexmap::IndexMap;
@@ -62,12 +63,12 @@ pub(crate) fn count_offers(
 }
 
 /// Puts what is left on agents in the place of what was free there.
-pub(crate) fn put_lefts(agents: &mut IndexMap<Name, Agent>, lefts: Vec<Left>)
+pub(crate) fn put_lefts(agents: &mut Registry, lefts: Vec<Left>)
     requires { All (λ left. left.agent < length agents.old.entries) lefts.items }
     ensures rows { map agent_row agents.new.entries ≡ map agent_row agents.old.entries }
     ensures free { frees_in agents.new.entries ≡ known_after (frees_in agents.old.entries) lefts.items }
 {
     for left in lefts {
-        agents[left.agent].free = Some(FreePart::new(left.free));
+        agents.set_free_at(left.agent, FreePart::new(left.free));
     }
 }

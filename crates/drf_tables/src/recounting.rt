@@ -9,11 +9,10 @@ ghost use Rattle.drf_gates.specs.Quota.{IsSame, used_by, used_where};
 ghost use Rattle.drf_tables.specs.Inside.{agent_row, CountsIf};
 ghost use Rattle.drf_tables.specs.Recounting.{CountsAll, IsRaisedIf, reserved_at};
 
-use crate::tables::Agent;
+use crate::registry::Registry;
 use drf_bundle::Bundle;
 use drf_gates::Quota;
 use drf_role::{Name, Role};
-use indexmap::IndexMap;
 use std::alloc::AllocError;
 
 /// A client of the role holds the bundle no longer. It needs no memory.
@@ -40,7 +39,7 @@ pub(crate) fn release_total(quota: &mut Quota, counts: bool, total: &Bundle)
 pub(crate) fn release_agent(
     quota: &mut Quota,
     counts: bool,
-    agents: &IndexMap<Name, Agent>,
+    agents: &Registry,
     name: &Name,
 )
     requires { counts ≡ true → (role : Path) (label : Text)

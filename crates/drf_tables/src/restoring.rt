@@ -66,12 +66,13 @@ impl Tables {
         ensures settled { self.new.settled ≡ self.old.settled }
         ensures counted { self.new.counted ≡ self.old.counted }
     {
-        let place = self.agents.get_index_of(&offer.agent).unwrap();
-        let left = left_with(&self.agents[place].free, &offer.bundle)?;
+        let agent = self.agents.get(&offer.agent).unwrap();
+        let left = left_with(&agent.free, &offer.bundle)?;
+        let name = offer.agent.copy()?;
         let mut offers = Vec::new(*self.agents.allocator());
         offers.push(offer)?;
         self.holdings.append(&mut offers)?;
-        self.agents[place].free = left;
+        self.agents.set_free(&name, left);
         Ok(())
     }
 
@@ -85,10 +86,11 @@ impl Tables {
         ensures settled { self.new.settled ≡ self.old.settled }
         ensures counted { self.new.counted ≡ self.old.counted }
     {
-        let place = self.agents.get_index_of(&task.agent).unwrap();
-        let left = left_with(&self.agents[place].free, &task.bundle)?;
+        let agent = self.agents.get(&task.agent).unwrap();
+        let left = left_with(&agent.free, &task.bundle)?;
+        let name = task.agent.copy()?;
         self.holdings.put_task(task)?;
-        self.agents[place].free = left;
+        self.agents.set_free(&name, left);
         Ok(())
     }
 

@@ -6,15 +6,13 @@ ghost use Rattle.drf_tables.specs.Inside.{agent_row, is_settled, IsKnown};
 ghost use Rattle.drf_tables.specs.Changing.{are_settled};
 
 use crate::free_part::FreePart;
-use crate::tables::Agent;
+use crate::registry::Registry;
 use drf_holdings::Holdings;
-use drf_role::Name;
-use indexmap::IndexMap;
 use std::alloc::AllocError;
 
 /// Computes what is free on the agent at a place, if it is not known.
 fn settle_at(
-    agents: &mut IndexMap<Name, Agent>,
+    agents: &mut Registry,
     place: usize,
     holdings: &Holdings,
 ) -> Result<(), AllocError>
@@ -26,18 +24,18 @@ fn settle_at(
     ensures settled { OnOk result (are_settled (place + 1) agents.new.entries ≡ true) }
     ensures number { length agents.new.entries ≡ length agents.old.entries }
 {
-    let (name, agent) = agents.get_index(place).unwrap();
-    if agent.free.is_some() {
+    let entry = agents.at(place);
+    if entry.1.free.is_some() {
         return Ok(());
     }
-    let free = holdings.left_on(name, &agent.total)?;
-    agents[place].free = Some(FreePart::new(free));
+    let free = holdings.left_on(&entry.0, &entry.1.total)?;
+    agents.set_free_at(place, FreePart::new(free));
     Ok(())
 }
 
 /// Computes what is free on each agent, where it is not known.
 pub(crate) fn settle_all(
-    agents: &mut IndexMap<Name, Agent>,
+    agents: &mut Registry,
     holdings: &Holdings,
 ) -> Result<(), AllocError>
     requires { AllByRecursion (IsKnown (holdings_in holdings.now)) agents.old.entries }
@@ -45,6 +43,7 @@ pub(crate) fn settle_all(
     ensures known { AllByRecursion (IsKnown (holdings_in holdings.now)) agents.new.entries }
     ensures settled { OnOk result (is_settled agents.new.entries ≡ true) }
 {
+    agents.close()?;
     for place in 0..agents.len() {
         settle_at(agents, place, holdings)?;
     }

@@ -22,6 +22,7 @@ use crate::free_part::FreePart;
 use crate::listing::{agent_rows, framework_rows, weight_rows};
 use crate::offers::{count_offers, first_number, put_lefts};
 use crate::recounting::{consume_total, take_over};
+use crate::registry::Registry;
 use crate::sweep::Sweep;
 use drf_amount::Algebra;
 use drf_bundle::{Bundle, Quantities};
@@ -51,7 +52,7 @@ pub struct Left {
 
 /// The rows of the allocator. Agents and frameworks are found by their names.
 pub struct Tables {
-    pub(crate) agents: IndexMap<Name, Agent>,
+    pub(crate) agents: Registry,
     pub(crate) frameworks: IndexMap<Name, Vec<ClientRow>>,
     pub(crate) holdings: Holdings,
     pub(crate) filters: FilterTable,
@@ -122,7 +123,7 @@ impl Tables {
         ensures counted { result.counted ≡ false }
     {
         Tables {
-            agents: IndexMap::new(alloc),
+            agents: Registry::new(alloc),
             frameworks: IndexMap::new(alloc),
             holdings: Holdings::new(alloc),
             filters: FilterTable::new(alloc),
@@ -224,8 +225,7 @@ impl Tables {
         requires { place < length self.now.rows.agents }
         ensures { (a : AgentRow) → slice_get self.now.rows.agents place ≡ Some a → result.now ≡ a.name }
     {
-        let (name, _) = self.agents.get_index(place).unwrap();
-        name
+        &self.agents.at(place).0
     }
 
     /// What the agent at a place has in all.
@@ -233,7 +233,7 @@ impl Tables {
         requires { place < length self.now.rows.agents }
         ensures { (a : AgentRow) → slice_get self.now.rows.agents place ≡ Some a → result.now ≡ a.total }
     {
-        &self.agents[place].total
+        &self.agents.at(place).1.total
     }
 
     /// Whether the agent at a place is active.
@@ -241,7 +241,7 @@ impl Tables {
         requires { place < length self.now.rows.agents }
         ensures { (a : AgentRow) → slice_get self.now.rows.agents place ≡ Some a → result ≡ a.active }
     {
-        self.agents[place].active
+        self.agents.at(place).1.active
     }
 
     /// What is free on the agent at a place.
@@ -250,7 +250,7 @@ impl Tables {
         requires settled { self.now.settled ≡ true }
         ensures { (a : AgentRow) → slice_get self.now.rows.agents place ≡ Some a → result.now ≡ free_of self.now.rows a }
     {
-        self.agents[place].free.as_ref().unwrap().bundle()
+        self.agents.at(place).1.free.as_ref().unwrap().bundle()
     }
 
     /// Whether what is free on the agent at a place is worth an offer.
@@ -259,7 +259,7 @@ impl Tables {
         requires settled { self.now.settled ≡ true }
         ensures { (a : AgentRow) → slice_get self.now.rows.agents place ≡ Some a → result ≡ is_allocatable (free_of self.now.rows a) }
     {
-        self.agents[place].free.as_ref().unwrap().is_worth()
+        self.agents.at(place).1.free.as_ref().unwrap().is_worth()
     }
 
     pub fn set_clock(&mut self, clock: u64)
@@ -290,14 +290,15 @@ impl Tables {
     {
         let sum = self.total.plus(total.quantities())?;
         let free = total.copy()?;
-        self.agents.reserve(1)?;
+        let key = name.copy()?;
+        self.agents.reserve()?;
         consume_total(&mut self.quota, self.is_counted, &total)?;
         let agent = Agent {
             total,
             active: true,
             free: Some(FreePart::new(free)),
         };
-        let _ = self.agents.insert(name, agent).unwrap();
+        self.agents.add(key, name, agent);
         self.total = sum;
         Ok(())
     }

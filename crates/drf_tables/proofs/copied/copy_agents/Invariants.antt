@@ -1,5 +1,6 @@
-use Rattle.std.proofs.Common.{◌≡◌, ◌++◌}
+use Rattle.std.proofs.Common.{◌≡◌, take}
+use Rattle.drf_gates.specs.Slots.{filled}
 use Rattle.drf_tables.proofs.copied.copy_agents.Given as goal
 
-abbrev pub invariant-loop-name : goal.invariant-loop-name
-invariant-loop-name l = l.copy.entries ++ l.name-iterator ≡ l.agents.entries
+abbrev pub invariant-loop-slot : goal.invariant-loop-slot
+invariant-loop-slot l = l.copy.entries ≡ filled (take l.slot-index l.slot-items)

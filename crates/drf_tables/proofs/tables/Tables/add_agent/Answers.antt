@@ -1,6 +1,6 @@
-use Rattle.std.proofs.Common.{◌≡◌, ◌<◌, ◌&&◌, Bool, List, [], ◌∷◌, Some, is_some, true, false, length, sym, ap, ◌∙◌, subst, refl, arith}
+use Rattle.std.proofs.Common.{◌≡◌, ◌<◌, ◌&&◌, Bool, List, [], ◌∷◌, ◌++◌, Some, is_some, true, false, length, sym, ap, ◌∙◌, subst, refl, arith}
+use Rattle.std.specs.Map.{lookup}
 use Rattle.std.proofs.lemmas.List.Folds.{list_all-append}
-use Rattle.indexmap.specs.IndexMap.{insert_entry}
 use Rattle.drf_role.specs.Text.{Text, same_text}
 use Rattle.drf_bundle.specs.Quantities.{amount_of, plus}
 use Rattle.drf_bundle.specs.declared.quantities.Entry.{Entry}
@@ -16,8 +16,7 @@ use Rattle.drf_rows.specs.declared.rows.Rows.{Rows}
 use Rattle.drf_tables.specs.Inside.{CountsIf, AreDerived, is_settled, rows_in, rows_of}
 use Rattle.drf_tables.specs.Stored.{Stored}
 use Rattle.drf_tables.specs.declared.tables.Agent.{Agent}
-use Rattle.drf_tables.proofs.Entries.{from_ok}
-use Rattle.drf_tables.proofs.Fields.{rows_of-agent, last_agent, sums_fit}
+use Rattle.drf_tables.proofs.Fields.{has_agent-rows_in, rows_of-agent, sums_fit}
 use Rattle.drf_tables.proofs.Kept.{AreDerived-agent_added}
 use Rattle.drf_tables.proofs.Running.{counts-limits, kept-limits}
 use Rattle.drf_tables.proofs.Recounted.{adds_counted, consumption-agent_added, counts-consumed, counts-still, reserved_le}
@@ -46,12 +45,19 @@ invariant_of-self-in_err-consume_total c =
     let after = c.consume_total.new.quota in
     let same = c.in_err-consume_total.ensures.err in
     let entries = c.reserve.new.self.entries in
-    let kept = kept-limits t entries after c.in_ok-reserve.ensures.entries (sym same.limits) c.self.invariant.kept in
+    let kept = kept-limits t entries after c.reserve.ensures.same (sym same.limits) c.self.invariant.kept in
     record {
       kept = kept;
-      consumed = counts-limits t entries after c.in_ok-reserve.ensures.entries (sym same.limits)
+      consumed = counts-limits t entries after c.reserve.ensures.same (sym same.limits)
           (counts-still t.is_counted (rows_in t) t.quota c.self.invariant.consumed after same);
     }
+
+pub add-requires-clause-new : goal.add-requires-clause-new
+add-requires-clause-new c =
+    let t = c.self.inside in
+    let name = c.args.name in
+    ap (λ (es : List (Text × Agent)). is_some (lookup (same_text name) es)) c.reserve.ensures.same
+    ∙ sym (has_agent-rows_in t name) ∙ ap (λ (s : Stored). has_agent s.rows name) c.self.view_is ∙ c.requires.new
 
 pub invariant_of-self-2 : goal.invariant_of-self-2
 invariant_of-self-2 c =
@@ -62,17 +68,15 @@ invariant_of-self-2 c =
     let new : has_agent (rows_in t) name ≡ false =
     ap (λ (s : Stored). has_agent s.rows name) c.self.view_is ∙ c.requires.new in
     let few : length (rows_in t).agents < 4096 = subst (λ (s : Stored). length s.rows.agents < 4096) (sym c.self.view_is) c.requires.few in
-    let inserted : c.insert.new.self.entries ≡ insert_entry same_text t.agents.entries name agent =
-    from_ok c.insert.result c.unwrap.result _ c.unwrap.ensures c.insert.ensures.entries
-    ∙ ap (λ (es : List (Text × Agent)). insert_entry same_text es name agent) c.in_ok-reserve.ensures.entries in
-    let entries = c.insert.new.self.entries in
+    let last : c.add.new.self.entries ≡ t.agents.entries ++ (name, agent) ∷ [] =
+    c.add.ensures ∙ ap (λ (es : List (Text × Agent)). es ++ (name, agent) ∷ []) c.reserve.ensures.same in
+    let entries = c.add.new.self.entries in
     let after = c.consume_total.new.quota in
     let raised = c.in_ok-consume_total.ensures.ok in
     let limits : t.quota.limits ≡ after.limits = sym raised.limits in
     let rows : List LimitRow → Rows = λ limits.
     rows_of entries t.frameworks.entries t.holdings t.filters t.weights.entries limits t.clock t.next_offer t.events in
-    let told : rows t.quota.limits ≡ agent_added (rows_in t) name total = rows_of-agent t entries name agent new inserted refl in
-    let last = last_agent t entries name agent new inserted in
+    let told : rows t.quota.limits ≡ agent_added (rows_in t) name total = rows_of-agent t entries name agent last refl in
     let all : agent.free ≡ Some total = ap (λ (free : List Resource). Some free) (c.new.ensures ∙ c.in_ok-free.ensures.same) in
     let right : IsAgent (new_agent name total) = record {
       total = c.quantities.ensures.bundle;
@@ -98,13 +102,12 @@ returns-clause-ok c =
     let agent : Agent = record { total = c.args.total; active = true; free = Some c.new.result } in
     let new : has_agent (rows_in t) name ≡ false =
     ap (λ (s : Stored). has_agent s.rows name) c.self.view_is ∙ c.requires.new in
-    let inserted : c.insert.new.self.entries ≡ insert_entry same_text t.agents.entries name agent =
-    from_ok c.insert.result c.unwrap.result _ c.unwrap.ensures c.insert.ensures.entries
-    ∙ ap (λ (es : List (Text × Agent)). insert_entry same_text es name agent) c.in_ok-reserve.ensures.entries in
+    let last : c.add.new.self.entries ≡ t.agents.entries ++ (name, agent) ∷ [] =
+    c.add.ensures ∙ ap (λ (es : List (Text × Agent)). es ++ (name, agent) ∷ []) c.reserve.ensures.same in
     let rows : List LimitRow → Rows = λ limits.
-    rows_of c.insert.new.self.entries t.frameworks.entries t.holdings t.filters t.weights.entries limits t.clock t.next_offer t.events in
+    rows_of c.add.new.self.entries t.frameworks.entries t.holdings t.filters t.weights.entries limits t.clock t.next_offer t.events in
     ap rows c.in_ok-consume_total.ensures.ok.limits
-    ∙ rows_of-agent t c.insert.new.self.entries name agent new inserted refl
+    ∙ rows_of-agent t c.add.new.self.entries name agent last refl
     ∙ ap (λ (s : Stored). agent_added s.rows name c.args.total) c.self.view_is
 
 pub returns-clause-settled : goal.returns-clause-settled
@@ -114,10 +117,9 @@ returns-clause-settled c =
     let agent : Agent = record { total = c.args.total; active = true; free = Some c.new.result } in
     let new : has_agent (rows_in t) name ≡ false =
     ap (λ (s : Stored). has_agent s.rows name) c.self.view_is ∙ c.requires.new in
-    let inserted : c.insert.new.self.entries ≡ insert_entry same_text t.agents.entries name agent =
-    from_ok c.insert.result c.unwrap.result _ c.unwrap.ensures c.insert.ensures.entries
-    ∙ ap (λ (es : List (Text × Agent)). insert_entry same_text es name agent) c.in_ok-reserve.ensures.entries in
-    ap is_settled (last_agent t c.insert.new.self.entries name agent new inserted)
+    let last : c.add.new.self.entries ≡ t.agents.entries ++ (name, agent) ∷ [] =
+    c.add.ensures ∙ ap (λ (es : List (Text × Agent)). es ++ (name, agent) ∷ []) c.reserve.ensures.same in
+    ap is_settled last
     ∙ list_all-append (λ (e : Text × Agent). is_some e.1.free) t.agents.entries ((name, agent) ∷ [])
     ∙ by (is_settled t.agents.entries)
     ∙ ap (λ (s : Stored). s.settled) c.self.view_is

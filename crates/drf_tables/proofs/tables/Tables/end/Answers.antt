@@ -28,7 +28,7 @@ release_held-requires c = λ is label.
     let ending = ending_of c.args.ending in
     let taken = c.in_ok-taken.taken in
     let lost : HasTaken ending t.holdings c.take.new.self (Some taken) = c.in_ok-taken.ensures in
-    let entries = c.give_back.new.agents.entries in
+    let entries = c.give_back.new.self.entries in
     let one = without_it t entries c.take.new.self ending taken c.self.invariant.kept c.give_back.ensures lost in
     let new : Rows = rows_ended t entries c.take.new.self ending taken c.self.invariant.kept c.give_back.ensures lost in
     ending_fits t.is_counted (rows_in t) new t.quota (holding_of taken) c.self.invariant.consumed one.less
@@ -41,7 +41,7 @@ invariant_of-self-2 c =
     let taken = c.in_ok-taken.taken in
     let lost : HasTaken ending t.holdings c.take.new.self (Some taken) = c.in_ok-taken.ensures in
     let held = c.take.new.self in
-    let entries = c.give_back.new.agents.entries in
+    let entries = c.give_back.new.self.entries in
     let after = c.release_held.new.quota in
     let one = without_it t entries held ending taken c.self.invariant.kept c.give_back.ensures lost in
     let new : Rows = rows_ended t entries held ending taken c.self.invariant.kept c.give_back.ensures lost in
@@ -62,7 +62,7 @@ returns-clause-some c =
     let ending = ending_of c.args.ending in
     let taken = c.in_ok-taken.taken in
     let lost : HasTaken ending t.holdings c.take.new.self (Some taken) = c.in_ok-taken.ensures in
-    let entries = c.give_back.new.agents.entries in
+    let entries = c.give_back.new.self.entries in
     let rows : List LimitRow → Rows = λ limits.
     rows_of entries t.frameworks.entries c.take.new.self t.filters t.weights.entries limits t.clock t.next_offer t.events in
     subst (λ (q : Stored × List LimitRow). HasEnded q.0.rows (rows q.1) ending taken) (λ i. (c.self.view_is i, c.release_held.ensures.limits i))
@@ -74,7 +74,7 @@ returns-clause-consistent c =
     let ending = ending_of c.args.ending in
     let taken = c.in_ok-taken.taken in
     let lost : HasTaken ending t.holdings c.take.new.self (Some taken) = c.in_ok-taken.ensures in
-    let entries = c.give_back.new.agents.entries in
+    let entries = c.give_back.new.self.entries in
     let rows : List LimitRow → Rows = λ limits.
     rows_of entries t.frameworks.entries c.take.new.self t.filters t.weights.entries limits t.clock t.next_offer t.events in
     subst (λ (limits : List LimitRow). IsConsistent (rows limits)) c.release_held.ensures.limits

@@ -20,8 +20,8 @@ consume_total-requires c = λ is test label.
     subst (λ (s : Stored). CanExchangeOn s.rows name c.args.old.now c.args.new.now) (sym c.self.view_is) c.requires in
     exchange_adds t c.self.invariant.kept c.self.invariant.consumed name c.args.old.now c.args.new.now can is test label
 
-pub exchange-requires-clause-can : goal.exchange-requires-clause-can
-exchange-requires-clause-can c =
+pub exchange-requires : goal.exchange-requires
+exchange-requires c =
     let t = c.self.inside in
     let name = c.args.agent.now in
     let can : CanExchangeOn (rows_in t) name c.args.old.now c.args.new.now =
@@ -59,7 +59,7 @@ invariant_of-self-in-Ok c =
     let name = c.args.agent.now in
     let can : CanExchangeOn (rows_in t) name c.args.old.now c.args.new.now =
     subst (λ (s : Stored). CanExchangeOn s.rows name c.args.old.now c.args.new.now) (sym c.self.view_is) c.requires in
-    let entries = c.exchange.new.agents.entries in
+    let entries = c.exchange.new.self.entries in
     let mid = c.consume_total.new.quota in
     let after = c.release_total.new.quota in
     let raised = c.in_ok-consume_total.ensures.ok in
@@ -82,9 +82,9 @@ returns-in-Ok-clause-ok c =
     let can : CanExchangeOn (rows_in t) name c.args.old.now c.args.new.now =
     subst (λ (s : Stored). CanExchangeOn s.rows name c.args.old.now c.args.new.now) (sym c.self.view_is) c.requires in
     let rows : List LimitRow → Rows = λ limits.
-    rows_of c.exchange.new.agents.entries t.frameworks.entries t.holdings t.filters t.weights.entries limits t.clock t.next_offer t.events in
+    rows_of c.exchange.new.self.entries t.frameworks.entries t.holdings t.filters t.weights.entries limits t.clock t.next_offer t.events in
     ap rows (sym c.release_total.ensures.limits ∙ c.in_ok-consume_total.ensures.ok.limits)
-    ∙ rows-exchanged t c.self.invariant.kept name c.args.old.now c.args.new.now can c.exchange.new.agents.entries c.in-Ok.ensures.ok
+    ∙ rows-exchanged t c.self.invariant.kept name c.args.old.now c.args.new.now can c.exchange.new.self.entries c.in-Ok.ensures.ok
     ∙ ap (λ (s : Stored). record s.rows { agents = with_total s.rows name (exchanged c.args.old.now c.args.new.now) }) c.self.view_is
 
 pub invariant_of-self-in-Err : goal.invariant_of-self-in-Err
@@ -96,7 +96,7 @@ invariant_of-self-in-Err c =
     let released = c.release_total-in-Err.ensures in
     let limits : t.quota.limits ≡ after.limits = sym raised.limits ∙ released.limits in
     record {
-      kept = kept-limits t c.exchange.new.agents.entries after c.in-Err.ensures.err limits c.self.invariant.kept;
-      consumed = counts-limits t c.exchange.new.agents.entries after c.in-Err.ensures.err limits
+      kept = kept-limits t c.exchange.new.self.entries after c.in-Err.ensures.err limits c.self.invariant.kept;
+      consumed = counts-limits t c.exchange.new.self.entries after c.in-Err.ensures.err limits
           (counts-back t.is_counted (rows_in t) t.quota c.self.invariant.consumed mid after _ raised released);
     }

@@ -1,6 +1,7 @@
-use Rattle.std.proofs.Common.{◌≡◌, ◌++◌, ◌∷◌, [], List, false, map, sym, ap, subst, ◌∙◌}
-use Rattle.std.specs.Option.{option_map}
-use Rattle.indexmap.specs.IndexMap.{set_value_at}
+use Rattle.std.proofs.Common.{◌≡◌, ◌++◌, ◌∷◌, [], List, false, map, Some, is_some, sym, ap, subst, ◌∙◌}
+use Rattle.std.specs.Map.{lookup}
+use Rattle.std.specs.Option.{option_copied, option_map}
+use Rattle.drf_role.specs.Text.{Text, same_text}
 use Rattle.drf_bundle.specs.Bundle.{rest}
 use Rattle.drf_rows.specs.Consistent.{IsConsistent}
 use Rattle.drf_rows.specs.declared.rows.OfferRow.{OfferRow}
@@ -10,20 +11,21 @@ use Rattle.drf_holdings.specs.RisingLaws.{rising_from}
 use Rattle.drf_tables.specs.Changing.{changed, with_held}
 use Rattle.drf_tables.specs.Inside.{is_settled, rows_in, rows_of}
 use Rattle.drf_tables.specs.Stored.{Stored}
-use Rattle.drf_tables.proofs.Changes.{agents_apart}
+use Rattle.drf_tables.specs.declared.tables.Agent.{Agent}
 use Rattle.drf_tables.proofs.Counts.{none_counted}
+use Rattle.drf_tables.proofs.Entries.{is_some-copied}
 use Rattle.drf_tables.proofs.Fields.{has_agent-rows_in}
 use Rattle.drf_tables.proofs.Held.{settled-held}
-use Rattle.drf_tables.proofs.PutBack.{agent_of-offer, kept-offer_put, left_written, offer_put, rows-offer_put}
+use Rattle.drf_tables.proofs.PutBack.{agent_of-offer, kept-offer_put, left_held, offer_put, rows-offer_put}
 use Rattle.drf_tables.proofs.tables.Tables.put_offer.Goals as goal
 
-pub unwrap-place-requires : goal.unwrap-place-requires
-unwrap-place-requires c =
+pub unwrap-agent-requires : goal.unwrap-agent-requires
+unwrap-agent-requires c =
     let t = c.self.inside in
     let o : OfferRow = c.args.offer in
     let consistent : IsConsistent (offer_put (rows_in t) o) =
     subst (λ (s : Stored). IsConsistent (offer_put s.rows o)) (sym c.self.view_is) c.requires.consistent in
-    c.get_index_of.ensures.found ∙ sym (has_agent-rows_in t o.agent) ∙ agent_of-offer (rows_in t) o consistent
+    sym (is_some-copied c.get.result) ∙ ap is_some c.get.ensures.value ∙ sym (has_agent-rows_in t o.agent) ∙ agent_of-offer (rows_in t) o consistent
 
 pub append-requires : goal.append-requires
 unfolding rows_of
@@ -42,19 +44,19 @@ invariant_of-self-2 c =
     let o : OfferRow = c.args.offer in
     let consistent : IsConsistent (offer_put (rows_in t) o) =
     subst (λ (s : Stored). IsConsistent (offer_put s.rows o)) (sym c.self.view_is) c.requires.consistent in
-    let entries = t.agents.entries in
-    let place = c.unwrap-place.result in
-    let left : c.in_ok-left.left ≡ option_map (λ known. rest known o.bundle) c.index.result.now.free = c.in_ok-left.ensures in
-    let told : set_value_at entries place (record c.index_mut.result.now { free = c.in_ok-left.left }) ≡ map (changed o.agent (with_held o.bundle)) entries =
-    left_written entries o.agent o.bundle place c.index.result.now c.index_mut.result.now c.in_ok-left.left
-    (agents_apart t c.self.invariant.kept) (sym c.get_index_of.ensures.index ∙ c.unwrap-place.ensures)
-    c.index.ensures c.index_mut.ensures.value left in
+    let entries = c.set_free.new.self.entries in
+    let a : Agent = c.unwrap-agent.result.now in
+    let at : lookup (same_text o.agent) t.agents.entries ≡ Some a = sym c.get.ensures.value ∙ ap option_copied c.unwrap-agent.ensures in
+    let told : entries ≡ map (changed o.agent (with_held o.bundle)) t.agents.entries =
+    subst (λ (n : Text). (change : Agent → Agent) (a : Agent) → lookup (same_text n) t.agents.entries ≡ Some a → change a ≡ record a { free = c.in_ok-left.left }
+    → entries ≡ map (changed n change) t.agents.entries) c.in_ok-name.ensures c.set_free.ensures
+    (with_held o.bundle) a at (left_held a o.bundle c.in_ok-left.left c.in_ok-left.ensures) in
     let made : c.push.new.self.items ≡ o ∷ [] = c.in_ok-push.ensures.items ∙ ap (λ (os : List OfferRow). os ++ o ∷ []) c.new-offers.ensures.items in
     let last : c.append.new.self.offers ≡ t.holdings.offers ++ o ∷ [] =
     c.in_ok-append.ensures.ok ∙ ap (λ (os : List OfferRow). t.holdings.offers ++ os) made in
     let uncounted : t.is_counted ≡ false = ap (λ (s : Stored). s.counted) c.self.view_is ∙ c.requires.uncounted in
     record {
-      kept = kept-offer_put t c.self.invariant.kept (set_value_at entries place (record c.index_mut.result.now { free = c.in_ok-left.left })) c.append.new.self
+      kept = kept-offer_put t c.self.invariant.kept entries c.append.new.self
           o told last c.append.ensures.tasks consistent;
       consumed = rw uncounted (none_counted _ _);
     }
@@ -63,28 +65,28 @@ pub returns-clause-ok : goal.returns-clause-ok
 returns-clause-ok c =
     let t = c.self.inside in
     let o : OfferRow = c.args.offer in
-    let entries = t.agents.entries in
-    let place = c.unwrap-place.result in
-    let left : c.in_ok-left.left ≡ option_map (λ known. rest known o.bundle) c.index.result.now.free = c.in_ok-left.ensures in
-    let told : set_value_at entries place (record c.index_mut.result.now { free = c.in_ok-left.left }) ≡ map (changed o.agent (with_held o.bundle)) entries =
-    left_written entries o.agent o.bundle place c.index.result.now c.index_mut.result.now c.in_ok-left.left
-    (agents_apart t c.self.invariant.kept) (sym c.get_index_of.ensures.index ∙ c.unwrap-place.ensures)
-    c.index.ensures c.index_mut.ensures.value left in
+    let entries = c.set_free.new.self.entries in
+    let a : Agent = c.unwrap-agent.result.now in
+    let at : lookup (same_text o.agent) t.agents.entries ≡ Some a = sym c.get.ensures.value ∙ ap option_copied c.unwrap-agent.ensures in
+    let told : entries ≡ map (changed o.agent (with_held o.bundle)) t.agents.entries =
+    subst (λ (n : Text). (change : Agent → Agent) (a : Agent) → lookup (same_text n) t.agents.entries ≡ Some a → change a ≡ record a { free = c.in_ok-left.left }
+    → entries ≡ map (changed n change) t.agents.entries) c.in_ok-name.ensures c.set_free.ensures
+    (with_held o.bundle) a at (left_held a o.bundle c.in_ok-left.left c.in_ok-left.ensures) in
     let made : c.push.new.self.items ≡ o ∷ [] = c.in_ok-push.ensures.items ∙ ap (λ (os : List OfferRow). os ++ o ∷ []) c.new-offers.ensures.items in
     let last : c.append.new.self.offers ≡ t.holdings.offers ++ o ∷ [] =
     c.in_ok-append.ensures.ok ∙ ap (λ (os : List OfferRow). t.holdings.offers ++ os) made in
-    rows-offer_put t c.self.invariant.kept (set_value_at entries place (record c.index_mut.result.now { free = c.in_ok-left.left })) c.append.new.self o told last c.append.ensures.tasks
+    rows-offer_put t c.self.invariant.kept entries c.append.new.self o told last c.append.ensures.tasks
     ∙ ap (λ (s : Stored). offer_put s.rows o) c.self.view_is
 
 pub returns-clause-settled : goal.returns-clause-settled
 returns-clause-settled c =
     let t = c.self.inside in
     let o : OfferRow = c.args.offer in
-    let entries = t.agents.entries in
-    let place = c.unwrap-place.result in
-    let left : c.in_ok-left.left ≡ option_map (λ known. rest known o.bundle) c.index.result.now.free = c.in_ok-left.ensures in
-    let told : set_value_at entries place (record c.index_mut.result.now { free = c.in_ok-left.left }) ≡ map (changed o.agent (with_held o.bundle)) entries =
-    left_written entries o.agent o.bundle place c.index.result.now c.index_mut.result.now c.in_ok-left.left
-    (agents_apart t c.self.invariant.kept) (sym c.get_index_of.ensures.index ∙ c.unwrap-place.ensures)
-    c.index.ensures c.index_mut.ensures.value left in
-    ap is_settled told ∙ settled-held o.agent o.bundle entries ∙ ap (λ (s : Stored). s.settled) c.self.view_is
+    let entries = c.set_free.new.self.entries in
+    let a : Agent = c.unwrap-agent.result.now in
+    let at : lookup (same_text o.agent) t.agents.entries ≡ Some a = sym c.get.ensures.value ∙ ap option_copied c.unwrap-agent.ensures in
+    let told : entries ≡ map (changed o.agent (with_held o.bundle)) t.agents.entries =
+    subst (λ (n : Text). (change : Agent → Agent) (a : Agent) → lookup (same_text n) t.agents.entries ≡ Some a → change a ≡ record a { free = c.in_ok-left.left }
+    → entries ≡ map (changed n change) t.agents.entries) c.in_ok-name.ensures c.set_free.ensures
+    (with_held o.bundle) a at (left_held a o.bundle c.in_ok-left.left c.in_ok-left.ensures) in
+    ap is_settled told ∙ settled-held o.agent o.bundle t.agents.entries ∙ ap (λ (s : Stored). s.settled) c.self.view_is

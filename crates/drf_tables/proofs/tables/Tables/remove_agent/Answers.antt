@@ -23,16 +23,16 @@ invariant_of-self c =
     subst (λ (s : Stored). without_ended s.rows (all_on name) ≡ s.rows) (sym c.self.view_is) c.requires.nothing in
     let others : c.args.total ≡ cluster_total (filter (λ a. not (same_text a.name name)) (rows_in t).agents) =
     c.requires.total ∙ sym (ap (λ (s : Stored). cluster_total (filter (λ a. not (same_text a.name name)) s.rows.agents)) c.self.view_is) in
-    let entries = c.shift_remove.new.self.entries in
+    let entries = c.remove.new.self.entries in
     let filters = c.drop_agent.new.self in
     let after = c.release_agent.new.quota in
     let rows : List LimitRow → Rows = λ limits.
     rows_of entries t.frameworks.entries t.holdings filters t.weights.entries limits t.clock t.next_offer t.events in
     record {
       kept = subst (λ (limits : List LimitRow). AreDerived (rows limits) entries c.args.total t.clients) c.release_agent.ensures.limits
-          (kept-left t c.self.invariant.kept name entries filters c.args.total nothing c.shift_remove.ensures.entries c.drop_agent.ensures others);
+          (kept-left t c.self.invariant.kept name entries filters c.args.total nothing c.remove.ensures c.drop_agent.ensures others);
       consumed = subst (λ (limits : List LimitRow). CountsIf t.is_counted (rows limits) after) c.release_agent.ensures.limits
-          (counts-left t c.self.invariant.consumed name entries filters after c.shift_remove.ensures.entries c.release_agent.ensures);
+          (counts-left t c.self.invariant.consumed name entries filters after c.remove.ensures c.release_agent.ensures);
     }
 
 pub returns-clause-rows : goal.returns-clause-rows
@@ -43,10 +43,10 @@ returns-clause-rows c =
     subst (λ (s : Stored). without_ended s.rows (all_on name) ≡ s.rows) (sym c.self.view_is) c.requires.nothing in
     let others : c.args.total ≡ cluster_total (filter (λ a. not (same_text a.name name)) (rows_in t).agents) =
     c.requires.total ∙ sym (ap (λ (s : Stored). cluster_total (filter (λ a. not (same_text a.name name)) s.rows.agents)) c.self.view_is) in
-    let entries = c.shift_remove.new.self.entries in
+    let entries = c.remove.new.self.entries in
     let filters = c.drop_agent.new.self in
     let rows : List LimitRow → Rows = λ limits.
     rows_of entries t.frameworks.entries t.holdings filters t.weights.entries limits t.clock t.next_offer t.events in
     ap rows (sym c.release_agent.ensures.limits)
-    ∙ rows-left t c.self.invariant.kept name entries filters c.args.total nothing c.shift_remove.ensures.entries c.drop_agent.ensures others
+    ∙ rows-left t c.self.invariant.kept name entries filters c.args.total nothing c.remove.ensures c.drop_agent.ensures others
     ∙ ap (λ (s : Stored). agent_removed s.rows name) c.self.view_is

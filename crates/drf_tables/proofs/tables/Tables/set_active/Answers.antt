@@ -14,19 +14,19 @@ pub invariant_of-self : goal.invariant_of-self
 unfolding rows_of
 invariant_of-self c =
     record {
-      kept = kept-active c.self.inside c.self.invariant.kept c.args.agent.now c.args.active c.set_active.new.agents.entries c.set_active.ensures;
+      kept = kept-active c.self.inside c.self.invariant.kept c.args.agent.now c.args.active c.set_active.new.self.entries c.set_active.ensures;
       consumed = counts-same _ (rows_in c.self.inside) _ _ c.self.invariant.consumed refl refl
           (λ test label.
           reserved-with_activity (rows_in c.self.inside) c.args.agent.now c.args.active test label
           ∙ sym (ap (λ (r : Rows). reserved_for test r.agents label)
-          (rows-active c.self.inside c.self.invariant.kept c.args.agent.now c.args.active c.set_active.new.agents.entries c.set_active.ensures)));
+          (rows-active c.self.inside c.self.invariant.kept c.args.agent.now c.args.active c.set_active.new.self.entries c.set_active.ensures)));
     }
 
 pub returns-clause-rows : goal.returns-clause-rows
 returns-clause-rows c =
     let name = c.args.agent.now in
     let active = c.args.active in
-    rows-active c.self.inside c.self.invariant.kept name active c.set_active.new.agents.entries c.set_active.ensures
+    rows-active c.self.inside c.self.invariant.kept name active c.set_active.new.self.entries c.set_active.ensures
     ∙ ap (λ (s : Stored). record s.rows { agents = with_activity s.rows name active }) c.self.view_is
 
 pub returns-clause-settled : goal.returns-clause-settled

@@ -10,7 +10,6 @@ use Rattle.drf_rows.specs.declared.rows.Rows.{Rows}
 use Rattle.drf_tables.specs.Changing.{CanHaveTotal}
 use Rattle.drf_tables.specs.Inside.{CountsIf, AreDerived, rows_in, rows_of}
 use Rattle.drf_tables.specs.Stored.{Stored}
-use Rattle.drf_tables.proofs.Changes.{agents_apart}
 use Rattle.drf_tables.proofs.Moved.{rows-other, kept-other}
 use Rattle.drf_tables.proofs.Running.{agent_fits, counts-other, other_fits}
 use Rattle.drf_tables.proofs.tables.Tables.set_total.Goals as goal
@@ -31,9 +30,6 @@ recount_total-self-inside-requires c = λ is test label.
     other_fits t c.self.invariant.kept c.self.invariant.consumed name total c.args.sum right summed
     c.release_agent.new.quota c.release_agent.ensures is test label
 
-pub set_total-requires : goal.set_total-requires
-set_total-requires c = agents_apart c.self.inside c.self.invariant.kept
-
 pub invariant_of-self : goal.invariant_of-self
 invariant_of-self c =
     let t = c.self.inside in
@@ -44,7 +40,7 @@ invariant_of-self c =
     let summed : c.args.sum ≡ plus (cluster_total (filter (λ a. not (same_text a.name name)) (rows_in t).agents)) (quantities_of total) =
     subst (λ (s : Stored). c.args.sum ≡ plus (cluster_total (filter (λ a. not (same_text a.name name)) s.rows.agents)) (quantities_of total))
     (sym c.self.view_is) c.requires.sum in
-    let entries = c.set_total.new.agents.entries in
+    let entries = c.set_total.new.self.entries in
     let after = c.recount_total-self-inside.new.quota in
     let limits : t.quota.limits ≡ after.limits = c.release_agent.ensures.limits ∙ sym c.recount_total-self-inside.ensures.raised.limits in
     let rows : List LimitRow → Rows = λ limits.
@@ -69,7 +65,7 @@ returns c =
     subst (λ (s : Stored). c.args.sum ≡ plus (cluster_total (filter (λ a. not (same_text a.name name)) s.rows.agents)) (quantities_of total))
     (sym c.self.view_is) c.requires.sum in
     let rows : List LimitRow → Rows = λ limits.
-    rows_of c.set_total.new.agents.entries t.frameworks.entries t.holdings t.filters t.weights.entries limits t.clock t.next_offer t.events in
+    rows_of c.set_total.new.self.entries t.frameworks.entries t.holdings t.filters t.weights.entries limits t.clock t.next_offer t.events in
     ap rows (c.recount_total-self-inside.ensures.raised.limits ∙ sym c.release_agent.ensures.limits)
-    ∙ rows-other t c.self.invariant.kept name total c.args.sum right summed c.set_total.new.agents.entries c.set_total.ensures
+    ∙ rows-other t c.self.invariant.kept name total c.args.sum right summed c.set_total.new.self.entries c.set_total.ensures
     ∙ ap (λ (s : Stored). record s.rows { agents = with_other_total s.rows name total }) c.self.view_is

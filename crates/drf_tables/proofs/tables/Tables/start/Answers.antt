@@ -63,7 +63,7 @@ invariant_of-self-in-Ok c =
     let both : ◌≡◌ {A = Option OfferRow} (Some c.in-Ok.offer) (Some can.offer) = sym c.in-Ok.ensures.ok.found ∙ can.at in
     let same : c.in-Ok.offer ≡ can.offer = cc in
     let allowed = subst (λ (s : Stored). (f : FilterRow) → c.args.filter ≡ Some f → IsFilter s.rows.agents s.rows.frameworks f) (sym c.self.view_is) c.requires.filter in
-    let entries = c.give_back.new.agents.entries in
+    let entries = c.give_back.new.self.entries in
     let held = c.start.new.self in
     let filters = c.add_if.new.filters in
     let after = c.release_held.new.quota in
@@ -93,7 +93,7 @@ returns-in-Ok-clause-ok c = λ o at.
     let t = c.self.inside in
     let number = c.args.number in
     let found : offer_at (rows_in t) number ≡ Some o = ap (λ (s : Stored). offer_at s.rows number) c.self.view_is ∙ at in
-    let entries = c.give_back.new.agents.entries in
+    let entries = c.give_back.new.self.entries in
     let back = subst (λ (r : List Resource). HasFreed c.in-Ok.offer.agent r t.agents.entries entries) (c.requires.rest o at) c.give_back.ensures in
     let rows : List LimitRow → Rows = λ limits.
     rows_of entries t.frameworks.entries c.start.new.self c.add_if.new.filters t.weights.entries limits t.clock t.next_offer t.events in

@@ -1,0 +1,46 @@
+use Rattle.std.proofs.Common.{◌≡◌, ℕ, List, ◌++◌, ◌∷◌, [], Option, None, Some, is_some, false, cond, length, sym, ap, ◌∙◌, subst, arith}
+use Rattle.std.specs.Map.{lookup}
+use Rattle.drf_role.specs.Text.{Text, same_text}
+use Rattle.drf_gates.specs.Slots.{filled}
+use Rattle.drf_tables.specs.Registered.{Registered, slot_of}
+use Rattle.drf_tables.specs.declared.tables.Agent.{Agent}
+use Rattle.drf_tables.proofs.Entries.{from_ok}
+use Rattle.drf_tables.proofs.RegistryLemmas.{Entry, Slots, filled-push, filled-short, registry-push, slot_new}
+use Rattle.drf_tables.proofs.registry.Registry.add.Goals as goal
+
+pub unwrap-requires : goal.unwrap-requires
+unwrap-requires c =
+    let room = ap (λ (r : Registered). r.room) c.self.view_is in
+    let some = c.requires.room in
+    c.insert.ensures.succeeds (omega (arith, room, some))
+
+pub push_reserved-requires : goal.push_reserved-requires
+push_reserved-requires c =
+    let room = ap (λ (r : Registered). r.room) c.self.view_is in
+    let some = c.requires.room in
+    let small = c.self.inside.slots.ok.0 in
+    omega (arith, room, some, small)
+
+pub overflow_add-self : goal.overflow_add-self
+overflow_add-self c =
+    let s = c.self.inside.slots in
+    omega (arith, c.self.invariant.live, filled-short s.items, s.ok.0, s.ok.1, s.small)
+
+pub invariant_of-self : goal.invariant_of-self
+invariant_of-self c =
+    let t = c.self.inside in
+    let name : Text = c.args.name in
+    let new : is_some (lookup (same_text name) (filled t.slots.items)) ≡ false =
+    ap (λ (r : Registered). is_some (lookup (same_text name) r.entries)) c.self.view_is ∙ c.requires.new in
+    let small = t.slots.ok.0 in
+    let place : c.len.result ≡ length t.slots.items = c.len.ensures ∙ omega (arith, small) in
+    let updates = from_ok c.insert.result c.unwrap.result _ c.unwrap.ensures c.insert.ensures.updates in
+    registry-push t.slots.items c.push_reserved.new.self.items t.places.entries c.insert.new.self.entries t.live name c.args.agent c.self.invariant
+    (slot_new name t.slots.items new) c.push_reserved.ensures.items
+    (λ m. updates.0 m ∙ (λ i. cond (same_text (c.requires.named i) m) (Some (place i)) (lookup (same_text m) t.places.entries)))
+
+pub returns : goal.returns
+returns c =
+    ap (λ (ss : Slots). filled ss) c.push_reserved.ensures.items
+    ∙ filled-push c.self.inside.slots.items (c.args.name, c.args.agent)
+    ∙ ap (λ (r : Registered). r.entries ++ (c.args.name, c.args.agent) ∷ []) c.self.view_is

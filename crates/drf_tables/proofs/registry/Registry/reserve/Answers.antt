@@ -1,0 +1,10 @@
+use Rattle.std.proofs.Common.{◌≡◌, ◌≤◌, ◌+◌, Result, OnOk, length, arith}
+use Rattle.drf_tables.proofs.RegistryLemmas.{ok_then}
+use Rattle.drf_tables.proofs.registry.Registry.reserve.Goals as goal
+
+pub returns-clause-ok : goal.returns-clause-ok
+returns-clause-ok c =
+    let slots = c.reserve.new.self in
+    let ok = c.in_ok-reserve.ensures.ok in
+    let small = slots.ok.0 in
+    ok_then c.reserve-2.result c.reserve-2.ensures.ok (λ more. omega (arith, ok, small, more))

@@ -1,0 +1,74 @@
+use Rattle.std.proofs.Common.{◌≡◌, ℕ, List, Option, None, Some, true, false, is_some, length, map, set, take, slice_get, refl, inl, inr, sym, ap, ◌∙◌, subst, arith}
+use Rattle.std.specs.List.{AllByRecursion}
+use Rattle.std.specs.Map.{lookup}
+use Rattle.std.specs.Option.{option_copied, option_map}
+use Rattle.drf_bundle.specs.ListLaws.{each_at}
+use Rattle.drf_bundle.specs.declared.resource.Resource.{Resource}
+use Rattle.drf_gates.specs.Slots.{filled}
+use Rattle.drf_role.specs.Text.{Text, same_text}
+use Rattle.drf_row_laws.specs.ConsistentLaws.{same_text-swap}
+use Rattle.drf_tables.specs.Changing.{CanExchangeAt, HasFreed, HasOther, changed, freed, joined_free, with_active, with_exchanged, with_other}
+use Rattle.drf_tables.specs.Registered.{Registered, slot_of}
+use Rattle.drf_tables.specs.declared.tables.Agent.{Agent}
+use Rattle.drf_tables.proofs.RegistryChanges.{changed_slot, unchanged_slots}
+use Rattle.drf_tables.proofs.RegistryLemmas.{Entry, filled_at, no_gap, read_is, read_slot, registry-set, slot_found}
+use Rattle.drf_tables.proofs.registry.Registry.set_free.Goals as goal
+
+pub returns-in_default : goal.returns-in_default
+returns-in_default c =
+    let t = c.self.inside in
+    let name : Text = c.args.name.now in
+    let none : slot_of name t.slots.items ≡ None =
+    sym (c.self.invariant.found name) ∙ sym c.get.ensures.value ∙ ap option_copied c.in_default.is in
+    λ change a known is.
+        subst (λ (r : Registered). r.entries ≡ map (changed name change) r.entries) c.self.view_is (unchanged_slots name change t.slots.items none)
+
+pub index_mut-requires : goal.index_mut-requires
+index_mut-requires c =
+    let t = c.self.inside in
+    let name : Text = c.args.name.now in
+    let found : slot_of name t.slots.items ≡ Some c.in-Some.place.now =
+    sym (c.self.invariant.found name) ∙ sym c.get.ensures.value ∙ ap option_copied c.in-Some.is in
+    let here = slot_found name t.slots.items c.in-Some.place.now found in
+    let below = here.below in
+    let small = t.slots.ok.0 in
+    omega (arith, below, small)
+
+pub invariant_of-self : goal.invariant_of-self
+invariant_of-self c =
+    let t = c.self.inside in
+    let name : Text = c.args.name.now in
+    let found : slot_of name t.slots.items ≡ Some c.in-Some.place.now =
+    sym (c.self.invariant.found name) ∙ sym c.get.ensures.value ∙ ap option_copied c.in-Some.is in
+    let here = slot_found name t.slots.items c.in-Some.place.now found in
+    let e : Entry = here.entry in
+    let place = c.in-Some.place.now in
+    let w : Agent = record e.1 { free = c.args.free } in
+    let put : c.put_free.new.slot ≡ Some (e.0, w) =
+    c.put_free.ensures
+    ∙ ap (option_map (λ (e : Entry). (e.0, record e.1 { free = c.args.free })))
+    (read_is t.slots.items place c.index_mut.result.now e here.below c.index_mut.ensures.value here.there) in
+    registry-set t.slots.items _ t.places.entries t.live place e w c.self.invariant here.there (ap (set t.slots.items place) put)
+
+pub returns : goal.returns
+returns c =
+    let t = c.self.inside in
+    let name : Text = c.args.name.now in
+    let found : slot_of name t.slots.items ≡ Some c.in-Some.place.now =
+    sym (c.self.invariant.found name) ∙ sym c.get.ensures.value ∙ ap option_copied c.in-Some.is in
+    let here = slot_found name t.slots.items c.in-Some.place.now found in
+    let e : Entry = here.entry in
+    let place = c.in-Some.place.now in
+    let w : Agent = record e.1 { free = c.args.free } in
+    let put : c.put_free.new.slot ≡ Some (e.0, w) =
+    c.put_free.ensures
+    ∙ ap (option_map (λ (e : Entry). (e.0, record e.1 { free = c.args.free })))
+    (read_is t.slots.items place c.index_mut.result.now e here.below c.index_mut.ensures.value here.there) in
+    λ change a known is.
+        let at : lookup (same_text name) (filled t.slots.items) ≡ Some a =
+        ap (λ (r : Registered). lookup (same_text name) r.entries) c.self.view_is ∙ known in
+        let its = here.value in
+        let same : e.1 ≡ a = cc in
+        changed_slot name change t.slots.items _ place e w c.self.invariant.apart found here.there
+        (ap change same ∙ is ∙ (λ i. record (sym same i) { free = c.args.free })) (ap (set t.slots.items place) put)
+        ∙ ap (λ (r : Registered). map (changed name change) r.entries) c.self.view_is

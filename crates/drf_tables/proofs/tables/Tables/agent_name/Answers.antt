@@ -1,0 +1,12 @@
+use Rattle.std.proofs.Common.{◌≡◌, Some, slice_get, ap, ◌∙◌, map}
+use Rattle.drf_tables.specs.Inside.{rows_of, agent_row}
+use Rattle.drf_tables.specs.Stored.{Stored}
+use Rattle.drf_tables.proofs.Fields.{name_at}
+use Rattle.drf_tables.proofs.tables.Tables.agent_name.Goals as goal
+
+pub returns : goal.returns
+unfolding rows_of
+returns c = λ a at.
+    let row : slice_get (map agent_row c.self.inside.agents.entries) c.args.place ≡ Some a =
+    ap (λ (t : Stored). slice_get t.rows.agents c.args.place) c.self.view_is ∙ at in
+    name_at c.self.inside.agents.entries c.args.place c.at.result.now a c.at.ensures row

@@ -1,10 +1,10 @@
 -- What a role may have of what is free in a turn, and what a client is granted of that.
-use Rattle.std.specs.Prelude.{◌≡◌, ℕ, Bool, true, not, ◌&&◌, nat_le, codes, ◌||◌, List, [], drop, take, Option, Some, None, is_none, is_some, if◌then◌else◌}
+use Rattle.std.specs.Prelude.{◌≡◌, ℕ, Bool, IsTrue, true, not, ◌&&◌, nat_le, codes, ◌||◌, List, [], drop, take, Option, Some, None, is_none, is_some, if◌then◌else◌}
 use Rattle.std.specs.Option.{option_map_or, MatchOption}
 use Rattle.drf_role.specs.Text.{Text, same_text}
 use Rattle.drf_role.specs.Path.{Path, begins_with, client_path, same_path}
 use Rattle.drf_role.specs.Role.{IsRole}
-use Rattle.drf_bundle.specs.Bundle.{is_default}
+use Rattle.drf_bundle.specs.Bundle.{is_default, is_unreserved}
 use Rattle.drf_bundle.specs.declared.resource.Resource.{Resource}
 use Rattle.drf_gates.specs.Quota.{Allowance, IsAllowanceOf}
 use Rattle.drf_rows.specs.Client.{Client, path_of}
@@ -12,6 +12,7 @@ use Rattle.drf_rows.specs.Cycle.{is_allocatable}
 use Rattle.drf_rows.specs.Quota.{entitlement, headroom_at, unreserved_in}
 use Rattle.drf_rows.specs.declared.rows.Rows.{Rows}
 use Rattle.drf_sorter.specs.Passed.{IsPassedFront}
+use Rattle.drf_core.specs.declared.free.ForEveryone.{ForEveryone}
 use Rattle.drf_core.specs.declared.free.Free.{Free}
 
 -- limits and consumption are those of the rows; where there is no quota, no role has a limit
@@ -60,10 +61,21 @@ IsBarred quota free role front =
     (rows : Rows) (client : Client) (framework : Text) → IsQuotaOf rows quota → IsRole client.role
     → take front (path_of client) ≡ take front (client_path role framework) → None ≡ if_allocatable (entitlement rows free client)
 
--- it is known whether what is free is worth an offer; if a role is known, what it may have of that; and if that is nothing, who else may
--- have nothing
+-- so much of the scalars that make an offer worth it is free for everyone
+pub record IsForEveryone (free : List Resource) (amounts : ForEveryone) : Type 0 where
+  pub cpus : amounts.cpus ≡ unreserved_in (codes "cpus") free
+  pub mem : amounts.mem ≡ unreserved_in (codes "mem") free
+
+-- if it is known how much is free for everyone, it is so much
+abbrev pub IsEveryonesKnown : Free → Type 0
+IsEveryonesKnown free = MatchOption free.for_everyone (Unit {0}) (IsForEveryone free.bundle)
+
+-- it is known whether what is free is worth an offer, and perhaps that nothing of it is reserved; if a role is known, what it may have of
+-- that; and if that is nothing, who else may have nothing
 pub record IsKnown (quota : Option Allowance) (free : Free) : Type 0 where
   pub worth : free.is_worth ≡ is_allocatable free.bundle
+  pub unreserved : IsTrue free.is_unreserved → is_unreserved free.bundle ≡ true
+  pub everyone : IsEveryonesKnown free
   pub part : MatchOption free.role (Unit {0}) (λ role. IsOffered quota free.bundle role free.part)
   pub front : (role : Path) → free.role ≡ Some role → free.part ≡ None → IsBarred quota free.bundle role free.front
 

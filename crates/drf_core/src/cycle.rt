@@ -150,7 +150,8 @@ pub(crate) fn try_first<S: Sorter>(
         return Ok(());
     };
     let agent = tables.agent_name(place);
-    let granted = grant(tables, agent, client, drafts.quota.as_ref(), free)?;
+    let alloc = *drafts.offers.allocator();
+    let granted = grant(alloc, tables, agent, client, drafts.quota.as_ref(), free)?;
     let Some(bundle) = granted else {
         return Ok(());
     };

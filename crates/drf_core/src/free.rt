@@ -1,16 +1,17 @@
 //! What is free on an agent in its turn, and what a client is granted of it.
-ghost use Rattle.std.specs.Prelude.{◌≡◌, ◌+◌, ◌≤◌, Option, Some, None, false, true, length, take, IfOk, IfSome, IsSome, OnOk, IsTrue, MatchOption};
+ghost use Rattle.std.specs.Prelude.{◌≡◌, ◌+◌, ◌≤◌, [], if◌then◌else◌, Option, Some, None, false, true, length, take, IfOk, IfSome, IsSome, OnOk, IsTrue, MatchOption};
 ghost use Rattle.std.specs.List.{list_any};
 ghost use Rattle.std.specs.Option.{option_copied};
 ghost use Rattle.drf_bundle.specs.Bundle.{IsResource, rest};
 ghost use Rattle.drf_gates.specs.Quota.{Allowance, unreserved_one};
 ghost use Rattle.drf_rows.specs.Client.{Client, path_of};
 ghost use Rattle.drf_rows.specs.Cycle.{free_of, grant, is_allocatable};
+ghost use Rattle.drf_rows.specs.Filters.{is_held_back};
 ghost use Rattle.drf_rows.specs.Quota.{unreserved_in};
 ghost use Rattle.drf_rows.specs.declared.rows.AgentRow.{AgentRow};
 ghost use Rattle.drf_rows.specs.declared.rows.Rows.{Rows};
-ghost use Rattle.drf_role.specs.Path.{Path, begins_with, role_part, same_path};
-ghost use Rattle.drf_core.specs.Entitling.{IsBarred, IsEntitlement, IsKnown, IsOffered, IsQuotaOf, barred_front, has_at_least, if_allocatable, is_of_worth, is_reserved_for, is_reserved_near};
+ghost use Rattle.drf_role.specs.Path.{Path, begins_with, framework_part, role_part, same_path};
+ghost use Rattle.drf_core.specs.Entitling.{IsBarred, IsEntitlement, IsEveryonesKnown, IsForEveryone, IsKnown, IsOffered, IsQuotaOf, barred_front, has_at_least, if_allocatable, is_of_worth, is_reserved_for, is_reserved_near};
 
 use drf_amount::Algebra;
 use drf_bundle::{Bundle, Resource, Value};
@@ -18,7 +19,8 @@ use drf_gates::Quota;
 use drf_role::{ClientPath, Name, Role};
 use drf_rows::is_worth_an_offer;
 use drf_tables::Tables;
-use std::alloc::AllocError;
+use std::alloc::{AllocError, Global};
+use std::mem;
 
 /// The bundle, if it is worth an offer.
 fn if_worth_an_offer(bundle: Bundle) -> Option<Bundle>
@@ -31,13 +33,23 @@ fn if_worth_an_offer(bundle: Bundle) -> Option<Bundle>
     }
 }
 
-/// What is free on an agent in its turn, and whether that is worth an offer. Where a role is known, the part is what it may have
-/// of that, if it is worth an offer. If it is not, no client whose path begins with the first `front` parts of those of the role's
-/// clients may have anything that is. Where no role is known, part and front say nothing.
+/// How much is free for everyone of the scalars that make an offer worth it, in thousandths.
+#[derive(Clone, Copy)]
+pub struct ForEveryone {
+    pub cpus: u64,
+    pub mem: u64,
+}
+
+/// What is free on an agent in its turn, whether that is worth an offer, and whether it is known that nothing of it is reserved. Where
+/// a role is known, the part is what it may have of that, if it is worth an offer. If it is not, no client whose path begins with the
+/// first `front` parts of those of the role's clients may have anything that is. Where no role is known, part and front say nothing.
 #[derive(Drop)]
 pub struct Free {
     pub bundle: Bundle,
     pub is_worth: bool,
+    pub is_unreserved: bool,
+    // Once it was asked for.
+    pub for_everyone: Option<ForEveryone>,
     pub role: Option<Role>,
     pub part: Option<Bundle>,
     pub front: usize,
@@ -50,9 +62,12 @@ impl Free {
         ensures bundle { result.bundle ≡ bundle }
         ensures known { (quota : Option Allowance) → IsKnown quota result }
     {
+        let is_unreserved = bundle.is_unreserved();
         Free {
             bundle,
             is_worth,
+            is_unreserved,
+            for_everyone: None,
             role: None,
             part: None,
             front: 0,
@@ -185,16 +200,18 @@ fn unreserved(free: &Bundle, label: &str) -> u64
 fn short_front(
     quota: Option<&Quota>,
     free: &Bundle,
+    for_everyone: u64,
     role: &Role,
     label: &str,
     least: u64,
 ) -> Option<usize>
+    requires { for_everyone ≡ unreserved_in label.now free.now }
     ensures within { IfSome result (λ len. len ≤ length role.now) }
     ensures short { IfSome result (λ len. (rows : Rows) (other : Path) → IsQuotaOf rows (option_copied quota.entry) → take len other ≡ take len role.now
         → has_at_least rows free.now other label.now least ≡ false) }
     ensures enough { result ≡ None → (rows : Rows) → IsQuotaOf rows (option_copied quota.entry) → has_at_least rows free.now role.now label.now least ≡ true }
 {
-    if unreserved(free, label) < least {
+    if for_everyone < least {
         return Some(0);
     }
     quota?.short_front(role, label, least)
@@ -203,14 +220,20 @@ fn short_front(
 /// If amounts alone tell that a role may have nothing that is worth an offer, as too little is free for everyone or limits leave too little,
 /// and nothing is reserved for it: a number of first parts, so that all clients that share as many with those of the role may have as little.
 /// It needs no memory.
-fn spent_front(quota: Option<&Quota>, free: &Bundle, role: &Role) -> Option<usize>
+fn spent_front(
+    quota: Option<&Quota>,
+    free: &Bundle,
+    for_everyone: ForEveryone,
+    role: &Role,
+) -> Option<usize>
+    requires { IsForEveryone free.now for_everyone }
     ensures offered { IsSome result → IsOffered (option_copied quota.entry) free.now role.now None }
     ensures barred { IfSome result (IsBarred (option_copied quota.entry) free.now role.now) }
 {
     free.recall();
     role.recall();
-    let cpus = short_front(quota, free, role, "cpus", 10)?;
-    let mem = short_front(quota, free, role, "mem", 32000)?;
+    let cpus = short_front(quota, free, for_everyone.cpus, role, "cpus", 10)?;
+    let mem = short_front(quota, free, for_everyone.mem, role, "mem", 32000)?;
     let reserved = reserved_front(free, role)?;
     Some(cpus.max(mem).max(reserved))
 }
@@ -220,12 +243,14 @@ fn spent_front(quota: Option<&Quota>, free: &Bundle, role: &Role) -> Option<usiz
 fn part_offered(
     quota: Option<&Quota>,
     free: &Bundle,
+    for_everyone: ForEveryone,
     role: &Role,
 ) -> Result<(Option<Bundle>, usize), AllocError>
+    requires { IsForEveryone free.now for_everyone }
     ensures part { IfOk result (λ told. IsOffered (option_copied quota.entry) free.now role.now told.0) }
     ensures front { IfOk result (λ told. told.0 ≡ None → IsBarred (option_copied quota.entry) free.now role.now told.1) }
 {
-    if let Some(front) = spent_front(quota, free, role) {
+    if let Some(front) = spent_front(quota, free, for_everyone, role) {
         return Ok((None, front));
     }
     role.recall();
@@ -243,6 +268,26 @@ fn is_known(known: &Option<Role>, role: &Role) -> bool
     }
 }
 
+/// How much is free for everyone, which is found once for what is free.
+fn for_everyone(free: &mut Free) -> ForEveryone
+    requires { IsEveryonesKnown free.old }
+    ensures amounts { IsForEveryone free.old.bundle result }
+    ensures known { IsEveryonesKnown free.new }
+    ensures bundle { free.new.bundle ≡ free.old.bundle }
+    ensures worth { free.new.is_worth ≡ free.old.is_worth }
+    ensures unreserved { free.new.is_unreserved ≡ free.old.is_unreserved }
+{
+    if let Some(amounts) = free.for_everyone {
+        return amounts;
+    }
+    let amounts = ForEveryone {
+        cpus: unreserved(&free.bundle, "cpus"),
+        mem: unreserved(&free.bundle, "mem"),
+    };
+    free.for_everyone = Some(amounts);
+    amounts
+}
+
 /// Makes known what a role may have. It is found once for clients of a role that are tried one after another.
 fn entitle(quota: Option<&Quota>, free: &mut Free, role: &Role) -> Result<(), AllocError>
     requires { IsKnown (option_copied quota) free.old }
@@ -251,11 +296,14 @@ fn entitle(quota: Option<&Quota>, free: &mut Free, role: &Role) -> Result<(), Al
     ensures role { OnOk result (free.new.role ≡ Some role.now) }
     ensures bundle { free.new.bundle ≡ free.old.bundle }
     ensures worth { free.new.is_worth ≡ free.old.is_worth }
+    ensures unreserved { free.new.is_unreserved ≡ free.old.is_unreserved }
+    ensures everyone { OnOk result (IsEveryonesKnown free.new) }
 {
     if is_known(&free.role, role) {
         return Ok(());
     }
-    let (part, front) = part_offered(quota, &free.bundle, role)?;
+    let amounts = for_everyone(free);
+    let (part, front) = part_offered(quota, &free.bundle, amounts, role)?;
     let role = role.copy()?;
     free.part = part;
     free.front = front;
@@ -265,7 +313,7 @@ fn entitle(quota: Option<&Quota>, free: &mut Free, role: &Role) -> Result<(), Al
 
 /// Takes from what is free on an agent what a client is granted: what its role may have, if that is worth an offer, and no filter
 /// holds it back. What the role may have is known no longer with a grant, which takes from the headroom too.
-pub fn grant(
+fn grant_part(
     tables: &Tables,
     agent: &Name,
     client: &ClientPath,
@@ -291,6 +339,80 @@ pub fn grant(
     }
     free.bundle = free.bundle.rest(&part)?;
     free.is_worth = is_worth_an_offer(&free.bundle);
+    free.is_unreserved = false;
+    free.for_everyone = None;
     free.role = None;
     Ok(Some(part))
+}
+
+/// Whether no role has a limit.
+fn is_unlimited(quota: Option<&Quota>) -> bool
+    ensures { IsTrue result → (rows : Rows) → IsQuotaOf rows (option_copied quota.entry) → rows.limits ≡ [] }
+{
+    match quota {
+        Some(quota) => !quota.has_limits(),
+        None => true,
+    }
+}
+
+/// Whether it is seen that each role may have all that is free, and that this is worth an offer: nothing of it is reserved, and there are
+/// no limits.
+fn is_for_all(quota: Option<&Quota>, free: &Free) -> bool
+    requires { IsKnown (option_copied quota) free.now }
+    ensures { IsTrue result → (role : Path) → IsOffered (option_copied quota.entry) free.now.bundle role (Some free.now.bundle) }
+{
+    free.bundle.recall();
+    if free.is_unreserved && free.is_worth {
+        return is_unlimited(quota);
+    }
+    false
+}
+
+/// Takes all that is free on an agent for a client, if no filter holds it back.
+fn take_all(
+    alloc: Global,
+    tables: &Tables,
+    agent: &Name,
+    client: &ClientPath,
+    free: &mut Free,
+) -> Option<Bundle>
+    ensures taken { result ≡ (if is_held_back tables.now.rows.filters tables.now.rows.clock
+        (record { role = role_part client.now; framework = framework_part client.now }) agent.now free.old.bundle then None else Some free.old.bundle) }
+    ensures left { MatchOption result (free.new.bundle ≡ free.old.bundle) (λ bundle. free.new.bundle ≡ rest free.old.bundle bundle) }
+    ensures known { (quota later : Option Allowance) → IsKnown quota free.old → IsKnown later free.new }
+    ensures role { free.new.role ≡ None }
+{
+    free.role = None;
+    if tables.is_held_back(client.role(), client.framework(), agent, &free.bundle) {
+        return None;
+    }
+    free.bundle.recall();
+    free.is_worth = false;
+    free.for_everyone = None;
+    Some(mem::replace(&mut free.bundle, Bundle::empty(alloc)))
+}
+
+/// Takes from what is free on an agent what a client is granted. What its role may have is found at once where that is all.
+pub fn grant(
+    alloc: Global,
+    tables: &Tables,
+    agent: &Name,
+    client: &ClientPath,
+    quota: Option<&Quota>,
+    free: &mut Free,
+) -> Result<Option<Bundle>, AllocError>
+    requires { IsKnown (option_copied quota) free.old }
+    ensures granted { IfOk result (λ granted. (rows : Rows) (a : AgentRow) (of : Client)
+        → free_of rows a ≡ free.old.bundle → a.name ≡ agent.now → rows.filters ≡ tables.now.rows.filters
+        → rows.clock ≡ tables.now.rows.clock → IsQuotaOf rows (option_copied quota.entry) → client.now ≡ path_of of → granted ≡ grant rows a of) }
+    ensures left { IfOk result (λ granted. MatchOption granted (free.new.bundle ≡ free.old.bundle) (λ bundle. free.new.bundle ≡ rest free.old.bundle bundle)) }
+    ensures known { IfOk result (λ granted. MatchOption granted
+        (IsKnown (option_copied quota.entry) free.new) (λ _. (later : Option Allowance) → IsKnown later free.new)) }
+    ensures role { OnOk result ((role : Path) → free.new.role ≡ Some role → role ≡ role_part client.now) }
+{
+    if is_for_all(quota, free) {
+        return Ok(take_all(alloc, tables, agent, client, free));
+    }
+    let granted = grant_part(tables, agent, client, quota, free)?;
+    Ok(granted)
 }

@@ -1,18 +1,42 @@
 //! Where the filters of a client, or of a client on an agent, stand among all.
 ghost use Rattle.std.specs.Prelude.{◌≡◌, ◌+◌, ◌%◌, ◌<◌, ◌≤◌, [], ◌∷◌, ◌++◌, List, Option, None, Some, length, slice_index, slice_index_or, set, replicate, vec_capacity, OnOk};
 ghost use Rattle.drf_rows.specs.declared.rows.FilterRow.{FilterRow};
-ghost use Rattle.drf_gates.specs.Index.{pair_hash, row_hash, IsChainedBy, IsIndexed, IsAt, IsLeft, HasRoom};
+ghost use Rattle.drf_gates.specs.Index.{client_hash, client_read, pair_hash, row_hash, IsChainedBy, IsIndexed, IsAt, IsLeft, HasRoom};
 
-use drf_role::{Name, Role, mark_of, mixed};
+use drf_role::{Name, Role};
 use drf_rows::FilterRow;
 use std::alloc::{AllocError, Global};
+use std::hash::{FoldHasher, Hasher};
+
+/// After how many filters a chain is longer than by chance.
+const LONG: usize = 64;
+
+/// A hash that has read a client, after what it began with.
+fn client_read(start: FoldHasher, role: &Role, framework: &Name) -> FoldHasher
+    ensures { result ≡ client_read start role.now framework.now }
+{
+    let mut hasher = start;
+    hasher.write(framework.text().as_bytes());
+    hasher.write(role.text().as_bytes());
+    hasher
+}
+
+/// The hash of a client.
+#[tactic(auto, unfolding(crate::specs::Index::client_hash))]
+pub(crate) fn client_hash(start: FoldHasher, role: &Role, framework: &Name) -> u64
+    ensures { result ≡ client_hash start role.now framework.now }
+{
+    client_read(start, role, framework).finish()
+}
 
 /// The hash of a client and an agent.
 #[tactic(auto, unfolding(crate::specs::Index::pair_hash))]
-pub(crate) fn pair_hash(role: &Role, framework: &Name, agent: &Name) -> u64
-    ensures { result ≡ pair_hash role.now framework.now agent.now }
+pub(crate) fn pair_hash(start: FoldHasher, role: &Role, framework: &Name, agent: &Name) -> u64
+    ensures { result ≡ pair_hash start role.now framework.now agent.now }
 {
-    mixed(mark_of(role, framework), agent.text())
+    let mut hasher = client_read(start, role, framework);
+    hasher.write(agent.text().as_bytes());
+    hasher.finish()
 }
 
 /// What the filters of a chain have in common.
@@ -23,12 +47,12 @@ pub(crate) enum Key {
 }
 
 /// The hash by which a filter is chained.
-fn row_hash(key: Key, row: &FilterRow) -> u64
-    ensures { result ≡ row_hash key row.now }
+fn row_hash(start: FoldHasher, key: Key, row: &FilterRow) -> u64
+    ensures { result ≡ row_hash start key row.now }
 {
     match key {
-        Key::Client => mark_of(&row.role, &row.framework),
-        Key::ClientAndAgent => pair_hash(&row.role, &row.framework, &row.agent),
+        Key::Client => client_hash(start, &row.role, &row.framework),
+        Key::ClientAndAgent => pair_hash(start, &row.role, &row.framework, &row.agent),
     }
 }
 
@@ -47,6 +71,10 @@ pub(crate) struct Index {
     pub(crate) heads: Vec<usize>,
     /// Where the chain of each filter goes on.
     pub(crate) links: Vec<usize>,
+    /// With what each hash begins. Names whose hashes are the same can be chosen, but not for two beginnings.
+    pub(crate) start: FoldHasher,
+    // How many filters there have to be before hashes begin otherwise.
+    calm: usize,
 }
 
 impl Index {
@@ -57,6 +85,8 @@ impl Index {
         Index {
             heads: Vec::new(alloc),
             links: Vec::new(alloc),
+            start: FoldHasher::default(),
+            calm: 0,
         }
     }
 
@@ -97,7 +127,7 @@ impl Index {
         ensures heads { length self.new.heads.items ≡ length self.old.heads.items }
         ensures capacity { vec_capacity self.new.links ≡ vec_capacity self.old.links }
     {
-        let bucket = self.bucket(row_hash(key, row));
+        let bucket = self.bucket(row_hash(self.start, key, row));
         let head = self.heads[bucket];
         self.links.push_reserved(head);
         self.heads[bucket] = self.links.len();
@@ -131,8 +161,9 @@ impl Index {
         ensures indexed { (rows : List (Option FilterRow)) → IsIndexed key rows self.old → slice_index_or rows place None ≡ Some row.now
             → IsIndexed key (set rows place None) self.new }
         ensures heads { length self.new.heads.items ≡ length self.old.heads.items }
+        ensures start { self.new.start ≡ self.old.start }
     {
-        let bucket = self.bucket(row_hash(key, row));
+        let bucket = self.bucket(row_hash(self.start, key, row));
         let mut after = self.heads[bucket];
         let mut from = 0;
         while place + 1 < after {
@@ -157,6 +188,7 @@ impl Index {
     {
         cut(&mut self.heads);
         self.links.clear();
+        self.calm = 0;
         for slot in rows {
             self.push_slot(key, slot);
         }
@@ -170,6 +202,37 @@ impl Index {
         if rows.len() < self.links.len() {
             self.rebuild(key, rows);
         }
+    }
+
+    /// Whether the chain of the last filter is longer than by chance. No clause says so.
+    fn is_crowded(&self) -> bool {
+        let Some(last) = self.links.last() else {
+            return false;
+        };
+        let mut after = *last;
+        for _ in 0..LONG {
+            if after == 0 {
+                return false;
+            }
+            let Some(next) = self.links.get(after - 1) else {
+                return false;
+            };
+            after = *next;
+        }
+        true
+    }
+
+    /// Lets hashes begin otherwise where a chain is longer than by chance, unless that was done before a quarter of the filters came.
+    pub(crate) fn spread(&mut self, key: Key, rows: &[Option<FilterRow>])
+        requires { IsIndexed key rows.now self.old }
+        ensures { IsIndexed key rows.now self.new }
+    {
+        if rows.len() < self.calm || !self.is_crowded() {
+            return;
+        }
+        self.start.write(&[1]);
+        self.rebuild(key, rows);
+        self.calm = rows.len().saturating_add(rows.len() / 4 + LONG);
     }
 
     /// Makes room for one more filter.

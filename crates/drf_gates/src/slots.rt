@@ -3,10 +3,10 @@ ghost use Rattle.std.specs.Prelude.{◌≡◌, ◌<◌, [], ◌∷◌, ◌++◌,
 ghost use Rattle.drf_rows.specs.Filters.{is_held_back, is_of_client, filters_without_client};
 ghost use Rattle.drf_gates.specs.Slots.{filters_in, without_one, IsSlots, IsClosed};
 
-use crate::index::{Index, Key, pair_hash};
+use crate::index::{Index, Key, client_hash, pair_hash};
 use crate::row::{is_slot_of_client, keep_filled, slot_holds_back};
 use drf_bundle::Bundle;
-use drf_role::{Name, Role, mark_of};
+use drf_role::{Name, Role};
 use drf_rows::FilterRow;
 use std::alloc::{AllocError, Global};
 
@@ -75,6 +75,7 @@ impl Slots {
         self.clients.push(Key::Client, &row);
         self.rows.push_reserved(Some(row));
         self.live += 1;
+        self.pairs.spread(Key::ClientAndAgent, &self.rows);
         Ok(())
     }
 
@@ -85,6 +86,7 @@ impl Slots {
         ensures slots { IsSlots self.new }
         ensures rows { self.new.rows.items ≡ set self.old.rows.items place None }
         ensures heads { length self.new.clients.heads.items ≡ length self.old.clients.heads.items }
+        ensures start { self.new.clients.start ≡ self.old.clients.start }
     {
         let Some(row) = self.rows[place].take() else {
             return;
@@ -101,6 +103,7 @@ impl Slots {
         ensures slots { IsSlots self.new }
         ensures rows { self.new.rows.items ≡ without_one (is_of_client (record { role = role.now; framework = framework.now })) self.old.rows.items place }
         ensures heads { length self.new.clients.heads.items ≡ length self.old.clients.heads.items }
+        ensures start { self.new.clients.start ≡ self.old.clients.start }
     {
         if is_slot_of_client(&self.rows[place], role, framework) {
             self.take(place);
@@ -116,7 +119,9 @@ impl Slots {
         if self.rows.is_empty() {
             return;
         }
-        let mut after = self.clients.last(mark_of(role, framework));
+        let mut after = self
+            .clients
+            .last(client_hash(self.clients.start, role, framework));
         while after > 0 {
             let place = after - 1;
             after = self.clients.before(place);
@@ -140,7 +145,9 @@ impl Slots {
         if self.rows.is_empty() {
             return false;
         }
-        let mut after = self.pairs.last(pair_hash(role, framework, agent));
+        let mut after = self
+            .pairs
+            .last(pair_hash(self.pairs.start, role, framework, agent));
         while after > 0 {
             let place = after - 1;
             if slot_holds_back(&self.rows[place], role, framework, agent, bundle, now) {

@@ -9,7 +9,7 @@ use Rattle.drf_role.specs.Text.{Text, same_text}
 use Rattle.drf_role.specs.TextLaws.{same_from_test, same_itself}
 use Rattle.drf_role.specs.Path.{Path, begins_with, role_part, framework_part}
 use Rattle.drf_role.specs.PathLaws.{role_part-client_path, framework_part-client_path}
-use Rattle.drf_bundle.specs.Bundle.{IsBundle, is_default, quantities_of, part_for, clipped, clip, same_key, stock}
+use Rattle.drf_bundle.specs.Bundle.{IsBundle, is_default, is_unreserved, quantities_of, part_for, clipped, clip, same_key, stock}
 use Rattle.drf_bundle.specs.Quantities.{amount_of}
 use Rattle.drf_bundle.specs.Value.{Thousandths, amount_in, units_in}
 use Rattle.drf_role.specs.Parts.{text_of}
@@ -61,6 +61,23 @@ entitled-cut a free role room part bundle left found cut rows client counted sam
 pub offered-is : (quota : Option Allowance) (free : List Resource) (role : Path) (part : List Resource) (offered : Option (List Resource))
     → IsEntitlement quota free role part → offered ≡ if_allocatable part → IsOffered quota free role offered
 offered-is quota free role part offered entitled made rows client counted same = made ∙ ap if_allocatable (entitled rows client counted same)
+
+-- of what is for everyone each role may have all
+for_all : (role : Path) (free : List Resource) → is_unreserved free ≡ true → free ≡ part_for role free
+for_all role [] all = refl
+for_all role (r ∷ rs) all =
+    let parts = and_parts (is_default r.role) (is_unreserved rs) all in
+    let part : List Resource = part_for role rs in
+    ap (λ (rest : List Resource). r ∷ rest) (for_all role rs parts.1)
+    ∙ sym (ap (λ (b : Bool). cond (b || begins_with role r.role) (r ∷ part) part) parts.0)
+
+-- and where there are no limits all of it is offered
+pub offered-whole : (quota : Option Allowance) (free : List Resource) → IsBundle free → is_unreserved free ≡ true → is_allocatable free ≡ true
+    → ((rows : Rows) → IsQuotaOf rows quota → rows.limits ≡ []) → (role : Path) → IsOffered quota free role (Some free)
+offered-whole quota free right all worth unlimited role =
+    offered-is quota free role free (Some free)
+    (entitled-whole quota free role free right (λ rows counted. room-unlimited role rows (unlimited rows counted)) (for_all role free all))
+    (sym (ap (λ (b : Bool). cond b (Some free) None) worth))
 
 -- ---- limits that leave too little
 

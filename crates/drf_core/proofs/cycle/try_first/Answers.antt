@@ -137,17 +137,13 @@ returns-in_default-granted-clause-free g c =
 -- what is known is of the role of the client that was tried
 pub returns-clause-role : goal.returns-clause-role
 returns-clause-role g c = λ role path told first.
-    let none : c.grant.new.free.role ≡ None =
-    subst (λ o. MatchOption o (c.grant.new.free.role ≡ Some (role_part c.in-Some.client.now)) (λ _. c.grant.new.free.role ≡ None)) c.in-Some-granted.is c.in_ok-granted.ensures.role in
-    absurd cc
+    let same : c.in-Some.client.now ≡ path = let e : Some c.in-Some.client.now ≡ Some path = (rw c.in-Some.is at c.first.ensures) ∙ first in cc in
+    c.in_ok-granted.ensures.role role told ∙ ap role_part same
 
 pub returns-in_default-granted-clause-role : goal.returns-in_default-granted-clause-role
 returns-in_default-granted-clause-role g c = λ role path told first.
     let same : c.in-Some.client.now ≡ path = let e : Some c.in-Some.client.now ≡ Some path = (rw c.in-Some.is at c.first.ensures) ∙ first in cc in
-    let kept : c.grant.new.free.role ≡ Some (role_part c.in-Some.client.now) =
-    subst (λ o. MatchOption o (c.grant.new.free.role ≡ Some (role_part c.in-Some.client.now)) (λ _. c.grant.new.free.role ≡ None)) c.in_default-granted.is c.in_ok-granted.ensures.role in
-    let here : Some role ≡ Some (role_part path) = sym told ∙ kept ∙ ap (λ (p : Path). Some (role_part p)) same in
-    cc
+    c.in_ok-granted.ensures.role role told ∙ ap role_part same
 
 -- no client is left
 pub returns-in_default-clause-role : goal.returns-in_default-clause-role

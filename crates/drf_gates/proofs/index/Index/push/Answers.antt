@@ -11,5 +11,5 @@ returns-clause-chained c =
     c.index-head.ensures ∙ get_or_default index.heads.items c.bucket-bucket.result c.index-head.result.now 0 c.bucket-bucket.ensures.within
     in
     let bucket = c.bucket-bucket.ensures.value ∙ ap (λ (h : ℕ). h % length index.heads.items) c.row_hash.ensures in
-    λ rows is. chained-push c.args.key rows c.args.row.now index.heads.items index.links.items c.push_reserved.new.self.items c.bucket-bucket.result
+    λ rows is. chained-push index.start c.args.key rows c.args.row.now index.heads.items index.links.items c.push_reserved.new.self.items c.bucket-bucket.result
     c.index-head.result.now c.len.result is bucket c.bucket-bucket.ensures.within next head c.push_reserved.ensures.items

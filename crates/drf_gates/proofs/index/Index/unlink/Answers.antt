@@ -24,7 +24,7 @@ loop-after-smaller c =
     let led = c.loop-after.invariant rows c.requires.indexed c.requires.here in
     let on = goes_on c.args.key rows index (after - 1) c.index-after-in-loop-after.result.now c.requires.indexed (omega (arith, led.within, c.loop-after-test.true))
     c.index-after-in-loop-after.ensures in
-    led-less (buckets_of c.args.key number rows) index.heads.items index.links.items c.args.place c.bucket-bucket.result number c.loop-after.from after
+    led-less (buckets_of index.start c.args.key number rows) index.heads.items index.links.items c.args.place c.bucket-bucket.result number c.loop-after.from after
     c.index-after-in-loop-after.result.now c.requires.indexed.chained c.bucket-bucket.ensures.within (after - 1) (omega arith) on led
 
 pub loop-after-preserved : goal.loop-after-preserved
@@ -36,8 +36,8 @@ loop-after-preserved c = λ rows indexed here.
     let on = goes_on c.args.key rows index (after - 1) c.index-after-in-loop-after.result.now indexed (omega (arith, led.within, c.loop-after-test.true))
     c.index-after-in-loop-after.ensures in
     let is_bucket = c.bucket-bucket.ensures.value ∙ ap (λ (h : ℕ). h % length index.heads.items) c.row_hash.ensures in
-    led-more (buckets_of c.args.key number rows) index.heads.items index.links.items c.args.place c.bucket-bucket.result number c.loop-after.from after
-    c.index-after-in-loop-after.result.now indexed.chained c.bucket-bucket.ensures.within (bucket-here c.args.key rows number c.args.place c.args.row.now here ∙ sym is_bucket)
+    led-more (buckets_of index.start c.args.key number rows) index.heads.items index.links.items c.args.place c.bucket-bucket.result number c.loop-after.from after
+    c.index-after-in-loop-after.result.now indexed.chained c.bucket-bucket.ensures.within (bucket-here index.start c.args.key rows number c.args.place c.args.row.now here ∙ sym is_bucket)
     c.loop-after-test.true (after - 1) (omega arith) on led
 
 pub returns-then-from-eq0-clause-indexed : goal.returns-then-from-eq0-clause-indexed
@@ -45,16 +45,16 @@ returns-then-from-eq0-clause-indexed c = λ rows indexed here.
     let index = c.args.self.now in
     let is_bucket = c.bucket-bucket.ensures.value ∙ ap (λ (h : ℕ). h % length index.heads.items) c.row_hash.ensures in
     let on = goes_on c.args.key rows index c.args.place c.index-next.result.now indexed
-    (omega (arith, place-below rows c.args.place c.args.row.now here, length-map rows (slot_bucket c.args.key (length index.heads.items)))) c.index-next.ensures in
+    (omega (arith, place-below rows c.args.place c.args.row.now here, length-map rows (slot_bucket index.start c.args.key (length index.heads.items)))) c.index-next.ensures in
     indexed-drop_head c.args.key rows index _ c.args.row.now c.args.place c.bucket-bucket.result c.loop-after.from c.loop-after.after c.index-next.result.now
-    indexed here is_bucket c.bucket-bucket.ensures.within on (c.loop-after.invariant rows indexed here) c.loop-after-test.false c.if-from-eq0.true refl refl
+    indexed here is_bucket c.bucket-bucket.ensures.within on (c.loop-after.invariant rows indexed here) c.loop-after-test.false c.if-from-eq0.true refl refl refl
 
 pub returns-clause-indexed : goal.returns-clause-indexed
 returns-clause-indexed c = λ rows indexed here.
     let index = c.args.self.now in
     let is_bucket = c.bucket-bucket.ensures.value ∙ ap (λ (h : ℕ). h % length index.heads.items) c.row_hash.ensures in
     let on = goes_on c.args.key rows index c.args.place c.index-next.result.now indexed
-    (omega (arith, place-below rows c.args.place c.args.row.now here, length-map rows (slot_bucket c.args.key (length index.heads.items)))) c.index-next.ensures in
+    (omega (arith, place-below rows c.args.place c.args.row.now here, length-map rows (slot_bucket index.start c.args.key (length index.heads.items)))) c.index-next.ensures in
     indexed-drop_link c.args.key rows index _ c.args.row.now c.args.place c.bucket-bucket.result c.loop-after.from c.loop-after.after c.index-next.result.now
     indexed here is_bucket c.bucket-bucket.ensures.within on (c.loop-after.invariant rows indexed here) c.loop-after-test.false (c.loop-after.from - 1)
-    (omega (arith, c.if-from-eq0.false)) refl refl
+    (omega (arith, c.if-from-eq0.false)) refl refl refl

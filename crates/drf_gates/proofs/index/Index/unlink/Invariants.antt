@@ -6,7 +6,7 @@ use Rattle.drf_gates.proofs.index.Index.unlink.Given as goal
 
 abbrev pub invariant-loop-after : goal.invariant-loop-after
 invariant-loop-after l = (rows : List (Option FilterRow)) → IsIndexed l.fn.key rows l.self → get_or rows l.place None ≡ Some l.fn.row
-    → IsLed (buckets_of l.fn.key (length l.self.heads.items) rows) l.self.heads.items l.self.links.items l.place l.bucket (length l.self.heads.items) l.from l.after
+    → IsLed (buckets_of l.self.start l.fn.key (length l.self.heads.items) rows) l.self.heads.items l.self.links.items l.place l.bucket (length l.self.heads.items) l.from l.after
 
 abbrev pub decreases-loop-after : goal.decreases-loop-after
 decreases-loop-after l = l.after

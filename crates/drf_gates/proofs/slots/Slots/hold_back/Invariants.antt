@@ -9,7 +9,7 @@ use Rattle.drf_gates.proofs.slots.Slots.hold_back.Given as goal
 abbrev pub invariant-loop-after : goal.invariant-loop-after
 invariant-loop-after l =
     IsWalked ClientAndAgent l.self.rows.items l.self.pairs (slot_passes (holds_back l.now (record { role = l.role; framework = l.framework }) l.agent l.bundle))
-    (pair_hash l.role l.framework l.agent % length l.self.pairs.heads.items) l.after
+    (pair_hash l.self.pairs.start l.role l.framework l.agent % length l.self.pairs.heads.items) l.after
 
 abbrev pub decreases-loop-after : goal.decreases-loop-after
 decreases-loop-after l = l.after

@@ -64,10 +64,7 @@ fn consume_slot(quota: &mut Quota, slot: &Option<(Name, Agent)>) -> Result<(), A
 }
 
 /// What is consumed by what agents have reserved.
-pub(crate) fn consume_totals(
-    quota: &mut Quota,
-    agents: &Registry,
-) -> Result<(), AllocError>
+pub(crate) fn consume_totals(quota: &mut Quota, agents: &Registry) -> Result<(), AllocError>
     requires { (test : Path → Bool) (label : Text)
         → used_where test quota.old.used label + reserved_for test (map agent_row agents.now.entries) label < 2 ^ 64 }
     ensures ok { OnOk result (IsRaisedBy quota.old quota.new (λ test label. reserved_for test (map agent_row agents.now.entries) label)) }

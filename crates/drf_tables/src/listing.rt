@@ -12,10 +12,7 @@ use indexmap::IndexMap;
 use std::alloc::{AllocError, Global};
 
 /// Lists an agent behind others, if there is one.
-fn push_row(
-    rows: &mut Vec<AgentRow>,
-    slot: &Option<(Name, Agent)>,
-) -> Result<(), AllocError>
+fn push_row(rows: &mut Vec<AgentRow>, slot: &Option<(Name, Agent)>) -> Result<(), AllocError>
     ensures { OnOk result (rows.new.items ≡ rows.old.items ++ map agent_row (filled (slot.now ∷ []))) }
 {
     let Some(entry) = slot else {
@@ -29,10 +26,7 @@ fn push_row(
     Ok(())
 }
 
-pub(crate) fn agent_rows(
-    alloc: Global,
-    agents: &Registry,
-) -> Result<Table<AgentRow>, AllocError>
+pub(crate) fn agent_rows(alloc: Global, agents: &Registry) -> Result<Table<AgentRow>, AllocError>
     ensures { IfOk result (λ rows. rows ≡ map agent_row agents.now.entries) }
 {
     let mut rows = Vec::with_capacity(alloc, agents.len())?;

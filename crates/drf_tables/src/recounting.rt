@@ -36,12 +36,7 @@ pub(crate) fn release_total(quota: &mut Quota, counts: bool, total: &Bundle)
 }
 
 /// The agent of a name no longer has what it had. It needs no memory.
-pub(crate) fn release_agent(
-    quota: &mut Quota,
-    counts: bool,
-    agents: &Registry,
-    name: &Name,
-)
+pub(crate) fn release_agent(quota: &mut Quota, counts: bool, agents: &Registry, name: &Name)
     requires { counts ≡ true → (role : Path) (label : Text)
         → reserved_at (map agent_row agents.now.entries) name.now (same_path role) label ≤ used_by quota.old.used role label }
     ensures { IsRaisedIf counts quota.new quota.old (reserved_at (map agent_row agents.now.entries) name.now) }

@@ -11,11 +11,7 @@ use drf_holdings::Holdings;
 use std::alloc::AllocError;
 
 /// Computes what is free on the agent at a place, if it is not known.
-fn settle_at(
-    agents: &mut Registry,
-    place: usize,
-    holdings: &Holdings,
-) -> Result<(), AllocError>
+fn settle_at(agents: &mut Registry, place: usize, holdings: &Holdings) -> Result<(), AllocError>
     requires place { place < length agents.old.entries }
     requires known { AllByRecursion (IsKnown (holdings_in holdings.now)) agents.old.entries }
     requires settled { are_settled place agents.old.entries ≡ true }
@@ -34,10 +30,7 @@ fn settle_at(
 }
 
 /// Computes what is free on each agent, where it is not known.
-pub(crate) fn settle_all(
-    agents: &mut Registry,
-    holdings: &Holdings,
-) -> Result<(), AllocError>
+pub(crate) fn settle_all(agents: &mut Registry, holdings: &Holdings) -> Result<(), AllocError>
     requires { AllByRecursion (IsKnown (holdings_in holdings.now)) agents.old.entries }
     ensures rows { map agent_row agents.new.entries ≡ map agent_row agents.old.entries }
     ensures known { AllByRecursion (IsKnown (holdings_in holdings.now)) agents.new.entries }

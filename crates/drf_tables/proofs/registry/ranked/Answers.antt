@@ -7,4 +7,3 @@ returns-then-live-slots c =
     let full = sym c.requires.live ∙ c.if-live-slots.true in
     let within = c.requires.within in
     ranked-full c.args.slots.now c.args.number full (omega (arith, within, full))
-

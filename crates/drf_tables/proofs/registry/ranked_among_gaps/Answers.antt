@@ -34,7 +34,7 @@ loop-place-preserved c =
 pub returns : goal.returns
 returns c =
     let all = c.loop-place.invariant.before
-        ∙ ap (λ (ss : Slots). length (filled ss)) (take_all c.loop-place.place c.args.slots.now c.loop-place-test.false) in
+    ∙ ap (λ (ss : Slots). length (filled ss)) (take_all c.loop-place.place c.args.slots.now c.loop-place-test.false) in
     let few = c.loop-place.invariant.few in
     let within = c.requires in
     absurd (omega (arith, all, few, within))

@@ -21,7 +21,7 @@ returns-in_default c =
     let none : slot_of name t.slots.items ≡ None =
     sym (c.self.invariant.found name) ∙ sym c.get.ensures.value ∙ ap option_copied c.in_default.is in
     λ change a known is.
-        subst (λ (r : Registered). r.entries ≡ map (changed name change) r.entries) c.self.view_is (unchanged_slots name change t.slots.items none)
+    subst (λ (r : Registered). r.entries ≡ map (changed name change) r.entries) c.self.view_is (unchanged_slots name change t.slots.items none)
 
 pub index_mut-requires : goal.index_mut-requires
 index_mut-requires c =
@@ -65,10 +65,10 @@ returns c =
     ∙ ap (option_map (λ (e : Entry). (e.0, record e.1 { free = c.args.free })))
     (read_is t.slots.items place c.index_mut.result.now e here.below c.index_mut.ensures.value here.there) in
     λ change a known is.
-        let at : lookup (same_text name) (filled t.slots.items) ≡ Some a =
-        ap (λ (r : Registered). lookup (same_text name) r.entries) c.self.view_is ∙ known in
-        let its = here.value in
-        let same : e.1 ≡ a = cc in
-        changed_slot name change t.slots.items _ place e w c.self.invariant.apart found here.there
-        (ap change same ∙ is ∙ (λ i. record (sym same i) { free = c.args.free })) (ap (set t.slots.items place) put)
-        ∙ ap (λ (r : Registered). map (changed name change) r.entries) c.self.view_is
+    let at : lookup (same_text name) (filled t.slots.items) ≡ Some a =
+    ap (λ (r : Registered). lookup (same_text name) r.entries) c.self.view_is ∙ known in
+    let its = here.value in
+    let same : e.1 ≡ a = cc in
+    changed_slot name change t.slots.items _ place e w c.self.invariant.apart found here.there
+    (ap change same ∙ is ∙ (λ i. record (sym same i) { free = c.args.free })) (ap (set t.slots.items place) put)
+    ∙ ap (λ (r : Registered). map (changed name change) r.entries) c.self.view_is

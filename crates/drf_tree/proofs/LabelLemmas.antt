@@ -1,7 +1,8 @@
 -- More labels are named along the nodes of a client, with no amount.
-use Rattle.std.specs.Prelude.{◌≡◌, ◌<◌, ◌+◌, ℕ, zero, suc, Bool, cond, false, true, ◌||◌, List, [], ◌∷◌, Some, length, slice_get, slice_index_or, slice_set, take}
+use Rattle.std.specs.Prelude.{◌≡◌, ◌<◌, ◌+◌, ℕ, zero, suc, Bool, cond, false, true, ◌||◌, ◌⊎◌, IsTrue, List, [], ◌∷◌, Some, length, nat_lt, slice_get, slice_index_or, slice_set, take}
+use Rattle.std.specs.List.{list_all}
 use Rattle.std.proofs.Common.{refl, sym, ap, subst, ◌∙◌, inl, inr, arith, get_or, length-set}
-use Rattle.std.proofs.lemmas.Bool.{true≢false, cases_eq, and_from, and_parts}
+use Rattle.std.proofs.lemmas.Bool.{ltb-true, true≢false, cases_eq, and_from, and_parts}
 use Rattle.std.proofs.lemmas.Option.{slice_get_within, slice_get-get_or}
 use Rattle.drf_bundle.specs.Quantities.{amount_of, is_named, names_all, with_amount}
 use Rattle.drf_bundle.specs.laws.QuantitiesLaws.{amount-with, named-with}
@@ -12,7 +13,7 @@ use Rattle.drf_role.specs.Path.{Path}
 use Rattle.drf_sorter.specs.Content.{Content}
 use Rattle.drf_tree.specs.declared.node.Sum.{Sum}
 use Rattle.drf_tree.specs.declared.tree.Tree.{Tree}
-use Rattle.drf_tree.specs.Changes.{IsShapeOf, OnWay}
+use Rattle.drf_tree.specs.Changes.{IsShapeOf, NamesFew, NamesFewOnWay, OnWay}
 use Rattle.drf_tree.specs.Nodes.{is_live, path_at}
 use Rattle.drf_tree.specs.Tree.{AreRight, IsSumOf, IsTreeOf}
 use Rattle.drf_tree.proofs.ClimbLemmas.{IsClimbing, climb_end, live_on_way, on_way, some_part}
@@ -48,6 +49,45 @@ named_still es label other named = named-with es label 0 other ∙ by (same_text
     by : (b : Bool) → is_named es other ≡ true → (b || is_named es other) ≡ true
     by true so = refl
     by false so = so
+
+-- no other label came
+pub named_few : (es : List Entry) (label other : Text) → is_named (with_amount es label 0) other ≡ true
+    → (is_named es other ≡ true) ⊎ (same_text label other ≡ true)
+named_few es label other named = by (same_text label other) refl (sym (named-with es label 0 other) ∙ named)
+  where
+    by : (b : Bool) → same_text label other ≡ b → (b || is_named es other) ≡ true
+        → (is_named es other ≡ true) ⊎ (same_text label other ≡ true)
+    by true same so = inr same
+    by false differ so = inl so
+
+-- the label of an entry is named
+pub named_at : (es : List Entry) (i : ℕ) (e : Entry) (label : Text) → i < length es → e ≡ get_or es i e
+    → same_text e.label label ≡ true → is_named es label ≡ true
+named_at [] i e label within is same = absurd (omega (arith, within))
+named_at (x ∷ es) zero e label within is same =
+    ap (λ (y : Entry). same_text y.label label || is_named es label) (sym is)
+    ∙ ap (λ (b : Bool). b || is_named es label) same
+named_at (x ∷ es) (suc i) e label within is same =
+    ap (λ (b : Bool). same_text x.label label || b) (named_at es i e label (omega (arith, within)) is same)
+    ∙ or_true (same_text x.label label)
+  where
+    or_true : (b : Bool) → (b || true) ≡ true
+    or_true true = refl
+    or_true false = refl
+
+-- what is named where nothing is 0 is above 0
+pub above_zero : (es : List Entry) (label : Text) → IsTrue (list_all (λ e. nat_lt 0 e.amount) es) → is_named es label ≡ true
+    → 0 < amount_of es label
+above_zero [] label above named = absurd (true≢false (sym named))
+above_zero (e ∷ es) label above named = by (same_text e.label label) named (λ so. above_zero es label parts.1 so)
+  where
+    parts : (nat_lt 0 e.amount ≡ true) × (list_all (λ e. nat_lt 0 e.amount) es ≡ true)
+    parts = and_parts (nat_lt 0 e.amount) (list_all (λ e. nat_lt 0 e.amount) es) above
+
+    by : (b : Bool) → (b || is_named es label) ≡ true → (is_named es label ≡ true → 0 < amount_of es label)
+        → 0 < cond b e.amount (amount_of es label)
+    by true so rest = ltb-true 0 e.amount parts.0
+    by false so rest = rest so
 
 names_next : (old new es : List Entry) (i : ℕ) (e : Entry) → i < length es → e ≡ get_or es i e
     → ((other : Text) → is_named old other ≡ true → is_named new other ≡ true) → is_named new e.label ≡ true
@@ -139,15 +179,32 @@ same_tree content old now tree places families marks so =
         sum_after none none content content (path_at old.places.items i) s t (tree.sums i s live was)
         (stays (path_at old.places.items i)) (so.each i s t was at)
 
+-- a node names all of them, and few others
+abbrev pub IsNamed : List Entry → ℕ → Sum → Sum → Type 0
+IsNamed quantities i s t = (names_all t.held quantities ≡ true) × NamesFew quantities s.held t.held
+
 -- at the root each node on the way names all
 pub named_end : (old now : Tree) → IsShapeOf old → (leaf node : ℕ) (quantities : List Entry)
-    → IsClimbing old now leaf node (λ i (s t : Sum). names_all t.held quantities ≡ true) → node ≡ 0
+    → IsClimbing old now leaf node (IsNamed quantities) → node ≡ 0
     → OnWay now leaf (λ s. names_all s.held quantities ≡ true)
 named_end old now shape leaf node quantities so root i t on at =
-    let done = climb_end old now shape leaf node (λ i (s t : Sum). names_all t.held quantities ≡ true) so root in
+    let done = climb_end old now shape leaf node (IsNamed quantities) so root in
     let way : on_way old.places.items leaf i ≡ true = ap (λ (v : _). on_way v.items leaf i) (sym so.places) ∙ on in
     let live = (live_on_way old.places.items leaf i way).0 in
     let within : i < length old.sums.items = omega (arith, slice_get_within now.sums.items i t at, done.long) in
+    let named =
     done.passed i (get_or old.sums.items i t) t way
     (some_part old.places.items old.families.items old.marks.stale old.sums.items shape leaf i live)
-    (slice_get-get_or old.sums.items i t within) at
+    (slice_get-get_or old.sums.items i t within) at in
+    named.0
+
+-- .. and no others but what its clients hold
+pub few_end : (old now : Tree) → IsShapeOf old → (leaf node : ℕ) (quantities : List Entry)
+    → IsClimbing old now leaf node (IsNamed quantities) → node ≡ 0 → NamesFewOnWay old now leaf quantities
+few_end old now shape leaf node quantities so root i s t on was at =
+    let done = climb_end old now shape leaf node (IsNamed quantities) so root in
+    let live = (live_on_way old.places.items leaf i on).0 in
+    let named =
+    done.passed i s t on
+    (some_part old.places.items old.families.items old.marks.stale old.sums.items shape leaf i live) was at in
+    named.1

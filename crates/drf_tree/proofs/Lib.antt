@@ -55,3 +55,4 @@ pub mod ShareLemmas
 pub mod ListedLemmas
 pub mod LineLemmas
 pub mod TidyLemmas
+pub mod PlaceLemmas

@@ -1,8 +1,8 @@
 -- What changes along the nodes of a client.
-use Rattle.std.specs.Prelude.{◌≡◌, ◌≤◌, ◌<◌, ◌+◌, ◌-◌, ◌^◌, ◌==◌, ◌&&◌, ℕ, Bool, true, false, List, [], ◌∷◌, ◌++◌, Some, length, slice_get}
+use Rattle.std.specs.Prelude.{◌≡◌, ◌≤◌, ◌<◌, ◌+◌, ◌-◌, ◌^◌, ◌==◌, ◌&&◌, ◌⊎◌, ℕ, Bool, true, false, List, [], ◌∷◌, ◌++◌, Some, length, slice_get}
 use Rattle.std.specs.List.{AllByRecursion}
 use Rattle.std.specs.Option.{option_map_or}
-use Rattle.drf_bundle.specs.Quantities.{amount_of}
+use Rattle.drf_bundle.specs.Quantities.{amount_of, is_named, names_all}
 use Rattle.drf_bundle.specs.declared.quantities.Entry.{Entry}
 use Rattle.drf_role.specs.Text.{Text}
 use Rattle.drf_role.specs.Path.{Path, begins_with, same_path}
@@ -26,6 +26,18 @@ is_on_way tree leaf i =
 abbrev pub OnWay : Tree → ℕ → (Sum → Type 0) → Type 0
 OnWay tree leaf P =
     (i : ℕ) (sum : Sum) → is_on_way tree leaf i ≡ true → slice_get tree.sums.items i ≡ Some sum → P sum
+
+-- where not all of those labels were named, no others are now than they and what there was some of
+abbrev pub NamesFew : (others old new : List Entry) → Type 0
+NamesFew others old new =
+    names_all old others ≡ false → (label : Text) → is_named new label ≡ true
+    → (0 < amount_of old label) ⊎ (is_named others label ≡ true)
+
+-- .. at each node on the way
+abbrev pub NamesFewOnWay : Tree → Tree → ℕ → List Entry → Type 0
+NamesFewOnWay old new leaf others =
+    (i : ℕ) (s t : Sum) → is_on_way old leaf i ≡ true → slice_get old.sums.items i ≡ Some s → slice_get new.sums.items i ≡ Some t
+    → NamesFew others s.held t.held
 
 -- so much more, and so many offers more, fit into each of them
 pub record HasRoomFor (tree : Tree) (leaf : ℕ) (quantities : List Entry) (offers : ℕ) : Type 0 where

@@ -2,6 +2,7 @@ pub mod Walk
 pub mod Marks
 pub mod Family
 pub mod Nodes
+pub mod Places
 pub mod Tree
 pub mod Queue
 pub mod Changes

@@ -1,11 +1,11 @@
 //! What clients get and give back, along their nodes.
-ghost use Rattle.std.specs.Prelude.{true, ◌≡◌, ◌≤◌, ◌+◌, Some, OnOk, length};
+ghost use Rattle.std.specs.Prelude.{true, ◌≡◌, ◌≤◌, ◌+◌, ◌⊎◌, Some, OnOk, length};
 ghost use Rattle.drf_bundle.specs.Quantities.{amount_of, is_named, names_all};
 ghost use Rattle.drf_role.specs.Path.{Path};
-ghost use Rattle.drf_role.specs.Text.{Text};
+ghost use Rattle.drf_role.specs.Text.{Text, same_text};
 ghost use Rattle.drf_sorter.specs.Content.{Content, charged, has_client, with_change};
 ghost use Rattle.drf_sorter.specs.Work.{debt};
-ghost use Rattle.drf_tree.specs.Changes.{CanLowerAt, HasRoomFor, IsLowerable, IsShapeOf, OnWay, lowered};
+ghost use Rattle.drf_tree.specs.Changes.{CanLowerAt, HasRoomFor, IsLowerable, IsShapeOf, NamesFew, NamesFewOnWay, OnWay, lowered};
 ghost use Rattle.drf_tree.specs.Marks.{work_of};
 ghost use Rattle.drf_tree.specs.Nodes.{client_at, is_live, path_at};
 ghost use Rattle.drf_tree.specs.Tree.{IsTreeOf};
@@ -26,6 +26,7 @@ impl Tree {
         requires live { is_live self.old.places.items leaf ≡ true }
         ensures tree { (content : Content) → IsTreeOf content self.old → IsTreeOf content self.new }
         ensures named { OnOk result (OnWay self.new leaf (λ s. names_all s.held quantities.now ≡ true)) }
+        ensures few { OnOk result (NamesFewOnWay self.old self.new leaf quantities.now) }
         ensures places { self.new.places ≡ self.old.places }
         ensures families { self.new.families ≡ self.old.families }
         ensures marks { self.new.marks ≡ self.old.marks }
@@ -87,6 +88,7 @@ impl Tree {
 fn name_all(held: &mut Quantities, others: &Quantities) -> Result<(), AllocError>
     ensures same { (label : Text) → amount_of held.new label ≡ amount_of held.old label }
     ensures named { OnOk result (names_all held.new others.now ≡ true) }
+    ensures few { NamesFew others.now held.old held.new }
 {
     if held.names_all(others) {
         return Ok(());
@@ -100,6 +102,7 @@ fn name_all(held: &mut Quantities, others: &Quantities) -> Result<(), AllocError
 fn name_each(held: &mut Quantities, others: &Quantities) -> Result<(), AllocError>
     ensures same { (label : Text) → amount_of held.new label ≡ amount_of held.old label }
     ensures named { OnOk result (names_all held.new others.now ≡ true) }
+    ensures few { (label : Text) → is_named held.new label ≡ true → (is_named held.old label ≡ true) ⊎ (is_named others.now label ≡ true) }
 {
     for entry in others.entries() {
         name(held, &entry.label)?;
@@ -112,6 +115,7 @@ fn name(held: &mut Quantities, label: &Label) -> Result<(), AllocError>
     ensures same { (other : Text) → amount_of held.new other ≡ amount_of held.old other }
     ensures named { OnOk result (is_named held.new label.now ≡ true) }
     ensures stay { (other : Text) → is_named held.old other ≡ true → is_named held.new other ≡ true }
+    ensures few { (other : Text) → is_named held.new other ≡ true → (is_named held.old other ≡ true) ⊎ (same_text label.now other ≡ true) }
 {
     if held.is_named(label.text()) {
         return Ok(());

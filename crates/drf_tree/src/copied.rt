@@ -5,9 +5,8 @@ ghost use Rattle.drf_tree.specs.Nodes.{seen_in};
 ghost use Rattle.drf_tree.specs.Tree.{IsTreeOf};
 
 use crate::family::Family;
-use crate::node::{Place, Sum};
+use crate::node::Sum;
 use crate::tree::Tree;
-use crate::walk::Walk;
 use std::alloc::{AllocError, Global};
 
 impl Tree {
@@ -19,34 +18,11 @@ impl Tree {
     {
         let alloc = self.alloc();
         Ok(Tree {
-            places: copies_of_places(alloc, &self.places)?,
+            places: self.places.copy()?,
             sums: copies_of_sums(alloc, &self.sums)?,
             families: copies_of_families(alloc, &self.families)?,
             marks: self.marks.copy()?,
-            first_free: self.first_free,
         })
-    }
-}
-
-fn copies_of_places(
-    alloc: Global,
-    places: &[Option<Place>],
-) -> Result<Vec<Option<Place>>, AllocError>
-    ensures { IfOk result (λ copies. copies.items ≡ places.now) }
-{
-    let mut copies = Vec::with_capacity(alloc, places.len())?;
-    for place in places {
-        copies.push(copy_of_place(place)?)?;
-    }
-    Ok(copies)
-}
-
-fn copy_of_place(place: &Option<Place>) -> Result<Option<Place>, AllocError>
-    ensures { IfOk result (λ copy. copy ≡ place.now) }
-{
-    match place {
-        Some(place) => Ok(Some(place.copy()?)),
-        None => Ok(None),
     }
 }
 

@@ -10,6 +10,7 @@ mod marks;
 mod members;
 mod node;
 mod order;
+mod places;
 mod route;
 mod sorter;
 mod tree;

@@ -1,6 +1,6 @@
 //! Numbered nodes in parallel lists: their places, their sums, their families and their marks.
-ghost use Rattle.std.specs.Prelude.{◌≡◌, ◌≢◌, ◌≤◌, ◌<◌, ◌+◌, ◌-◌, ◌++◌, ◌∷◌, [], ℕ, false, true, IfOk, IfSome, IsSome, List, None, OnErr, OnOk, Some, length, map, option_copied, slice_get, slice_set};
-ghost use Rattle.std.specs.List.{list_any, position};
+ghost use Rattle.std.specs.Prelude.{◌≡◌, ◌≢◌, ◌≤◌, ◌<◌, ◌+◌, ◌-◌, ◌++◌, ◌∷◌, [], ℕ, false, true, IfOk, IfSome, IsSome, List, None, OnErr, OnOk, Some, length, map, max, option_copied, slice_get, slice_set};
+ghost use Rattle.std.specs.List.{list_any};
 ghost use Rattle.drf_bundle.specs.declared.quantities.Entry.{Entry};
 ghost use Rattle.drf_role.specs.Path.{IsClientPath, IsNodePath};
 ghost use Rattle.drf_role.specs.Text.{same_text};
@@ -13,12 +13,14 @@ ghost use Rattle.drf_tree.specs.Changes.{IsKeyOfNothing, IsSameTree, IsOneLonger
 ghost use Rattle.drf_tree.specs.Family.{child_name};
 ghost use Rattle.drf_tree.specs.Marks.{work_of};
 ghost use Rattle.drf_tree.specs.Nodes.{children_at, client_at, is_live, is_node, parent_at, path_at, place_at};
+ghost use Rattle.drf_tree.specs.Places.{AreTaken};
 ghost use Rattle.drf_tree.specs.Tidy.{IsOneMore, IsTidy};
 ghost use Rattle.drf_tree.specs.Tree.{IsTreeOf};
 
 use crate::family::{Child, Family, place_named};
 use crate::marks::Marks;
 use crate::node::{Place, Sum};
+use crate::places::Places;
 use crate::route::Route;
 use drf_bundle::Quantities;
 use drf_role::{ClientPath, NodePath};
@@ -31,12 +33,10 @@ pub(crate) const ROOT: usize = 0;
 /// The nodes by number. A number without a place is free.
 #[derive(Debug, Drop)]
 pub(crate) struct Tree {
-    pub places: Vec<Option<Place>>,
+    pub places: Places,
     pub sums: Vec<Sum>,
     pub families: Vec<Family>,
     pub marks: Marks,
-    /// Where the search for a free number begins, as none below is free. No clause says so.
-    pub first_free: usize,
 }
 
 impl Tree {
@@ -47,18 +47,17 @@ impl Tree {
         ensures work { IfOk result (λ tree. work_of tree.marks ≡ record { made = 0; marked = 0 }) }
     {
         let mut tree = Tree {
-            places: Vec::new(alloc),
+            places: Places::new(alloc),
             sums: Vec::new(alloc),
             families: Vec::new(alloc),
             marks: Marks::new(alloc),
-            first_free: ROOT,
         };
         tree.push()?;
         Ok(tree)
     }
 
     pub(crate) fn alloc(&self) -> Global {
-        *self.places.allocator()
+        *self.sums.allocator()
     }
 
     /// The keys that were computed.
@@ -84,7 +83,7 @@ impl Tree {
         ensures places { self.new.places ≡ self.old.places }
         ensures families { self.new.families ≡ self.old.families }
     {
-        self.marks.mark_all(&self.places, &self.sums);
+        self.marks.mark_all(self.places.as_slice(), &self.sums);
     }
 
     /// Gives a node a weight, in thousandths.
@@ -112,27 +111,29 @@ impl Tree {
         ensures err { OnErr result (IsSameTree self.old self.new) }
     {
         let alloc = self.alloc();
-        self.places.reserve(1)?;
+        self.places.reserve()?;
         self.sums.reserve(1)?;
         self.families.reserve(1)?;
         self.marks.push()?;
         self.sums.push_reserved(Sum::of_none(alloc, 0));
         self.families.push_reserved(Family::new(alloc));
-        self.places.push_reserved(None);
+        self.places.push_reserved();
         Ok(())
     }
 
-    /// A free number.
+    /// The first free number, which is one more just where none was free.
     pub(crate) fn vacant(&mut self) -> Result<usize, AllocError>
         requires shape { IsShapeOf self.old }
         ensures shape { IsShapeOf self.new }
         ensures free { IfOk result (λ node. IsVacant self.new node) }
+        ensures first { IfOk result (λ node. AreTaken self.new.places.items node) }
+        ensures long { IfOk result (λ node. length self.new.places.items ≡ max (length self.old.places.items) (node + 1)) }
         ensures places { (i : ℕ) → place_at self.new.places.items i ≡ place_at self.old.places.items i }
         ensures families { (i : ℕ) → children_at self.new.families.items i ≡ children_at self.old.families.items i }
         ensures tree { (content : Content) → IsTreeOf content self.old → IsTreeOf content self.new }
         ensures work { work_of self.new.marks ≡ work_of self.old.marks }
     {
-        let free = free_place(&self.places, self.first_free);
+        let free = self.places.free_number();
         if free == self.places.len() {
             self.push()?;
         }
@@ -143,7 +144,7 @@ impl Tree {
     pub(crate) fn place(&self, node: usize) -> Option<&Place>
         ensures { option_copied result ≡ place_at self.now.places.items node }
     {
-        self.places.get(node)?.as_ref()
+        self.places.get(node)
     }
 
     /// The number of the node above a node, which is the root for a number without a place.
@@ -240,12 +241,12 @@ impl Tree {
         let child = self.first_child(node, &path)?;
         self.families[parent].insert(child)?;
         self.sums[node] = Sum::of_none(self.alloc(), weight);
-        self.places[node] = Some(Place {
+        let place = Place {
             path,
             parent,
             client,
-        });
-        self.first_free = node + 1;
+        };
+        self.places.put(node, place);
         Ok(node)
     }
 
@@ -290,21 +291,6 @@ impl Tree {
         let parent = self.parent(node);
         self.families[parent].remove(node);
         self.marks.forget(node);
-        self.places[node] = None;
-        self.first_free = self.first_free.min(node);
+        self.places.free(node);
     }
-}
-
-/// The first free number from this one on, never the root's, or that of one more.
-fn free_place(places: &[Option<Place>], from: usize) -> usize
-    requires { 0 < length places.now }
-    ensures within { result ≤ length places.now }
-    ensures free { is_node places.now result ≡ false }
-{
-    for node in from.max(1)..places.len() {
-        if places[node].is_none() {
-            return node;
-        }
-    }
-    places.len()
 }

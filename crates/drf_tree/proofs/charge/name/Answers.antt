@@ -1,6 +1,7 @@
-use Rattle.std.proofs.Common.{◌≡◌, ap, false, sym, ◌∙◌}
+use Rattle.std.proofs.Common.{◌≡◌, List, ap, false, sym, ◌∙◌}
 use Rattle.drf_bundle.specs.Quantities.{is_named, with_amount}
-use Rattle.drf_tree.proofs.LabelLemmas.{named_now, named_still, named_zero}
+use Rattle.drf_bundle.specs.declared.quantities.Entry.{Entry}
+use Rattle.drf_tree.proofs.LabelLemmas.{named_few, named_now, named_still, named_zero}
 use Rattle.drf_tree.proofs.charge.name.Goals as goal
 
 pub returns-clause-same : goal.returns-clause-same
@@ -19,3 +20,8 @@ pub returns-clause-stay : goal.returns-clause-stay
 returns-clause-stay c other named =
     let made : c.set.new.self ≡ with_amount c.args.held.now c.args.label.now 0 = cc (c.in_ok-set.ensures.ok, c.in_ok-copy.ensures) in
     rw made (named_still c.args.held.now c.args.label.now other named)
+
+pub returns-clause-few : goal.returns-clause-few
+returns-clause-few c other named =
+    let made : c.set.new.self ≡ with_amount c.args.held.now c.args.label.now 0 = cc (c.in_ok-set.ensures.ok, c.in_ok-copy.ensures) in
+    named_few c.args.held.now c.args.label.now other (ap (λ (es : List Entry). is_named es other) (sym made) ∙ named)

@@ -33,8 +33,8 @@ returns-clause-tree c content total weighs of =
     let tree = c.args.self.now in
     let places = tree.places.items in
     let stale = c.mark_all.new.self.stale in
-    let all = rw (c.deref.ensures.value, c.deref-2.ensures.value) at c.mark_all.ensures.all in
-    let others = rw (c.deref.ensures.value, c.deref-2.ensures.value) at c.mark_all.ensures.others in
+    let all = rw (c.as_slice.ensures, c.deref.ensures.value) at c.mark_all.ensures.all in
+    let others = rw (c.as_slice.ensures, c.deref.ensures.value) at c.mark_all.ensures.others in
     let sums = tree.sums.items in
     record {
       paths = of.paths;

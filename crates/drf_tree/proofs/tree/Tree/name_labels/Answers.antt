@@ -1,16 +1,15 @@
-use Rattle.std.proofs.Common.{◌≡◌, refl, true, ap, ◌∙◌, arith}
-use Rattle.drf_bundle.specs.Quantities.{names_all}
+use Rattle.std.proofs.Common.{◌≡◌, refl, ap, ◌∙◌, arith}
 use Rattle.drf_tree.specs.declared.node.Sum.{Sum}
 use Rattle.drf_tree.specs.Nodes.{parent_at}
 use Rattle.drf_tree.proofs.ClimbLemmas.{climb_less, climb_start, climb_step, climb_sum}
-use Rattle.drf_tree.proofs.LabelLemmas.{are_same, named_end, same_held, same_set, same_tree}
+use Rattle.drf_tree.proofs.LabelLemmas.{IsNamed, are_same, few_end, named_end, same_held, same_set, same_tree}
 use Rattle.drf_tree.proofs.tree.Tree.name_labels.Goals as goal
 
 pub loop-node-init : goal.loop-node-init
 loop-node-init c = record {
   climb =
       climb_start c.args.self.now c.args.self.now c.requires.shape c.args.leaf c.args.leaf
-      (λ i (s t : Sum). names_all t.held c.args.quantities.now ≡ true) c.requires.live;
+      (IsNamed c.args.quantities.now) c.requires.live;
   same = are_same c.args.self.now.sums.items;
   marks = refl;
 }
@@ -22,7 +21,7 @@ returns-in_err-name_all-clause-tree c content tree =
     let s : Sum = c.index_mut.result.now in
     let at =
     climb_sum old c.loop-node.self c.requires.shape c.args.leaf c.loop-node.node
-    (λ i (s t : Sum). names_all t.held c.args.quantities.now ≡ true) so.climb c.loop-node-test.true s c.index_mut.ensures.value in
+    (IsNamed c.args.quantities.now) so.climb c.loop-node-test.true s c.index_mut.ensures.value in
     same_tree content old _ tree so.climb.places so.climb.families so.marks
     (same_set old.sums.items c.loop-node.self.sums.items c.loop-node.node s (record s { held = c.name_all.new.held }) so.same at
     (same_held s c.name_all.new.held c.name_all.ensures.same))
@@ -35,7 +34,7 @@ loop-node-smaller c =
     c.parent-node.ensures ∙ ap (λ ps. parent_at ps.items c.loop-node.node) so.places in
     let less =
     climb_less old c.loop-node.self c.requires.shape c.args.leaf c.loop-node.node
-    (λ i (s t : Sum). names_all t.held c.args.quantities.now ≡ true) so c.loop-node-test.true in
+    (IsNamed c.args.quantities.now) so c.loop-node-test.true in
     rw above (omega (arith, less))
 
 pub loop-node-preserved : goal.loop-node-preserved
@@ -48,12 +47,12 @@ loop-node-preserved c =
     c.parent-node.ensures ∙ ap (λ ps. parent_at ps.items c.loop-node.node) so.climb.places in
     let at =
     climb_sum old c.loop-node.self c.requires.shape c.args.leaf c.loop-node.node
-    (λ i (s t : Sum). names_all t.held c.args.quantities.now ≡ true) so.climb c.loop-node-test.true s c.index_mut.ensures.value in
+    (IsNamed c.args.quantities.now) so.climb c.loop-node-test.true s c.index_mut.ensures.value in
     record {
       climb =
           climb_step old c.loop-node.self c.requires.shape c.args.leaf c.loop-node.node
-          (λ i (s t : Sum). names_all t.held c.args.quantities.now ≡ true) so.climb c.loop-node-test.true
-          _ c.parent-node.result s t above c.index_mut.ensures.value c.in_ok-name_all.ensures.named
+          (IsNamed c.args.quantities.now) so.climb c.loop-node-test.true
+          _ c.parent-node.result s t above c.index_mut.ensures.value (c.in_ok-name_all.ensures.named, c.name_all.ensures.few)
           refl refl refl;
       same =
           same_set old.sums.items c.loop-node.self.sums.items c.loop-node.node s t so.same at
@@ -69,4 +68,9 @@ returns-clause-tree c content tree =
 pub returns-clause-named : goal.returns-clause-named
 returns-clause-named c =
     named_end c.args.self.now c.loop-node.self c.requires.shape c.args.leaf c.loop-node.node c.args.quantities.now
+    c.loop-node.invariant.climb c.loop-node-test.false
+
+pub returns-clause-few : goal.returns-clause-few
+returns-clause-few c =
+    few_end c.args.self.now c.loop-node.self c.requires.shape c.args.leaf c.loop-node.node c.args.quantities.now
     c.loop-node.invariant.climb c.loop-node-test.false

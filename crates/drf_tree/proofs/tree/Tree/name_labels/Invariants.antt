@@ -1,14 +1,12 @@
-use Rattle.std.proofs.Common.{◌≡◌, true, length}
-use Rattle.drf_bundle.specs.Quantities.{names_all}
-use Rattle.drf_tree.specs.declared.node.Sum.{Sum}
+use Rattle.std.proofs.Common.{◌≡◌, length}
 use Rattle.drf_tree.specs.Nodes.{path_at}
 use Rattle.drf_tree.proofs.ClimbLemmas.{IsClimbing}
-use Rattle.drf_tree.proofs.LabelLemmas.{AreSame}
+use Rattle.drf_tree.proofs.LabelLemmas.{AreSame, IsNamed}
 use Rattle.drf_tree.proofs.tree.Tree.name_labels.Given as goal
 
 abbrev pub invariant-loop-node : goal.invariant-loop-node
 invariant-loop-node l = record {
-  climb : IsClimbing l.fn.self l.self l.leaf l.node (λ i (s t : Sum). names_all t.held l.quantities ≡ true);
+  climb : IsClimbing l.fn.self l.self l.leaf l.node (IsNamed l.quantities);
   same : AreSame l.fn.self.sums.items l.self.sums.items;
   marks : l.self.marks ≡ l.fn.self.marks;
 }

@@ -10,7 +10,7 @@ pub returns-clause-tree : goal.returns-clause-tree
 returns-clause-tree c =
     let e = c.in_ok-push.ensures in
     opened c.push.new.self
-    (e.places ∙ ap (λ (ps : List (Option Place)). ps ++ None ∷ []) c.new.ensures.items)
+    (e.places ∙ ap (λ (ps : List (Option Place)). ps ++ None ∷ []) c.new.ensures)
     (λ i. e.families i ∙ ap (λ (fs : List Family). children_at fs i) c.new-3.ensures.items)
     (omega (arith, e.families_long, ap length c.new-3.ensures.items))
     ((λ i. (e.marks i).stale) ∙ (λ i. (c.new-4.ensures i).stale ++ false ∷ []))
@@ -20,7 +20,7 @@ pub returns-clause-tidy : goal.returns-clause-tidy
 returns-clause-tidy c =
     let e = c.in_ok-push.ensures in
     opened_tidy c.push.new.self
-    (e.places ∙ ap (λ (ps : List (Option Place)). ps ++ None ∷ []) c.new.ensures.items)
+    (e.places ∙ ap (λ (ps : List (Option Place)). ps ++ None ∷ []) c.new.ensures)
     (λ i. e.families i ∙ ap (λ (fs : List Family). children_at fs i) c.new-3.ensures.items)
     (omega (arith, e.families_long, ap length c.new-3.ensures.items))
     ((λ i. (e.marks i).stale) ∙ (λ i. (c.new-4.ensures i).stale ++ false ∷ []))

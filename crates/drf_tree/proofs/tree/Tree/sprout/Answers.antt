@@ -86,6 +86,13 @@ index_mut-requires-2 c =
     let v = c.in_ok-node.ensures in
     omega (arith, v.free.there, v.shape.sums_long, ap (λ ss. length ss.items) e.sums)
 
+pub put-requires-clause-there : goal.put-requires-clause-there
+put-requires-clause-there c = omega (arith, c.in_ok-node.ensures.free.there, ap (λ ps. length ps.items) c.in_ok-child.ensures.places)
+
+pub put-requires-clause-first : goal.put-requires-clause-first
+put-requires-clause-first c i below =
+    ap (λ ps. is_node ps.items i) c.in_ok-child.ensures.places ∙ c.in_ok-node.ensures.first i below
+
 pub returns-clause-tree : goal.returns-clause-tree
 returns-clause-tree c content of weighs nobody =
     let e = c.in_ok-child.ensures in
@@ -105,7 +112,7 @@ returns-clause-tree c content of weighs nobody =
     (sym (family_read now.families.items parent c.index_mut.result.now below c.index_mut.ensures.value)) c.in_ok-insert.ensures.ok in
     sprout_tree now _ shape node parent place child c.insert.new.self c.args.weight
     (omega (arith, v.free.there, ap (λ ps. length ps.items) e.places)) (ap (λ ps. is_node ps.items node) e.places ∙ v.free.free)
-    ready c.requires.right c.requires.client c.requires.other refl e.node e.key with refl refl refl
+    ready c.requires.right c.requires.client c.requires.other refl e.node e.key with c.put.ensures refl refl
     (ap (slice_set now.sums.items node) c.of_none.ensures) content
     (counted_tree mid now e.places e.sums e.families e.stale v.shape content (v.tree content of))
     weighs nobody
@@ -116,4 +123,4 @@ returns-clause-one c =
     let v = c.in_ok-node.ensures in
     let place : Place = record { path = c.args.path; parent = c.args.parent; client = c.args.client } in
     one_more c.args.self.now.places.items c.first_child.new.self.places.items _ c.in_ok-node.node place
-    (λ i. ap (λ ps. place_at ps.items i) e.places ∙ v.places i) (omega (arith, v.free.there, ap (λ ps. length ps.items) e.places)) refl
+    (λ i. ap (λ ps. place_at ps.items i) e.places ∙ v.places i) (omega (arith, v.free.there, ap (λ ps. length ps.items) e.places)) c.put.ensures

@@ -1,4 +1,4 @@
-use Rattle.std.specs.Prelude.{ℕ, None, slice_index_or}
+use Rattle.std.specs.Prelude.{ℕ, slice_index_or}
 use Rattle.std.specs.Vec.{with_item}
 use Rattle.std.proofs.Common.{◌≡◌, refl, sym, subst, arith, true, List}
 use Rattle.drf_tree.specs.declared.family.Child.{Child}
@@ -8,7 +8,7 @@ use Rattle.drf_tree.specs.declared.tree.Tree.{Tree}
 use Rattle.drf_tree.specs.Changes.{IsShapeOf}
 use Rattle.drf_tree.specs.Nodes.{children_at, is_live, parent_at}
 use Rattle.drf_tree.proofs.BareLemmas.{wither_shape, wither_tree}
-use Rattle.drf_tree.proofs.NodeLemmas.{family_read, node_within}
+use Rattle.drf_tree.proofs.NodeLemmas.{family_read, live_within, node_within}
 use Rattle.drf_tree.proofs.tree.Tree.wither.Goals as goal
 
 pub index_mut-requires : goal.index_mut-requires
@@ -20,6 +20,9 @@ index_mut-requires c =
       c.requires.shape.families_long,
       c.parent-parent.ensures,
     )
+
+pub free-requires : goal.free-requires
+free-requires c = live_within c.args.self.now.places.items c.args.node c.requires.node
 
 -- the family that was read is the one that the node stands in
 family_is : (t : Tree) → IsShapeOf t → (node parent : ℕ) (f : Family) → is_live t.places.items node ≡ true
@@ -33,18 +36,17 @@ pub returns-clause-shape : goal.returns-clause-shape
 returns-clause-shape c =
     let t = c.args.self.now in
     let new : Tree = record {
-      places = with_item t.places c.args.node None;
+      places = c.free.new.self;
       sums = t.sums;
       families = with_item t.families c.parent-parent.result c.remove.new.self;
       marks = c.forget.new.self;
-      first_free = t.first_free;
     } in
     wither_shape t new c.requires.shape c.args.node c.parent-parent.result c.remove.new.self c.requires.node c.requires.bare
     c.parent-parent.ensures
     (subst (λ (cs : List Child). IsGone c.args.node cs c.remove.new.self.children.items)
     (sym (family_is t c.requires.shape c.args.node c.parent-parent.result c.index_mut.result.now c.requires.node c.parent-parent.ensures c.index_mut.ensures.value))
     c.remove.ensures)
-    refl refl (λ i. (c.forget.ensures.flags i).stale) refl
+    c.free.ensures refl (λ i. (c.forget.ensures.flags i).stale) refl
 
 pub returns-clause-tree : goal.returns-clause-tree
 returns-clause-tree c content of =
@@ -54,7 +56,7 @@ returns-clause-tree c content of =
     (subst (λ (cs : List Child). IsGone c.args.node cs c.remove.new.self.children.items)
     (sym (family_is t c.requires.shape c.args.node c.parent-parent.result c.index_mut.result.now c.requires.node c.parent-parent.ensures c.index_mut.ensures.value))
     c.remove.ensures)
-    refl refl (λ i. (c.forget.ensures.flags i).stale) refl content of
+    c.free.ensures refl (λ i. (c.forget.ensures.flags i).stale) refl content of
 
 pub returns-clause-made : goal.returns-clause-made
 returns-clause-made c = λ i. (c.forget.ensures.flags i).made

@@ -4,7 +4,7 @@ use Rattle.std.proofs.Math.Nat.{eq-or-lt_of_le}
 use Rattle.std.proofs.lemmas.List.{append-nil, length-append, length-map, map_push}
 use Rattle.std.proofs.lemmas.List.Elements.{All-cons, All-head, All-nil, All-tail}
 use Rattle.std.specs.Global.{Vec}
-use Rattle.std.specs.Prelude.{All}
+use Rattle.std.specs.Prelude.{All, IfOk}
 use Rattle.drf_board.specs.declared.entry.Entry.{Entry}
 use Rattle.drf_rows.specs.LimitNumbers.{LimitNumbers}
 use Rattle.drf_rows.specs.declared.event.Event.{Event}
@@ -12,7 +12,7 @@ use Rattle.drf_rows.specs.declared.reply.Reply.{Reply}
 use Rattle.drf_rows.specs.declared.rows.Rows.{Rows}
 use Rattle.drf_master.specs.Closing.{AreOf}
 use Rattle.drf_master.specs.Matching.{IsShuffle, receipts_of}
-use Rattle.drf_master.specs.Receipts.{Held, IsSamePass}
+use Rattle.drf_master.specs.Receipts.{Held, IsSamePass, Keeps}
 use Rattle.drf_master.specs.Scripts.{receipt, AreAsked, AreDone, AreNumbered, AreReceipts, DidJob, DidJobs, HasCalled, HasDriven, HasRun, HasStopped, HaveAllRun, HaveRun, HoldsBelow, IsCallStop, IsCloseRefused, IsCut, IsCutShort, IsFirstFault, IsJobFault, IsRefused, IsRunFault, IsThrough, IsUndriven}
 use Rattle.drf_master.specs.declared.driving.Done.{Done}
 use Rattle.drf_master.specs.declared.driving.DriveFault.{DriveFault}
@@ -340,3 +340,15 @@ drive-refused given start asked stops key own scripts done replies all (Unfit re
 pub has-driven : (asked : ℕ → ℕ → Type 0) (key : ℕ) (own : List Held) (scripts : List (Vec Event)) (done : List Held) (replies : List (Vec Reply))
     (journal : List Entry) → HaveAllRun asked key own scripts done replies → IsShuffle journal (receipts_of done) → HasDriven own scripts replies journal
 has-driven asked key own scripts done replies journal all shuffle = record { lists = receipts_of done; run = all.run; shuffle = shuffle }
+
+-- ---- at Ok
+
+pub keeps-same : (old mid new : Held) (place : ℕ) (e : Entry) → IsSamePass old mid → Keeps mid new place e → Keeps old new place e
+keeps-same old mid new place e same kept = record {
+  key = kept.key ∙ same.key;
+  receipts = kept.receipts ∙ ap (λ (l : List Receipt). l ++ record { place = place; entry = e } ∷ []) same.receipts;
+}
+
+pub if_ok : {T F : Type 0} (P Q : T → Type 0) (r : Result T F) → ((x : T) → P x → Q x) → IfOk r P → IfOk r Q
+if_ok P Q (Ok x) more told = more x told
+if_ok P Q (Err fault) more told = tt

@@ -1,47 +1,60 @@
 -- Clients that pass, finding by finding; and the parts that two paths share.
 use Rattle.std.proofs.Common.{◌≡◌, ℕ, suc, ◌+◌, ◌<◌, ◌≤◌, Bool, true, false, List, [], ◌∷◌, ◌++◌, Some, cond, length, drop, get_or, inl, inr, sym, ap, ◌∙◌, refl, arith}
-use Rattle.std.specs.Prelude.{fold, min, not, ◌&&◌, ◌||◌, slice_get, if◌then◌else◌, nat_lt}
+use Rattle.std.specs.Prelude.{fold, map, min, not, ◌&&◌, ◌||◌, slice_get, if◌then◌else◌, nat_lt}
 use Rattle.std.specs.List.{flat_map, list_any}
+use Rattle.std.specs.Map.{lookup}
 use Rattle.std.proofs.lemmas.Bool.Decides.{leb_tells}
 use Rattle.std.proofs.lemmas.List.{at_drop_more, drop_all}
 use Rattle.std.proofs.lemmas.List.Sums.{fold-append}
 use Rattle.drf_role.specs.Text.{Text, same_text}
-use Rattle.drf_role.specs.Path.{Path}
+use Rattle.drf_role.specs.Path.{Path, same_path}
+use Rattle.indexmap.specs.IndexMap.{insert_entry}
 use Rattle.drf_role.proofs.OrderLemmas.{drop_from_get}
 use Rattle.drf_bundle.specs.Value.{amount_in}
 use Rattle.drf_bundle.specs.declared.resource.Resource.{Resource}
 use Rattle.drf_explain.specs.declared.finding.Finding.{Finding}
 use Rattle.drf_explain.specs.declared.finding.Finding.TheVariants.{Suppressed, Inactive, NothingFree, Tried, Left}
 use Rattle.drf_rows.specs.Offers.{is_empty}
-use Rattle.drf_summary.specs.Passers.{begins_with_grant, bundle_of, passers_by, shared_parts, taker_in, takes_of, with_passer}
-use Rattle.drf_summary.specs.declared.passer.Passer.{Passer}
+use Rattle.drf_summary.specs.Passers.{Passer, begins_with_grant, bundle_of, next_agents, one_more, passer_of, passers_by, shared_parts, taker_in, takes_of, with_passer}
 
-module _ (clients_in : Finding → List Path) (whole : List Passer) (findings : List Finding) (i : ℕ) where
-  pub counted_more : (old new : List Passer) (finding : Finding) → i < length findings → finding ≡ get_or findings i finding
-      → new ≡ fold with_passer old (clients_in finding)
-      → fold with_passer old (flat_map clients_in (drop i findings)) ≡ whole → fold with_passer new (flat_map clients_in (drop (i + 1) findings)) ≡ whole
-  counted_more old new finding inside is counted so_far =
-      let later : List Path = flat_map clients_in (drop (i + 1) findings) in
+module _ {X : Type 0} (clients_in : X → List Path) (whole : List Passer) (xs : List X) (i : ℕ) where
+  pub counted_more : (old new : List Passer) (x : X) → i < length xs → x ≡ get_or xs i x → new ≡ fold with_passer old (clients_in x)
+      → fold with_passer old (flat_map clients_in (drop i xs)) ≡ whole → fold with_passer new (flat_map clients_in (drop (i + 1) xs)) ≡ whole
+  counted_more old new x inside is counted so_far =
+      let later : List Path = flat_map clients_in (drop (i + 1) xs) in
       ap (λ ps. fold with_passer ps later) counted
-      ∙ sym (fold-append with_passer old (clients_in finding) later)
-      ∙ ap (λ f. fold with_passer old (clients_in f ++ later)) is
-      ∙ sym (at_drop_more (λ fs. fold with_passer old (flat_map clients_in fs)) findings i finding inside)
+      ∙ sym (fold-append with_passer old (clients_in x) later)
+      ∙ ap (λ y. fold with_passer old (clients_in y ++ later)) is
+      ∙ sym (at_drop_more (λ ys. fold with_passer old (flat_map clients_in ys)) xs i x inside)
       ∙ so_far
 
-  pub counted_over : (passers : List Passer) → length findings ≤ i → fold with_passer passers (flat_map clients_in (drop i findings)) ≡ whole → passers ≡ whole
-  counted_over passers past so_far = sym (ap (λ fs. fold with_passer passers (flat_map clients_in fs)) (drop_all i findings past)) ∙ so_far
+  pub counted_over : (passers : List Passer) → length xs ≤ i → fold with_passer passers (flat_map clients_in (drop i xs)) ≡ whole → passers ≡ whole
+  counted_over passers past so_far = sym (ap (λ ys. fold with_passer passers (flat_map clients_in ys)) (drop_all i xs past)) ∙ so_far
 
--- some finding has a client just where there is one of them
-pub any_client : (clients_in : Finding → List Path) (findings : List Finding)
-    → list_any (λ finding. not (is_empty (clients_in finding))) findings ≡ not (is_empty (flat_map clients_in findings))
+-- some element has a client just where there is one of them
+pub any_client : {X : Type 0} (clients_in : X → List Path) (xs : List X)
+    → list_any (λ x. not (is_empty (clients_in x))) xs ≡ not (is_empty (flat_map clients_in xs))
 any_client clients_in [] = refl
-any_client clients_in (finding ∷ findings) =
-    ap (λ b. not (is_empty (clients_in finding)) || b) (any_client clients_in findings) ∙ by (clients_in finding)
+any_client clients_in (x ∷ xs) = ap (λ b. not (is_empty (clients_in x)) || b) (any_client clients_in xs) ∙ by (clients_in x)
   where
-    by : (paths : List Path)
-        → (not (is_empty paths) || not (is_empty (flat_map clients_in findings))) ≡ not (is_empty (paths ++ flat_map clients_in findings))
+    by : (paths : List Path) → (not (is_empty paths) || not (is_empty (flat_map clients_in xs))) ≡ not (is_empty (paths ++ flat_map clients_in xs))
     by [] = refl
     by (path ∷ paths) = refl
+
+-- one agent more of a client, as it is put into a map
+pub passer_put : (entries : List (Path × ℕ)) (client : Path)
+    → map passer_of (insert_entry same_path entries client (next_agents (lookup (same_path client) entries))) ≡ with_passer (map passer_of entries) client
+passer_put [] client = refl
+passer_put (e ∷ es) client = by (same_path client e.0) (passer_put es client)
+  where
+    by : (here : Bool)
+        → map passer_of (insert_entry same_path es client (next_agents (lookup (same_path client) es))) ≡ with_passer (map passer_of es) client
+        → map passer_of (cond here
+        ((e.0, next_agents (cond here (Some e.1) (lookup (same_path client) es))) ∷ es)
+        (e ∷ insert_entry same_path es client (next_agents (cond here (Some e.1) (lookup (same_path client) es)))))
+        ≡ cond here (record { client = e.0; agents = one_more e.1 } ∷ map passer_of es) (passer_of e ∷ with_passer (map passer_of es) client)
+    by true later = refl
+    by false later = ap (λ (ps : List Passer). passer_of e ∷ ps) later
 
 -- ---- of nothing nobody takes anything
 

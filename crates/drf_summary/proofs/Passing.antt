@@ -1,7 +1,6 @@
 -- Who is told to pass a client on an agent: just those who take something of what it would be granted, were it the first.
-use Rattle.std.specs.Prelude.{◌≡◌, ◌↔◌, ℕ, zero, suc, ◌<◌, Bool, true, false, not, ◌||◌, List, [], ◌∷◌, ◌++◌, length, map, Option, Some, None, Contains, if◌then◌else◌, slice_get, slice_index_or}
+use Rattle.std.specs.Prelude.{◌≡◌, zero, suc, ◌<◌, Bool, true, false, not, ◌||◌, List, [], ◌∷◌, ◌++◌, length, map, Option, Some, None, Contains, if◌then◌else◌, slice_get}
 use Rattle.std.specs.List.{flat_map, list_any}
-use Rattle.std.specs.Option.{option_map_or}
 use Rattle.std.proofs.Common.{refl, sym, ap, subst, ◌∙◌, inl, inr, cond, arith}
 use Rattle.std.proofs.lemmas.List.{map-append}
 use Rattle.std.proofs.lemmas.Bool.{cases_Bool, false≢true}
@@ -10,12 +9,12 @@ use Rattle.std.proofs.lemmas.List.Elements.{Contains-append_cases, Contains-appe
 use Rattle.drf_role.specs.Path.{Path, same_path}
 use Rattle.drf_role.specs.PathLaws.{same_path-true, same_path_itself}
 use Rattle.drf_bundle.specs.declared.resource.Resource.{Resource}
-use Rattle.drf_explain.specs.Each.{each_on, told_here, told_of_each, turn_on, untouched_on, untouched_on_active}
+use Rattle.drf_explain.specs.Each.{told_here, told_of_each, turn_on, untouched_on, untouched_on_active}
 use Rattle.drf_explain.specs.EachLaws.{IsOpen, each_on-open}
 use Rattle.drf_explain.specs.Explained.{outcome}
 use Rattle.drf_explain.specs.ReasonLaws.{GrantIsGranted}
 use Rattle.drf_explain.specs.declared.finding.Finding.{Finding}
-use Rattle.drf_explain.specs.declared.finding.Finding.TheVariants.{Suppressed, Inactive, NothingFree, Tried, Left}
+use Rattle.drf_explain.specs.declared.finding.Finding.TheVariants.{Inactive, NothingFree}
 use Rattle.drf_explain.specs.declared.finding.Outcome.{Outcome}
 use Rattle.drf_explain.specs.declared.finding.Outcome.TheVariants.{Grant, HeldBack, OverLimit, BelowThreshold, NothingLeft, ReservedForOthers}
 use Rattle.drf_rows.specs.Client.{Client, path_of}
@@ -28,7 +27,7 @@ use Rattle.drf_summary.proofs.Passed.{takes-nothing}
 use Rattle.drf_summary.specs.PassLaws.{EachIsPassedBySomebody, EachPasserPasses, IsPassed, IsPassedBy, is_at}
 use Rattle.drf_summary.specs.Passers.{begins_with_grant, bundle_in, bundle_of, is_passed, passers_by, passers_on, taker_in, takes_of}
 use Rattle.drf_summary.specs.Pick.{earlier_on, is_granted, is_of_client, own_on}
-use Rattle.drf_summary.specs.SumLaws.{EachIsPassedRightly, WouldBeGranted}
+use Rattle.drf_summary.specs.SumLaws.{EachIsPassedRightly}
 
 -- ---- the findings of a turn
 

@@ -17,11 +17,10 @@ use Rattle.drf_rows.specs.Offers.{is_empty}
 use Rattle.drf_rows.specs.declared.rows.AgentRow.{AgentRow}
 use Rattle.drf_rows.specs.declared.rows.Rows.{Rows}
 use Rattle.drf_summary.proofs.Firsts.{own-cons}
-use Rattle.drf_summary.specs.Passers.{Turn, is_of, is_passed, passers_on, with_passer, with_passers_on}
+use Rattle.drf_summary.specs.Passers.{Passer, Turn, is_of, is_passed, one_more, passers_on, with_passer, with_passers_on}
 use Rattle.drf_summary.specs.Pick.{bars_all, is_granted, is_inactive, is_nothing_free, is_of_client, outcome_in, outcome_on}
 use Rattle.drf_summary.specs.SumLaws.{CountsAddUp, EachHasItsPassers, is_accounted}
 use Rattle.drf_summary.specs.Tally.{comes_to, is_below_threshold, is_held_back, is_nothing_left, is_over_limit, is_reserved, tells_of}
-use Rattle.drf_summary.specs.declared.passer.Passer.{Passer}
 
 -- ---- each agent is counted once
 
@@ -156,10 +155,11 @@ counts_add_up rows at path below all =
 
 some_passer : (passers : List Passer) (path : Path) → 0 < length (with_passer passers path)
 some_passer [] path = omega arith
-some_passer (p ∷ ps) path = elim (cases_Bool (list_any (is_of path) (p ∷ ps))) [
-  | inl here ↦ rw here (omega arith)
-  | inr past ↦ rw past (omega arith)
-]
+some_passer (p ∷ ps) path = by (is_of path p)
+  where
+    by : (here : Bool) → 0 < length (if here then record { client = p.client; agents = one_more p.agents } ∷ ps else p ∷ with_passer ps path)
+    by true = omega arith
+    by false = omega arith
 
 still_some : (passers : List Passer) (paths : List Path) → 0 < length passers → 0 < length (fold with_passer passers paths)
 still_some passers [] some = some

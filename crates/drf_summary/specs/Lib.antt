@@ -1,5 +1,7 @@
 pub mod Pick
 pub mod Passers
+pub mod Places
+pub mod Shares
 pub mod Tally
 pub mod SumLaws
 pub mod PassLaws

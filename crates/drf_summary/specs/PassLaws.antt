@@ -15,8 +15,9 @@ use Rattle.drf_summary.specs.Passers.{is_passed, passers_on, takes_of}
 abbrev pub is_at : Path → Client → Bool
 is_at path client = same_path (path_of client) path
 
--- In the turn that begins on an agent of which something is free, the taker stands before the client. It is granted a bundle, as its moment
--- comes, with something of what the client would be granted, were it the first; and the client, as its own comes, is granted nothing.
+-- In the turn that begins on an agent of which something is free, the taker stands before the client, which is the first of its path. It is
+-- granted a bundle, as its moment comes, with something of what the client would be granted, were it the first; and the client, as its own
+-- comes, is granted nothing.
 pub record IsPassedBy (rows : Rows) (agent : AgentRow) (path passer : Path) : Type 0 where
   pub opened : IsOpen rows agent
   pub before : List Client

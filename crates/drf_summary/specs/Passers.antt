@@ -1,6 +1,6 @@
 -- Who passes a client on an agent: it is granted nothing there, and they, before it, something of what it would have been granted, were it the
 -- first.
-use Rattle.std.specs.Prelude.{ℕ, suc, ◌+◌, ◌-◌, ◌^◌, min, Bool, not, ◌&&◌, List, [], ◌∷◌, ◌++◌, map, fold, take, find, if◌then◌else◌, nat_lt, false, codes}
+use Rattle.std.specs.Prelude.{ℕ, suc, ◌+◌, ◌-◌, ◌^◌, min, Bool, not, ◌&&◌, List, [], ◌∷◌, ◌++◌, Option, fold, take, find, if◌then◌else◌, nat_lt, false, codes}
 use Rattle.std.specs.List.{flat_map, list_any}
 use Rattle.std.specs.Option.{option_map_or}
 use Rattle.serde_json.specs.Data.{Data, number, unsigned, string, object, member, no_members}
@@ -20,7 +20,6 @@ use Rattle.drf_explain.specs.declared.finding.Outcome.{Outcome}
 use Rattle.drf_explain.specs.declared.finding.Outcome.TheVariants.{Grant, HeldBack, OverLimit, BelowThreshold, NothingLeft, ReservedForOthers}
 use Rattle.drf_lines.specs.ReportLine.{fraction_text}
 use Rattle.drf_summary.specs.Pick.{earlier_on, is_granted, outcome_in, own_on}
-use Rattle.drf_summary.specs.declared.passer.Passer.{Passer}
 
 -- ---- what is taken
 
@@ -89,21 +88,30 @@ is_passed path turn = not (is_empty (passers_on path turn))
 
 -- ---- over agents
 
+-- a client that passes another one, and on how many agents
+pub record Passer : Type 0 where
+  pub client : Path
+  pub agents : ℕ
+
+abbrev pub passer_of : Path × ℕ → Passer
+passer_of entry = record { client = entry.0; agents = entry.1 }
+
 abbrev pub is_of : Path → Passer → Bool
-is_of path p = same_path p.client path
+is_of path p = same_path path p.client
 
 -- a number, and one more; it stays at 2^64 - 1 once there
 abbrev pub one_more : ℕ → ℕ
 one_more count = min (count + 1) (2 ^ 64 - 1)
 
--- one agent more of a client
-abbrev pub raised : Path → Passer → Passer
-raised path p = if is_of path p then record { client = p.client; agents = one_more p.agents } else p
+-- one agent more than before, or the first
+abbrev pub next_agents : Option ℕ → ℕ
+next_agents agents = option_map_or one_more agents 1
 
--- a client that is not among them is the last
+-- one agent more of a client, which is the last, if it is not among them
 abbrev pub with_passer : List Passer → Path → List Passer
-with_passer passers path =
-    if list_any (is_of path) passers then map (raised path) passers else passers ++ record { client = path; agents = 1 } ∷ []
+with_passer [] path = record { client = path; agents = 1 } ∷ []
+with_passer (p ∷ ps) path =
+    if is_of path p then record { client = p.client; agents = one_more p.agents } ∷ ps else p ∷ with_passer ps path
 
 -- those of one agent more
 abbrev pub with_passers_on : Path → List Passer → Turn → List Passer

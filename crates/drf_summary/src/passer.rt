@@ -1,62 +1,59 @@
 //! Who passes a client (`specs/Passers`).
-ghost use Rattle.std.specs.Prelude.{◌≡◌, [], ◌++◌, fold, map, OnOk};
-ghost use Rattle.std.specs.List.{flat_map, list_any};
-ghost use Rattle.drf_summary.specs.Passers.{is_of, raised, taker_in, with_passer};
+ghost use Rattle.std.specs.Prelude.{◌≡◌, [], fold, map, slice_get, OnOk};
+ghost use Rattle.std.specs.List.{flat_map};
+ghost use Rattle.std.specs.Map.{lookup};
+ghost use Rattle.std.specs.Option.{option_map, option_map_or};
+ghost use Rattle.indexmap.specs.IndexMap.{insert_entry};
+ghost use Rattle.drf_role.specs.Path.{same_path};
+ghost use Rattle.drf_summary.specs.Passers.{next_agents, passer_of, taker_in, with_passer};
+ghost use Rattle.drf_summary.specs.Places.{findings_of};
 
 use crate::taking::taker_in;
 use drf_bundle::Bundle;
 use drf_explain::Finding;
 use drf_role::ClientPath;
+use indexmap::IndexMap;
 use std::alloc::{AllocError, Global};
 use std::marker::Model;
 
-/// A client that passes another one.
-#[derive(Debug, Drop)]
-pub struct Passer {
-    pub client: ClientPath,
-    /// On how many agents. The number stays at 2^64 - 1 once there.
-    pub agents: u64,
-}
-
-impl Passer {
-    fn is_of(&self, client: &ClientPath) -> bool
-        ensures { result ≡ is_of client.now self.now }
-    {
-        self.client == *client
-    }
-
-    /// Counts one agent more, if it is that client.
-    fn raise(&mut self, client: &ClientPath)
-        ensures { self.new ≡ raised client.now self.old }
-    {
-        if self.is_of(client) {
-            self.agents = self.agents.saturating_add(1);
-        }
-    }
-}
-
-/// The clients that pass one client, each once, in the order in which they first do.
+/// The clients that pass one client, each once, in the order in which they first do, and on how many agents. The numbers stay at 2^64 - 1 once
+/// there.
 #[derive(Debug, Drop)]
 pub struct Passers {
-    list: Vec<Passer>,
+    by_client: IndexMap<ClientPath, u64>,
 }
 
 impl Model for Passers {
-    ghost use Rattle.std.specs.Prelude.{List};
-    ghost use Rattle.drf_summary.specs.declared.passer.Passer.{Passer};
+    ghost use Rattle.std.specs.Prelude.{List, map};
+    ghost use Rattle.drf_summary.specs.Passers.{Passer, passer_of};
 
     ghost Value = { List Passer };
 
-    ghost view = { λ p. p.list.items };
+    ghost view = { λ p. map passer_of p.by_client.entries };
 }
 
-/// Counts one agent more of that client, if it is among them.
-fn raise_in(passers: &mut [Passer], client: &ClientPath)
-    ensures { passers.new ≡ map (raised client.now) passers.old }
+/// One agent more than a client has, or the first.
+fn next_agents(by_client: &IndexMap<ClientPath, u64>, client: &ClientPath) -> u64
+    ensures { result ≡ next_agents (lookup (same_path client.now) by_client.now.entries) }
 {
-    for passer in passers.iter_mut() {
-        passer.raise(client);
+    match by_client.get(client) {
+        Some(agents) => agents.saturating_add(1),
+        None => 1,
     }
+}
+
+/// Counts an agent of a client.
+fn count_in(
+    by_client: &mut IndexMap<ClientPath, u64>,
+    client: &ClientPath,
+) -> Result<(), AllocError>
+    ensures { OnOk result (by_client.new.entries
+        ≡ insert_entry same_path by_client.old.entries client.now (next_agents (lookup (same_path client.now) by_client.old.entries))) }
+{
+    let agents = next_agents(by_client, client);
+    let client = client.copy()?;
+    by_client.insert(client, agents)?;
+    Ok(())
 }
 
 impl Passers {
@@ -65,32 +62,31 @@ impl Passers {
         ensures { result ≡ [] }
     {
         Passers {
-            list: Vec::new(alloc),
+            by_client: IndexMap::new(alloc),
         }
     }
 
-    pub fn as_slice(&self) -> &[Passer]
-        ensures { result.now ≡ self.now }
+    pub(crate) fn entries(&self) -> &IndexMap<ClientPath, u64>
+        ensures { map passer_of result.now.entries ≡ self.now }
     {
-        self.list.as_slice()
+        &self.by_client
     }
 
-    fn has(&self, client: &ClientPath) -> bool
-        ensures { result ≡ list_any (is_of client.now) self.now }
+    /// The client at a place, and on how many agents it passes.
+    pub fn get(&self, place: usize) -> Option<(&ClientPath, u64)>
+        ensures { option_map (λ p. record { client = p.0.now; agents = p.1 }) result ≡ slice_get self.now place }
     {
-        self.list.iter().any(|passer| passer.is_of(client))
+        match self.by_client.get_index(place) {
+            Some((client, agents)) => Some((client, *agents)),
+            None => None,
+        }
     }
 
     /// Counts an agent on which that client passes.
     fn count(&mut self, client: &ClientPath) -> Result<(), AllocError>
         ensures { OnOk result (self.new ≡ with_passer self.old client.now) }
     {
-        if self.has(client) {
-            raise_in(self.list.as_mut_slice(), client);
-            return Ok(());
-        }
-        let client = client.copy()?;
-        self.list.push(Passer { client, agents: 1 })?;
+        count_in(&mut self.by_client, client)?;
         Ok(())
     }
 
@@ -107,10 +103,10 @@ impl Passers {
     /// Counts the clients that findings grant something of a bundle.
     pub(crate) fn count_takers(
         &mut self,
-        findings: &[Finding],
+        findings: &[&Finding],
         bundle: &Bundle,
     ) -> Result<(), AllocError>
-        ensures { OnOk result (self.new ≡ fold with_passer self.old (flat_map (taker_in bundle.now) findings.now)) }
+        ensures { OnOk result (self.new ≡ fold with_passer self.old (flat_map (taker_in bundle.now) (findings_of findings.now))) }
     {
         for finding in findings {
             self.count_taker(finding, bundle)?;

@@ -4,9 +4,9 @@ ghost use Rattle.std.specs.List.{flat_map, list_any};
 ghost use Rattle.std.specs.Option.{option_copied, option_map_or, option_to_list};
 ghost use Rattle.drf_rows.specs.Offers.{is_empty};
 ghost use Rattle.drf_summary.specs.Passers.{begins_with_grant, bundle_in, bundle_of, is_in_both, taker_in, takes_of};
-ghost use Rattle.drf_summary.specs.Pick.{own_on};
+ghost use Rattle.drf_summary.specs.Places.{findings_of};
 
-use crate::pick::{first_outcome, is_granted, own_at, place_of};
+use crate::pick::{first_outcome, is_granted};
 use drf_bundle::{Bundle, Resource};
 use drf_explain::{Finding, Outcome};
 use drf_role::ClientPath;
@@ -65,15 +65,15 @@ fn is_taker(finding: &Finding, bundle: &Bundle) -> bool
     taker_in(finding, bundle).is_some()
 }
 
-fn any_taker(findings: &[Finding], bundle: &Bundle) -> bool
-    ensures { result ≡ list_any (λ finding. not (is_empty (taker_in bundle.now finding))) findings.now }
+fn any_taker(findings: &[&Finding], bundle: &Bundle) -> bool
+    ensures { result ≡ list_any (λ finding. not (is_empty (taker_in bundle.now finding.now))) findings.now }
 {
     findings.iter().any(|finding| is_taker(finding, bundle))
 }
 
 /// Whether any of the findings grants somebody something of a bundle.
-pub(crate) fn has_taker(findings: &[Finding], bundle: &Bundle) -> bool
-    ensures { result ≡ not (is_empty (flat_map (taker_in bundle.now) findings.now)) }
+pub(crate) fn has_taker(findings: &[&Finding], bundle: &Bundle) -> bool
+    ensures { result ≡ not (is_empty (flat_map (taker_in bundle.now) (findings_of findings.now))) }
 {
     any_taker(findings, bundle)
 }
@@ -89,19 +89,11 @@ pub(crate) fn begins_with_grant(findings: &[Finding]) -> bool
 }
 
 /// What the first of the findings grants, if it does.
-fn bundle_in(findings: &[Finding]) -> Option<&Bundle>
+pub(crate) fn bundle_in(findings: &[Finding]) -> Option<&Bundle>
     ensures { option_map_or (λ bundle. bundle) (option_copied result) [] ≡ bundle_in findings.now }
 {
     match first_outcome(findings) {
         Some(Outcome::Grant(bundle)) => Some(bundle),
         _ => None,
     }
-}
-
-/// What a client would be granted, were it the first to be tried, if that is something.
-pub(crate) fn first_bundle<'a>(path: &ClientPath, untouched: &'a [Finding]) -> Option<&'a Bundle>
-    ensures { option_map_or (λ bundle. bundle) (option_copied result) [] ≡ bundle_in (own_on path.now untouched.now) }
-{
-    let place = place_of(path, untouched);
-    bundle_in(own_at(untouched, place))
 }

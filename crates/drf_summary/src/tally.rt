@@ -1,21 +1,25 @@
 //! What comes of each client, counted over agents.
 ghost use Rattle.std.specs.Prelude.{◌≡◌, codes, map, List, [], ◌∷◌, ◌++◌, IfOk, OnOk};
-ghost use Rattle.std.specs.List.{flat_map, list_any};
-ghost use Rattle.std.specs.Option.{option_copied};
+ghost use Rattle.std.specs.List.{flat_map};
+ghost use Rattle.std.specs.Option.{option_copied, option_map_or};
 ghost use Rattle.drf_rows.specs.Client.{path_of};
 ghost use Rattle.drf_rows.specs.declared.rows.Rows.{Rows};
 ghost use Rattle.drf_rows.specs.Held.{client_of, active_clients};
 ghost use Rattle.drf_role.specs.Parts.{text_of};
 ghost use Rattle.serde_json.specs.Data.{number, put as with_member, string, unsigned};
 ghost use Rattle.serde_json.specs.View.{members_view, view};
-ghost use Rattle.drf_summary.specs.Passers.{Turn, bundle_in, one_more, passers_by};
-ghost use Rattle.drf_summary.specs.Pick.{is_inactive, is_nothing_free, own_on};
+ghost use Rattle.drf_summary.specs.Passers.{Turn, one_more, passers_by};
+ghost use Rattle.drf_summary.specs.Places.{IsFound, findings_of, turn_of};
+ghost use Rattle.drf_summary.specs.Shares.{AreSharesIn};
 ghost use Rattle.drf_summary.specs.Tally.{active_in, active_one, more_if, tally_lines, tally_of, tally_text, tally_value, tallies_of, with_counts, with_outcome, with_passed, with_turn};
 
 use crate::passer::Passers;
 use crate::passer_line::write_passers;
-use crate::pick::{earlier_at, first_outcome, is_inactive, is_nothing_free, own_at, place_of};
-use crate::taking::{begins_with_grant, first_bundle, has_taker};
+use crate::pick::first_outcome;
+use crate::shares::Shares;
+use crate::taking::{begins_with_grant, has_taker};
+use crate::turn::FoundTurn;
+use drf_bundle::Bundle;
 use drf_explain::{Finding, Outcome, TurnTold};
 use drf_role::{ClientPath, NodePath};
 use drf_rows::{ClientRow, FrameworkRow, Report, Rows};
@@ -64,18 +68,6 @@ fn raise_if(more: bool, count: &mut u64)
     }
 }
 
-fn has_inactive(findings: &[Finding]) -> bool
-    ensures { result ≡ list_any is_inactive findings.now }
-{
-    findings.iter().any(|finding| is_inactive(finding))
-}
-
-fn has_nothing_free(findings: &[Finding]) -> bool
-    ensures { result ≡ list_any is_nothing_free findings.now }
-{
-    findings.iter().any(|finding| is_nothing_free(finding))
-}
-
 impl Tally {
     /// The tally of a client before it is told of.
     fn new(alloc: Global, client: ClientPath) -> Tally
@@ -113,21 +105,21 @@ impl Tally {
         }
     }
 
-    /// Counts who passes the client on one agent, by what is told of it there, by what is told before that, and by what would come of each
-    /// client, were it the first.
+    /// Counts who passes the client on one agent, by what is told of it there, by the grants that are told before that, and by what it would be
+    /// granted, were it the first.
     fn count_passers(
         &mut self,
         own: &[Finding],
-        earlier: &[Finding],
-        untouched: &[Finding],
+        earlier: &[&Finding],
+        bundle: Option<&Bundle>,
     ) -> Result<(), AllocError>
         ensures { OnOk result (self.new
-            ≡ with_passed (passers_by own.now earlier.now (bundle_in (own_on self.old.client untouched.now))) self.old) }
+            ≡ with_passed (passers_by own.now (findings_of earlier.now) (option_map_or (λ b. b) (option_copied bundle.entry) [])) self.old) }
     {
         if begins_with_grant(own) {
             return Ok(());
         }
-        let Some(bundle) = first_bundle(&self.client, untouched) else {
+        let Some(bundle) = bundle else {
             return Ok(());
         };
         raise_if(has_taker(earlier, bundle), &mut self.passed);
@@ -135,29 +127,28 @@ impl Tally {
     }
 
     /// Counts what is told of the client's turn on one agent.
-    fn take(&mut self, told: &[Finding], untouched: &[Finding]) -> Result<(), AllocError>
-        ensures { OnOk result (self.new ≡ with_turn (told.now, untouched.now) self.old) }
+    fn take(&mut self, turn: &FoundTurn) -> Result<(), AllocError>
+        requires { IsFound turn.now }
+        ensures { OnOk result (self.new ≡ with_turn (turn_of turn.now) self.old) }
     {
-        let place = place_of(&self.client, told);
-        let own = own_at(told, place);
+        let own = turn.own(&self.client);
+        let earlier = turn.grants_before(&self.client);
+        let bundle = turn.first_bundle(&self.client);
         self.count_outcome(first_outcome(own));
-        raise_if(has_inactive(told), &mut self.inactive);
-        raise_if(has_nothing_free(told), &mut self.nothing_free);
-        self.count_passers(own, earlier_at(told, place), untouched)?;
+        raise_if(turn.inactive, &mut self.inactive);
+        raise_if(turn.nothing_free, &mut self.nothing_free);
+        self.count_passers(own, earlier, bundle)?;
         Ok(())
     }
 }
 
 /// Counts in each tally what is told of a turn.
-fn take_in_each(
-    tallies: &mut [Tally],
-    told: &[Finding],
-    untouched: &[Finding],
-) -> Result<(), AllocError>
-    ensures { OnOk result (tallies.new ≡ map (with_turn (told.now, untouched.now)) tallies.old) }
+fn take_in_each(tallies: &mut [Tally], turn: &FoundTurn) -> Result<(), AllocError>
+    requires { IsFound turn.now }
+    ensures { OnOk result (tallies.new ≡ map (with_turn (turn_of turn.now)) tallies.old) }
 {
     for tally in tallies.iter_mut() {
-        tally.take(told, untouched)?;
+        tally.take(turn)?;
     }
     Ok(())
 }
@@ -167,7 +158,8 @@ pub fn take_turn(tallies: &mut [Tally], turn: &TurnTold) -> Result<(), AllocErro
     ensures { OnOk result ((rows : Rows) (turns : List Turn) → tallies.old ≡ tallies_of rows turns
         → tallies.new ≡ tallies_of rows (turns ++ (turn.now.told.items, turn.now.untouched.items) ∷ [])) }
 {
-    take_in_each(tallies, &turn.told, &turn.untouched)?;
+    let found = FoundTurn::of(*turn.told.allocator(), turn)?;
+    take_in_each(tallies, &found)?;
     Ok(())
 }
 
@@ -280,19 +272,35 @@ fn tally_line(alloc: Global, tally: &Tally) -> Result<Vec<u8>, AllocError>
 
 fn write_tally(
     alloc: Global,
-    report: &Report,
+    shares: &Shares,
     tally: &Tally,
     text: &mut Vec<u8>,
 ) -> Result<(), AllocError>
-    ensures { OnOk result (text.new.items ≡ text.old.items ++ tally_lines report.now tally.now) }
+    requires { AreSharesIn shares.now }
+    ensures { OnOk result (text.new.items ≡ text.old.items ++ tally_lines shares.now.report.now tally.now) }
 {
     let line = tally_line(alloc, tally)?;
     text.extend_from_slice(&line)?;
-    write_passers(alloc, report, &tally.client, tally.passers.as_slice(), text)
+    write_passers(alloc, shares, &tally.client, &tally.passers, text)
 }
 
-/// Writes the lines of tallies behind a text, each before those of who passes the client, with the shares that a report tells: compact JSON,
-/// the keys in order of bytes.
+fn write_each(
+    alloc: Global,
+    shares: &Shares,
+    tallies: &[Tally],
+    text: &mut Vec<u8>,
+) -> Result<(), AllocError>
+    requires { AreSharesIn shares.now }
+    ensures { OnOk result (text.new.items ≡ text.old.items ++ flat_map (tally_lines shares.now.report.now) tallies.now) }
+{
+    for tally in tallies {
+        write_tally(alloc, shares, tally, text)?;
+    }
+    Ok(())
+}
+
+/// Writes the lines of tallies behind a text, each before those of who passes the client: compact JSON, the keys in order of bytes. The shares are
+/// those that a report tells, not those of the turn in which one passes another.
 pub fn write_tallies(
     alloc: Global,
     report: &Report,
@@ -301,8 +309,7 @@ pub fn write_tallies(
 ) -> Result<(), AllocError>
     ensures { OnOk result (text.new.items ≡ text.old.items ++ flat_map (tally_lines report.now) tallies.now) }
 {
-    for tally in tallies {
-        write_tally(alloc, report, tally, text)?;
-    }
+    let shares = Shares::of(alloc, report)?;
+    write_each(alloc, &shares, tallies, text)?;
     Ok(())
 }

@@ -78,8 +78,9 @@ fn write_summary<W: Write>(
     write_whole(writer, &text)
 }
 
-/// Takes the events of a reader's lines, and then writes what the cycle at that moment, in milliseconds, comes to for each client over all agents.
-/// The clock never goes back: 0 is the moment at which it stands. Lines that are no events are passed over.
+/// Takes the events of a reader's lines, and then writes what the cycle at that moment, in milliseconds, comes to for each client over all agents,
+/// and who passes it, with shares as the cycle begins, not those of the turn. The clock never goes back: 0 is the moment at which it stands.
+/// Lines that are no events are passed over.
 pub fn tell_summary<R: Read, W: Write>(
     alloc: Global,
     core: Core<ProgramSorter>,

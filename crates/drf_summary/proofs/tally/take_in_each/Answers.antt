@@ -1,4 +1,5 @@
 use Rattle.std.proofs.Common.{◌+◌, ap, ◌∙◌, refl, set}
+use Rattle.drf_summary.specs.Places.{turn_of}
 use Rattle.drf_summary.specs.Tally.{with_turn}
 use Rattle.drf_summary.proofs.Tallied.{map_next}
 use Rattle.drf_summary.proofs.tally.take_in_each.Goals as goal
@@ -7,5 +8,5 @@ pub loop-tally-preserved : goal.loop-tally-preserved
 loop-tally-preserved c =
     let at = c.loop-tally in
     ap (set at.tallies at.tally-index) c.in_ok-take.ensures
-    ∙ map_next (with_turn (c.args.told.now, c.args.untouched.now)) c.args.tallies.now at.tallies at.tally-index (at.tally-index + 1) c.tally-item.result
+    ∙ map_next (with_turn (turn_of c.args.turn.now)) c.args.tallies.now at.tallies at.tally-index (at.tally-index + 1) c.tally-item.result
     refl c.loop-tally-test.true at.invariant

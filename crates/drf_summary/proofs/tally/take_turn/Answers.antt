@@ -1,4 +1,4 @@
-use Rattle.std.proofs.Common.{◌∙◌, map}
+use Rattle.std.proofs.Common.{map, ◌∙◌}
 use Rattle.drf_summary.specs.Passers.{Turn}
 use Rattle.drf_summary.specs.Tally.{with_turn}
 use Rattle.drf_summary.proofs.Tallied.{tallies-next}
@@ -8,5 +8,5 @@ pub returns : goal.returns
 returns c = λ rows turns so.
     let turn : Turn = (c.args.turn.now.told.items, c.args.turn.now.untouched.items) in
     c.in_ok-take_in_each.ensures
-    ∙ (λ i. map (with_turn (c.deref.ensures.value i, c.deref-2.ensures.value i)) (so i))
+    ∙ (λ i. map (with_turn ((c.in_ok-found.ensures.turn i).told.items, (c.in_ok-found.ensures.turn i).untouched.items)) (so i))
     ∙ tallies-next rows turns turn

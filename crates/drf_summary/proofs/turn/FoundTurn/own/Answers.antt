@@ -1,0 +1,15 @@
+use Rattle.std.proofs.Common.{◌<◌, length, subst, sym, ◌∙◌}
+use Rattle.std.specs.Prelude.{IfSome, List}
+use Rattle.drf_explain.specs.declared.finding.Finding.{Finding}
+use Rattle.drf_summary.specs.Pick.{own_at}
+use Rattle.drf_summary.proofs.Found.{place-within}
+use Rattle.drf_summary.proofs.turn.FoundTurn.own.Goals as goal
+
+pub own_at-requires : goal.own_at-requires
+own_at-requires c =
+    let found = c.args.self.now in
+    subst (λ (findings : List Finding). IfSome c.get.result (λ place. place < length findings)) (sym c.as_slice.ensures.value)
+    (place-within found.turn.now.told.items found.told c.args.client.now c.get.result c.requires.told c.get.ensures)
+
+pub returns : goal.returns
+returns c = c.own_at.ensures ∙ (λ i. own_at (c.as_slice.ensures.value i) ((c.get.ensures ∙ c.requires.told c.args.client.now) i))

@@ -1,0 +1,90 @@
+//! What is told of a turn, with where each client is found there.
+ghost use Rattle.std.specs.Prelude.{◌≡◌, [], filter, IfOk};
+ghost use Rattle.std.specs.List.{list_any};
+ghost use Rattle.std.specs.Option.{option_copied, option_map_or};
+ghost use Rattle.drf_summary.specs.Passers.{bundle_in};
+ghost use Rattle.drf_summary.specs.Pick.{earlier_on, is_grant, is_inactive, is_nothing_free, own_on};
+ghost use Rattle.drf_summary.specs.Places.{IsFound, findings_of};
+
+use crate::grants::Grants;
+use crate::pick::{is_inactive, is_nothing_free, own_at};
+use crate::places::Places;
+use crate::taking::bundle_in;
+use drf_bundle::Bundle;
+use drf_explain::{Finding, TurnTold};
+use drf_role::ClientPath;
+use std::alloc::{AllocError, Global};
+
+/// What is told of a turn: the places of the clients, and the grants.
+#[derive(Drop)]
+pub(crate) struct FoundTurn<'a> {
+    pub(crate) turn: &'a TurnTold,
+    pub(crate) told: Places,
+    pub(crate) untouched: Places,
+    pub(crate) grants: Grants<'a>,
+    pub(crate) inactive: bool,
+    pub(crate) nothing_free: bool,
+}
+
+fn has_inactive(findings: &[Finding]) -> bool
+    ensures { result ≡ list_any is_inactive findings.now }
+{
+    findings.iter().any(|finding| is_inactive(finding))
+}
+
+fn has_nothing_free(findings: &[Finding]) -> bool
+    ensures { result ≡ list_any is_nothing_free findings.now }
+{
+    findings.iter().any(|finding| is_nothing_free(finding))
+}
+
+impl<'a> FoundTurn<'a> {
+    /// Looks at each finding once.
+    pub(crate) fn of(alloc: Global, turn: &'a TurnTold) -> Result<FoundTurn<'a>, AllocError>
+        ensures found { IfOk result IsFound }
+        ensures turn { IfOk result (λ found. found.turn.now ≡ turn.now) }
+    {
+        let told = turn.told.as_slice();
+        let places = Places::of(alloc, told)?;
+        let untouched = Places::of(alloc, turn.untouched.as_slice())?;
+        let grants = Grants::of(alloc, told)?;
+        Ok(FoundTurn {
+            turn,
+            told: places,
+            untouched,
+            grants,
+            inactive: has_inactive(told),
+            nothing_free: has_nothing_free(told),
+        })
+    }
+
+    /// What is told of a client at its moment, if it is.
+    pub(crate) fn own(&self, client: &ClientPath) -> &[Finding]
+        requires { IsFound self.now }
+        ensures { result.now ≡ own_on client.now self.now.turn.now.told.items }
+    {
+        own_at(self.turn.told.as_slice(), self.told.get(client))
+    }
+
+    /// The grants that are told before that.
+    pub(crate) fn grants_before(&self, client: &ClientPath) -> &[&'a Finding]
+        requires { IsFound self.now }
+        ensures { findings_of result.now ≡ filter is_grant (earlier_on client.now self.now.turn.now.told.items) }
+    {
+        let all = self.grants.all.as_slice();
+        let Some(place) = self.told.get(client) else {
+            return &all[..0];
+        };
+        let before = self.grants.before[place];
+        &all[..before]
+    }
+
+    /// What a client would be granted, were it the first to be tried, if that is something.
+    pub(crate) fn first_bundle(&self, client: &ClientPath) -> Option<&Bundle>
+        requires { IsFound self.now }
+        ensures { option_map_or (λ bundle. bundle) (option_copied result) [] ≡ bundle_in (own_on client.now self.now.turn.now.untouched.items) }
+    {
+        let own = own_at(self.turn.untouched.as_slice(), self.untouched.get(client));
+        bundle_in(own)
+    }
+}

@@ -31,8 +31,8 @@ use drf_tables::{Left, Tables};
 use std::alloc::{AllocError, Global};
 use std::mem;
 
-/// The offers of a cycle that is not ended, what the turns left free, and, if any role has a limit, a quota that counts the
-/// offers.
+/// The offers of a cycle that is not ended, what the turns left free, and, if any role has a limit or had one, a quota that counts
+/// the offers.
 #[derive(Drop)]
 pub(crate) struct Drafts {
     pub(crate) offers: Vec<OfferRow>,
@@ -109,7 +109,7 @@ fn offer_row(
     })
 }
 
-/// Counts what one more offer consumes, if any role has a limit.
+/// Counts what one more offer consumes, if that is counted.
 fn count_offer(quota: &mut Option<Quota>, offer: &OfferRow) -> Result<(), AllocError>
     requires { CanCount quota.old offer.now }
     ensures { OnOk result ((rows : Rows) → IsQuotaOf rows quota.old → IsQuotaOf (with_offer rows offer.now) quota.new) }
@@ -280,18 +280,18 @@ fn take_back<S: Sorter>(tables: &Tables, sorter: &mut S, offers: &mut Vec<OfferR
     }
 }
 
-/// The quota, with the limits and what is consumed before the first draft, lent by the tables. Where no role has a limit, there is none,
-/// and nothing is counted.
+/// The quota, with the limits and what is consumed before the first draft, lent by the tables. Where no role has a limit and nothing is
+/// counted, there is none. What is counted stays so when the last limit goes: it need not be counted anew when one comes again.
 pub(crate) fn quota_of(tables: &mut Tables) -> Result<Option<Quota>, AllocError>
     requires { length tables.old.rows.agents ≤ 4096 }
     ensures quota { IfOk result (IsQuotaOf tables.old.rows) }
     ensures same { tables.new.rows ≡ tables.old.rows }
     ensures settled { tables.new.settled ≡ tables.old.settled }
 {
-    if !tables.has_limits() {
+    tables.count_consumption()?;
+    if !tables.is_counted() {
         return Ok(None);
     }
-    tables.count_consumption()?;
     let quota = tables.lend_quota()?;
     Ok(Some(quota))
 }

@@ -1,6 +1,8 @@
 mod Lists
 mod RisingLists
-mod Entries
+mod Slots
+mod Places
+mod Slotted
 mod Moved
 mod Numbered
 mod Removed

@@ -19,12 +19,12 @@ module _ {X : Type 0} (number : X → ℕ) where
   pub more_other : (m n : ℕ) → n < m → (m == n) ≡ false
   more_other m n more = ne_eqb m n (λ same. omega (arith, more, same))
 
-  above_others : (n m : ℕ) (xs : List X) → n ≤ m → AllByRecursion (λ k. m < k) (map number xs) → AreOthers number n xs
+  pub above_others : (n m : ℕ) (xs : List X) → n ≤ m → AllByRecursion (λ k. m < k) (map number xs) → AreOthers number n xs
   above_others n m [] le above = tt
   above_others n m (x ∷ xs) le above =
       (more_other (number x) n (omega (arith, le, above.0)), above_others n m xs le above.1)
 
-  above_at : (m : ℕ) (xs : List X) (i : ℕ) (x : X)
+  pub above_at : (m : ℕ) (xs : List X) (i : ℕ) (x : X)
       → AllByRecursion (λ k. m < k) (map number xs) → slice_get xs i ≡ Some x → m < number x
   above_at m [] i x above at = cc
   above_at m (y ∷ ys) zero x above at =

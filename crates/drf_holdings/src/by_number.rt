@@ -1,13 +1,15 @@
-//! Things in order of their numbers, found and taken out by number. Neither looks at more than a path through a tree of them.
-ghost use Rattle.std.specs.Prelude.{◌≡◌, ◌==◌, ◌<◌, ◌^◌, ℕ, [], ◌∷◌, ◌++◌, map, find, filter, not, nat_lt, length, IfNone, IfErr, OnOk, OnErr, MatchOption, option_copied};
-ghost use Rattle.std.specs.Map.{values_of};
+//! Things in order of their numbers, in a list in which what is taken out leaves a gap. Most are found where their number says, counted
+//! from the last one; the others by halving. Gaps close up where there are more of them than things: what leaves pays for that, and the
+//! list is not much longer than what stands.
+ghost use Rattle.std.specs.Prelude.{◌≡◌, ◌==◌, ◌<◌, ◌≤◌, ◌^◌, ℕ, [], ◌∷◌, ◌++◌, map, find, filter, not, nat_lt, length, take, drop, None, IfSome, IfNone, IfErr, OnOk, OnErr, MatchOption, option_copied};
+ghost use Rattle.std.specs.Iterator.{YieldsFirstRef, item_count};
+ghost use Rattle.std.specs.List.{AllByRecursion};
 ghost use Rattle.std.specs.Option.{option_to_list};
-ghost use Rattle.drf_holdings.specs.Rising.{IsRising};
+ghost use Rattle.drf_holdings.specs.ByNumber.{slot_number, things_in, IsPlaceOf, KeepsOrder};
+ghost use Rattle.drf_holdings.specs.Rising.{IsRising, AreOthers};
 ghost use Rattle.drf_holdings.specs.Taking.{IsTaken, HasNone};
 
 use std::alloc::{AllocFailed, Global};
-use std::collections::BTreeMap;
-use std::collections::btree_map::{Range, Values};
 use std::marker::Model;
 
 /// What has a number of its own.
@@ -18,22 +20,117 @@ pub(crate) trait Numbered: Sized + Drop {
         ensures { result ≡ number self.now };
 }
 
+/// A thing under its number, or the gap that it left.
+#[derive(Drop)]
+pub(crate) struct Slot<T> {
+    number: u64,
+    thing: Option<T>,
+}
+
+impl<T> Slot<T> {
+    fn into_thing(self) -> Option<T>
+        ensures { result ≡ self.thing }
+    {
+        self.thing
+    }
+
+    /// Takes the thing out.
+    fn empty(&mut self) -> Option<T>
+        ensures thing { result ≡ self.old.thing }
+        ensures gap { self.new ≡ record { number = self.old.number; thing = None } }
+    {
+        self.thing.take()
+    }
+}
+
+/// The place of a number, if the numbers from it to the last one go on by one.
+fn place_before_last<T>(slots: &[Slot<T>], number: u64) -> Option<usize>
+    ensures { IfSome result (IsPlaceOf number slots.now) }
+{
+    let last = slots.len().checked_sub(1)?;
+    let behind = slots[last].number.checked_sub(number)?;
+    let place = last.checked_sub(behind as usize)?;
+    if slots[place].number == number {
+        Some(place)
+    } else {
+        None
+    }
+}
+
+/// How many slots, whose numbers rise, have numbers below one.
+fn count_below<T>(slots: &[Slot<T>], number: u64) -> usize
+    requires { IsRising (map slot_number slots.now) }
+    ensures within { result ≤ length slots.now }
+    ensures below { AllByRecursion (λ s. s.number < number) (take result slots.now) }
+    ensures rest { AllByRecursion (λ s. number ≤ s.number) (drop result slots.now) }
+{
+    match slots.last() {
+        Some(last) if number <= last.number => slots.partition_point(|slot| slot.number < number),
+        _ => slots.len(),
+    }
+}
+
+/// The place of a number among slots whose numbers rise.
+fn place_of<T>(slots: &[Slot<T>], number: u64) -> Option<usize>
+    requires { IsRising (map slot_number slots.now) }
+    ensures { MatchOption result (AreOthers slot_number number slots.now) (IsPlaceOf number slots.now) }
+{
+    if let Some(place) = place_before_last(slots, number) {
+        return Some(place);
+    }
+    let place = count_below(slots, number);
+    let slot = slots.get(place)?;
+    if slot.number == number {
+        Some(place)
+    } else {
+        None
+    }
+}
+
+/// Takes the last thing out, and the gaps behind it.
+fn pop_thing<T: Drop>(slots: &mut Vec<Slot<T>>) -> Option<T>
+    ensures things { things_in slots.old.items ≡ things_in slots.new.items ++ option_to_list result }
+    ensures order { KeepsOrder slots.old.items slots.new.items }
+    ensures none { IfNone result (things_in slots.new.items ≡ []) }
+{
+    while let Some(slot) = slots.pop() {
+        if let Some(thing) = slot.into_thing() {
+            return Some(thing);
+        }
+    }
+    None
+}
+
+// So many gaps more than things do no harm.
+const FEW: usize = 16;
+
+/// Closes the gaps up where there are more of them than things, and a few.
+fn close_up_if_many<T: Drop>(slots: &mut Vec<Slot<T>>, count: usize)
+    ensures things { things_in slots.new.items ≡ things_in slots.old.items }
+    ensures order { KeepsOrder slots.old.items slots.new.items }
+{
+    if count.saturating_mul(2).saturating_add(FEW) < slots.len() {
+        slots.retain(|slot| slot.thing.is_some());
+    }
+}
+
 /// Things whose numbers rise. Contracts see their list.
 #[derive(Drop)]
 pub(crate) struct ByNumber<T: Numbered> {
-    things: BTreeMap<u64, T>,
+    slots: Vec<Slot<T>>,
+    // How many are no gaps.
+    count: usize,
 }
 
 impl<T: Numbered> Model for ByNumber<T> {
     ghost use Rattle.std.specs.Prelude.{List};
-    ghost use Rattle.std.specs.Map.{values_of};
-    ghost use Rattle.drf_holdings.specs.ByNumber.{IsByNumber};
+    ghost use Rattle.drf_holdings.specs.ByNumber.{things_in, IsByNumber};
 
     ghost Value = { List T };
 
-    ghost view = { λ b. values_of b.things.entries };
+    ghost view = { λ b. things_in b.slots.items };
 
-    ghost invariant = { λ b. IsByNumber T.number b.things.entries };
+    ghost invariant = { λ b. IsByNumber T.number b.slots.items b.count };
 }
 
 impl<T: Numbered> ByNumber<T> {
@@ -42,7 +139,8 @@ impl<T: Numbered> ByNumber<T> {
         ensures { result ≡ [] }
     {
         ByNumber {
-            things: BTreeMap::new(alloc),
+            slots: Vec::new(alloc),
+            count: 0,
         }
     }
 
@@ -50,29 +148,33 @@ impl<T: Numbered> ByNumber<T> {
         ensures len { result ≡ length self.now }
         ensures fits { result < 2 ^ 63 }
     {
-        self.things.len()
+        self.count
     }
 
     /// All, in order of number.
-    pub(crate) fn values(&self) -> Values<'_, u64, T>
+    pub(crate) fn values(&self) -> InOrder<'_, T>
         ensures rest { result ≡ self.now }
         ensures fits { length self.now < 2 ^ 63 }
     {
-        self.things.values()
+        InOrder { slots: &self.slots }
     }
 
     /// Those whose numbers are not below one, in order of number.
-    pub(crate) fn from(&self, number: u64) -> Range<'_, u64, T>
-        ensures { values_of result ≡ filter (λ x. not (nat_lt (T.number x) number)) self.now }
+    pub(crate) fn from(&self, number: u64) -> InOrder<'_, T>
+        ensures { result ≡ filter (λ x. not (nat_lt (T.number x) number)) self.now }
     {
-        self.things.range(number..)
+        let place = count_below(&self.slots, number);
+        InOrder {
+            slots: &self.slots[place..],
+        }
     }
 
     /// The one of a number.
     pub(crate) fn get(&self, number: u64) -> Option<&T>
         ensures { option_copied result ≡ find (λ x. T.number x == number) self.now }
     {
-        self.things.get(&number)
+        let place = place_of(&self.slots, number)?;
+        self.slots[place].thing.as_ref()
     }
 
     /// Takes the one of a number out. It needs no memory.
@@ -82,7 +184,11 @@ impl<T: Numbered> ByNumber<T> {
             (HasNone (λ x. T.number x == number) self.old self.new)
             (IsTaken (λ x. T.number x == number) self.old self.new) }
     {
-        self.things.remove(&number)
+        let place = place_of(&self.slots, number)?;
+        let thing = self.slots[place].empty()?;
+        self.count -= 1;
+        close_up_if_many(&mut self.slots, self.count);
+        Some(thing)
     }
 
     /// Takes the last one out. It needs no memory.
@@ -90,7 +196,8 @@ impl<T: Numbered> ByNumber<T> {
         ensures items { self.old ≡ self.new ++ option_to_list result }
         ensures none { IfNone result ((self.old ≡ []) × (self.new ≡ [])) }
     {
-        let (_, last) = self.things.pop_last()?;
+        let last = pop_thing(&mut self.slots)?;
+        self.count -= 1;
         Some(last)
     }
 
@@ -102,9 +209,50 @@ impl<T: Numbered> ByNumber<T> {
         ensures err { OnErr result (self.new ≡ self.old) }
     {
         let number = last.number();
-        match self.things.insert(number, last) {
-            Ok(_) => Ok(()),
-            Err(AllocFailed { value: (_, last) }) => Err(AllocFailed { value: last }),
+        // What is not below it are gaps.
+        let place = count_below(&self.slots, number);
+        self.slots.truncate(place);
+        if self.slots.reserve(1).is_err() {
+            return Err(AllocFailed { value: last });
         }
+        self.slots.push_reserved(Slot {
+            number,
+            thing: Some(last),
+        });
+        self.count += 1;
+        Ok(())
+    }
+}
+
+/// The things that stand in a list, in order of number. Contracts see those that are left.
+#[derive(Drop)]
+pub struct InOrder<'a, T> {
+    slots: &'a [Slot<T>],
+}
+
+impl<'a, T> Model for InOrder<'a, T> {
+    ghost use Rattle.std.specs.Prelude.{List};
+    ghost use Rattle.drf_holdings.specs.ByNumber.{things_in};
+
+    ghost Value = { List T };
+
+    ghost view = { λ r. things_in r.slots.now };
+}
+
+impl<'a, T> Iterator for InOrder<'a, T> {
+    type Item = &'a T;
+
+    ghost next_gives = { YieldsFirstRef (λ rest. rest) };
+
+    ghost remaining = { item_count (λ rest. rest) };
+
+    fn next(&mut self) -> Option<&'a T> {
+        while let Some((slot, rest)) = self.slots.split_first() {
+            self.slots = rest;
+            if let Some(thing) = &slot.thing {
+                return Some(thing);
+            }
+        }
+        None
     }
 }

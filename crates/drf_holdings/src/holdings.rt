@@ -1,7 +1,6 @@
 //! What clients hold, and how it ends.
 ghost use Rattle.std.specs.Prelude.{◌≡◌, ◌==◌, [], ◌∷◌, ◌++◌, Some, true, false, length, map, find, filter, not, nat_lt, IfOk, OnOk, OnErr, MatchOption, option_copied};
 ghost use Rattle.std.specs.List.{list_any};
-ghost use Rattle.std.specs.Map.{values_of};
 ghost use Rattle.drf_bundle.specs.Taken.{rest_of_all};
 ghost use Rattle.drf_rows.specs.Endings.{ends_offer, ends_task, is_task};
 ghost use Rattle.drf_rows.specs.Holdings.{parts_on};
@@ -13,13 +12,13 @@ ghost use Rattle.drf_holdings.specs.Rising.{IsRising};
 ghost use Rattle.drf_holdings.specs.Stored.{HasTaken, HasStarted, holdings_in};
 ghost use Rattle.drf_holdings.specs.Taking.{IsTaken, HasNone};
 
+use crate::by_number::InOrder;
 use crate::offers::OfferTable;
 use crate::tasks::{Task, TaskTable};
 use drf_bundle::Bundle;
 use drf_role::{Name, Role};
 use drf_rows::{Ending, OfferRow, Table, TaskList, TaskRow};
 use std::alloc::{AllocError, Global};
-use std::collections::btree_map::{Range, Values};
 use std::marker::Model;
 
 /// An offer or a task that was taken out.
@@ -79,7 +78,7 @@ fn task_rows(offer: &OfferRow, tasks: Vec<(Name, Bundle)>) -> Result<Vec<TaskRow
 }
 
 /// The offers and the tasks. Contracts see their lists. What leaves does so without memory, and no call looks at holdings
-/// other than those that it is asked for, but along a path through a tree of them.
+/// other than those that it is asked for, but at some while it finds one, and at all where gaps close up.
 #[derive(Drop)]
 pub struct Holdings {
     offers: OfferTable,
@@ -123,21 +122,21 @@ impl Holdings {
     }
 
     /// The offers, in order of number.
-    pub fn offers(&self) -> Values<'_, u64, OfferRow>
+    pub fn offers(&self) -> InOrder<'_, OfferRow>
         ensures { result ≡ self.now.offers }
     {
         self.offers.rows()
     }
 
-    /// The offers whose numbers are not below one, each beside its number.
-    pub fn offers_from(&self, number: u64) -> Range<'_, u64, OfferRow>
-        ensures { values_of result ≡ filter (λ o. not (nat_lt o.number number)) self.now.offers }
+    /// The offers whose numbers are not below one, in order of number.
+    pub fn offers_from(&self, number: u64) -> InOrder<'_, OfferRow>
+        ensures { result ≡ filter (λ o. not (nat_lt o.number number)) self.now.offers }
     {
         self.offers.from(number)
     }
 
     /// The tasks, as they were started.
-    pub fn tasks(&self) -> Values<'_, u64, Task>
+    pub fn tasks(&self) -> InOrder<'_, Task>
         ensures { map task_row result ≡ self.now.tasks }
     {
         self.tasks.tasks()

@@ -9,5 +9,6 @@ mod names;
 mod offers;
 mod tasks;
 
+pub use by_number::InOrder;
 pub use holdings::{Holdings, Taken};
 pub use tasks::Task;

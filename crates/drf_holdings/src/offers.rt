@@ -1,6 +1,5 @@
 //! The offers that stand, in order of number.
 ghost use Rattle.std.specs.Prelude.{◌≡◌, ◌==◌, ◌+◌, ◌≤◌, List, [], ◌∷◌, ◌++◌, map, find, filter, not, nat_lt, take, reverse, length, vec_len, vec_capacity, IfOk, OnOk, OnErr, MatchOption, option_copied};
-ghost use Rattle.std.specs.Map.{values_of};
 ghost use Rattle.drf_bundle.specs.Taken.{rest_of_all};
 ghost use Rattle.drf_rows.specs.Holdings.{of_offer, parts_on};
 ghost use Rattle.drf_rows.specs.declared.rows.OfferRow.{OfferRow};
@@ -8,14 +7,13 @@ ghost use Rattle.drf_holdings.specs.Listed.{offer_number, offer_on, offer_of, Ar
 ghost use Rattle.drf_holdings.specs.Rising.{IsRising};
 ghost use Rattle.drf_holdings.specs.Taking.{IsTaken, HasNone};
 
-use crate::by_number::{ByNumber, Numbered};
+use crate::by_number::{ByNumber, InOrder, Numbered};
 use crate::index::Index;
 use drf_amount::Algebra;
 use drf_bundle::Bundle;
 use drf_role::Name;
 use drf_rows::{Copied, OfferRow, Table};
 use std::alloc::{AllocError, AllocFailed, Global};
-use std::collections::btree_map::{Range, Values};
 use std::marker::Model;
 
 /// The numbers of offers, by agent and by framework.
@@ -193,15 +191,15 @@ impl OfferTable {
     }
 
     /// The offers, in order of number.
-    pub(crate) fn rows(&self) -> Values<'_, u64, OfferRow>
+    pub(crate) fn rows(&self) -> InOrder<'_, OfferRow>
         ensures { result ≡ self.now }
     {
         self.rows.values()
     }
 
     /// The offers whose numbers are not below one.
-    pub(crate) fn from(&self, number: u64) -> Range<'_, u64, OfferRow>
-        ensures { values_of result ≡ filter (λ o. not (nat_lt o.number number)) self.now }
+    pub(crate) fn from(&self, number: u64) -> InOrder<'_, OfferRow>
+        ensures { result ≡ filter (λ o. not (nat_lt o.number number)) self.now }
     {
         self.rows.from(number)
     }

@@ -11,7 +11,7 @@ ghost use Rattle.drf_holdings.specs.Rising.{IsRising};
 ghost use Rattle.drf_holdings.specs.Taking.{IsTaken, HasNone};
 ghost use Rattle.drf_holdings.specs.declared.tasks.Task.{Task};
 
-use crate::by_number::{ByNumber, Numbered};
+use crate::by_number::{ByNumber, InOrder, Numbered};
 use crate::index::Index;
 use crate::names::Names;
 use drf_amount::Algebra;
@@ -19,7 +19,6 @@ use drf_bundle::Bundle;
 use drf_role::Name;
 use drf_rows::{Copied, Table, TaskRow};
 use std::alloc::{AllocError, Global};
-use std::collections::btree_map::Values;
 use std::marker::Model;
 
 /// A task, and its number among all that were started.
@@ -222,7 +221,7 @@ impl TaskTable {
     }
 
     /// The tasks, as they were started.
-    pub(crate) fn tasks(&self) -> Values<'_, u64, Task>
+    pub(crate) fn tasks(&self) -> InOrder<'_, Task>
         ensures { map task_row result ≡ self.now }
     {
         self.tasks.values()

@@ -9,7 +9,7 @@ ghost use Rattle.drf_journal.specs.State.{machine_after, answer_to, HasTakenAtMo
 
 use crate::open_line::{OpenLine, kept_front};
 use drf_core::Core;
-use drf_lines::{LineError, LineReader, push_fault, push_reply};
+use drf_lines::{LineError, LineReader, push_fault};
 use drf_rows::{Event, Reply};
 use drf_sorter::Sorter;
 use std::alloc::AllocError;
@@ -39,7 +39,7 @@ fn take_line<S: Sorter>(
     match reader.read(line) {
         Ok(event) => {
             let reply = take_event(core, event)?;
-            push_reply(text, &reply)
+            reader.push_reply(text, &reply)
         }
         Err(LineError::Fault(fault)) => push_fault(text, fault),
         Err(LineError::Memory) => Err(AllocError),

@@ -20,3 +20,4 @@ pub mod Events
 pub mod ReplyTexts
 pub mod Lanes
 pub mod LeftAmounts
+pub mod KeptTexts

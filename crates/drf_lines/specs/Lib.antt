@@ -25,3 +25,4 @@ pub mod ReportLine
 pub mod ReplyLine
 pub mod Written
 pub mod Amounts
+pub mod LastReport

@@ -1,5 +1,5 @@
 //! The reader of a line.
-ghost use Rattle.std.specs.Prelude.{◌≡◌, ◌≤◌, length, Some, None, IsErrOf, IfOk, IfErr};
+ghost use Rattle.std.specs.Prelude.{◌≡◌, ◌≤◌, ◌++◌, length, Some, None, IsErrOf, IfOk, IfErr, OnOk};
 ghost use Rattle.std.specs.Option.{ok_or};
 ghost use Rattle.std.specs.Str.{IsUtf8};
 ghost use Rattle.json.specs.Json.{value};
@@ -9,24 +9,28 @@ ghost use Rattle.drf_lines.specs.declared.fault.LineFault.TheVariants.{NotJson};
 ghost use Rattle.drf_lines.specs.Fault.{IsReadAs, IsReadOf};
 ghost use Rattle.drf_lines.specs.LineValue.{line_view, IsRefused};
 ghost use Rattle.drf_lines.specs.Meaning.{value_in, cycle_event, report_event, event_in, meaning_of, longest_line};
+ghost use Rattle.drf_lines.specs.ReplyLine.{reply_line};
 ghost use Rattle.drf_lines.specs.StateMeaning.{state_line_meaning};
+ghost use Rattle.drf_lines.specs.Written.{KeepsFront};
 
 use crate::agents::{read_its_agent, read_its_total};
 use crate::fault::{LineError, LineFault};
 use crate::frameworks::{read_framework, read_its_client, read_its_framework};
+use crate::last_report::LastReport;
 use crate::limits::read_its_limit;
 use crate::object::{LineValue, keys, number_at, text_at};
 use crate::offers::{read_accept, read_decline, read_finish, read_rescind};
 use crate::range::is_in_range;
+use crate::reply::push_reply_after;
 use crate::reservations::read_its_reservation;
 use crate::state_line::read_state_object;
 use crate::weights::read_its_weight;
 use crate::words::KnownWords;
 use bumpalo::Bump;
-use drf_rows::Event;
+use drf_rows::{Event, Reply};
 use drf_saved::StateLine;
 use json::{Error, Reader, Scratch, Value};
-use std::alloc::Global;
+use std::alloc::{AllocError, Global};
 
 /// How deep the arrays and objects of a line may nest.
 const MOST_DEPTH: usize = 127;
@@ -173,12 +177,14 @@ const LONGEST_LINE: usize = 65_536;
 /// An arena of more bytes is not kept for the next line.
 const LARGE_ARENA: usize = 65_536;
 
-/// A reader of lines, one after another. What a line needs to be read is kept for the next one.
+/// A reader of lines, one after another, and a writer of what they are answered. What a line needs to be read is kept for the next one, and so is
+/// the report that was written last.
 pub struct LineReader {
     alloc: Global,
     arena: Bump,
     scratch: Scratch,
     known: KnownWords,
+    last: LastReport,
 }
 
 // Written out, so that the proof of whoever drops a reader sees one call.
@@ -189,6 +195,7 @@ impl Drop for LineReader {
             arena: _arena,
             scratch: _scratch,
             known: _known,
+            last: _last,
         } = self;
     }
 }
@@ -205,6 +212,7 @@ impl LineReader {
             arena: Bump::new(alloc),
             scratch: Scratch::new(alloc),
             known,
+            last: LastReport::new(),
         }
     }
 
@@ -238,6 +246,14 @@ impl LineReader {
         self.empty_arena();
         let value = line_value(&self.arena, &mut self.scratch, line)?;
         read_state_object(self.alloc, &mut self.known, &value)
+    }
+
+    /// Adds the line that tells a reply, as the function of this name does. Of nodes that are as in the report that was written last the text is copied.
+    pub fn push_reply(&mut self, text: &mut Vec<u8>, reply: &Reply) -> Result<(), AllocError>
+        ensures ok { OnOk result (text.new.items ≡ text.old.items ++ reply_line reply.now) }
+        ensures front { KeepsFront text.old.items text.new.items }
+    {
+        push_reply_after(text, &mut self.last, reply)
     }
 }
 

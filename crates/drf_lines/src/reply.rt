@@ -7,6 +7,7 @@ ghost use Rattle.drf_lines.specs.ReplyLine.{offer_value, offers_value, refused_v
 ghost use Rattle.drf_lines.specs.Written.{KeepsFront};
 
 use crate::fault::LineFault;
+use crate::last_report::LastReport;
 use crate::member::{
     put, put_bundle, put_byte, put_comma, put_name, put_number, put_role, put_text,
 };
@@ -69,16 +70,29 @@ fn put_done(line: &mut Vec<u8>) -> Result<(), AllocError>
     put(line, "{\"ok\":true}")
 }
 
-fn put_reply(line: &mut Vec<u8>, reply: &Reply) -> Result<(), AllocError>
+fn put_reply(line: &mut Vec<u8>, last: &mut LastReport, reply: &Reply) -> Result<(), AllocError>
     ensures ok { OnOk result (line.new.items ≡ line.old.items ++ compact_text (reply_value reply.now)) }
     ensures front { KeepsFront line.old.items line.new.items }
 {
     match reply {
         Reply::Done => put_done(line),
         Reply::Offers(offers) => put_offers(line, offers.as_slice()),
-        Reply::Report(report) => put_report(line, report),
+        Reply::Report(report) => put_report(line, last, report),
         Reply::Refused(refusal) => put_refused(line, refusal.name(), refusal.number()),
     }
+}
+
+/// Adds the line that tells a reply, behind the report that was written last.
+pub fn push_reply_after(
+    text: &mut Vec<u8>,
+    last: &mut LastReport,
+    reply: &Reply,
+) -> Result<(), AllocError>
+    ensures ok { OnOk result (text.new.items ≡ text.old.items ++ reply_line reply.now) }
+    ensures front { KeepsFront text.old.items text.new.items }
+{
+    put_reply(text, last, reply)?;
+    put_byte(text, b'\n')
 }
 
 /// Adds the line that tells a reply: compact JSON, the keys in order of bytes. At want of memory a part of it may stand
@@ -87,8 +101,8 @@ pub fn push_reply(text: &mut Vec<u8>, reply: &Reply) -> Result<(), AllocError>
     ensures ok { OnOk result (text.new.items ≡ text.old.items ++ reply_line reply.now) }
     ensures front { KeepsFront text.old.items text.new.items }
 {
-    put_reply(text, reply)?;
-    put_byte(text, b'\n')
+    let mut last = LastReport::none();
+    push_reply_after(text, &mut last, reply)
 }
 
 /// Adds the line that tells why a line is no event. At want of memory a part of it may stand behind what stood there.

@@ -1,5 +1,5 @@
 -- Tables by name, entry by entry.
-use Rattle.std.specs.Prelude.{◌≡◌, ℕ, Bool, true, false, not, List, [], ◌∷◌, ◌++◌, length, map, filter, find, ◌+◌, ◌||◌, Option, None, slice_get, slice_set, Some, is_some, Result, Ok, Err, OnOk, if◌then◌else◌}
+use Rattle.std.specs.Prelude.{◌≡◌, ℕ, Bool, true, false, not, List, [], ◌∷◌, ◌++◌, length, map, filter, find, ◌+◌, ◌||◌, Option, None, slice_get, Some, is_some, Result, Ok, Err, OnOk, if◌then◌else◌}
 use Rattle.std.specs.List.{list_any, position}
 use Rattle.std.specs.Global.{Vec}
 use Rattle.std.specs.Map.{lookup, keys_of, values_of, remove_entry}
@@ -21,8 +21,7 @@ use Rattle.drf_rows.specs.Client.{Client}
 use Rattle.drf_rows.specs.Held.{is_registered}
 use Rattle.drf_tables.specs.Counting.{count_clients}
 use Rattle.drf_tables.proofs.Counted.{count_clients-cons}
-use Rattle.drf_tables.specs.Inside.{agent_row, framework_row, framework_rows, frees_in}
-use Rattle.drf_tables.specs.declared.tables.Agent.{Agent}
+use Rattle.drf_tables.specs.Inside.{framework_row, framework_rows}
 
 -- ---- names
 
@@ -85,25 +84,6 @@ key_found es i key n found at =
 pub from_ok : {T E : Type 0} (r : Result T E) (x : T) (P : Type 0) → r ≡ Ok x → OnOk r P → P
 from_ok (Ok y) x P ok here = here
 from_ok (Err e) x P ok here = cc
-
--- ---- agents
-
--- a free part that is written
-pub rows-set_free : (es : List (Text × Agent)) (i : ℕ) (a w : Agent) → slice_get (values_of es) i ≡ Some a
-    → w.total ≡ a.total → w.active ≡ a.active → map agent_row (set_value_at es i w) ≡ map agent_row es
-rows-set_free [] i a w at total active = cc
-rows-set_free (e ∷ es) zero a w at total active =
-    let same : e.1 ≡ a = cc in
-    let totals : w.total ≡ e.1.total = total ∙ (λ j. (sym same j).total) in
-    let actives : w.active ≡ e.1.active = active ∙ (λ j. (sym same j).active) in
-    λ i. record { name = e.0; total = totals i; active = actives i } ∷ map agent_row es
-rows-set_free (e ∷ es) (suc i) a w at total active = ap (λ rs. agent_row e ∷ rs) (rows-set_free es i a w at total active)
-
-pub frees-set : (es : List (Text × Agent)) (i : ℕ) (w : Agent)
-    → frees_in (set_value_at es i w) ≡ slice_set (frees_in es) i w.free
-frees-set [] i w = refl
-frees-set (e ∷ es) zero w = refl
-frees-set (e ∷ es) (suc i) w = ap (λ fs. e.1.free ∷ fs) (frees-set es i w)
 
 -- ---- frameworks
 

@@ -1,17 +1,15 @@
 -- The tables once an offer or a task is put back.
-use Rattle.std.specs.Prelude.{◌≡◌, ℕ, Bool, true, false, not, List, [], ◌∷◌, ◌++◌, find, map, slice_get, Option, Some, None}
-use Rattle.std.specs.List.{list_all, list_any, position}
-use Rattle.std.specs.Map.{keys_of, values_of}
+use Rattle.std.specs.Prelude.{◌≡◌, Bool, true, false, not, List, [], ◌∷◌, ◌++◌, find, map, Option, Some, None}
+use Rattle.std.specs.List.{list_all, list_any}
 use Rattle.std.specs.Option.{option_map, option_map_or}
 use Rattle.std.proofs.Common.{refl, sym, ap, subst, ◌∙◌}
 use Rattle.std.proofs.lemmas.Bool.{and_parts, not-true, or_from, or_parts}
 use Rattle.std.proofs.lemmas.List.Folds.{list_all-append}
-use Rattle.indexmap.specs.IndexMap.{set_value_at}
 use Rattle.drf_role.specs.Path.{Path}
 use Rattle.drf_role.specs.Text.{Text, same_text}
 use Rattle.drf_bundle.specs.Bundle.{covers, part_for, rest}
 use Rattle.drf_bundle.specs.declared.resource.Resource.{Resource}
-use Rattle.drf_rows.specs.Consistent.{are_distinct, are_distinct_tasks, IsConsistent, IsHeld}
+use Rattle.drf_rows.specs.Consistent.{are_distinct_tasks, IsConsistent, IsHeld}
 use Rattle.drf_rows.specs.Cycle.{free_of}
 use Rattle.drf_rows.specs.Endings.{is_task}
 use Rattle.drf_rows.specs.Holdings.{Holding, holdings_of, of_offer, of_task}

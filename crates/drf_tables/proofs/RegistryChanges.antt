@@ -1,7 +1,6 @@
 -- Agents in slots that change, found by name.
 use Rattle.std.proofs.Common.{◌≡◌, ◌+◌, ◌<◌, ℕ, Bool, true, refl, List, [], ◌∷◌, ◌++◌, Option, None, Some, is_some, map, length, drop, get_or, set, take, ap, ◌∙◌, sym}
-use Rattle.std.specs.Map.{lookup, keys_of}
-use Rattle.std.specs.Option.{option_copied}
+use Rattle.std.specs.Map.{keys_of}
 use Rattle.std.proofs.lemmas.List.{drop_more, map-append}
 use Rattle.std.proofs.lemmas.List.Sums.{sum_by-append}
 use Rattle.indexmap.specs.IndexMap.{set_value_at}
@@ -14,7 +13,7 @@ use Rattle.drf_rows.specs.Quota.{reserved_for, reserved_in}
 use Rattle.drf_rows.specs.declared.rows.AgentRow.{AgentRow}
 use Rattle.drf_tables.specs.Changing.{changed}
 use Rattle.drf_tables.specs.Inside.{agent_row}
-use Rattle.drf_tables.specs.Registered.{slot_of, IsRegistry}
+use Rattle.drf_tables.specs.Registered.{slot_of}
 use Rattle.drf_tables.specs.declared.tables.Agent.{Agent}
 use Rattle.drf_tables.proofs.Entries.{names-keys}
 use Rattle.drf_tables.proofs.Known.{changed_entry, changed_none, key_unknown}

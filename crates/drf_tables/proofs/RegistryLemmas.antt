@@ -1,9 +1,8 @@
 -- Agents in slots, some of which are gaps.
-use Rattle.std.proofs.Common.{◌≡◌, ◌+◌, ◌<◌, ◌≤◌, ℕ, zero, suc, Bool, true, false, cond, not, inl, inr, refl, List, [], ◌∷◌, ◌++◌, Option, None, Some, is_some, Result, Ok, Err, OnOk, map, filter, length, get_or, set, take, slice_get, slice_set, ap, ◌∙◌, sym, subst, arith, if◌then◌else◌, length-append}
-use Rattle.std.specs.List.{list_all}
+use Rattle.std.proofs.Common.{◌≡◌, ◌+◌, ◌<◌, ◌≤◌, ℕ, zero, suc, Bool, true, false, cond, not, inl, inr, refl, List, [], ◌∷◌, ◌++◌, Option, None, Some, is_some, Result, Ok, Err, OnOk, map, filter, length, get_or, set, take, slice_get, ap, ◌∙◌, sym, subst, arith, if◌then◌else◌, length-append}
 use Rattle.std.specs.Map.{lookup, keys_of, values_of, remove_entry}
-use Rattle.std.specs.Option.{option_copied, option_map}
-use Rattle.std.proofs.lemmas.Bool.{cases_Bool, and_parts, and_from, not-true, false≢true}
+use Rattle.std.specs.Option.{option_map}
+use Rattle.std.proofs.lemmas.Bool.{cases_Bool, and_parts, and_from, not-true}
 use Rattle.std.proofs.lemmas.List.{get_or_default, take_more}
 use Rattle.std.proofs.lemmas.List.Elements.{filter_map-append}
 use Rattle.indexmap.specs.IndexMap.{set_value_at}
@@ -11,7 +10,7 @@ use Rattle.drf_bundle.specs.ListLaws.{none_has, none_has_at}
 use Rattle.drf_bundle.specs.declared.resource.Resource.{Resource}
 use Rattle.drf_gates.specs.Slots.{filled}
 use Rattle.drf_role.specs.Text.{Text, same_text}
-use Rattle.drf_role.specs.TextLaws.{same_from_test, same_itself}
+use Rattle.drf_role.specs.TextLaws.{same_from_test}
 use Rattle.drf_row_laws.specs.ConsistentLaws.{same_text-swap}
 use Rattle.drf_rows.specs.Consistent.{are_distinct}
 use Rattle.drf_tables.specs.Registered.{slot_of, first_place, ranks_of, with_free_at, IsRanked, IsRegistry}
@@ -160,13 +159,6 @@ place-below name (e ∷ es) (suc i) is = elim (cases_Bool (same_text name e.0)) 
   | inr other ↦
       let later = sym (passed (same_text name e.0) (Some zero) (option_map (λ j. suc j) (first_place name es)) other) ∙ is in
       omega (arith, place-below name es i (next-some (first_place name es) i later))
-]
-
-pub place-known : (name : Text) (es : List Entry) → is_some (first_place name es) ≡ is_some (lookup (same_text name) es)
-place-known name [] = refl
-place-known name (e ∷ es) = elim (cases_Bool (same_text name e.0)) [
-  | inl same ↦ rw same refl
-  | inr other ↦ rw other (is_some-next (first_place name es) ∙ place-known name es)
 ]
 
 -- ---- no gaps

@@ -1,7 +1,6 @@
 -- Whether anything stands in a table.
 use Rattle.std.specs.Prelude.{◌≡◌, ◌==◌, ℕ, Bool, true, false, not, List, [], ◌∷◌, filter, length, nat_lt, Option, Some, None, is_some}
 use Rattle.std.specs.List.{list_all}
-use Rattle.std.specs.Map.{values_of}
 use Rattle.std.specs.Map.Iter.{TakesFirst}
 use Rattle.std.proofs.Common.{refl, sym, ap, inl, inr}
 use Rattle.std.proofs.lemmas.Bool.{cases_Bool}
@@ -14,12 +13,12 @@ none_there [] = refl
 none_there (x ∷ xs) = eqb-suc-zero (length xs)
 
 -- where no first one is given, there is none
-pub none_first : {A V : Type 0} (shows : A → ℕ × V) (s t : List (ℕ × V)) (r : Option A) (none : Bool) → TakesFirst shows s r t
-    → is_some r ≡ not none → none ≡ is_empty (values_of s)
-none_first shows s t None true gone told = ap (λ (es : List _). is_empty (values_of es)) (sym gone.0)
+pub none_first : {A V : Type 0} (shows : A → V) (s t : List V) (r : Option A) (none : Bool) → TakesFirst shows s r t
+    → is_some r ≡ not none → none ≡ is_empty s
+none_first shows s t None true gone told = ap (λ (es : List _). is_empty es) (sym gone.0)
 none_first shows s t None false gone told = cc
 none_first shows s t (Some x) true first told = cc
-none_first shows s t (Some x) false first told = ap (λ (es : List _). is_empty (values_of es)) (sym first)
+none_first shows s t (Some x) false first told = ap (λ (es : List _). is_empty es) (sym first)
 
 -- all numbers are below one where none is from it on
 pub none_from : (number : ℕ) (os : List OfferRow)

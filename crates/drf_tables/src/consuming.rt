@@ -12,16 +12,15 @@ ghost use Rattle.drf_tables.specs.Inside.{agent_row};
 use crate::registry::Registry;
 use crate::tables::Agent;
 use drf_gates::Quota;
-use drf_holdings::Task;
+use drf_holdings::{InOrder, Task};
 use drf_role::Name;
 use drf_rows::OfferRow;
 use std::alloc::AllocError;
-use std::collections::btree_map::Values;
 
 /// What clients consume by offers.
 pub(crate) fn consume_offers(
     quota: &mut Quota,
-    offers: Values<'_, u64, OfferRow>,
+    offers: InOrder<'_, OfferRow>,
 ) -> Result<(), AllocError>
     requires { (test : Path → Bool) (label : Text)
         → used_where test quota.old.used label + held_unreserved test (map of_offer offers) label < 2 ^ 64 }
@@ -35,10 +34,7 @@ pub(crate) fn consume_offers(
 }
 
 /// What clients consume by tasks.
-pub(crate) fn consume_tasks(
-    quota: &mut Quota,
-    tasks: Values<'_, u64, Task>,
-) -> Result<(), AllocError>
+pub(crate) fn consume_tasks(quota: &mut Quota, tasks: InOrder<'_, Task>) -> Result<(), AllocError>
     requires { (test : Path → Bool) (label : Text)
         → used_where test quota.old.used label + held_unreserved test (map of_task (map task_row tasks)) label < 2 ^ 64 }
     ensures ok { OnOk result (IsRaisedBy quota.old quota.new (λ test label. held_unreserved test (map of_task (map task_row tasks.entry)) label)) }

@@ -7,6 +7,7 @@ mod copied;
 mod ending;
 mod filtering;
 mod free_part;
+mod gaps;
 mod leaving;
 mod limits;
 mod listing;

@@ -42,6 +42,13 @@ impl Tables {
         self.quota.limit_count()
     }
 
+    /// Whether what roles consume is counted.
+    pub fn is_counted(&self) -> bool
+        ensures { result ≡ self.now.counted }
+    {
+        self.is_counted
+    }
+
     /// What roles consume under their limits.
     pub fn quota(&self) -> &Quota
         requires { self.now.counted ≡ true }

@@ -1,6 +1,5 @@
 //! What the offers of a cycle change: the counts of their clients, and what is free on the agents.
 ghost use Rattle.std.specs.Prelude.{◌≡◌, ◌<◌, map, length, All, true};
-ghost use Rattle.std.specs.Map.{values_of};
 ghost use Rattle.drf_rows.specs.Cycle.{counted};
 ghost use Rattle.drf_rows.specs.Holdings.{of_offer};
 ghost use Rattle.drf_rows.specs.Consistent.{are_distinct};
@@ -10,10 +9,10 @@ ghost use Rattle.drf_tables.specs.Inside.{agent_row, framework_rows, frees_in, k
 use crate::free_part::FreePart;
 use crate::registry::Registry;
 use crate::tables::Left;
+use drf_holdings::InOrder;
 use drf_role::Name;
 use drf_rows::{ClientRow, OfferRow};
 use indexmap::IndexMap;
-use std::collections::btree_map::Range;
 
 /// Counts an offer at the client, of those of its framework, that has its role.
 fn count_at(clients: &mut [ClientRow], offer: &OfferRow)
@@ -51,13 +50,13 @@ pub(crate) fn first_number(offers: &[OfferRow], next: u64) -> u64
 /// Counts each offer at its client.
 pub(crate) fn count_offers(
     frameworks: &mut IndexMap<Name, Vec<ClientRow>>,
-    offers: Range<'_, u64, OfferRow>,
+    offers: InOrder<'_, OfferRow>,
 )
     requires names { are_distinct (map (λ f. f.name) (framework_rows frameworks.old.entries)) ≡ true }
-    requires fits { CanCountAll (length (values_of offers)) (framework_rows frameworks.old.entries) }
-    ensures { framework_rows frameworks.new.entries ≡ counting_all (framework_rows frameworks.old.entries) (values_of offers.entry) }
+    requires fits { CanCountAll (length offers) (framework_rows frameworks.old.entries) }
+    ensures { framework_rows frameworks.new.entries ≡ counting_all (framework_rows frameworks.old.entries) offers.entry }
 {
-    for (_, offer) in offers {
+    for offer in offers {
         count_offer(frameworks, offer);
     }
 }

@@ -182,7 +182,7 @@ impl Tables {
     pub fn has_agent(&self, name: &Name) -> bool
         ensures { result ≡ has_agent self.now.rows name.now }
     {
-        self.agents.contains_key(name)
+        self.agents.has(name)
     }
 
     pub fn has_framework(&self, name: &Name) -> bool
@@ -217,7 +217,7 @@ impl Tables {
         ensures within { IfSome result (λ place. place < length self.now.rows.agents) }
         ensures row { IfSome result (λ place. slice_get self.now.rows.agents place ≡ agent_at self.now.rows name.now) }
     {
-        self.agents.get_index_of(name)
+        self.agents.place_of(name)
     }
 
     /// The name of the agent at a place, by registration.

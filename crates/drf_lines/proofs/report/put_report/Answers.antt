@@ -7,5 +7,5 @@ pub returns-clause-ok : goal.returns-clause-ok
 unfolding escape_byte
 returns-clause-ok c =
     on_ok_weaker c.put_byte.result (λ end.
-    then c.args.line.now.items _ _ c.in_ok-put.ensures.ok (then c.put.new.line.items _ _ (rw c.as_slice.ensures at c.in_ok-put_node_list.ensures.ok)
-    (then c.put_node_list.new.line.items _ _ c.in_ok-put_amounts.ensures.ok end))) c.put_byte.ensures.ok
+    then c.args.line.now.items _ _ c.in_ok-put.ensures.ok (then c.put.new.line.items _ _ c.in_ok-put_nodes.ensures.ok
+    (then c.put_nodes.new.line.items _ _ c.in_ok-put_amounts.ensures.ok end))) c.put_byte.ensures.ok

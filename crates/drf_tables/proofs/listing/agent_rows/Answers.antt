@@ -1,9 +1,9 @@
-use Rattle.std.proofs.Common.{◌≡◌, List, [], ◌∷◌, ◌++◌, map, take, sym, ap, ◌∙◌}
+use Rattle.std.proofs.Common.{List, [], ◌∷◌, ◌++◌, map, take, sym, ap, ◌∙◌}
 use Rattle.std.proofs.lemmas.List.{map-append, take_all}
 use Rattle.drf_gates.specs.Slots.{filled}
 use Rattle.drf_rows.specs.declared.rows.AgentRow.{AgentRow}
 use Rattle.drf_tables.specs.Inside.{agent_row}
-use Rattle.drf_tables.proofs.RegistryLemmas.{Entry, Slots, filled-more}
+use Rattle.drf_tables.proofs.RegistryLemmas.{Slots, filled-more}
 use Rattle.drf_tables.proofs.listing.agent_rows.Goals as goal
 
 pub loop-slot-preserved : goal.loop-slot-preserved

@@ -1,5 +1,4 @@
 use Rattle.std.proofs.Common.{◌≡◌, ◌+◌, ◌∷◌, List, length, sym, ap, ◌∙◌, arith}
-use Rattle.std.specs.Map.{values_of}
 use Rattle.drf_rows.specs.Consistent.{are_distinct}
 use Rattle.drf_rows.specs.declared.rows.FrameworkRow.{FrameworkRow}
 use Rattle.drf_rows.specs.declared.rows.OfferRow.{OfferRow}
@@ -12,12 +11,12 @@ pub loop-offer-preserved : goal.loop-offer-preserved
 loop-offer-preserved c =
     let at = c.loop-offer in
     let offer : OfferRow = c.in-Some.offer.now in
-    let rest : List OfferRow = values_of c.next.new.self in
+    let rest : List OfferRow = c.next.new.self in
     let fs : List FrameworkRow = framework_rows at.frameworks.entries in
-    let split : values_of at.offer-iterator ≡ offer ∷ rest = ap values_of c.in-Some.ensures.steps in
-    let next : length (values_of at.offer-iterator) ≡ length rest + 1 = omega (arith, ap length split) in
+    let split : at.offer-iterator ≡ offer ∷ rest = c.in-Some.ensures.steps in
+    let next : length at.offer-iterator ≡ length rest + 1 = omega (arith, ap length split) in
     rw c.count_offer.ensures (record {
       names = ap are_distinct (names-counting fs offer) ∙ at.invariant.names;
-      fits = CanCountAll-counting (length rest) (length (values_of at.offer-iterator)) fs offer next at.invariant.fits;
+      fits = CanCountAll-counting (length rest) (length at.offer-iterator) fs offer next at.invariant.fits;
       counted = sym (ap (counting_all fs) split) ∙ at.invariant.counted;
     })

@@ -1,11 +1,9 @@
-use Rattle.std.proofs.Common.{◌≡◌, ◌+◌, Some, slice_get, sym, ap, ◌∙◌, subst, map, length, refl}
+use Rattle.std.proofs.Common.{◌≡◌, ◌+◌, Some, sym, ap, ◌∙◌, subst, map, length, refl}
 use Rattle.std.specs.List.{AllByRecursion}
 use Rattle.indexmap.specs.IndexMap.{set_value_at}
-use Rattle.drf_role.specs.Text.{Text}
 use Rattle.drf_holdings.specs.Stored.{holdings_in}
 use Rattle.drf_tables.specs.Changing.{are_settled}
 use Rattle.drf_tables.specs.Inside.{agent_row, IsKnown}
-use Rattle.drf_tables.specs.declared.tables.Agent.{Agent}
 use Rattle.drf_tables.proofs.Entries.{value_at}
 use Rattle.drf_tables.proofs.Known.{length-free_at, rows-free_at, settled-more, settled-set, known-set}
 use Rattle.drf_tables.proofs.RegistryLemmas.{Entry, written_free}

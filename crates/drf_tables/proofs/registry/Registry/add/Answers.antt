@@ -1,11 +1,10 @@
-use Rattle.std.proofs.Common.{◌≡◌, ℕ, List, ◌++◌, ◌∷◌, [], Option, None, Some, is_some, false, cond, length, sym, ap, ◌∙◌, subst, arith}
+use Rattle.std.proofs.Common.{◌≡◌, ◌++◌, ◌∷◌, [], Some, is_some, false, cond, length, ap, ◌∙◌, arith}
 use Rattle.std.specs.Map.{lookup}
 use Rattle.drf_role.specs.Text.{Text, same_text}
 use Rattle.drf_gates.specs.Slots.{filled}
-use Rattle.drf_tables.specs.Registered.{Registered, slot_of}
-use Rattle.drf_tables.specs.declared.tables.Agent.{Agent}
+use Rattle.drf_tables.specs.Registered.{Registered}
 use Rattle.drf_tables.proofs.Entries.{from_ok}
-use Rattle.drf_tables.proofs.RegistryLemmas.{Entry, Slots, filled-push, filled-short, registry-push, slot_new}
+use Rattle.drf_tables.proofs.RegistryLemmas.{Slots, filled-push, filled-short, registry-push, slot_new}
 use Rattle.drf_tables.proofs.registry.Registry.add.Goals as goal
 
 pub unwrap-requires : goal.unwrap-requires

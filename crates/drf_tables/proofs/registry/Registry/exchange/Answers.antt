@@ -1,13 +1,11 @@
-use Rattle.std.proofs.Common.{◌≡◌, ℕ, List, Option, None, Some, true, false, is_some, length, map, set, take, slice_get, refl, inl, inr, sym, ap, ◌∙◌, subst, arith}
+use Rattle.std.proofs.Common.{◌≡◌, None, Some, true, length, map, set, take, sym, ap, ◌∙◌, subst, arith}
 use Rattle.std.specs.List.{AllByRecursion}
-use Rattle.std.specs.Map.{lookup}
 use Rattle.std.specs.Option.{option_copied, option_map}
 use Rattle.drf_bundle.specs.ListLaws.{each_at}
-use Rattle.drf_bundle.specs.declared.resource.Resource.{Resource}
 use Rattle.drf_gates.specs.Slots.{filled}
 use Rattle.drf_role.specs.Text.{Text, same_text}
 use Rattle.drf_row_laws.specs.ConsistentLaws.{same_text-swap}
-use Rattle.drf_tables.specs.Changing.{CanExchangeAt, HasFreed, HasOther, changed, freed, joined_free, with_active, with_exchanged, with_other}
+use Rattle.drf_tables.specs.Changing.{CanExchangeAt, changed, with_exchanged}
 use Rattle.drf_tables.specs.Registered.{Registered, slot_of}
 use Rattle.drf_tables.specs.declared.tables.Agent.{Agent}
 use Rattle.drf_tables.proofs.RegistryChanges.{changed_slot, unchanged_slots}

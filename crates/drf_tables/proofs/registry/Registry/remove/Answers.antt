@@ -1,5 +1,5 @@
-use Rattle.std.proofs.Common.{◌≡◌, ℕ, Option, None, Some, length, refl, sym, ap, ◌∙◌, arith}
-use Rattle.std.specs.Map.{lookup, remove_entry}
+use Rattle.std.proofs.Common.{◌≡◌, None, Some, refl, sym, ap, ◌∙◌, arith}
+use Rattle.std.specs.Map.{remove_entry}
 use Rattle.drf_role.specs.Text.{Text, same_text}
 use Rattle.drf_gates.specs.Slots.{filled}
 use Rattle.drf_tables.specs.Registered.{Registered, slot_of}

@@ -1,4 +1,4 @@
-use Rattle.std.proofs.Common.{◌≡◌, ◌≤◌, ◌+◌, Result, OnOk, length, arith}
+use Rattle.std.proofs.Common.{arith}
 use Rattle.drf_tables.proofs.RegistryLemmas.{ok_then}
 use Rattle.drf_tables.proofs.registry.Registry.reserve.Goals as goal
 

@@ -1,7 +1,6 @@
-use Rattle.std.proofs.Common.{◌≡◌, ℕ, List, Option, None, Some, get_or, length, set, take, slice_get, refl, sym, ap, ◌∙◌, arith}
+use Rattle.std.proofs.Common.{◌≡◌, ℕ, Option, None, Some, get_or, length, set, take, slice_get, sym, ap, ◌∙◌, arith}
 use Rattle.std.specs.Option.{option_map}
 use Rattle.indexmap.specs.IndexMap.{set_value_at}
-use Rattle.drf_bundle.specs.declared.resource.Resource.{Resource}
 use Rattle.drf_gates.specs.Slots.{filled}
 use Rattle.drf_tables.specs.Registered.{Registered, with_free_at}
 use Rattle.drf_tables.specs.declared.tables.Agent.{Agent}

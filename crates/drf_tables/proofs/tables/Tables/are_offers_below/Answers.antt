@@ -1,6 +1,6 @@
 use Rattle.std.proofs.Common.{List, ap, ◌∙◌}
 use Rattle.std.specs.List.{list_all}
-use Rattle.std.specs.Map.Iter.{deref_pair}
+use Rattle.std.specs.Map.Iter.{deref}
 use Rattle.std.specs.Prelude.{nat_lt}
 use Rattle.drf_rows.specs.Offers.{is_empty}
 use Rattle.drf_rows.specs.declared.rows.OfferRow.{OfferRow}
@@ -13,7 +13,7 @@ pub returns : goal.returns
 unfolding rows_of
 returns c =
     let number = c.args.number in
-    none_first deref_pair c.offers_from.result c.next.new.self c.next.result c.is_none.result c.next.ensures.steps c.is_none.ensures
+    none_first deref c.offers_from.result c.next.new.self c.next.result c.is_none.result c.next.ensures.steps c.is_none.ensures
     ∙ ap (λ (os : List OfferRow). is_empty os) c.offers_from.ensures
     ∙ none_from number c.self.inside.holdings.offers
     ∙ ap (λ (s : Stored). list_all (λ o. nat_lt o.number number) s.rows.offers) c.self.view_is

@@ -1,5 +1,4 @@
 use Rattle.std.proofs.Common.{◌≡◌, ℕ, ◌+◌, ◌++◌, List, true, map, length, sym, ap, ◌∙◌, subst, arith}
-use Rattle.std.specs.Map.{values_of}
 use Rattle.drf_rows.specs.Consistent.{IsConsistent, are_rising}
 use Rattle.drf_rows.specs.declared.rows.LimitRow.{LimitRow}
 use Rattle.drf_rows.specs.declared.rows.OfferRow.{OfferRow}
@@ -42,7 +41,7 @@ count_offers-requires-clause-fits c =
     ap (λ (os : List OfferRow). are_rising (map offer_number os) later.next_offer) (sym (offers-with_offers (rows_in t) offers)) ∙ whole.numbered in
     let first : c.first_number-first.result ≡ first_number offers t.next_offer =
     c.first_number-first.ensures ∙ ap (λ (os : List OfferRow). first_number os t.next_offer) c.deref.ensures.value in
-    let made : values_of c.offers_from.result ≡ offers =
+    let made : c.offers_from.result ≡ offers =
     c.offers_from.ensures
     ∙ made_from t.holdings.offers offers c.append.new.self.offers c.first_number-first.result t.next_offer later.next_offer
     c.self.invariant.kept.consistent.numbered risen first c.in_ok-append.ensures.ok in
@@ -74,7 +73,7 @@ invariant_of-self-2 c =
     ap (λ (os : List OfferRow). are_rising (map offer_number os) later.next_offer) (sym (offers-with_offers (rows_in t) offers)) ∙ whole.numbered in
     let first : c.first_number-first.result ≡ first_number offers t.next_offer =
     c.first_number-first.ensures ∙ ap (λ (os : List OfferRow). first_number os t.next_offer) c.deref.ensures.value in
-    let made : values_of c.offers_from.result ≡ offers =
+    let made : c.offers_from.result ≡ offers =
     c.offers_from.ensures
     ∙ made_from t.holdings.offers offers c.append.new.self.offers c.first_number-first.result t.next_offer later.next_offer
     c.self.invariant.kept.consistent.numbered risen first c.in_ok-append.ensures.ok in
@@ -121,7 +120,7 @@ returns-clause-ok c =
     ap (λ (os : List OfferRow). are_rising (map offer_number os) later.next_offer) (sym (offers-with_offers (rows_in t) offers)) ∙ whole.numbered in
     let first : c.first_number-first.result ≡ first_number offers t.next_offer =
     c.first_number-first.ensures ∙ ap (λ (os : List OfferRow). first_number os t.next_offer) c.deref.ensures.value in
-    let made : values_of c.offers_from.result ≡ offers =
+    let made : c.offers_from.result ≡ offers =
     c.offers_from.ensures
     ∙ made_from t.holdings.offers offers c.append.new.self.offers c.first_number-first.result t.next_offer later.next_offer
     c.self.invariant.kept.consistent.numbered risen first c.in_ok-append.ensures.ok in

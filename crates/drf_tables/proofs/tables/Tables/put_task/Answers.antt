@@ -1,8 +1,7 @@
 use Rattle.std.proofs.Common.{◌≡◌, false, map, Some, is_some, sym, ap, subst, ◌∙◌}
 use Rattle.std.specs.Map.{lookup}
-use Rattle.std.specs.Option.{option_copied, option_map}
+use Rattle.std.specs.Option.{option_copied}
 use Rattle.drf_role.specs.Text.{Text, same_text}
-use Rattle.drf_bundle.specs.Bundle.{rest}
 use Rattle.drf_rows.specs.Consistent.{IsConsistent}
 use Rattle.drf_rows.specs.declared.rows.TaskRow.{TaskRow}
 use Rattle.drf_tables.specs.Changing.{changed, with_held}

@@ -1,0 +1,82 @@
+//! The writer of a report's nodes.
+ghost use Rattle.std.specs.Prelude.{◌≡◌, ◌++◌, map, IsTrue, OnOk};
+ghost use Rattle.serde_json.specs.Data.{array};
+ghost use Rattle.serde_json.specs.View.{items_of};
+ghost use Rattle.serde_json.specs.Written.{compact_text};
+ghost use Rattle.drf_lines.specs.ReportLine.{node_value};
+ghost use Rattle.drf_lines.specs.Written.{KeepsFront};
+
+use crate::amounts::put_amounts;
+use crate::fraction::put_fraction;
+use crate::member::{put_byte, put_comma, put_number, put_text};
+use drf_bundle::Entry;
+use drf_role::NodePath;
+use drf_rows::NodeLine;
+use std::alloc::AllocError;
+
+/// Whether two entries are the same.
+fn is_same_entry(entry: &Entry, other: &Entry) -> bool
+    ensures { IsTrue result → entry.now ≡ other.now }
+{
+    entry.amount.thousandths() == other.amount.thousandths() && entry.label == other.label
+}
+
+/// Whether two lists of entries are the same.
+fn are_same_entries(entries: &[Entry], others: &[Entry]) -> bool
+    ensures { IsTrue result → entries.now ≡ others.now }
+{
+    if entries.len() != others.len() {
+        return false;
+    }
+    for i in 0..entries.len() {
+        if !is_same_entry(&entries[i], &others[i]) {
+            return false;
+        }
+    }
+    true
+}
+
+/// Whether two paths are the same.
+pub fn is_same_path(path: &NodePath, other: &NodePath) -> bool
+    ensures { IsTrue result → path.now ≡ other.now }
+{
+    path == other
+}
+
+/// Whether two nodes are the same. Their numbers are compared first.
+pub fn is_same_node(node: &NodeLine, other: &NodeLine) -> bool
+    ensures { IsTrue result → node.now ≡ other.now }
+{
+    node.count == other.count
+        && node.share.0 == other.share.0
+        && node.share.1 == other.share.1
+        && node.weighted.0 == other.weighted.0
+        && node.weighted.1 == other.weighted.1
+        && is_same_path(&node.path, &other.path)
+        && are_same_entries(node.held.entries(), other.held.entries())
+}
+
+pub fn put_node(line: &mut Vec<u8>, node: &NodeLine) -> Result<(), AllocError>
+    ensures ok { OnOk result (line.new.items ≡ line.old.items ++ compact_text (node_value node.now)) }
+    ensures front { KeepsFront line.old.items line.new.items }
+{
+    put_number(line, "{\"count\":", node.count)?;
+    put_amounts(line, ",\"held\":\"", &node.held)?;
+    put_text(line, ",\"path\":\"", node.path.text())?;
+    put_fraction(line, ",\"share\":\"", node.share)?;
+    put_fraction(line, ",\"weighted\":\"", node.weighted)?;
+    put_byte(line, b'}')
+}
+
+/// The nodes, one after another.
+pub fn put_node_list(line: &mut Vec<u8>, nodes: &[NodeLine]) -> Result<(), AllocError>
+    ensures ok { OnOk result (line.new.items ≡ line.old.items ++ compact_text (array (items_of (map node_value nodes.now)))) }
+    ensures front { KeepsFront line.old.items line.new.items }
+{
+    put_byte(line, b'[')?;
+    for (i, node) in nodes.iter().enumerate() {
+        put_comma(line, i)?;
+        put_node(line, node)?;
+    }
+    put_byte(line, b']')
+}

@@ -1,6 +1,6 @@
 #!/usr/bin/env python3
 """Outside the proof. Runs the gate (`rt ci`) on a clone of the last commit, and prints a table of the seconds that each crate's proof, its
-must-fail edits, its tests and its runs took, as docs/PROVING.md has it, then the whole time and the processor time. The
+must-fail edits, its tests and its runs took, as bench/README.md has it, then the whole time and the processor time. The
 gate's own lines go to standard error.
 
     bench/tools/gate.py              the whole repository

@@ -6,7 +6,7 @@ ghost use Rattle.drf_worked.specs.Examples.{mem, not_offered, offered_whole, rep
 ghost use Rattle.drf_worked.specs.OrderExamples.{served};
 ghost use Rattle.drf_cases.specs.AgentCases.{agents_told};
 ghost use Rattle.drf_cases.specs.FrameworkCases.{frameworks_told};
-ghost use Rattle.drf_cases.specs.FullCases.{full_told, one_event};
+ghost use Rattle.drf_cases.specs.FullCases.{FullRefusesAll, full_told, one_event};
 ghost use Rattle.drf_cases.specs.OfferCases.{offers_told};
 ghost use Rattle.drf_cases.specs.RefusalCases.{refusals_documented, refusals_told};
 ghost use Rattle.drf_cases.specs.RoleCases.{reservations_told, roles_told};
@@ -43,7 +43,8 @@ pub fn roles_cases()
 
 /// A history that is full refuses each event, for that alone.
 pub fn full_cases()
-    ensures { IsRun one_event full_told }
+    ensures all { FullRefusesAll }
+    ensures run { IsRun one_event full_told }
 {}
 
 /// What suppressed clients hold and were offered counts for those above them, and so does what runs on agents that take no part; what is reserved

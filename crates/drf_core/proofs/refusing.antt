@@ -1,3 +1,4 @@
 -- Tests of refusal.
+pub mod Known
 pub mod Late
 pub mod Tests

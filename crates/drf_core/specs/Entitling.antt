@@ -1,5 +1,5 @@
 -- What a role may have of what is free in a turn, and what a client is granted of that.
-use Rattle.std.specs.Prelude.{◌≡◌, ℕ, Bool, IsTrue, true, not, ◌&&◌, nat_le, codes, ◌||◌, List, [], drop, take, Option, Some, None, is_none, is_some, if◌then◌else◌}
+use Rattle.std.specs.Prelude.{◌≡◌, ℕ, Bool, IsTrue, true, not, ◌&&◌, nat_le, codes, ◌||◌, List, [], drop, take, Option, Some, None, if◌then◌else◌}
 use Rattle.std.specs.Option.{option_map_or, MatchOption}
 use Rattle.drf_role.specs.Text.{Text, same_text}
 use Rattle.drf_role.specs.Path.{Path, begins_with, client_path, same_path}
@@ -14,6 +14,8 @@ use Rattle.drf_rows.specs.declared.rows.Rows.{Rows}
 use Rattle.drf_sorter.specs.Passed.{IsPassedFront}
 use Rattle.drf_core.specs.declared.free.ForEveryone.{ForEveryone}
 use Rattle.drf_core.specs.declared.free.Free.{Free}
+use Rattle.drf_core.specs.declared.free.Known.{Known}
+use Rattle.drf_core.specs.declared.free.Known.TheVariants.{Nothing, Part, Barred}
 
 -- limits and consumption are those of the rows; where there is no quota, no role has a limit
 abbrev pub IsQuotaOf : Rows → Option Allowance → Type 0
@@ -54,12 +56,29 @@ abbrev pub IsOffered : Option Allowance → List Resource → Path → Option (L
 IsOffered quota free role part =
     (rows : Rows) (client : Client) → IsQuotaOf rows quota → client.role ≡ role → part ≡ if_allocatable (entitlement rows free client)
 
--- in all rows with that quota, no client whose path begins with the first parts, so many, of those of the role's clients may have
--- anything of what is free that is worth an offer
-abbrev pub IsBarred : Option Allowance → List Resource → Path → ℕ → Type 0
-IsBarred quota free role front =
-    (rows : Rows) (client : Client) (framework : Text) → IsQuotaOf rows quota → IsRole client.role
-    → take front (path_of client) ≡ take front (client_path role framework) → None ≡ if_allocatable (entitlement rows free client)
+-- in all rows with that quota, clients of the role may have nothing of what is free that is worth an offer, nor may any client whose
+-- path begins with the first parts, so many, of those of the role's clients
+pub record IsBarred (quota : Option Allowance) (free : List Resource) (role : Path) (front : ℕ) : Type 0 where
+  pub offered : IsOffered quota free role None
+  pub alike : (rows : Rows) (client : Client) (framework : Text) → IsQuotaOf rows quota → IsRole client.role
+      → take front (path_of client) ≡ take front (client_path role framework) → None ≡ if_allocatable (entitlement rows free client)
+
+-- what is known of a role is so in all rows with that quota
+abbrev pub IsKnownOf : Option Allowance → List Resource → Known → Type 0
+IsKnownOf quota free Nothing = Unit {0}
+IsKnownOf quota free (Part role part) = IsOffered quota free role (Some part)
+IsKnownOf quota free (Barred role front) = IsBarred quota free role front
+
+-- the role of which it is known
+abbrev pub known_role : Known → Option Path
+known_role Nothing = None
+known_role (Part role part) = Some role
+known_role (Barred role front) = Some role
+
+-- the part that it may have
+abbrev pub known_part : Known → Option (List Resource)
+known_part (Part role part) = Some part
+known_part known = None
 
 -- so much of the scalars that make an offer worth it is free for everyone
 pub record IsForEveryone (free : List Resource) (amounts : ForEveryone) : Type 0 where
@@ -70,19 +89,14 @@ pub record IsForEveryone (free : List Resource) (amounts : ForEveryone) : Type 0
 abbrev pub IsEveryonesKnown : Free → Type 0
 IsEveryonesKnown free = MatchOption free.for_everyone (Unit {0}) (IsForEveryone free.bundle)
 
--- it is known whether what is free is worth an offer, and perhaps that nothing of it is reserved; if a role is known, what it may have of
--- that; and if that is nothing, who else may have nothing
+-- it is known whether what is free is worth an offer, and perhaps more
 pub record IsKnown (quota : Option Allowance) (free : Free) : Type 0 where
   pub worth : free.is_worth ≡ is_allocatable free.bundle
   pub unreserved : IsTrue free.is_unreserved → is_unreserved free.bundle ≡ true
   pub everyone : IsEveryonesKnown free
-  pub part : MatchOption free.role (Unit {0}) (λ role. IsOffered quota free.bundle role free.part)
-  pub front : (role : Path) → free.role ≡ Some role → free.part ≡ None → IsBarred quota free.bundle role free.front
-
--- how many first parts a client has to share with the one that was tried to be barred with it, if that one is
-abbrev pub barred_front : Free → Option ℕ
-barred_front free = if is_none free.role || is_some free.part then None else Some free.front
+  pub right : IsKnownOf quota free.bundle free.known
 
 -- the client that was tried is passed by, and with it perhaps some right behind it that are barred too
-abbrev pub IsPassedOver : Free → List Path → List Path → Type 0
-IsPassedOver free old new = MatchOption (barred_front free) (new ≡ drop 1 old) (λ front. IsPassedFront front old new)
+abbrev pub IsPassedOver : Known → List Path → List Path → Type 0
+IsPassedOver (Barred role front) old new = IsPassedFront front old new
+IsPassedOver known old new = new ≡ drop 1 old

@@ -1,5 +1,5 @@
 -- What is told of a cycle, agent by agent, while its offers are drafts.
-use Rattle.std.specs.Prelude.{◌≡◌, ℕ, ◌++◌, Bool, false, true, List, [], ◌∷◌, map, drop, slice_get, Option, Some, if◌then◌else◌, nat_lt}
+use Rattle.std.specs.Prelude.{◌≡◌, ℕ, ◌++◌, Bool, List, [], ◌∷◌, drop, slice_get, Some, if◌then◌else◌, nat_lt}
 use Rattle.std.specs.Option.{option_map_or}
 use Rattle.drf_role.specs.Text.{Text}
 use Rattle.drf_role.specs.Path.{Path}
@@ -8,16 +8,10 @@ use Rattle.drf_rows.specs.Client.{Client, path_of}
 use Rattle.drf_rows.specs.Cycle.{all_tried, turn_order}
 use Rattle.drf_rows.specs.declared.rows.AgentRow.{AgentRow}
 use Rattle.drf_rows.specs.declared.rows.Rows.{Rows}
-use Rattle.drf_rows.specs.Step.{live_rows}
 use Rattle.drf_rows.specs.declared.rows.OfferRow.{OfferRow}
 use Rattle.drf_explain.specs.Each.{told_of_each, each_on, turns_on_all, untouched_on}
 use Rattle.drf_explain.specs.Explained.{outcome, told_of_agent, told_of_all}
-use Rattle.drf_gates.specs.Quota.{Allowance}
-use Rattle.drf_sorter.specs.Content.{Content}
 use Rattle.drf_tables.specs.Drafts.{with_offers}
-use Rattle.drf_tables.specs.declared.tables.Left as tables_word
-use Rattle.drf_core.specs.Drafting.{IsDrafting, HasLeft}
-use Rattle.drf_core.specs.Entitling.{IsQuotaOf}
 use Rattle.drf_explain.specs.declared.finding.Finding.{Finding}
 use Rattle.drf_explain.specs.declared.finding.Finding.TheVariants.{Left, Tried}
 
@@ -60,12 +54,3 @@ IsOutcomeOf rows agent path finding = (client : Client) → path ≡ path_of cli
 -- what is left to be told of the agents from a place on, with the drafts: nothing where the telling is over
 abbrev pub left_to_tell : Bool → Rows → List OfferRow → ℕ → List (List Finding × List Finding)
 left_to_tell over rows offers place = if over then [] else turns_on_all (with_offers rows offers) (drop place rows.agents)
-
--- a telling stands before the turn of the agent at a place
-pub record IsTelling (content : Content) (rows : Rows) (settled : Bool) (live : Rows) (offers : List OfferRow) (lefts : List tables_word.Left)
-    (quota : Option Allowance) (place : ℕ) : Type 0 where
-  pub current : live ≡ live_rows rows
-  pub drafting : IsDrafting content rows offers
-  pub is_settled : settled ≡ true
-  pub left_free : HasLeft rows offers lefts place
-  pub counted : IsQuotaOf (with_offers rows offers) quota

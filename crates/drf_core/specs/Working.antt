@@ -11,7 +11,7 @@ use Rattle.drf_rows.specs.Members.{distinct}
 use Rattle.drf_rows.specs.Report as report
 use Rattle.drf_rows.specs.Step.{effect, new_offers, refusal_of, rows_after}
 use Rattle.drf_rows.specs.declared.event.Event.{Event}
-use Rattle.drf_rows.specs.declared.event.Event.TheVariants.{AddAgent, RemoveAgent, ActivateAgent, DeactivateAgent, SetAgent, AddFramework, RemoveFramework, Accept, Decline, Rescind, Finish, Suppress, Revive, Reserve, Unreserve, SetWeight, SetLimit, Cycle, Report}
+use Rattle.drf_rows.specs.declared.event.Event.TheVariants.{AddAgent, RemoveAgent, DeactivateAgent, SetAgent, AddFramework, RemoveFramework, Accept, Decline, Rescind, Finish, Suppress, Revive, SetWeight, Cycle}
 use Rattle.drf_rows.specs.declared.rows.OfferRow.{OfferRow}
 use Rattle.drf_rows.specs.declared.rows.Rows.{Rows}
 use Rattle.drf_sorter.specs.Work.{Work, debt}
@@ -32,11 +32,8 @@ losers rows ending =
 -- The client of each offer that an event adds, of each offer and task that it ends, and each client that it adds, changes or
 -- removes. An accepted offer and its tasks are one client's, which stands once.
 abbrev pub touched : Rows → Event → List Client
-touched rows (AddAgent agent total) = []
 touched rows (RemoveAgent agent) = losers rows (all_on agent)
-touched rows (ActivateAgent agent) = []
 touched rows (DeactivateAgent agent) = losers rows (offers_on agent)
-touched rows (SetAgent agent total) = []
 touched rows (AddFramework framework roles) = map (λ role. record { role = role; framework = framework }) (distinct roles)
 touched rows (RemoveFramework framework) =
     losers rows (all_of framework) ++ filter (λ c. same_text c.framework framework) (clients_of rows)
@@ -46,12 +43,8 @@ touched rows (Rescind offer) = losers rows (one_offer offer)
 touched rows (Finish framework task) = losers rows (one_task framework task)
 touched rows (Suppress framework role) = record { role = role; framework = framework } ∷ []
 touched rows (Revive framework role) = record { role = role; framework = framework } ∷ []
-touched rows (Reserve agent role resources) = []
-touched rows (Unreserve agent role resources) = []
-touched rows (SetWeight role weight) = []
-touched rows (SetLimit role limit) = []
 touched rows (Cycle at) = offered_to (new_offers rows (effect rows (Cycle at)))
-touched rows Report = []
+touched rows event = []
 
 -- keys may be made only where clients are put in order, and where they are new
 abbrev pub may_make_keys : Event → Bool

@@ -1,29 +1,34 @@
-//! The allocation cycle. Its offers are drafts until the last agent had its turn: the sorter is charged with them, and a quota that
-//! the tables lend counts them, while of the rows the clock alone has moved. The tables take the quota back with the offers, so that
-//! nothing is counted anew at the next cycle. Where memory ends, the quota is dropped, the charges are taken back and so is the
-//! clock, which needs none.
-ghost use Rattle.std.specs.Prelude.{◌≡◌, ◌≢◌, ℕ, false, true, ◌<◌, ◌≤◌, ◌+◌, None, [], length, map, slice_get, is_some, ◌&&◌, Some, IfOk, OnOk, OnErr};
+//! The allocation cycle. Its offers are drafts until the last agent had its turn: the sorter is charged with them, and what
+//! roles consume, which the tables lend, counts them, while of the rows the clock alone has moved. The tables take it back with the
+//! offers, so that nothing is counted anew at the next cycle. Where memory ends, it is dropped, the charges are taken back and so is
+//! the clock, which needs none.
+ghost use Rattle.std.specs.Prelude.{◌≡◌, ◌≢◌, ℕ, false, true, ◌<◌, ◌≤◌, ◌+◌, List, None, [], length, map, slice_get, is_some, ◌&&◌, Some, IfOk, OnOk, OnErr};
 ghost use Rattle.drf_role.specs.Path.{Path, role_part, framework_part};
-ghost use Rattle.drf_rows.specs.Cycle.{is_allocatable, with_offer};
+ghost use Rattle.drf_rows.specs.Cycle.{is_allocatable, turn_order, with_offer};
 ghost use Rattle.drf_rows.specs.Step.{line_told, new_offers, refusal_of, effect};
 ghost use Rattle.drf_rows.specs.declared.event.Event.TheVariants.{Cycle};
 ghost use Rattle.drf_rows.specs.declared.reply.Reply.TheVariants.{Offers};
+ghost use Rattle.drf_rows.specs.Client.{path_of};
 ghost use Rattle.drf_tables.specs.Drafts.{with_offers};
+ghost use Rattle.drf_tables.specs.Stored.{Stored};
+ghost use Rattle.drf_sorter.specs.Content.{Content};
 ghost use Rattle.drf_content.specs.Content.{content_of};
 ghost use Rattle.drf_core.specs.Copies.{copies_if};
 ghost use Rattle.drf_laws.specs.Kept.{IsKept};
-ghost use Rattle.drf_core.specs.Entitling.{IsKnown, IsPassedOver, IsQuotaOf};
+ghost use Rattle.drf_gates.specs.Quota.{quota_under};
+ghost use Rattle.drf_rows.specs.declared.rows.LimitRow.{LimitRow};
+ghost use Rattle.drf_core.specs.Entitling.{IsPassedOver, IsQuotaOf, known_role};
 ghost use Rattle.drf_rows.specs.declared.rows.Rows.{Rows};
-ghost use Rattle.drf_core.specs.Drafting.{IsDrafting, CanCount, IsRegisteredPath, IsFreeAt, IsTried, HasLeft, is_open_at, turn_at, turns_of};
+ghost use Rattle.drf_core.specs.Drafting.{IsCycleAt, IsDrafting, IsTurn, CanCount, IsTried, is_open_at, turn_at, turns_of};
 ghost use Rattle.drf_sorter.specs.Work.{Adds};
 ghost use Rattle.drf_core.specs.Working.{AddsDrafts, nodes_of, offered_to, touched};
 
 use crate::cluster::Cluster;
-use crate::free::{Free, grant};
+use crate::free::{Free, Known, grant};
 use crate::stepped::Stepped;
 use drf_amount::Algebra;
 use drf_bundle::Bundle;
-use drf_gates::Quota;
+use drf_gates::Consumption;
 use drf_role::{ClientPath, Name};
 use drf_rows::{Limits, OfferLine, OfferRow, Reply, SharedTable};
 use drf_sorter::Sorter;
@@ -31,13 +36,13 @@ use drf_tables::{Left, Tables};
 use std::alloc::{AllocError, Global};
 use std::mem;
 
-/// The offers of a cycle that is not ended, what the turns left free, and, if any role has a limit or had one, a quota that counts
+/// The offers of a cycle that is not ended, what the turns left free, and, if any role has a limit or had one, what roles consume with
 /// the offers.
 #[derive(Drop)]
 pub(crate) struct Drafts {
     pub(crate) offers: Vec<OfferRow>,
     pub(crate) lefts: Vec<Left>,
-    pub(crate) quota: Option<Quota>,
+    pub(crate) consumption: Option<Consumption>,
 }
 
 /// Whether the agent at a place is active, and what is free there is worth an offer.
@@ -110,14 +115,35 @@ fn offer_row(
 }
 
 /// Counts what one more offer consumes, if that is counted.
-fn count_offer(quota: &mut Option<Quota>, offer: &OfferRow) -> Result<(), AllocError>
-    requires { CanCount quota.old offer.now }
-    ensures { OnOk result ((rows : Rows) → IsQuotaOf rows quota.old → IsQuotaOf (with_offer rows offer.now) quota.new) }
+fn count_offer(consumption: &mut Option<Consumption>, offer: &OfferRow) -> Result<(), AllocError>
+    requires { CanCount consumption.old offer.now }
+    ensures { OnOk result ((rows : Rows) (limits : List LimitRow) → IsQuotaOf rows (quota_under limits consumption.old)
+        → IsQuotaOf (with_offer rows offer.now) (quota_under limits consumption.new)) }
 {
-    match quota {
-        Some(quota) => quota.consume_unreserved(&offer.role, &offer.bundle),
+    match consumption {
+        Some(counted) => counted.consume_unreserved(&offer.role, &offer.bundle),
         None => Ok(()),
     }
+}
+
+/// Begins the turn of the agent at a place, in which all clients are to be served: what is free there.
+pub(crate) fn begin_turn<S: Sorter>(
+    tables: &Tables,
+    sorter: &mut S,
+    place: usize,
+    drafts: &Drafts,
+) -> Result<Free, AllocError>
+    requires cycle { IsCycleAt (S.content sorter.old) tables.now drafts.now place }
+    requires place { place < length tables.now.rows.agents }
+    ensures turn { IfOk result (λ free. IsTurn (S.content sorter.new) tables.now drafts.now place free (S.queue sorter.new)) }
+    ensures order { OnOk result (S.queue sorter.new ≡ map path_of (turn_order (with_offers tables.now.rows drafts.now.offers.items))) }
+    ensures content { S.content sorter.new ≡ S.content sorter.old }
+    ensures work { Adds S.COUNTED (S.work sorter.old) (S.work sorter.new) 0 }
+    ensures made { (S.work sorter.old).made ≤ (S.work sorter.new).made }
+{
+    sorter.fix_order()?;
+    let bundle = tables.free(place).copy()?;
+    Ok(Free::new(bundle, tables.is_worth_an_offer(place)))
 }
 
 /// Offers to the client that is served next what it is granted of what is free on an agent.
@@ -128,21 +154,13 @@ pub(crate) fn try_first<S: Sorter>(
     free: &mut Free,
     drafts: &mut Drafts,
 ) -> Result<(), AllocError>
-    requires drafting { IsDrafting (S.content sorter.old) tables.now.rows drafts.old.offers.items }
-    requires place { place < length tables.now.rows.agents }
-    requires client { (path : Path) → slice_get (S.queue sorter.old) 0 ≡ Some path → IsRegisteredPath tables.now.rows path }
-    requires free { IsFreeAt (with_offers tables.now.rows drafts.old.offers.items) place free.old.bundle }
-    requires quota { IsQuotaOf (with_offers tables.now.rows drafts.old.offers.items) drafts.old.quota }
-    requires known { IsKnown drafts.old.quota free.old }
+    requires turn { IsTurn (S.content sorter.old) tables.now drafts.old place free.old (S.queue sorter.old) }
+    ensures turn { OnOk result (IsTurn (S.content sorter.new) tables.now drafts.new place free.new (S.queue sorter.new)) }
     ensures drafting { IsDrafting (S.content sorter.new) tables.now.rows drafts.new.offers.items }
     ensures queue { S.queue sorter.new ≡ S.queue sorter.old }
     ensures tried { OnOk result ((path : Path) → slice_get (S.queue sorter.old) 0 ≡ Some path
         → IsTried (with_offers tables.now.rows drafts.old.offers.items) (with_offers tables.now.rows drafts.new.offers.items) place path) }
-    ensures free { OnOk result (IsFreeAt (with_offers tables.now.rows drafts.new.offers.items) place free.new.bundle) }
-    ensures quota { OnOk result (IsQuotaOf (with_offers tables.now.rows drafts.new.offers.items) drafts.new.quota) }
-    ensures known { OnOk result (IsKnown drafts.new.quota free.new) }
-    ensures role { OnOk result ((role path : Path) → free.new.role ≡ Some role → slice_get (S.queue sorter.old) 0 ≡ Some path → role ≡ role_part path) }
-    ensures lefts { drafts.new.lefts.items ≡ drafts.old.lefts.items }
+    ensures role { OnOk result ((role path : Path) → known_role free.new.known ≡ Some role → slice_get (S.queue sorter.old) 0 ≡ Some path → role ≡ role_part path) }
     ensures work { OnOk result (AddsDrafts S.COUNTED (S.work sorter.old) (S.work sorter.new) drafts.old.offers.items drafts.new.offers.items) }
     ensures made { (S.work sorter.new).made ≡ (S.work sorter.old).made }
 {
@@ -151,7 +169,8 @@ pub(crate) fn try_first<S: Sorter>(
     };
     let agent = tables.agent_name(place);
     let alloc = *drafts.offers.allocator();
-    let granted = grant(alloc, tables, agent, client, drafts.quota.as_ref(), free)?;
+    let quota = tables.quota_under(drafts.consumption.as_ref());
+    let granted = grant(alloc, tables, agent, client, quota.as_ref(), free)?;
     let Some(bundle) = granted else {
         return Ok(());
     };
@@ -159,7 +178,7 @@ pub(crate) fn try_first<S: Sorter>(
     let number = tables.next_offer() + drafts.offers.len() as u64;
     let offer = offer_row(number, agent, &client, bundle)?;
     drafts.offers.reserve(1)?;
-    count_offer(&mut drafts.quota, &offer)?;
+    count_offer(&mut drafts.consumption, &offer)?;
     sorter.charge(&client, offer.bundle.quantities(), 1)?;
     drafts.offers.push_reserved(offer);
     Ok(())
@@ -175,14 +194,28 @@ pub(crate) fn goes_on<S: Sorter>(sorter: &S, free: &Free) -> bool
 
 /// Goes on past the client that was tried, and past clients right behind it that are known to have nothing to get either.
 fn pass_tried<S: Sorter>(sorter: &mut S, free: &Free)
-    ensures queue { IsPassedOver free.now (S.queue sorter.old) (S.queue sorter.new) }
+    ensures queue { IsPassedOver free.now.known (S.queue sorter.old) (S.queue sorter.new) }
     ensures content { S.content sorter.new ≡ S.content sorter.old }
     ensures work { S.work sorter.new ≡ S.work sorter.old }
 {
-    match free.barred_front() {
-        Some(front) => sorter.pass_front(front),
-        None => sorter.pass(),
+    match &free.known {
+        Known::Barred { front, .. } => sorter.pass_front(*front),
+        _ => sorter.pass(),
     }
+}
+
+/// Ends the turn of the agent at a place, which leaves what is free there.
+pub(crate) fn end_turn(place: usize, free: Free, drafts: &mut Drafts) -> Result<(), AllocError>
+    ensures cycle { OnOk result ((content : Content) (tables : Stored) (queue : List Path)
+        → IsTurn content tables drafts.old place free queue → IsCycleAt content tables drafts.new (place + 1)) }
+    ensures offers { drafts.new.offers.items ≡ drafts.old.offers.items }
+{
+    let Free { bundle, .. } = free;
+    drafts.lefts.push(Left {
+        agent: place,
+        free: bundle,
+    })?;
+    Ok(())
 }
 
 /// The turn of an agent: each client in order is tried, until what is left is not worth an offer. Clients that are known to get
@@ -193,48 +226,33 @@ fn turn<S: Sorter>(
     place: usize,
     drafts: &mut Drafts,
 ) -> Result<(), AllocError>
-    requires drafting { IsDrafting (S.content sorter.old) tables.now.rows drafts.old.offers.items }
+    requires cycle { IsCycleAt (S.content sorter.old) tables.now drafts.old place }
     requires place { place < length tables.now.rows.agents }
-    requires settled { tables.now.settled ≡ true }
-    requires left { HasLeft tables.now.rows drafts.old.offers.items drafts.old.lefts.items place }
-    requires quota { IsQuotaOf (with_offers tables.now.rows drafts.old.offers.items) drafts.old.quota }
     ensures drafting { IsDrafting (S.content sorter.new) tables.now.rows drafts.new.offers.items }
     ensures turn { OnOk result (with_offers tables.now.rows drafts.new.offers.items
         ≡ turn_at (with_offers tables.now.rows drafts.old.offers.items) place) }
-    ensures left { OnOk result (HasLeft tables.now.rows drafts.new.offers.items drafts.new.lefts.items (place + 1)) }
-    ensures quota { OnOk result (IsQuotaOf (with_offers tables.now.rows drafts.new.offers.items) drafts.new.quota) }
+    ensures cycle { OnOk result (IsCycleAt (S.content sorter.new) tables.now drafts.new (place + 1)) }
     ensures work { OnOk result (AddsDrafts S.COUNTED (S.work sorter.old) (S.work sorter.new) drafts.old.offers.items drafts.new.offers.items) }
     ensures made { (S.work sorter.old).made ≤ (S.work sorter.new).made }
 {
     if !is_open(tables, place) {
         return Ok(());
     }
-    sorter.fix_order()?;
-    let bundle = tables.free(place).copy()?;
-    let mut free = Free::new(bundle, tables.is_worth_an_offer(place));
+    let mut free = begin_turn(tables, sorter, place, drafts)?;
     while goes_on(sorter, &free) {
         try_first(tables, sorter, place, &mut free, drafts)?;
         pass_tried(sorter, &free);
     }
-    let Free { bundle, .. } = free;
-    drafts.lefts.push(Left {
-        agent: place,
-        free: bundle,
-    })?;
-    Ok(())
+    end_turn(place, free, drafts)
 }
 
 /// The turns of all agents.
 fn turns<S: Sorter>(tables: &Tables, sorter: &mut S, drafts: &mut Drafts) -> Result<(), AllocError>
-    requires drafting { IsDrafting (S.content sorter.old) tables.now.rows drafts.old.offers.items }
+    requires cycle { IsCycleAt (S.content sorter.old) tables.now drafts.old 0 }
     requires none { drafts.old.offers.items ≡ [] }
-    requires nothing_left { drafts.old.lefts.items ≡ [] }
-    requires settled { tables.now.settled ≡ true }
-    requires quota { IsQuotaOf tables.now.rows drafts.old.quota }
     ensures drafting { IsDrafting (S.content sorter.new) tables.now.rows drafts.new.offers.items }
     ensures turns { OnOk result (with_offers tables.now.rows drafts.new.offers.items ≡ turns_of tables.now.rows) }
-    ensures left { OnOk result (HasLeft tables.now.rows drafts.new.offers.items drafts.new.lefts.items (length tables.now.rows.agents)) }
-    ensures quota { OnOk result (IsQuotaOf (with_offers tables.now.rows drafts.new.offers.items) drafts.new.quota) }
+    ensures cycle { OnOk result (IsCycleAt (S.content sorter.new) tables.now drafts.new (length tables.now.rows.agents)) }
     ensures work { OnOk result (AddsDrafts S.COUNTED (S.work sorter.old) (S.work sorter.new) drafts.old.offers.items drafts.new.offers.items) }
     ensures made { (S.work sorter.old).made ≤ (S.work sorter.new).made }
 {
@@ -280,20 +298,16 @@ fn take_back<S: Sorter>(tables: &Tables, sorter: &mut S, offers: &mut Vec<OfferR
     }
 }
 
-/// The quota, with the limits and what is consumed before the first draft, lent by the tables. Where no role has a limit and nothing is
-/// counted, there is none. What is counted stays so when the last limit goes: it need not be counted anew when one comes again.
-pub(crate) fn quota_of(tables: &mut Tables) -> Result<Option<Quota>, AllocError>
+/// What roles consume before the first draft, lent by the tables. Where no role has a limit and nothing is counted, there is none. What is
+/// counted stays so when the last limit goes: it need not be counted anew when one comes again.
+pub(crate) fn lend_consumption(tables: &mut Tables) -> Result<Option<Consumption>, AllocError>
     requires { length tables.old.rows.agents ≤ 4096 }
-    ensures quota { IfOk result (IsQuotaOf tables.old.rows) }
+    ensures quota { IfOk result (λ consumption. IsQuotaOf tables.old.rows (quota_under tables.old.rows.limits consumption)) }
     ensures same { tables.new.rows ≡ tables.old.rows }
     ensures settled { tables.new.settled ≡ tables.old.settled }
 {
     tables.count_consumption()?;
-    if !tables.is_counted() {
-        return Ok(None);
-    }
-    let quota = tables.lend_quota()?;
-    Ok(Some(quota))
+    Ok(tables.lend_consumption())
 }
 
 /// The turns of all agents, whose offers are then put into the tables. Where memory ends, the drafts are left.
@@ -320,18 +334,17 @@ fn offer_all<S: Sorter>(
     tables.settle()?;
     let idle = is_idle(tables, sorter)?;
     if idle {
-        // No limit is copied for a cycle in which nobody is tried.
         let stepped = Stepped::of(Reply::Offers(SharedTable::empty()), copied)?;
         tables.count_consumption()?;
         return Ok(stepped);
     }
-    drafts.quota = quota_of(tables)?;
+    drafts.consumption = lend_consumption(tables)?;
     turns(tables, sorter, drafts)?;
     let lines = offer_lines(alloc, &drafts.offers)?;
     let stepped = Stepped::of(Reply::Offers(SharedTable::from_vec(lines)?), copied)?;
     let lefts = mem::replace(&mut drafts.lefts, Vec::new(alloc));
-    let quota = drafts.quota.take();
-    tables.commit(&mut drafts.offers, lefts, quota)?;
+    let consumption = drafts.consumption.take();
+    tables.commit(&mut drafts.offers, lefts, consumption)?;
     Ok(stepped)
 }
 
@@ -360,7 +373,7 @@ impl<S: Sorter> Cluster<S> {
         let mut drafts = Drafts {
             offers: Vec::new(alloc),
             lefts: Vec::new(alloc),
-            quota: None,
+            consumption: None,
         };
         match offer_all(
             alloc,

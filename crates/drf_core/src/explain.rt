@@ -4,7 +4,7 @@ ghost use Rattle.std.specs.Prelude.{◌≡◌, true, false, ◌+◌, ◌<◌, �
 ghost use Rattle.std.specs.Option.{option_copied};
 ghost use Rattle.drf_role.specs.Path.{Path};
 ghost use Rattle.drf_rows.specs.Client.{Client, path_of};
-ghost use Rattle.drf_rows.specs.Cycle.{free_of, is_allocatable};
+ghost use Rattle.drf_rows.specs.Cycle.{at_moment, free_of, is_allocatable};
 ghost use Rattle.drf_rows.specs.Step.{live_rows};
 ghost use Rattle.drf_rows.specs.declared.limits.TheConstants.{LATEST_MOMENT};
 ghost use Rattle.drf_rows.specs.declared.rows.AgentRow.{AgentRow};
@@ -16,14 +16,14 @@ ghost use Rattle.drf_explain.specs.Explained.{explained, told_of_agents};
 ghost use Rattle.drf_explain.specs.Gates.{AreGatesOf};
 ghost use Rattle.drf_tables.specs.Drafts.{with_offers};
 ghost use Rattle.drf_content.specs.Content.{content_of};
-ghost use Rattle.drf_core.specs.Drafting.{IsDrafting, HasLeft, turn_at};
+ghost use Rattle.drf_core.specs.Drafting.{IsCycleAt, turn_at};
 ghost use Rattle.drf_core.specs.Entitling.{IsQuotaOf};
-ghost use Rattle.drf_core.specs.Explaining.{AreToldAt, AreTried, IsOutcomeOf, IsTelling, left_told, told_at, told_by, untouched_at};
+ghost use Rattle.drf_core.specs.Explaining.{AreToldAt, AreTried, IsOutcomeOf, left_told, told_at, told_by, untouched_at};
 ghost use Rattle.drf_laws.specs.Kept.{IsKept};
 
 use crate::cluster::Cluster;
-use crate::cycle::{Drafts, goes_on, has_next, quota_of, try_first};
-use crate::free::{Free, part_within};
+use crate::cycle::{Drafts, begin_turn, end_turn, goes_on, has_next, lend_consumption, try_first};
+use crate::free::part_within;
 use drf_amount::Algebra;
 use drf_bundle::Bundle;
 use drf_explain::{Finding, Gates, TurnTold, suppressed};
@@ -31,7 +31,7 @@ use drf_gates::Quota;
 use drf_role::{ClientPath, Name};
 use drf_rows::{Limits, Rows};
 use drf_sorter::Sorter;
-use drf_tables::{Left, Tables};
+use drf_tables::Tables;
 use std::alloc::{AllocError, Global};
 use std::marker::Model;
 
@@ -48,7 +48,7 @@ fn count_active<S: Sorter>(sorter: &mut S) -> Result<u64, AllocError>
 /// What comes of trying a client on an agent with those gates.
 fn outcome_of(
     gates: &Gates,
-    quota: Option<&Quota>,
+    quota: Option<&Quota<'_>>,
     free: &Bundle,
     agent: &Name,
     client: &ClientPath,
@@ -72,7 +72,7 @@ fn outcome_of(
 fn tell_first<S: Sorter>(
     sorter: &S,
     gates: &Gates,
-    quota: Option<&Quota>,
+    quota: Option<&Quota<'_>>,
     free: &Bundle,
     agent: &Name,
     findings: &mut Vec<Finding>,
@@ -115,18 +115,18 @@ fn tell_left(
 fn tell_behind<S: Sorter>(
     sorter: &mut S,
     gates: &Gates,
-    drafts: &Drafts,
+    quota: Option<&Quota<'_>>,
     free: &Bundle,
     agent: &Name,
     findings: &mut Vec<Finding>,
 ) -> Result<(), AllocError>
     ensures content { S.content sorter.new ≡ S.content sorter.old }
     ensures told { OnOk result ((clients : List Client) (rows : Rows) (a : AgentRow) → S.queue sorter.old ≡ map path_of clients → AreGatesOf rows a gates.now
-        → IsQuotaOf rows drafts.now.quota → free.now ≡ free_of rows a → agent.now ≡ a.name
+        → IsQuotaOf rows (option_copied quota.entry) → free.now ≡ free_of rows a → agent.now ≡ a.name
         → findings.new.items ≡ findings.old.items ++ map (told_here rows a) clients) }
 {
     while has_next(sorter) {
-        tell_first(sorter, gates, drafts.quota.as_ref(), free, agent, findings)?;
+        tell_first(sorter, gates, quota, free, agent, findings)?;
         sorter.pass();
     }
     Ok(())
@@ -137,7 +137,7 @@ fn tell_rest<S: Sorter>(
     each: bool,
     sorter: &mut S,
     gates: &Gates,
-    drafts: &Drafts,
+    quota: Option<&Quota<'_>>,
     free: &Bundle,
     agent: &Name,
     waiting: u64,
@@ -146,12 +146,12 @@ fn tell_rest<S: Sorter>(
     requires { waiting ≡ length (S.queue sorter.old) }
     ensures content { S.content sorter.new ≡ S.content sorter.old }
     ensures told { OnOk result ((clients : List Client) (rows : Rows) (a : AgentRow) → S.queue sorter.old ≡ map path_of clients → AreGatesOf rows a gates.now
-        → IsQuotaOf rows drafts.now.quota → free.now ≡ free_of rows a → agent.now ≡ a.name
+        → IsQuotaOf rows (option_copied quota.entry) → free.now ≡ free_of rows a → agent.now ≡ a.name
         → (is_some (slice_get (S.queue sorter.old) 0) && is_allocatable free.now) ≡ false
         → findings.new.items ≡ findings.old.items ++ told_by each rows a clients) }
 {
     if each {
-        return tell_behind(sorter, gates, drafts, free, agent, findings);
+        return tell_behind(sorter, gates, quota, free, agent, findings);
     }
     tell_left(agent, free, waiting, findings)
 }
@@ -167,52 +167,35 @@ fn tell_clients<S: Sorter>(
     drafts: &mut Drafts,
     findings: &mut Vec<Finding>,
 ) -> Result<(), AllocError>
-    requires drafting { IsDrafting (S.content sorter.old) tables.now.rows drafts.old.offers.items }
+    requires cycle { IsCycleAt (S.content sorter.old) tables.now drafts.old place }
     requires place { place < length tables.now.rows.agents }
-    requires settled { tables.now.settled ≡ true }
     requires gates { (agent : AgentRow) → slice_get tables.now.rows.agents place ≡ Some agent → AreGatesOf tables.now.rows agent gates.now }
-    requires left { HasLeft tables.now.rows drafts.old.offers.items drafts.old.lefts.items place }
-    requires quota { IsQuotaOf (with_offers tables.now.rows drafts.old.offers.items) drafts.old.quota }
-    ensures drafting { IsDrafting (S.content sorter.new) tables.now.rows drafts.new.offers.items }
     ensures tried { OnOk result (AreTried (with_offers tables.now.rows drafts.old.offers.items) (with_offers tables.now.rows drafts.new.offers.items) place) }
     ensures told { OnOk result (AreToldAt each (with_offers tables.now.rows drafts.old.offers.items) place findings.old.items findings.new.items) }
-    ensures left { OnOk result (HasLeft tables.now.rows drafts.new.offers.items drafts.new.lefts.items (place + 1)) }
-    ensures quota { OnOk result (IsQuotaOf (with_offers tables.now.rows drafts.new.offers.items) drafts.new.quota) }
+    ensures cycle { OnOk result (IsCycleAt (S.content sorter.new) tables.now drafts.new (place + 1)) }
 {
     let agent = tables.agent_name(place);
     let mut waiting = count_active(sorter)?;
-    sorter.fix_order()?;
-    let bundle = tables.free(place).copy()?;
-    let mut free = Free::new(bundle, tables.is_worth_an_offer(place));
+    let mut free = begin_turn(tables, sorter, place, drafts)?;
     while goes_on(sorter, &free) {
-        tell_first(
-            sorter,
-            gates,
-            drafts.quota.as_ref(),
-            &free.bundle,
-            agent,
-            findings,
-        )?;
+        let quota = tables.quota_under(drafts.consumption.as_ref());
+        tell_first(sorter, gates, quota.as_ref(), &free.bundle, agent, findings)?;
         try_first(tables, sorter, place, &mut free, drafts)?;
         sorter.pass();
         waiting -= 1;
     }
+    let quota = tables.quota_under(drafts.consumption.as_ref());
     tell_rest(
         each,
         sorter,
         gates,
-        drafts,
+        quota.as_ref(),
         &free.bundle,
         agent,
         waiting,
         findings,
     )?;
-    let Free { bundle, .. } = free;
-    drafts.lefts.push(Left {
-        agent: place,
-        free: bundle,
-    })?;
-    Ok(())
+    end_turn(place, free, drafts)
 }
 
 /// Tells of the turn of an agent: of each client, or of those before too little is left.
@@ -227,17 +210,12 @@ fn tell_turn<S: Sorter>(
     findings: &mut Vec<Finding>,
 ) -> Result<(), AllocError>
     requires rows { rows.now ≡ live_rows tables.now.rows }
-    requires drafting { IsDrafting (S.content sorter.old) tables.now.rows drafts.old.offers.items }
+    requires cycle { IsCycleAt (S.content sorter.old) tables.now drafts.old place }
     requires place { place < length tables.now.rows.agents }
-    requires settled { tables.now.settled ≡ true }
-    requires left { HasLeft tables.now.rows drafts.old.offers.items drafts.old.lefts.items place }
-    requires quota { IsQuotaOf (with_offers tables.now.rows drafts.old.offers.items) drafts.old.quota }
-    ensures drafting { IsDrafting (S.content sorter.new) tables.now.rows drafts.new.offers.items }
     ensures turn { OnOk result (with_offers tables.now.rows drafts.new.offers.items
         ≡ turn_at (with_offers tables.now.rows drafts.old.offers.items) place) }
     ensures told { OnOk result (findings.new.items ≡ findings.old.items ++ told_at each (with_offers tables.now.rows drafts.old.offers.items) place) }
-    ensures left { OnOk result (HasLeft tables.now.rows drafts.new.offers.items drafts.new.lefts.items (place + 1)) }
-    ensures quota { OnOk result (IsQuotaOf (with_offers tables.now.rows drafts.new.offers.items) drafts.new.quota) }
+    ensures cycle { OnOk result (IsCycleAt (S.content sorter.new) tables.now drafts.new (place + 1)) }
 {
     let agent = tables.agent_name(place);
     if !tables.is_active(place) {
@@ -266,11 +244,8 @@ fn tell_untouched<S: Sorter>(
     findings: &mut Vec<Finding>,
 ) -> Result<(), AllocError>
     requires rows { rows.now ≡ live_rows tables.now.rows }
-    requires drafting { IsDrafting (S.content sorter.old) tables.now.rows drafts.now.offers.items }
+    requires cycle { IsCycleAt (S.content sorter.old) tables.now drafts.now place }
     requires place { place < length tables.now.rows.agents }
-    requires settled { tables.now.settled ≡ true }
-    requires left { HasLeft tables.now.rows drafts.now.offers.items drafts.now.lefts.items place }
-    requires quota { IsQuotaOf (with_offers tables.now.rows drafts.now.offers.items) drafts.now.quota }
     ensures content { S.content sorter.new ≡ S.content sorter.old }
     ensures told { OnOk result (findings.new.items ≡ findings.old.items ++ untouched_at (with_offers tables.now.rows drafts.now.offers.items) place) }
 {
@@ -278,13 +253,13 @@ fn tell_untouched<S: Sorter>(
     if !tables.is_active(place) {
         return Ok(());
     }
-    let free = tables.free(place);
-    if free.entries().is_empty() {
+    if tables.free(place).entries().is_empty() {
         return Ok(());
     }
     let gates = Gates::on(alloc, rows, agent)?;
-    sorter.fix_order()?;
-    tell_behind(sorter, &gates, drafts, free, agent, findings)
+    let free = begin_turn(tables, sorter, place, drafts)?;
+    let quota = tables.quota_under(drafts.consumption.as_ref());
+    tell_behind(sorter, &gates, quota.as_ref(), &free.bundle, agent, findings)
 }
 
 /// Tells of the turns of all agents.
@@ -297,17 +272,43 @@ fn tell_turns<S: Sorter>(
     findings: &mut Vec<Finding>,
 ) -> Result<(), AllocError>
     requires rows { rows.now ≡ live_rows tables.now.rows }
-    requires drafting { IsDrafting (S.content sorter.old) tables.now.rows drafts.old.offers.items }
+    requires cycle { IsCycleAt (S.content sorter.old) tables.now drafts.old 0 }
     requires none { drafts.old.offers.items ≡ [] }
-    requires nothing_left { drafts.old.lefts.items ≡ [] }
-    requires settled { tables.now.settled ≡ true }
-    requires quota { IsQuotaOf tables.now.rows drafts.old.quota }
     ensures { OnOk result (findings.new.items ≡ findings.old.items ++ told_of_agents tables.now.rows tables.now.rows.agents) }
 {
     for place in 0..tables.agent_count() {
         tell_turn(alloc, false, rows, tables, sorter, place, drafts, findings)?;
     }
     Ok(())
+}
+
+/// Begins the cycle at a moment, in milliseconds: the rows that are told of, and no draft yet.
+fn begin<S: Sorter>(
+    alloc: Global,
+    limits: &Limits,
+    tables: &mut Tables,
+    sorter: &S,
+    at: u64,
+) -> Result<(Rows, Drafts), AllocError>
+    requires sorted { S.content sorter.now ≡ content_of tables.old.rows }
+    requires kept { IsKept limits.now tables.old.rows }
+    requires early { at ≤ LATEST_MOMENT }
+    ensures moment { OnOk result (tables.new.rows ≡ at_moment tables.old.rows at) }
+    ensures rows { IfOk result (λ begun. begun.0 ≡ live_rows tables.new.rows) }
+    ensures none { IfOk result (λ begun. begun.1.offers.items ≡ []) }
+    ensures cycle { IfOk result (λ begun. IsCycleAt (S.content sorter.now) tables.new begun.1 0) }
+{
+    let moment = tables.clock().max(at);
+    tables.set_clock(moment);
+    tables.settle()?;
+    let consumption = lend_consumption(tables)?;
+    let rows = tables.rows()?;
+    let drafts = Drafts {
+        offers: Vec::new(alloc),
+        lefts: Vec::new(alloc),
+        consumption,
+    };
+    Ok((rows, drafts))
 }
 
 /// What the cycle at a moment, in milliseconds, would offer and to whom, and where it would offer nothing, why. Tables and sorter are
@@ -324,16 +325,7 @@ fn explain<S: Sorter>(
     requires early { at ≤ LATEST_MOMENT }
     ensures { IfOk result (λ findings. findings.items ≡ explained tables.old.rows at) }
 {
-    let moment = tables.clock().max(at);
-    tables.set_clock(moment);
-    tables.settle()?;
-    let quota = quota_of(tables)?;
-    let rows = tables.rows()?;
-    let mut drafts = Drafts {
-        offers: Vec::new(alloc),
-        lefts: Vec::new(alloc),
-        quota,
-    };
+    let (rows, mut drafts) = begin(alloc, limits, tables, sorter, at)?;
     let mut findings = suppressed(alloc, &rows)?;
     tell_turns(alloc, &rows, tables, sorter, &mut drafts, &mut findings)?;
     Ok(findings)
@@ -364,11 +356,13 @@ impl<S: Sorter> Model for Telling<S> {
 
     ghost coded = { coded_list (coded× (coded_list finding.the_row.coded) (coded_list finding.the_row.coded)) };
 
-    ghost use Rattle.drf_core.specs.Explaining.{IsTelling, left_to_tell};
+    ghost use Rattle.drf_rows.specs.Step.{live_rows};
+    ghost use Rattle.drf_core.specs.Drafting.{IsCycleAt};
+    ghost use Rattle.drf_core.specs.Explaining.{left_to_tell};
 
     ghost view = { λ t. left_to_tell t.is_over t.tables.rows t.drafts.offers.items t.place };
 
-    ghost invariant = { λ t. t.is_over ≡ false → IsTelling (S.content t.sorter) t.tables.rows t.tables.settled t.rows t.drafts.offers.items t.drafts.lefts.items t.drafts.quota t.place };
+    ghost invariant = { λ t. t.is_over ≡ false → (t.rows ≡ live_rows t.tables.rows) × IsCycleAt (S.content t.sorter) t.tables t.drafts t.place };
 }
 
 /// Begins to tell of the cycle at a moment, in milliseconds, on tables and a sorter of its own.
@@ -384,16 +378,7 @@ fn begin_telling<S: Sorter>(
     requires early { at ≤ LATEST_MOMENT }
     ensures { IfOk result (λ telling. telling ≡ turns_by_agent tables.rows at) }
 {
-    let moment = tables.clock().max(at);
-    tables.set_clock(moment);
-    tables.settle()?;
-    let quota = quota_of(&mut tables)?;
-    let rows = tables.rows()?;
-    let drafts = Drafts {
-        offers: Vec::new(alloc),
-        lefts: Vec::new(alloc),
-        quota,
-    };
+    let (rows, drafts) = begin(alloc, limits, &mut tables, &sorter, at)?;
     Ok(Telling {
         alloc,
         rows,

@@ -1,5 +1,5 @@
 //! What is free on an agent in its turn, and what a client is granted of it.
-ghost use Rattle.std.specs.Prelude.{◌≡◌, ◌+◌, ◌≤◌, [], if◌then◌else◌, Option, Some, None, false, true, length, take, IfOk, IfSome, IsSome, OnOk, IsTrue, MatchOption};
+ghost use Rattle.std.specs.Prelude.{◌≡◌, ◌+◌, ◌≤◌, [], if◌then◌else◌, Option, Some, None, false, true, length, take, IfOk, IfSome, OnOk, IsTrue, MatchOption};
 ghost use Rattle.std.specs.List.{list_any};
 ghost use Rattle.std.specs.Option.{option_copied};
 ghost use Rattle.drf_bundle.specs.Bundle.{IsResource, rest};
@@ -11,7 +11,8 @@ ghost use Rattle.drf_rows.specs.Quota.{unreserved_in};
 ghost use Rattle.drf_rows.specs.declared.rows.AgentRow.{AgentRow};
 ghost use Rattle.drf_rows.specs.declared.rows.Rows.{Rows};
 ghost use Rattle.drf_role.specs.Path.{Path, begins_with, framework_part, role_part, same_path};
-ghost use Rattle.drf_core.specs.Entitling.{IsBarred, IsEntitlement, IsEveryonesKnown, IsForEveryone, IsKnown, IsOffered, IsQuotaOf, barred_front, has_at_least, if_allocatable, is_of_worth, is_reserved_for, is_reserved_near};
+ghost use Rattle.drf_core.specs.declared.free.Known.TheVariants.{Nothing};
+ghost use Rattle.drf_core.specs.Entitling.{IsBarred, IsEntitlement, IsEveryonesKnown, IsForEveryone, IsKnown, IsKnownOf, IsOffered, IsQuotaOf, has_at_least, is_of_worth, is_reserved_for, is_reserved_near, known_part, known_role};
 
 use drf_amount::Algebra;
 use drf_bundle::{Bundle, Resource, Value};
@@ -22,17 +23,6 @@ use drf_tables::Tables;
 use std::alloc::{AllocError, Global};
 use std::mem;
 
-/// The bundle, if it is worth an offer.
-fn if_worth_an_offer(bundle: Bundle) -> Option<Bundle>
-    ensures { result ≡ if_allocatable bundle }
-{
-    if is_worth_an_offer(&bundle) {
-        Some(bundle)
-    } else {
-        None
-    }
-}
-
 /// How much is free for everyone of the scalars that make an offer worth it, in thousandths.
 #[derive(Clone, Copy)]
 pub struct ForEveryone {
@@ -40,9 +30,18 @@ pub struct ForEveryone {
     pub mem: u64,
 }
 
-/// What is free on an agent in its turn, whether that is worth an offer, and whether it is known that nothing of it is reserved. Where
-/// a role is known, the part is what it may have of that, if it is worth an offer. If it is not, no client whose path begins with the
-/// first `front` parts of those of the role's clients may have anything that is. Where no role is known, part and front say nothing.
+/// What is known of a role in a turn.
+#[derive(Drop)]
+pub enum Known {
+    Nothing,
+    /// What it may have of what is free, which is worth an offer.
+    Part { role: Role, part: Bundle },
+    /// It may have nothing that is worth an offer, nor may any client whose path begins with the first `front` parts of those of the
+    /// role's clients.
+    Barred { role: Role, front: usize },
+}
+
+/// What is free on an agent in its turn, whether that is worth an offer, and whether it is known that nothing of it is reserved.
 #[derive(Drop)]
 pub struct Free {
     pub bundle: Bundle,
@@ -50,9 +49,7 @@ pub struct Free {
     pub is_unreserved: bool,
     // Once it was asked for.
     pub for_everyone: Option<ForEveryone>,
-    pub role: Option<Role>,
-    pub part: Option<Bundle>,
-    pub front: usize,
+    pub known: Known,
 }
 
 impl Free {
@@ -68,27 +65,14 @@ impl Free {
             is_worth,
             is_unreserved,
             for_everyone: None,
-            role: None,
-            part: None,
-            front: 0,
+            known: Known::Nothing,
         }
-    }
-
-    /// How many first parts a client has to share with the one that was tried to be sure of nothing that is worth an offer, where the
-    /// latter may have nothing.
-    pub(crate) fn barred_front(&self) -> Option<usize>
-        ensures { result ≡ barred_front self.now }
-    {
-        if self.role.is_none() || self.part.is_some() {
-            return None;
-        }
-        Some(self.front)
     }
 }
 
 /// What a role may have of what is free: the part that it may use, cut to the headroom that limits leave it, if any do.
 pub(crate) fn part_within(
-    quota: Option<&Quota>,
+    quota: Option<&Quota<'_>>,
     free: &Bundle,
     role: &Role,
 ) -> Result<Bundle, AllocError>
@@ -198,7 +182,7 @@ fn unreserved(free: &Bundle, label: &str) -> u64
 /// If less than `least` of a scalar is free for everyone, or limits leave a role less: how many of its first parts decide that, 0 where so
 /// much is not free.
 fn short_front(
-    quota: Option<&Quota>,
+    quota: Option<&Quota<'_>>,
     free: &Bundle,
     for_everyone: u64,
     role: &Role,
@@ -221,14 +205,13 @@ fn short_front(
 /// and nothing is reserved for it: a number of first parts, so that all clients that share as many with those of the role may have as little.
 /// It needs no memory.
 fn spent_front(
-    quota: Option<&Quota>,
+    quota: Option<&Quota<'_>>,
     free: &Bundle,
     for_everyone: ForEveryone,
     role: &Role,
 ) -> Option<usize>
     requires { IsForEveryone free.now for_everyone }
-    ensures offered { IsSome result → IsOffered (option_copied quota.entry) free.now role.now None }
-    ensures barred { IfSome result (IsBarred (option_copied quota.entry) free.now role.now) }
+    ensures { IfSome result (IsBarred (option_copied quota.entry) free.now role.now) }
 {
     free.recall();
     role.recall();
@@ -238,33 +221,38 @@ fn spent_front(
     Some(cpus.max(mem).max(reserved))
 }
 
-/// What a role may have of what is free, if that is worth an offer; if not, also a number of first parts, so that no client that shares as
-/// many with those of the role may have anything that is.
-fn part_offered(
-    quota: Option<&Quota>,
+/// What a role may have of what is free, if that is worth an offer, or who else may have as little.
+fn known_of(
+    quota: Option<&Quota<'_>>,
     free: &Bundle,
     for_everyone: ForEveryone,
     role: &Role,
-) -> Result<(Option<Bundle>, usize), AllocError>
+) -> Result<Known, AllocError>
     requires { IsForEveryone free.now for_everyone }
-    ensures part { IfOk result (λ told. IsOffered (option_copied quota.entry) free.now role.now told.0) }
-    ensures front { IfOk result (λ told. told.0 ≡ None → IsBarred (option_copied quota.entry) free.now role.now told.1) }
+    ensures right { IfOk result (IsKnownOf (option_copied quota.entry) free.now) }
+    ensures role { IfOk result (λ known. known_role known ≡ Some role.now) }
 {
+    let named = role.copy()?;
     if let Some(front) = spent_front(quota, free, for_everyone, role) {
-        return Ok((None, front));
+        return Ok(Known::Barred { role: named, front });
     }
     role.recall();
     let part = part_within(quota, free, role)?;
-    Ok((if_worth_an_offer(part), role.len() + 1))
+    if is_worth_an_offer(&part) {
+        return Ok(Known::Part { role: named, part });
+    }
+    let front = role.len() + 1;
+    Ok(Known::Barred { role: named, front })
 }
 
 /// Whether it is known what the role may have.
-fn is_known(known: &Option<Role>, role: &Role) -> bool
-    ensures { IsTrue result → known.now ≡ Some role.now }
+fn is_known(known: &Known, role: &Role) -> bool
+    ensures { IsTrue result → known_role known.now ≡ Some role.now }
 {
     match known {
-        Some(known) => known == role,
-        None => false,
+        Known::Nothing => false,
+        Known::Part { role: known, .. } => known == role,
+        Known::Barred { role: known, .. } => known == role,
     }
 }
 
@@ -272,10 +260,8 @@ fn is_known(known: &Option<Role>, role: &Role) -> bool
 fn for_everyone(free: &mut Free) -> ForEveryone
     requires { IsEveryonesKnown free.old }
     ensures amounts { IsForEveryone free.old.bundle result }
-    ensures known { IsEveryonesKnown free.new }
+    ensures known { (quota : Option Allowance) → IsKnown quota free.old → IsKnown quota free.new }
     ensures bundle { free.new.bundle ≡ free.old.bundle }
-    ensures worth { free.new.is_worth ≡ free.old.is_worth }
-    ensures unreserved { free.new.is_unreserved ≡ free.old.is_unreserved }
 {
     if let Some(amounts) = free.for_everyone {
         return amounts;
@@ -289,26 +275,30 @@ fn for_everyone(free: &mut Free) -> ForEveryone
 }
 
 /// Makes known what a role may have. It is found once for clients of a role that are tried one after another.
-fn entitle(quota: Option<&Quota>, free: &mut Free, role: &Role) -> Result<(), AllocError>
+fn entitle(quota: Option<&Quota<'_>>, free: &mut Free, role: &Role) -> Result<(), AllocError>
     requires { IsKnown (option_copied quota) free.old }
-    ensures part { OnOk result (IsOffered (option_copied quota.entry) free.old.bundle role.now free.new.part) }
-    ensures front { OnOk result (free.new.part ≡ None → IsBarred (option_copied quota.entry) free.old.bundle role.now free.new.front) }
-    ensures role { OnOk result (free.new.role ≡ Some role.now) }
+    ensures known { OnOk result (IsKnown (option_copied quota.entry) free.new) }
+    ensures role { OnOk result (known_role free.new.known ≡ Some role.now) }
     ensures bundle { free.new.bundle ≡ free.old.bundle }
-    ensures worth { free.new.is_worth ≡ free.old.is_worth }
-    ensures unreserved { free.new.is_unreserved ≡ free.old.is_unreserved }
-    ensures everyone { OnOk result (IsEveryonesKnown free.new) }
 {
-    if is_known(&free.role, role) {
+    if is_known(&free.known, role) {
         return Ok(());
     }
     let amounts = for_everyone(free);
-    let (part, front) = part_offered(quota, &free.bundle, amounts, role)?;
-    let role = role.copy()?;
-    free.part = part;
-    free.front = front;
-    free.role = Some(role);
+    let known = known_of(quota, &free.bundle, amounts, role)?;
+    free.known = known;
     Ok(())
+}
+
+/// The part that is known, which is known no longer.
+fn take_part(known: &mut Known) -> Option<Bundle>
+    ensures part { result ≡ known_part known.old }
+    ensures nothing { known.new ≡ Nothing }
+{
+    match mem::replace(known, Known::Nothing) {
+        Known::Part { part, .. } => Some(part),
+        _ => None,
+    }
 }
 
 /// Takes from what is free on an agent what a client is granted: what its role may have, if that is worth an offer, and no filter
@@ -317,7 +307,7 @@ fn grant_part(
     tables: &Tables,
     agent: &Name,
     client: &ClientPath,
-    quota: Option<&Quota>,
+    quota: Option<&Quota<'_>>,
     free: &mut Free,
 ) -> Result<Option<Bundle>, AllocError>
     requires { IsKnown (option_copied quota) free.old }
@@ -327,26 +317,24 @@ fn grant_part(
     ensures left { IfOk result (λ granted. MatchOption granted (free.new.bundle ≡ free.old.bundle) (λ bundle. free.new.bundle ≡ rest free.old.bundle bundle)) }
     ensures known { IfOk result (λ granted. MatchOption granted
         (IsKnown (option_copied quota.entry) free.new) (λ _. (later : Option Allowance) → IsKnown later free.new)) }
-    ensures role { IfOk result (λ granted. MatchOption granted (free.new.role ≡ Some (role_part client.now)) (λ _. free.new.role ≡ None)) }
+    ensures role { OnOk result ((role : Path) → known_role free.new.known ≡ Some role → role ≡ role_part client.now) }
 {
     entitle(quota, free, client.role())?;
-    let Some(part) = free.part.take() else {
+    let Known::Part { part, .. } = &free.known else {
         return Ok(None);
     };
-    if tables.is_held_back(client.role(), client.framework(), agent, &part) {
-        free.part = Some(part);
+    if tables.is_held_back(client.role(), client.framework(), agent, part) {
         return Ok(None);
     }
-    free.bundle = free.bundle.rest(&part)?;
+    free.bundle = free.bundle.rest(part)?;
     free.is_worth = is_worth_an_offer(&free.bundle);
     free.is_unreserved = false;
     free.for_everyone = None;
-    free.role = None;
-    Ok(Some(part))
+    Ok(take_part(&mut free.known))
 }
 
 /// Whether no role has a limit.
-fn is_unlimited(quota: Option<&Quota>) -> bool
+fn is_unlimited(quota: Option<&Quota<'_>>) -> bool
     ensures { IsTrue result → (rows : Rows) → IsQuotaOf rows (option_copied quota.entry) → rows.limits ≡ [] }
 {
     match quota {
@@ -357,7 +345,7 @@ fn is_unlimited(quota: Option<&Quota>) -> bool
 
 /// Whether it is seen that each role may have all that is free, and that this is worth an offer: nothing of it is reserved, and there are
 /// no limits.
-fn is_for_all(quota: Option<&Quota>, free: &Free) -> bool
+fn is_for_all(quota: Option<&Quota<'_>>, free: &Free) -> bool
     requires { IsKnown (option_copied quota) free.now }
     ensures { IsTrue result → (role : Path) → IsOffered (option_copied quota.entry) free.now.bundle role (Some free.now.bundle) }
 {
@@ -380,9 +368,9 @@ fn take_all(
         (record { role = role_part client.now; framework = framework_part client.now }) agent.now free.old.bundle then None else Some free.old.bundle) }
     ensures left { MatchOption result (free.new.bundle ≡ free.old.bundle) (λ bundle. free.new.bundle ≡ rest free.old.bundle bundle) }
     ensures known { (quota later : Option Allowance) → IsKnown quota free.old → IsKnown later free.new }
-    ensures role { free.new.role ≡ None }
+    ensures nothing { free.new.known ≡ Nothing }
 {
-    free.role = None;
+    free.known = Known::Nothing;
     if tables.is_held_back(client.role(), client.framework(), agent, &free.bundle) {
         return None;
     }
@@ -398,7 +386,7 @@ pub fn grant(
     tables: &Tables,
     agent: &Name,
     client: &ClientPath,
-    quota: Option<&Quota>,
+    quota: Option<&Quota<'_>>,
     free: &mut Free,
 ) -> Result<Option<Bundle>, AllocError>
     requires { IsKnown (option_copied quota) free.old }
@@ -408,7 +396,7 @@ pub fn grant(
     ensures left { IfOk result (λ granted. MatchOption granted (free.new.bundle ≡ free.old.bundle) (λ bundle. free.new.bundle ≡ rest free.old.bundle bundle)) }
     ensures known { IfOk result (λ granted. MatchOption granted
         (IsKnown (option_copied quota.entry) free.new) (λ _. (later : Option Allowance) → IsKnown later free.new)) }
-    ensures role { OnOk result ((role : Path) → free.new.role ≡ Some role → role ≡ role_part client.now) }
+    ensures role { OnOk result ((role : Path) → known_role free.new.known ≡ Some role → role ≡ role_part client.now) }
 {
     if is_for_all(quota, free) {
         return Ok(take_all(alloc, tables, agent, client, free));

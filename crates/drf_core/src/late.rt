@@ -1,45 +1,30 @@
 //! Why resources are not reserved, not for everyone again, and why a total is not another. What is free, what limits admit
 //! and what is held is tested last, where there is memory.
-ghost use Rattle.std.specs.Prelude.{◌≡◌, ◌≢◌, ◌++◌, ◌≤◌, [], true, length, Some, None, IfOk};
-ghost use Rattle.drf_bundle.specs.Bundle.{is_unreserved, rest};
+ghost use Rattle.std.specs.Prelude.{◌≡◌, ◌++◌, ◌≤◌, true, length, Some, None, IfOk};
+ghost use Rattle.drf_bundle.specs.Bundle.{is_unreserved};
 ghost use Rattle.drf_rows.specs.Consistent.{IsConsistent};
-ghost use Rattle.drf_rows.specs.Cycle.{free_of};
 ghost use Rattle.drf_rows.specs.Members.{has_agent};
-ghost use Rattle.drf_rows.specs.Quota.{admits};
 ghost use Rattle.drf_rows.specs.Step.{first_case};
-ghost use Rattle.drf_rows.specs.Totals.{agent_at, is_not_free};
-ghost use Rattle.drf_rows.specs.declared.rows.AgentRow.{AgentRow};
+ghost use Rattle.drf_rows.specs.Totals.{is_not_free};
 ghost use Rattle.drf_laws.specs.Kept.{AreFew};
 ghost use Rattle.drf_core.specs.Refusing.{cases_of_names, cases_of_reserved, cases_of_total, cases_of_unreserved, early_refusal_of, late_cases_of};
 
 use crate::refusal::first_case;
 use drf_amount::Algebra;
-use drf_bundle::{Bundle, Quantities};
+use drf_bundle::Bundle;
 use drf_role::{Name, Role};
 use drf_rows::{Event, Limits, Refusal};
 use drf_tables::{Tables, is_too_large};
 use std::alloc::AllocError;
 
 /// The agent is there, and what is free on it does not cover the resources.
-fn is_not_free(tables: &Tables, agent: &Name, resources: &Bundle) -> bool
-    requires { tables.now.settled ≡ true }
-    ensures { result ≡ is_not_free tables.now.rows agent.now resources.now }
+fn is_not_free(tables: &Tables, agent: &Name, resources: &Bundle) -> Result<bool, AllocError>
+    ensures { IfOk result (λ lacks. lacks ≡ is_not_free tables.now.rows agent.now resources.now) }
 {
-    match tables.place_of(agent) {
-        Some(place) => !tables.free(place).covers(resources),
-        None => false,
+    match tables.free_on(agent)? {
+        Some(free) => Ok(!free.covers(resources)),
+        None => Ok(false),
     }
-}
-
-/// No limit keeps a role from consuming so much more.
-fn admits(tables: &Tables, role: &Role, amounts: &Quantities) -> bool
-    requires { tables.now.rows.limits ≢ [] → tables.now.counted ≡ true }
-    ensures { result ≡ admits tables.now.rows role.now amounts.now }
-{
-    if !tables.has_limits() {
-        return true;
-    }
-    tables.quota().admits(role, amounts)
 }
 
 /// Why resources are not reserved for a role: they are not free, or a limit does not admit them.
@@ -53,54 +38,41 @@ fn refuse_reserved(
     ensures value { IfOk result (λ refusal. refusal ≡ first_case (cases_of_reserved tables.old.rows agent.now role.now resources.now)) }
     ensures same { tables.new.rows ≡ tables.old.rows }
 {
-    tables.settle()?;
     tables.count_consumption()?;
+    let lacks = is_not_free(tables, agent, resources)?;
     let amounts = resources.quantities();
     Ok(first_case(&[
-        (is_not_free(tables, agent, resources), Refusal::NotCovered),
-        (!admits(tables, role, amounts), Refusal::OverLimit),
+        (lacks, Refusal::NotCovered),
+        (!tables.admits(role, amounts), Refusal::OverLimit),
     ]))
 }
 
 /// Why resources that were reserved are not for everyone again: they are not free.
 fn refuse_unreserved(
-    tables: &mut Tables,
+    tables: &Tables,
     agent: &Name,
     role: &Role,
     resources: &Bundle,
 ) -> Result<Option<Refusal>, AllocError>
     requires { is_unreserved resources.now ≡ true }
-    ensures value { IfOk result (λ refusal. refusal ≡ first_case (cases_of_unreserved tables.old.rows agent.now role.now resources.now)) }
-    ensures same { tables.new.rows ≡ tables.old.rows }
+    ensures { IfOk result (λ refusal. refusal ≡ first_case (cases_of_unreserved tables.now.rows agent.now role.now resources.now)) }
 {
     let reserved = resources.relabel(role)?;
-    tables.settle()?;
-    Ok(first_case(&[(is_not_free(tables, agent, &reserved), Refusal::NotCovered)]))
-}
-
-/// What is held on an agent, offered or in tasks.
-fn held_on(tables: &Tables, agent: &Name) -> Result<Bundle, AllocError>
-    requires settled { tables.now.settled ≡ true }
-    requires known { has_agent tables.now.rows agent.now ≡ true }
-    ensures { IfOk result (λ held. (a : AgentRow) → agent_at tables.now.rows agent.now ≡ Some a → held ≡ rest a.total (free_of tables.now.rows a)) }
-{
-    let place = tables.place_of(agent).unwrap();
-    tables.agent_total(place).rest(tables.free(place))
+    let lacks = is_not_free(tables, agent, &reserved)?;
+    Ok(first_case(&[(lacks, Refusal::NotCovered)]))
 }
 
 /// Why a total is not an agent's: it does not cover what is held there, or is too large.
 fn refuse_total(
-    tables: &mut Tables,
+    tables: &Tables,
     agent: &Name,
     total: &Bundle,
 ) -> Result<Option<Refusal>, AllocError>
-    requires known { has_agent tables.old.rows agent.now ≡ true }
-    requires consistent { IsConsistent tables.old.rows }
-    ensures value { IfOk result (λ refusal. refusal ≡ first_case (cases_of_total tables.old.rows agent.now total.now)) }
-    ensures same { tables.new.rows ≡ tables.old.rows }
+    requires known { has_agent tables.now.rows agent.now ≡ true }
+    requires consistent { IsConsistent tables.now.rows }
+    ensures { IfOk result (λ refusal. refusal ≡ first_case (cases_of_total tables.now.rows agent.now total.now)) }
 {
-    tables.settle()?;
-    let held = held_on(tables, agent)?;
+    let held = tables.held_on(agent)?;
     Ok(first_case(&[
         (!total.covers(&held), Refusal::NotCovered),
         (is_too_large(total), Refusal::TooLarge),
@@ -127,14 +99,13 @@ fn refuse_names(
 /// Why an agent that is there does not get another total.
 fn refuse_other_total(
     limits: &Limits,
-    tables: &mut Tables,
+    tables: &Tables,
     agent: &Name,
     total: &Bundle,
 ) -> Result<Option<Refusal>, AllocError>
-    requires known { has_agent tables.old.rows agent.now ≡ true }
-    requires consistent { IsConsistent tables.old.rows }
-    ensures value { IfOk result (λ refusal. refusal ≡ first_case (cases_of_total tables.old.rows agent.now total.now ++ cases_of_names limits.now tables.old.rows agent.now total.now)) }
-    ensures same { tables.new.rows ≡ tables.old.rows }
+    requires known { has_agent tables.now.rows agent.now ≡ true }
+    requires consistent { IsConsistent tables.now.rows }
+    ensures { IfOk result (λ refusal. refusal ≡ first_case (cases_of_total tables.now.rows agent.now total.now ++ cases_of_names limits.now tables.now.rows agent.now total.now)) }
 {
     match refuse_total(tables, agent, total)? {
         Some(refusal) => Ok(Some(refusal)),

@@ -1,5 +1,5 @@
 //! Why an event is refused. But for the tests in `late`, none needs memory.
-ghost use Rattle.std.specs.Prelude.{◌≡◌, ◌∷◌, [], ◌<◌, ◌≤◌, false, length, not, is_some, None, IfNone, IfSome, IfOk, OnErr};
+ghost use Rattle.std.specs.Prelude.{◌≡◌, ◌∷◌, [], ◌<◌, ◌≤◌, true, false, length, not, is_some, None, IfNone, IfSome, IfOk, OnErr};
 ghost use Rattle.std.specs.List.{list_all};
 ghost use Rattle.std.specs.Option.{option_copied, option_map_or};
 ghost use Rattle.drf_role.specs.Text.{same_text};
@@ -108,6 +108,27 @@ fn stands(offer: Option<&OfferRow>) -> bool
         Some(_) => true,
         None => false,
     }
+}
+
+/// The offer stands, and is the framework's.
+fn is_its(framework: &Name, offer: Option<&OfferRow>) -> bool
+    ensures { result ≡ option_map_or (λ o. same_text o.framework framework.now) (option_copied offer.entry) false }
+{
+    match offer {
+        Some(offer) => offer.framework == *framework,
+        None => false,
+    }
+}
+
+/// The framework is not registered. Who holds something is, and is not looked up.
+fn is_unknown(tables: &Tables, framework: &Name, holds: bool) -> bool
+    requires { holds ≡ true → has_framework tables.now.rows framework.now ≡ true }
+    ensures { result ≡ not (has_framework tables.now.rows framework.now) }
+{
+    if holds {
+        return false;
+    }
+    !tables.has_framework(framework)
 }
 
 /// The offer stands, and is another framework's.
@@ -277,10 +298,15 @@ fn refuse_tasks(
         at,
         ..
     } = accept;
+    tables.recall();
+    let holds = is_its(framework, offer);
     first_case(&[
         (is_full(limits, tables), Refusal::HistoryFull),
         (LATEST_MOMENT < *at, Refusal::BadMoment),
-        (!tables.has_framework(framework), Refusal::UnknownFramework),
+        (
+            is_unknown(tables, framework, holds),
+            Refusal::UnknownFramework,
+        ),
         (!stands(offer), Refusal::UnknownOffer),
         (is_anothers(framework, offer), Refusal::NotYours),
         (is_task_known(tables, framework, tasks), Refusal::KnownTask),
@@ -323,10 +349,15 @@ fn refuse_decline(limits: &Limits, tables: &Tables, decline: &Decline) -> Option
 {
     let Decline { framework, at, .. } = decline;
     let offer = tables.offer(decline.offer);
+    tables.recall();
+    let holds = is_its(framework, offer);
     first_case(&[
         (is_full(limits, tables), Refusal::HistoryFull),
         (LATEST_MOMENT < *at, Refusal::BadMoment),
-        (!tables.has_framework(framework), Refusal::UnknownFramework),
+        (
+            is_unknown(tables, framework, holds),
+            Refusal::UnknownFramework,
+        ),
         (!stands(offer), Refusal::UnknownOffer),
         (is_anothers(framework, offer), Refusal::NotYours),
         (
@@ -350,10 +381,15 @@ fn refuse_rescind(limits: &Limits, tables: &Tables, number: u64) -> Option<Refus
 fn refuse_finish(limits: &Limits, tables: &Tables, framework: &Name, task: &Name) -> Option<Refusal>
     ensures { result ≡ refusal_of limits.now tables.now.rows (Finish framework.now task.now) }
 {
+    tables.recall();
+    let holds = tables.has_task(framework, task);
     first_case(&[
         (is_full(limits, tables), Refusal::HistoryFull),
-        (!tables.has_framework(framework), Refusal::UnknownFramework),
-        (!tables.has_task(framework, task), Refusal::UnknownTask),
+        (
+            is_unknown(tables, framework, holds),
+            Refusal::UnknownFramework,
+        ),
+        (!holds, Refusal::UnknownTask),
     ])
 }
 

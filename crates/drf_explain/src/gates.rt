@@ -48,7 +48,7 @@ fn binds(limit: &LimitRow, role: &Role, label: &str) -> bool
 }
 
 /// What a limit leaves of a scalar, in thousandths.
-fn room_under(quota: &Quota, label: &str, limit: &LimitRow) -> u64
+fn room_under(quota: &Quota<'_>, label: &str, limit: &LimitRow) -> u64
     ensures { result ≡ room_under (used_at quota.now.used) label.now limit.now }
 {
     limit
@@ -59,7 +59,7 @@ fn room_under(quota: &Quota, label: &str, limit: &LimitRow) -> u64
 
 /// Of two limits the one that leaves less of a scalar, and the first where they leave as much.
 fn tighter<'a>(
-    quota: &Quota,
+    quota: &Quota<'_>,
     label: &str,
     first: &'a LimitRow,
     second: &'a LimitRow,
@@ -75,7 +75,7 @@ fn tighter<'a>(
 
 /// The tightest limit of those found before and one more, if that binds the role.
 fn tightest_with<'a>(
-    quota: &Quota,
+    quota: &Quota<'_>,
     role: &Role,
     label: &str,
     found: Option<&'a LimitRow>,
@@ -94,7 +94,7 @@ fn tightest_with<'a>(
 
 /// Of the limits that bind a role on a scalar the one that leaves least.
 fn tightest<'a>(
-    quota: &Quota,
+    quota: &Quota<'_>,
     limits: &'a [LimitRow],
     role: &Role,
     label: &str,
@@ -110,7 +110,7 @@ fn tightest<'a>(
 
 /// The role whose limit cuts most of what makes a part worth an offer.
 fn limiting_role(
-    quota: Option<&Quota>,
+    quota: Option<&Quota<'_>>,
     limits: &[LimitRow],
     role: &Role,
     part: &Bundle,
@@ -129,7 +129,7 @@ fn limiting_role(
 
 /// Why a client of the role is offered nothing of a part of what is free, of which limits leave too little.
 fn shortage(
-    quota: Option<&Quota>,
+    quota: Option<&Quota<'_>>,
     limits: &[LimitRow],
     role: &Role,
     free: &Bundle,
@@ -252,7 +252,7 @@ impl<'a> Gates<'a> {
     /// What comes of trying a client whose role may use that part of what is free, of which limits leave that bundle.
     pub fn outcome(
         &self,
-        quota: Option<&Quota>,
+        quota: Option<&Quota<'_>>,
         client: &ClientPath,
         free: &Bundle,
         part: &Bundle,

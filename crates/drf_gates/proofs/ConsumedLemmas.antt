@@ -20,7 +20,7 @@ use Rattle.drf_bundle.specs.declared.resource.Resource.{Resource}
 use Rattle.drf_row_laws.specs.ConsistentLaws.{same_text-swap}
 use Rattle.drf_rows.specs.Quota.{reserves, unreserved_in, reserved_in}
 use Rattle.drf_row_laws.specs.QuotaLaws.{no_text, parts_le}
-use Rattle.drf_gates.specs.Quota.{Allowance, IsRaised, IsRaisedBy, IsSame, amount_in_one, unreserved_one, reserved_one, counted, used_where}
+use Rattle.drf_gates.specs.Quota.{AreRaised, IsRaisedBy, IsSame, Usage, amount_in_one, unreserved_one, reserved_one, counted, used_where}
 
 -- the element that is read is the first of those that are left
 pub next_of : {A : Type 0} (xs : List A) (i : ℕ) (x : A) → i < length xs → x ≡ get_or xs i x → drop i xs ≡ x ∷ drop (i + 1) xs
@@ -150,72 +150,60 @@ module _ (bundle : List Resource) (is : IsBundle bundle) (sum : List Entry) (i :
   sum_more new more label = omega (arith, split_sum label, first_unit label, more label)
 
 -- what was consumed and what is to come is all that the bundle has reserved
-pub record IsConsumed (bundle : List Resource) (old new : Allowance) (left : List Resource) : Type 0 where
-  pub limits : new.limits ≡ old.limits
-  pub used : (test : Path → Bool) (label : Text)
-      → used_where test new.used label + reserved_in test label left ≡ used_where test old.used label + reserved_in test label bundle
+abbrev pub IsConsumed : List Resource → List Usage → List Usage → List Resource → Type 0
+IsConsumed bundle old new left = (test : Path → Bool) (label : Text)
+    → used_where test new label + reserved_in test label left ≡ used_where test old label + reserved_in test label bundle
 
-module _ (bundle : List Resource) (old mid : Allowance) (i : ℕ) (r : Resource)
+module _ (bundle : List Resource) (old mid : List Usage) (i : ℕ) (r : Resource)
     (in_range : i < length bundle) (read : r ≡ get_or bundle i r) (consumed : IsConsumed bundle old mid (drop i bundle)) where
   split_used : (test : Path → Bool) (label : Text)
-      → used_where test mid.used label + (reserved_one test label r + reserved_in test label (drop (i + 1) bundle))
-      ≡ used_where test old.used label + reserved_in test label bundle
+      → used_where test mid label + (reserved_one test label r + reserved_in test label (drop (i + 1) bundle))
+      ≡ used_where test old label + reserved_in test label bundle
   split_used test label =
-      let of : List Resource → ℕ = λ rs. used_where test mid.used label + reserved_in test label rs in
+      let of : List Resource → ℕ = λ rs. used_where test mid label + reserved_in test label rs in
       omega (
         arith,
         ap of (next_of bundle i r in_range read),
         where-cons (reserves test label) Thousandths r (drop (i + 1) bundle),
-        consumed.used test label,
+        consumed test label,
       )
 
-  pub used_fits : ((test : Path → Bool) (label : Text) → used_where test old.used label + reserved_in test label bundle < 2 ^ 64)
-      → (test : Path → Bool) (label : Text) → used_where test mid.used label + reserved_one test label r < 2 ^ 64
+  pub used_fits : ((test : Path → Bool) (label : Text) → used_where test old label + reserved_in test label bundle < 2 ^ 64)
+      → (test : Path → Bool) (label : Text) → used_where test mid label + reserved_one test label r < 2 ^ 64
   used_fits fits test label = omega (arith, split_used test label, fits test label)
 
-  pub used_more : (new : Allowance) → IsRaisedBy mid new (λ test label. reserved_one test label r) → IsConsumed bundle old new (drop (i + 1) bundle)
-  used_more new raised = record {
-    limits = raised.limits ∙ consumed.limits;
-    used = λ test label. omega (arith, raised.used test label, split_used test label);
-  }
+  pub used_more : (new : List Usage) → IsRaisedBy mid new (λ test label. reserved_one test label r) → IsConsumed bundle old new (drop (i + 1) bundle)
+  used_more new raised = λ test label. omega (arith, raised test label, split_used test label)
 
 -- ---- a role that consumes amounts
 
 -- by what is said of the amounts
-pub raised_by : {T E : Type 0} (result : Result T E) (old new : Allowance) (role : Path) (amounts : List Entry) (more : (Path → Bool) → Text → ℕ)
-    → OnOk result (IsRaised old new role amounts)
+pub raised_by : {T E : Type 0} (result : Result T E) (old new : List Usage) (role : Path) (amounts : List Entry) (more : (Path → Bool) → Text → ℕ)
+    → OnOk result (AreRaised old new role amounts)
     → ((test : Path → Bool) (label : Text) → counted test role amounts label ≡ more test label)
     → OnOk result (IsRaisedBy old new more)
-raised_by (Ok x) old new role amounts more raised same = record {
-  limits = raised.limits;
-  used = λ test label. raised.used test label ∙ ap (λ n. used_where test old.used label + n) (same test label);
-}
+raised_by (Ok x) old new role amounts more raised same =
+    λ test label. raised test label ∙ ap (λ n. used_where test old label + n) (same test label)
 raised_by (Err e) old new role amounts more raised same = tt
 
 -- ---- what is released, one part after another
 
 -- what was released and what is to come is all
-pub record IsReleased (old mid : Allowance) (all left : (Path → Bool) → Text → ℕ) : Type 0 where
-  pub limits : mid.limits ≡ old.limits
-  pub used : (test : Path → Bool) (label : Text) → used_where test mid.used label + all test label ≡ used_where test old.used label + left test label
+abbrev pub IsReleased : List Usage → List Usage → ((Path → Bool) → Text → ℕ) → ((Path → Bool) → Text → ℕ) → Type 0
+IsReleased old mid all left =
+    (test : Path → Bool) (label : Text) → used_where test mid label + all test label ≡ used_where test old label + left test label
 
-module _ (old mid : Allowance) (all left one rest : (Path → Bool) → Text → ℕ) (released : IsReleased old mid all left)
+module _ (old mid : List Usage) (all left one rest : (Path → Bool) → Text → ℕ) (released : IsReleased old mid all left)
     (split : (test : Path → Bool) (label : Text) → left test label ≡ one test label + rest test label) where
-  pub released_fits : (test : Path → Bool) (label : Text) → all test label ≤ used_where test old.used label → one test label ≤ used_where test mid.used label
-  released_fits test label fits = omega (arith, released.used test label, split test label, fits)
+  pub released_fits : (test : Path → Bool) (label : Text) → all test label ≤ used_where test old label → one test label ≤ used_where test mid label
+  released_fits test label fits = omega (arith, released test label, split test label, fits)
 
-  pub released_more : (new : Allowance) → IsRaisedBy new mid one → IsReleased old new all rest
-  released_more new raised = record {
-    limits = sym raised.limits ∙ released.limits;
-    used = λ test label. omega (arith, raised.used test label, released.used test label, split test label);
-  }
+  pub released_more : (new : List Usage) → IsRaisedBy new mid one → IsReleased old new all rest
+  released_more new raised = λ test label. omega (arith, raised test label, released test label, split test label)
 
-pub released_done : (old new : Allowance) (all left : (Path → Bool) → Text → ℕ) → IsReleased old new all left
+pub released_done : (old new : List Usage) (all left : (Path → Bool) → Text → ℕ) → IsReleased old new all left
     → ((test : Path → Bool) (label : Text) → left test label ≡ 0) → IsRaisedBy new old all
-released_done old new all left released none = record {
-  limits = sym released.limits;
-  used = λ test label. omega (arith, released.used test label, none test label);
-}
+released_done old new all left released none = λ test label. omega (arith, released test label, none test label)
 
 -- what a role releases of a resource, and what resources that are reserved do
 abbrev pub unreserved_by : Path → (List Resource → (Path → Bool) → Text → ℕ)
@@ -260,13 +248,10 @@ nothing_by false = refl
 
 -- ---- a front that was consumed, and is given back
 
-module _ (bundle : List Resource) (old mid : Allowance) (i : ℕ) (consumed : IsConsumed bundle old mid (drop i bundle)) where
+module _ (bundle : List Resource) (old mid : List Usage) (i : ℕ) (consumed : IsConsumed bundle old mid (drop i bundle)) where
   -- it is among what is consumed
-  pub front_fits : (test : Path → Bool) (label : Text) → reserved_in test label (take i bundle) ≤ used_where test mid.used label
-  front_fits test label = omega (arith, consumed.used test label, reserved_parts test label bundle i)
+  pub front_fits : (test : Path → Bool) (label : Text) → reserved_in test label (take i bundle) ≤ used_where test mid label
+  front_fits test label = omega (arith, consumed test label, reserved_parts test label bundle i)
 
-  pub front_back : (new : Allowance) → IsRaisedBy new mid (λ test label. reserved_in test label (take i bundle)) → IsSame old new
-  front_back new raised = record {
-    limits = sym raised.limits ∙ consumed.limits;
-    used = λ test label. omega (arith, raised.used test label, consumed.used test label, reserved_parts test label bundle i);
-  }
+  pub front_back : (new : List Usage) → IsRaisedBy new mid (λ test label. reserved_in test label (take i bundle)) → IsSame old new
+  front_back new raised = λ test label. omega (arith, raised test label, consumed test label, reserved_parts test label bundle i)

@@ -12,4 +12,3 @@ pub mod FrontLemmas
 pub mod LeaveLemmas
 pub mod LeastLemmas
 pub mod SomeLemmas
-pub mod LimitedLemmas

@@ -1,6 +1,6 @@
 -- What is kept of the roles that have a limit, through each change of what roles consume.
 use Rattle.std.specs.Prelude.{◌≡◌, ℕ, ◌+◌, ◌<◌, Bool, true, false, List, [], ◌∷◌, IsTrue, length, drop, Some}
-use Rattle.std.specs.Map.{keys_of, lookup}
+use Rattle.std.specs.Map.{lookup}
 use Rattle.std.proofs.Common.{refl, sym, ap, subst, ◌∙◌, inl, inr, cond, arith, get_or, set}
 use Rattle.std.proofs.lemmas.Bool.{and_parts, cases_Bool}
 use Rattle.std.proofs.lemmas.List.Elements.{All-head, All-tail, All-weaker}
@@ -13,12 +13,10 @@ use Rattle.drf_bundle.specs.Quantities.{amount_of, is_in_order, with_amount}
 use Rattle.drf_bundle.specs.laws.QuantitiesLaws.{stands_first, amount_first, amount-with}
 use Rattle.drf_bundle.specs.declared.quantities.Entry.{Entry}
 use Rattle.drf_rows.specs.Quota.{is_within}
-use Rattle.drf_gates.specs.Limits.{Limit}
 use Rattle.drf_gates.specs.Quota.{Usage, AreRaised, AreSome, IsBounded, one_entry, used_at, used_where}
 use Rattle.drf_gates.specs.Totals.{IsExact, AreExact, IsCounted}
 use Rattle.drf_gates.specs.declared.totals.Total.{Total}
 use Rattle.drf_gates.proofs.ConsumedLemmas.{next_of}
-use Rattle.drf_gates.proofs.LimitedLemmas.{limited_alike}
 use Rattle.drf_gates.proofs.UsageLemmas.{bounded-lowered}
 
 -- ---- amounts that are added or taken, entry by entry
@@ -112,26 +110,24 @@ kept_is used (e ∷ es) role t label right found known exact = elim (cases_Bool 
 
 -- ---- what is kept beside what roles consume
 
-module _ (limits : List Limit) (old new : List Usage) (role : Path) (amounts : List Entry) (totals left : List (Path × Total))
-    (counted : IsCounted limits old totals) (some : AreSome old → AreSome new) (same : keys_of left ≡ keys_of totals) where
+module _ (old new : List Usage) (role : Path) (amounts : List Entry) (totals left : List (Path × Total))
+    (counted : IsCounted old totals) (some : AreSome old → AreSome new) where
   -- a role consumes more, and none too much
   pub raised_beside : AreRaised old new role amounts → IsBounded new
       → ((one other : List Usage) → AreRaised one other role amounts → AreExact one totals → AreExact other left)
-      → IsCounted limits new left
+      → IsCounted new left
   raised_beside raised bounded follows = record {
     bounded = bounded;
     some = some counted.some;
     exact = follows old new raised counted.exact;
-    limited = limited_alike limits totals left counted.limited same;
   }
 
   -- a role consumes less
   pub lowered_beside : AreRaised new old role amounts
       → ((one other : List Usage) → AreRaised other one role amounts → AreExact one totals → AreExact other left)
-      → IsCounted limits new left
+      → IsCounted new left
   lowered_beside raised follows = record {
     bounded = bounded-lowered old new role amounts raised counted.bounded;
     some = some counted.some;
     exact = follows old new raised counted.exact;
-    limited = limited_alike limits totals left counted.limited same;
   }

@@ -3,7 +3,6 @@ pub mod Front
 pub mod FrontLaws
 pub mod Index
 pub mod Laws
-pub mod Limits
 pub mod Quota
 pub mod Slots
 pub mod Totals

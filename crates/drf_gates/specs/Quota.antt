@@ -1,9 +1,9 @@
--- What a quota keeps: the limits, and what each role consumes.
+-- The limits of roles, and what each role consumes.
 use Rattle.std.specs.Prelude.{◌≡◌, ℕ, ◌+◌, ◌^◌, ◌<◌, min, Bool, List, [], ◌∷◌, All, map, fold, sum_by, Option, Some, None, if◌then◌else◌, refl}
 use Rattle.std.specs.List.{reduce}
 use Rattle.std.specs.Coded.{Coded, code_by, coded×, coded_list, coded_ℕ}
 use Rattle.std.specs.Map.{lookup}
-use Rattle.std.specs.Option.{option_map_or}
+use Rattle.std.specs.Option.{option_map, option_map_or}
 use Rattle.drf_role.specs.Text.{Text, same_text}
 use Rattle.drf_role.specs.Path.{Path, same_path}
 use Rattle.drf_role.specs.Role.{IsRole}
@@ -22,15 +22,22 @@ use Rattle.drf_rows.specs.declared.rows.Rows.{Rows}
 abbrev pub Usage : Type 0
 Usage = Path × List Entry
 
+-- limits beside what roles consume
 pub record Allowance : Type 0 where
   pub limits : List LimitRow
   pub used : List Usage
 
--- by it a proof tells two of them apart
+-- the same, if it is known what roles consume
+abbrev pub quota_under : List LimitRow → Option (List Usage) → Option Allowance
+quota_under limits consumption = option_map (λ used. record { limits = limits; used = used }) consumption
+
+-- by these a proof tells two of them apart
+abbrev pub usage_code : Coded (List Usage)
+usage_code = coded_list (coded× (coded_list (coded_list coded_ℕ)) (coded_list entry.the_row.coded))
+
 abbrev pub allowance_code : Coded Allowance
 allowance_code =
-    code_by (List LimitRow × List Usage)
-    (coded× (coded_list limit.the_row.coded) (coded_list (coded× (coded_list (coded_list coded_ℕ)) (coded_list entry.the_row.coded))))
+    code_by (List LimitRow × List Usage) (coded× (coded_list limit.the_row.coded) usage_code)
     (λ a. (a.limits, a.used)) (λ p. record { limits = p.0; used = p.1 }) (λ _. refl)
 
 -- how much of a scalar is added to what the roles that pass a test consume
@@ -58,19 +65,22 @@ abbrev pub AreRaised : List Usage → List Usage → Path → List Entry → Typ
 AreRaised old new role amounts =
     (test : Path → Bool) (label : Text) → used_where test new label ≡ used_where test old label + counted test role amounts label
 
-pub record IsRaised (old new : Allowance) (role : Path) (amounts : List Entry) : Type 0 where
-  pub limits : new.limits ≡ old.limits
-  pub used : AreRaised old.used new.used role amounts
+-- roles consume so much more, by a test and a scalar
+abbrev pub IsRaisedBy : List Usage → List Usage → ((Path → Bool) → Text → ℕ) → Type 0
+IsRaisedBy old new more = (test : Path → Bool) (label : Text) → used_where test new label ≡ used_where test old label + more test label
 
--- the limits are the same, and each role consumes as much
-pub record IsSame (one other : Allowance) : Type 0 where
-  pub limits : other.limits ≡ one.limits
-  pub used : (test : Path → Bool) (label : Text) → used_where test other.used label ≡ used_where test one.used label
+-- each role consumes as much
+abbrev pub IsSame : List Usage → List Usage → Type 0
+IsSame one other = (test : Path → Bool) (label : Text) → used_where test other label ≡ used_where test one label
+
+-- it is what roles consume by the rows
+abbrev pub IsConsumptionOf : Rows → List Usage → Type 0
+IsConsumptionOf rows used = (test : Path → Bool) (label : Text) → used_where test used label ≡ consumption_where test rows label
 
 -- limits and consumption are those of the rows
 pub record IsAllowanceOf (rows : Rows) (a : Allowance) : Type 0 where
   pub limits : a.limits ≡ rows.limits
-  pub used : (test : Path → Bool) (label : Text) → used_where test a.used label ≡ consumption_where test rows label
+  pub used : IsConsumptionOf rows a.used
 
 -- no role consumes 2^64 thousandths of a scalar
 pub record IsBounded (used : List Usage) : Type 0 where
@@ -108,11 +118,6 @@ least_with (Some n) ns = Some (fold min n ns)
 -- what is known of the least room, once one more limit is known
 abbrev pub lessened : Consumed → LimitRow → Option ℕ → Text → Option ℕ
 lessened consumed l known label = if is_named l.limit label then Some (lesser known (room_under consumed label l)) else known
-
--- roles consume so much more, by a test and a scalar
-pub record IsRaisedBy (old new : Allowance) (more : (Path → Bool) → Text → ℕ) : Type 0 where
-  pub limits : new.limits ≡ old.limits
-  pub used : (test : Path → Bool) (label : Text) → used_where test new.used label ≡ used_where test old.used label + more test label
 
 -- how much of a scalar one resource has, and how much for everyone, and reserved for roles that pass a test
 abbrev pub amount_in_one : Text → Resource → ℕ

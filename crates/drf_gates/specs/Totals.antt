@@ -1,12 +1,10 @@
 -- What is kept of the roles that have a limit.
-use Rattle.std.specs.Prelude.{◌≡◌, ℕ, Bool, ◌&&◌, nat_lt, List, All, IsSome, IsTrue, length, if◌then◌else◌}
-use Rattle.std.specs.Map.{lookup}
+use Rattle.std.specs.Prelude.{◌≡◌, ℕ, Bool, ◌&&◌, nat_lt, List, All, IsTrue, length, if◌then◌else◌}
 use Rattle.drf_role.specs.Text.{Text}
-use Rattle.drf_role.specs.Path.{Path, same_path}
+use Rattle.drf_role.specs.Path.{Path}
 use Rattle.drf_role.specs.Role.{IsRole}
 use Rattle.drf_bundle.specs.Quantities.{amount_of}
 use Rattle.drf_rows.specs.Quota.{is_within}
-use Rattle.drf_gates.specs.Limits.{Limit}
 use Rattle.drf_gates.specs.Quota.{Usage, AreSome, IsBounded, used_at}
 use Rattle.drf_gates.specs.declared.totals.Total.{Total}
 
@@ -17,16 +15,11 @@ pub record IsExact (used : List Usage) (role : Path) (t : Total) : Type 0 where
 abbrev pub AreExact : List Usage → List (Path × Total) → Type 0
 AreExact used totals = All (λ e. IsExact used e.0 e.1) totals
 
--- each role with a total has a limit
-abbrev pub AreLimited : List Limit → List (Path × Total) → Type 0
-AreLimited limits totals = (role : Path) → IsSome (lookup (same_path role) totals) → IsSome (lookup (same_path role) limits)
-
 -- what holds of what roles consume, and of the totals that are kept beside it
-pub record IsCounted (limits : List Limit) (used : List Usage) (totals : List (Path × Total)) : Type 0 where
+pub record IsCounted (used : List Usage) (totals : List (Path × Total)) : Type 0 where
   pub bounded : IsBounded used
   pub some : AreSome used
   pub exact : AreExact used totals
-  pub limited : AreLimited limits totals
 
 -- the role is one of the fronts of another with fewer parts than so many
 abbrev pub is_front_before : Path → ℕ → Path → Bool

@@ -8,7 +8,7 @@ ghost use Rattle.drf_bundle.specs.Value.{Thousandths, units_in};
 ghost use Rattle.drf_rows.specs.Quota.{unreserved_in, reserved_in};
 ghost use Rattle.drf_gates.specs.Quota.{IsRaisedBy, IsSame, amount_in_one, unreserved_one, reserved_one, used_by, used_where};
 
-use crate::quota::Quota;
+use crate::consumption::Consumption;
 use crate::totals::reduce_totals;
 use crate::usage::reduce;
 use drf_bundle::{Bundle, Quantities, Resource, Value};
@@ -68,11 +68,11 @@ fn one(alloc: Global, resource: &Resource) -> Result<Quantities, AllocError>
     Ok(amounts)
 }
 
-impl Quota {
+impl Consumption {
     /// A client of the role holds the bundle: what is unreserved of it is consumed. An `Err` changes nothing.
     pub fn consume_unreserved(&mut self, role: &Role, bundle: &Bundle) -> Result<(), AllocError>
         requires { (test : Path → Bool) (label : Text)
-            → used_where test self.old.used label + (if test role.now then unreserved_in label bundle.now else 0) < 2 ^ 64 }
+            → used_where test self.old label + (if test role.now then unreserved_in label bundle.now else 0) < 2 ^ 64 }
         ensures ok { OnOk result (IsRaisedBy self.old self.new (λ test label. if test role.now then unreserved_in label bundle.now else 0)) }
         ensures err { OnErr result (self.new ≡ self.old) }
     {
@@ -86,7 +86,7 @@ impl Quota {
     /// A client of the role holds the resource no longer: it is released, if it is unreserved.
     fn release_one(&mut self, role: &Role, resource: &Resource)
         requires right { IsResource resource.now }
-        requires fits { (label : Text) → unreserved_one label resource.now ≤ used_by self.old.used role.now label }
+        requires fits { (label : Text) → unreserved_one label resource.now ≤ used_by self.old role.now label }
         ensures { IsRaisedBy self.new self.old (λ test label. if test role.now then unreserved_one label resource.now else 0) }
     {
         if resource.is_unreserved() {
@@ -99,7 +99,7 @@ impl Quota {
 
     /// What is unreserved of the bundle is released, one resource after another.
     fn release_parts(&mut self, role: &Role, bundle: &Bundle)
-        requires { (label : Text) → unreserved_in label bundle.now ≤ used_by self.old.used role.now label }
+        requires { (label : Text) → unreserved_in label bundle.now ≤ used_by self.old role.now label }
         ensures { IsRaisedBy self.new self.old (λ test label. if test role.now then unreserved_in label bundle.now else 0) }
     {
         for resource in bundle.entries() {
@@ -109,7 +109,7 @@ impl Quota {
 
     /// A client of the role holds the bundle no longer: what is unreserved of it is released. It needs no memory.
     pub fn release_unreserved(&mut self, role: &Role, bundle: &Bundle)
-        requires { (label : Text) → unreserved_in label bundle.now ≤ used_by self.old.used role.now label }
+        requires { (label : Text) → unreserved_in label bundle.now ≤ used_by self.old role.now label }
         ensures { IsRaisedBy self.new self.old (λ test label. if test role.now then unreserved_in label bundle.now else 0) }
     {
         match sums_if_unreserved(bundle) {
@@ -121,7 +121,7 @@ impl Quota {
     /// What a resource has reserved is consumed by its role. An `Err` changes nothing.
     fn consume_resource(&mut self, resource: &Resource) -> Result<(), AllocError>
         requires right { IsResource resource.now }
-        requires fits { (test : Path → Bool) (label : Text) → used_where test self.old.used label + reserved_one test label resource.now < 2 ^ 64 }
+        requires fits { (test : Path → Bool) (label : Text) → used_where test self.old label + reserved_one test label resource.now < 2 ^ 64 }
         ensures ok { OnOk result (IsRaisedBy self.old self.new (λ test label. reserved_one test label resource.now)) }
         ensures err { OnErr result (self.new ≡ self.old) }
     {
@@ -135,7 +135,7 @@ impl Quota {
     /// What a resource has reserved is consumed by its role no longer.
     fn release_resource(&mut self, resource: &Resource)
         requires right { IsResource resource.now }
-        requires fits { (role : Path) (label : Text) → reserved_one (same_path role) label resource.now ≤ used_by self.old.used role label }
+        requires fits { (role : Path) (label : Text) → reserved_one (same_path role) label resource.now ≤ used_by self.old role label }
         ensures { IsRaisedBy self.new self.old (λ test label. reserved_one test label resource.now) }
     {
         if !resource.is_unreserved() {
@@ -149,7 +149,7 @@ impl Quota {
     /// What resources have reserved is consumed no longer.
     fn release_each(&mut self, resources: &[Resource])
         requires right { All IsResource resources.now }
-        requires fits { (role : Path) (label : Text) → reserved_in (same_path role) label resources.now ≤ used_by self.old.used role label }
+        requires fits { (role : Path) (label : Text) → reserved_in (same_path role) label resources.now ≤ used_by self.old role label }
         ensures { IsRaisedBy self.new self.old (λ test label. reserved_in test label resources.now) }
     {
         for resource in resources {
@@ -159,7 +159,7 @@ impl Quota {
 
     /// An agent has the bundle no longer: what is reserved of it is released. It needs no memory.
     pub fn release_reserved(&mut self, total: &Bundle)
-        requires { (role : Path) (label : Text) → reserved_in (same_path role) label total.now ≤ used_by self.old.used role label }
+        requires { (role : Path) (label : Text) → reserved_in (same_path role) label total.now ≤ used_by self.old role label }
         ensures { IsRaisedBy self.new self.old (λ test label. reserved_in test label total.now) }
     {
         self.release_each(total.entries());
@@ -168,7 +168,7 @@ impl Quota {
     /// An agent has the bundle: what is reserved of it is consumed by the roles that it is reserved for. At an `Err` all consume
     /// what they did.
     pub fn consume_reserved(&mut self, total: &Bundle) -> Result<(), AllocError>
-        requires { (test : Path → Bool) (label : Text) → used_where test self.old.used label + reserved_in test label total.now < 2 ^ 64 }
+        requires { (test : Path → Bool) (label : Text) → used_where test self.old label + reserved_in test label total.now < 2 ^ 64 }
         ensures ok { OnOk result (IsRaisedBy self.old self.new (λ test label. reserved_in test label total.now)) }
         ensures err { OnErr result (IsSame self.old self.new) }
     {

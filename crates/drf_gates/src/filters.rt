@@ -125,7 +125,7 @@ impl FilterTable {
         self.soonest = soonest(&self.slots.rows);
     }
 
-    /// Drops the filters of a client, on whatever agent. The cost follows their number, and not that of others.
+    /// Drops the filters of a client, on whatever agent. Filters of others are looked at only where names collide.
     pub fn revive(&mut self, role: &Role, framework: &Name)
         ensures { self.new ≡ filters_without_client (record { role = role.now; framework = framework.now }) self.old }
     {

@@ -71,7 +71,7 @@ pub(crate) struct Index {
     pub(crate) heads: Vec<usize>,
     /// Where the chain of each filter goes on.
     pub(crate) links: Vec<usize>,
-    /// With what each hash begins. Names whose hashes are the same can be chosen, but not for two beginnings.
+    /// With what each hash begins. Names whose hashes are the same can be chosen: that is slow, and never wrong.
     pub(crate) start: FoldHasher,
     // How many filters there have to be before hashes begin otherwise.
     calm: usize,

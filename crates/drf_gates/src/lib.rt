@@ -3,6 +3,7 @@
 #![tactic(auto)]
 
 mod consumed;
+mod consumption;
 mod filters;
 mod fronts;
 mod index;
@@ -14,6 +15,8 @@ mod slots;
 mod totals;
 mod usage;
 
+pub use consumption::Consumption;
 pub use filters::FilterTable;
 pub use laws::filters_law;
+pub use limits::QuotaLimits;
 pub use quota::Quota;

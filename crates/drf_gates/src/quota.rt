@@ -1,61 +1,37 @@
-//! Quota limits, and what roles consume (Mesos: quota limits).
-ghost use Rattle.std.specs.Prelude.{◌≡◌, ◌≢◌, ℕ, ◌+◌, ◌-◌, ◌^◌, ◌<◌, ◌≤◌, [], ◌↔◌, true, nat_le, IsTrue, filter, length, take, None, false, OnOk, OnErr, IfOk, IfSome, IsOk};
+//! Limits of roles beside what roles consume (Mesos: quota limits).
+ghost use Rattle.std.specs.Prelude.{◌≡◌, ◌≢◌, ℕ, ◌+◌, ◌-◌, ◌<◌, ◌≤◌, ◌↔◌, true, nat_le, IsTrue, filter, length, take, None, false, OnOk, IfOk, IfSome, [], option_copied};
 ghost use Rattle.std.specs.List.{list_all};
-ghost use Rattle.std.specs.Option.{option_copied, option_map_or};
+ghost use Rattle.std.specs.Option.{option_map_or};
 ghost use Rattle.drf_role.specs.Text.{Text};
 ghost use Rattle.drf_role.specs.Path.{Path};
-ghost use Rattle.drf_role.specs.Role.{IsRole};
-ghost use Rattle.drf_bundle.specs.Quantities.{amount_of, known_amount};
-ghost use Rattle.drf_rows.specs.Quota.{is_within, binds, headroom_under, headrooms, stays_within, admits_under, limit_of, limits_with, consumption, headroom_at, headroom, admits};
+ghost use Rattle.drf_bundle.specs.Quantities.{known_amount};
+ghost use Rattle.drf_rows.specs.Quota.{binds, headroom_under, headrooms, stays_within, admits_under, consumption, headroom_at, headroom, admits};
 ghost use Rattle.drf_rows.specs.declared.rows.Rows.{Rows};
 ghost use Rattle.drf_gates.specs.Front.{IsFirstShort, front_leaves, front_passes, least_at, limits_at};
-ghost use Rattle.drf_gates.specs.Quota.{IsAllowanceOf, IsRaised, IsSame, lessened, limit_row, lesser, used_at, used_by};
+ghost use Rattle.drf_gates.specs.Quota.{IsAllowanceOf, lessened, limit_row, lesser, used_at};
 
-use crate::limits::LimitTable;
-use crate::totals::{
-    Total, copy_totals, drop_total, keep_total, kept, kept_at, lower_totals, raise_totals,
-    totals_of,
-};
-use crate::usage::{copy_used, lower, raise, used_at};
+use crate::consumption::Consumption;
+use crate::limits::QuotaLimits;
 use drf_bundle::{Entry, Quantities};
 use drf_role::Role;
-use drf_rows::{LimitRow, Table};
-use indexmap::IndexMap;
-use std::alloc::{AllocError, Global};
+use std::alloc::AllocError;
 use std::marker::Model;
 
-/// The limits of roles, in the order in which the roles got one, and what each role consumes, all in thousandths.
-pub struct Quota {
-    pub(crate) limits: LimitTable,
-    // What each role consumes itself, the roles below it left out.
-    pub(crate) used: IndexMap<Role, Quantities>,
-    // What roles with a limit consume together with the roles below them, as far as there was memory. Each is likely to stand
-    // at the place of its limit.
-    pub(crate) totals: IndexMap<Role, Total>,
+/// The limits of roles, lent beside what each role consumes, all in thousandths.
+#[derive(Drop)]
+pub struct Quota<'a> {
+    limits: &'a QuotaLimits,
+    consumption: &'a Consumption,
 }
 
-// Written out, so that the proof of whoever drops a quota sees one call, and not the drop of each table.
-impl Drop for Quota {
-    fn drop(self) {
-        let Quota {
-            limits: _limits,
-            used: _used,
-            totals: _totals,
-        } = self;
-    }
-}
-
-impl Model for Quota {
-    ghost use Rattle.drf_gates.specs.Quota.{Allowance, allowance_code, limit_rows};
-    ghost use Rattle.drf_gates.specs.Totals.{IsCounted};
+impl<'a> Model for Quota<'a> {
+    ghost use Rattle.drf_gates.specs.Quota.{Allowance, allowance_code};
 
     ghost Value = { Allowance };
 
     ghost coded = { allowance_code };
 
-    ghost view = { λ q. record { limits = limit_rows q.limits; used = q.used.entries } };
-
-    ghost invariant = { λ q. IsCounted q.limits q.used.entries q.totals.entries };
+    ghost view = { λ q. record { limits = q.limits.now; used = q.consumption.now } };
 }
 
 /// The lesser of a number and of one that may be known.
@@ -68,15 +44,13 @@ fn lesser(known: Option<u64>, number: u64) -> u64
     }
 }
 
-impl Quota {
-    /// No limit, and nothing consumed.
-    pub fn new(alloc: Global) -> Quota
-        ensures { result ≡ record { limits = []; used = [] } }
+impl<'a> Quota<'a> {
+    pub fn new(limits: &'a QuotaLimits, consumption: &'a Consumption) -> Quota<'a>
+        ensures { result ≡ record { limits = limits.now; used = consumption.now } }
     {
         Quota {
-            limits: LimitTable::new(alloc),
-            used: IndexMap::new(alloc),
-            totals: IndexMap::new(alloc),
+            limits,
+            consumption,
         }
     }
 
@@ -87,72 +61,12 @@ impl Quota {
         !self.limits.is_empty()
     }
 
-    /// How many roles have a limit.
-    pub fn limit_count(&self) -> usize
-        ensures { result ≡ length self.now.limits }
-    {
-        self.limits.len()
-    }
-
-    /// The limits as rows, copied.
-    pub fn rows(&self) -> Result<Table<LimitRow>, AllocError>
-        ensures { IfOk result (λ rows. rows ≡ self.now.limits) }
-    {
-        self.limits.rows()
-    }
-
-    /// The limit of a role, if it has one.
-    pub fn limit(&self, role: &Role) -> Option<&Quantities>
-        ensures { option_copied result ≡ limit_of self.now.limits role.now }
-    {
-        self.limits.get(role)
-    }
-
-    /// Gives a role a limit in the place of the one that it has, if any. A limit that names nothing takes the role's limit
-    /// away. An `Err` changes nothing.
-    pub fn set_limit(&mut self, role: Role, limit: Quantities) -> Result<(), AllocError>
-        ensures ok { OnOk result (self.new ≡ record self.old { limits = limits_with self.old.limits role limit }) }
-        ensures err { OnErr result (self.new ≡ self.old) }
-        ensures none { limit ≡ [] → IsOk result }
-    {
-        if limit.entries().is_empty() {
-            drop_total(&mut self.totals, &role);
-            self.limits.remove(role);
-            return Ok(());
-        }
-        // The limit goes first: a total without its limit would shift the places of later totals.
-        self.limits.insert(role.copy()?, limit)?;
-        keep_total(&mut self.totals, &self.used, &role);
-        Ok(())
-    }
-
-    /// Tells a proof that the empty path, which is no role, has no limit. It does nothing.
-    fn recall(&self)
-        ensures { limits_at [] self.now.limits ≡ [] }
-    {
-        self.limits.recall();
-    }
-
     /// What a role consumes of a scalar together with the roles below it, in thousandths.
     pub fn consumption(&self, role: &Role, label: &str) -> u64
         ensures value { result ≡ used_at self.now.used role.now label.now }
         ensures of_rows { (rows : Rows) → IsAllowanceOf rows self.now → result ≡ consumption rows role.now label.now }
     {
-        role.recall();
-        match kept(&self.totals, role, label) {
-            Some(amount) => amount,
-            None => used_at(&self.used, role, label),
-        }
-    }
-
-    /// The same of a role whose limit stands at that place, where its total is looked for first.
-    fn consumption_at(&self, place: usize, role: &Role, label: &str) -> u64
-        ensures { result ≡ used_at self.now.used role.now label.now }
-    {
-        match kept_at(&self.totals, place, role, label) {
-            Some(amount) => amount,
-            None => self.consumption(role, label),
-        }
+        self.consumption.amount(role, label)
     }
 
     /// What the limits of a role and of the roles above it leave of a scalar, in thousandths, if one of them names it.
@@ -160,7 +74,7 @@ impl Quota {
         ensures value { result ≡ headroom_under self.now.limits (used_at self.now.used) role.now label.now }
         ensures of_rows { (rows : Rows) → IsAllowanceOf rows self.now → result ≡ headroom_at rows role.now label.now }
     {
-        self.recall();
+        self.limits.recall();
         let mut least = None;
         let fronts = role.len() + 1;
         for len in 1..fronts {
@@ -187,7 +101,7 @@ impl Quota {
     fn room(&self, place: usize, limited: &Role, label: &str, most: u64) -> u64
         ensures { result ≡ most - used_at self.now.used limited.now label.now }
     {
-        most.saturating_sub(self.consumption_at(place, limited, label))
+        most.saturating_sub(self.consumption.amount_at(place, limited, label))
     }
 
     /// The number of parts of the first role, from the top down to this one, whose limit leaves less of a scalar than so much, if there
@@ -202,7 +116,7 @@ impl Quota {
         ensures enough { result ≡ None → (rows : Rows) → IsAllowanceOf rows self.now
             → option_map_or (nat_le least) (headroom_at rows role.now label.now) true ≡ true }
     {
-        self.recall();
+        self.limits.recall();
         let fronts = role.len() + 1;
         for len in 1..fronts {
             if !self.front_leaves(role, len, label, least) {
@@ -239,7 +153,7 @@ impl Quota {
     {
         for entry in limit.entries() {
             let label = entry.label.text();
-            let used = self.consumption_at(place, limited, label);
+            let used = self.consumption.amount_at(place, limited, label);
             let left = entry.amount.thousandths().saturating_sub(used);
             let least = lesser(room.known_amount_of(&entry.label), left);
             room.set(entry.label.copy()?, least)?;
@@ -264,8 +178,8 @@ impl Quota {
         ensures value { IfOk result (λ room. room ≡ headrooms self.now.limits (used_at self.now.used) role.now) }
         ensures of_rows { IfOk result (λ room. (rows : Rows) → IsAllowanceOf rows self.now → room ≡ headroom rows role.now) }
     {
-        self.recall();
-        let mut room = Quantities::empty(*self.used.allocator());
+        self.limits.recall();
+        let mut room = Quantities::empty(*self.limits.entries().allocator());
         let fronts = role.len() + 1;
         for len in 1..fronts {
             self.add_front(role, len, &mut room)?;
@@ -278,7 +192,9 @@ impl Quota {
     fn stays_within(&self, place: usize, limited: &Role, more: &Entry, most: u64) -> bool
         ensures { result ≡ nat_le (used_at self.now.used limited.now more.now.label + more.now.amount) most }
     {
-        let used = self.consumption_at(place, limited, more.label.text());
+        let used = self
+            .consumption
+            .amount_at(place, limited, more.label.text());
         used <= most && more.amount.thousandths() <= most - used
     }
 
@@ -301,7 +217,7 @@ impl Quota {
         ensures { result
             ≡ list_all (stays_within (used_at self.now.used) more.now) (filter (binds role.now more.now.label) self.now.limits) }
     {
-        self.recall();
+        self.limits.recall();
         let fronts = role.len() + 1;
         for len in 1..fronts {
             if !self.front_admits(role, len, more) {
@@ -322,61 +238,5 @@ impl Quota {
             }
         }
         true
-    }
-
-    /// Raises what a role and the roles above it consume. An `Err` changes nothing.
-    pub fn consume(&mut self, role: &Role, amounts: &Quantities) -> Result<(), AllocError>
-        requires { (outer : Path) (label : Text) → IsRole outer → is_within outer role.now ≡ true
-            → used_at self.old.used outer label + amount_of amounts.now label < 2 ^ 64 }
-        ensures ok { OnOk result (IsRaised self.old self.new role.now amounts.now) }
-        ensures err { OnErr result (self.new ≡ self.old) }
-    {
-        role.recall();
-        raise(&mut self.used, role, amounts)?;
-        raise_totals(&mut self.totals, role, amounts);
-        Ok(())
-    }
-
-    /// Lowers what a role and the roles above it consume. A role releases no more than it consumed itself.
-    pub fn release(&mut self, role: &Role, amounts: &Quantities)
-        requires { (label : Text) → amount_of amounts.now label ≤ used_by self.old.used role.now label }
-        ensures { IsRaised self.new self.old role.now amounts.now }
-    {
-        lower(&mut self.used, role, amounts);
-        lower_totals(&mut self.totals, role, amounts);
-    }
-
-    /// The same limits, and the same consumption.
-    pub fn copy(&self) -> Result<Quota, AllocError>
-        ensures { IfOk result (IsSame self.now) }
-    {
-        let limits = self.limits.copy()?;
-        let used = copy_used(&self.used)?;
-        let totals = copy_totals(&self.totals, *self.used.allocator());
-        Ok(Quota {
-            limits,
-            used,
-            totals,
-        })
-    }
-
-    /// The same limits, and nothing consumed.
-    pub fn limits_alone(&self) -> Result<Quota, AllocError>
-        ensures { IfOk result (λ quota. quota ≡ record { limits = self.now.limits; used = [] }) }
-    {
-        let alloc = *self.used.allocator();
-        Ok(Quota {
-            limits: self.limits.copy()?,
-            used: IndexMap::new(alloc),
-            totals: IndexMap::new(alloc),
-        })
-    }
-
-    /// Forgets what roles consume. A total that was lost is kept again, if there is memory.
-    pub fn forget(&mut self)
-        ensures { self.new ≡ record self.old { used = [] } }
-    {
-        self.used = IndexMap::new(*self.used.allocator());
-        self.totals = totals_of(&self.limits, &self.used);
     }
 }

@@ -1,17 +1,14 @@
 //! What roles with a limit consume together with the roles below them, kept so that a question of it need not go over all roles.
 //! Where memory for it ends, a total is lost, and the question goes over all.
-ghost use Rattle.std.specs.Prelude.{◌≡◌, ◌+◌, ◌≤◌, List, IsSome, IsTrue, IfSome, length, take};
-ghost use Rattle.std.specs.Map.{keys_of, lookup, remove_entry};
+ghost use Rattle.std.specs.Prelude.{◌≡◌, ◌+◌, ◌≤◌, List, IsTrue, IfSome, length, take};
 ghost use Rattle.drf_role.specs.Text.{Text};
-ghost use Rattle.drf_role.specs.Path.{same_path};
 ghost use Rattle.drf_bundle.specs.Quantities.{amount_of};
 ghost use Rattle.drf_rows.specs.Quota.{is_within};
-ghost use Rattle.drf_gates.specs.Limits.{Limit};
 ghost use Rattle.drf_gates.specs.Quota.{Usage, AreRaised, counted, one_entry, used_at};
-ghost use Rattle.drf_gates.specs.Totals.{IsExact, AreExact, AreCarried, AreLimited};
+ghost use Rattle.drf_gates.specs.Totals.{IsExact, AreExact, AreCarried};
 
 use crate::fronts::first_parts;
-use crate::limits::LimitTable;
+use crate::limits::QuotaLimits;
 use drf_bundle::{Entry, Quantities};
 use drf_role::{Label, Role};
 use indexmap::IndexMap;
@@ -123,9 +120,8 @@ fn reduce_total(total: &mut Total, label: &Label, thousandths: u64)
 /// A role consumes so much more, and with it the role of its first parts, so many, whose total is raised.
 fn raise_front(totals: &mut IndexMap<Role, Total>, role: &Role, len: usize, amounts: &Quantities)
     requires { len ≤ length role.now }
-    ensures carried { (old new : List Usage) → AreRaised old new role.now amounts.now
+    ensures { (old new : List Usage) → AreRaised old new role.now amounts.now
         → AreCarried old new role.now len totals.old.entries → AreCarried old new role.now (len + 1) totals.new.entries }
-    ensures roles { keys_of totals.new.entries ≡ keys_of totals.old.entries }
 {
     let Some(total) = totals.get_mut(first_parts(role, len)) else {
         return;
@@ -136,9 +132,8 @@ fn raise_front(totals: &mut IndexMap<Role, Total>, role: &Role, len: usize, amou
 /// A role consumes so much less, and with it the role of its first parts, so many, whose total is lowered.
 fn lower_front(totals: &mut IndexMap<Role, Total>, role: &Role, len: usize, amounts: &Quantities)
     requires { len ≤ length role.now }
-    ensures carried { (old new : List Usage) → AreRaised new old role.now amounts.now
+    ensures { (old new : List Usage) → AreRaised new old role.now amounts.now
         → AreCarried old new role.now len totals.old.entries → AreCarried old new role.now (len + 1) totals.new.entries }
-    ensures roles { keys_of totals.new.entries ≡ keys_of totals.old.entries }
 {
     let Some(total) = totals.get_mut(first_parts(role, len)) else {
         return;
@@ -155,9 +150,8 @@ fn reduce_front(
     thousandths: u64,
 )
     requires { len ≤ length role.now }
-    ensures carried { (old new : List Usage) → AreRaised new old role.now (one_entry label.now thousandths)
+    ensures { (old new : List Usage) → AreRaised new old role.now (one_entry label.now thousandths)
         → AreCarried old new role.now len totals.old.entries → AreCarried old new role.now (len + 1) totals.new.entries }
-    ensures roles { keys_of totals.new.entries ≡ keys_of totals.old.entries }
 {
     let Some(total) = totals.get_mut(first_parts(role, len)) else {
         return;
@@ -167,8 +161,7 @@ fn reduce_front(
 
 /// A role consumes so much more, and with it the roles above it.
 pub(crate) fn raise_totals(totals: &mut IndexMap<Role, Total>, role: &Role, amounts: &Quantities)
-    ensures exact { (old new : List Usage) → AreRaised old new role.now amounts.now → AreExact old totals.old.entries → AreExact new totals.new.entries }
-    ensures roles { keys_of totals.new.entries ≡ keys_of totals.old.entries }
+    ensures { (old new : List Usage) → AreRaised old new role.now amounts.now → AreExact old totals.old.entries → AreExact new totals.new.entries }
 {
     let fronts = role.len() + 1;
     for len in 1..fronts {
@@ -178,8 +171,7 @@ pub(crate) fn raise_totals(totals: &mut IndexMap<Role, Total>, role: &Role, amou
 
 /// A role consumes so much less, and with it the roles above it. It needs no memory.
 pub(crate) fn lower_totals(totals: &mut IndexMap<Role, Total>, role: &Role, amounts: &Quantities)
-    ensures exact { (old new : List Usage) → AreRaised new old role.now amounts.now → AreExact old totals.old.entries → AreExact new totals.new.entries }
-    ensures roles { keys_of totals.new.entries ≡ keys_of totals.old.entries }
+    ensures { (old new : List Usage) → AreRaised new old role.now amounts.now → AreExact old totals.old.entries → AreExact new totals.new.entries }
 {
     let fronts = role.len() + 1;
     for len in 1..fronts {
@@ -194,9 +186,8 @@ pub(crate) fn reduce_totals(
     label: &Label,
     thousandths: u64,
 )
-    ensures exact { (old new : List Usage) → AreRaised new old role.now (one_entry label.now thousandths)
+    ensures { (old new : List Usage) → AreRaised new old role.now (one_entry label.now thousandths)
         → AreExact old totals.old.entries → AreExact new totals.new.entries }
-    ensures roles { keys_of totals.new.entries ≡ keys_of totals.old.entries }
 {
     let fronts = role.len() + 1;
     for len in 1..fronts {
@@ -243,9 +234,7 @@ fn is_kept(totals: &IndexMap<Role, Total>, role: &Role) -> bool {
 
 /// Keeps the totals of other roles alone.
 pub(crate) fn drop_total(totals: &mut IndexMap<Role, Total>, role: &Role)
-    ensures exact { (used : List Usage) → AreExact used totals.old.entries → AreExact used totals.new.entries }
-    ensures limited { (limits : List Limit) → AreLimited limits totals.old.entries
-        → AreLimited (remove_entry (same_path role.now) limits) totals.new.entries }
+    ensures { (used : List Usage) → AreExact used totals.old.entries → AreExact used totals.new.entries }
 {
     totals.shift_remove(role);
 }
@@ -269,9 +258,7 @@ fn put_total(
     role: &Role,
     total: Total,
 ) -> Result<(), AllocError>
-    ensures exact { (used : List Usage) → IsExact used role.now total → AreExact used totals.old.entries → AreExact used totals.new.entries }
-    ensures limited { (limits : List Limit) → IsSome (lookup (same_path role.now) limits)
-        → AreLimited limits totals.old.entries → AreLimited limits totals.new.entries }
+    ensures { (used : List Usage) → IsExact used role.now total → AreExact used totals.old.entries → AreExact used totals.new.entries }
 {
     let role = role.copy()?;
     totals.insert(role, total)?;
@@ -284,9 +271,7 @@ pub(crate) fn keep_total(
     used: &IndexMap<Role, Quantities>,
     role: &Role,
 )
-    ensures exact { AreExact used.now.entries totals.old.entries → AreExact used.now.entries totals.new.entries }
-    ensures limited { (limits : List Limit) → IsSome (lookup (same_path role.now) limits)
-        → AreLimited limits totals.old.entries → AreLimited limits totals.new.entries }
+    ensures { AreExact used.now.entries totals.old.entries → AreExact used.now.entries totals.new.entries }
 {
     if is_kept(totals, role) {
         return;
@@ -296,41 +281,23 @@ pub(crate) fn keep_total(
     let _ = put_total(totals, role, Total { is_known, amounts });
 }
 
-/// The same, if the role has a limit.
-fn keep_limited(
-    totals: &mut IndexMap<Role, Total>,
-    used: &IndexMap<Role, Quantities>,
-    limits: &LimitTable,
-    role: &Role,
-)
-    ensures exact { AreExact used.now.entries totals.old.entries → AreExact used.now.entries totals.new.entries }
-    ensures limited { AreLimited limits.now totals.old.entries → AreLimited limits.now totals.new.entries }
-{
-    if limits.get(role).is_some() {
-        keep_total(totals, used, role);
-    }
-}
-
 /// The totals of the roles that have a limit, as far as there is memory.
 pub(crate) fn totals_of(
-    limits: &LimitTable,
+    limits: &QuotaLimits,
     used: &IndexMap<Role, Quantities>,
 ) -> IndexMap<Role, Total>
-    ensures exact { AreExact used.now.entries result.entries }
-    ensures limited { AreLimited limits.now result.entries }
+    ensures { AreExact used.now.entries result.entries }
 {
     let mut totals = IndexMap::new(*used.allocator());
-    for (role, _) in limits.all() {
-        keep_limited(&mut totals, used, limits, role);
+    for (role, _) in limits.entries() {
+        keep_total(&mut totals, used, role);
     }
     totals
 }
 
 /// Puts a copy of a total behind those that are there, if there is memory.
 fn copy_total(copy: &mut IndexMap<Role, Total>, role: &Role, total: &Total)
-    ensures exact { (used : List Usage) → IsExact used role.now total.now → AreExact used copy.old.entries → AreExact used copy.new.entries }
-    ensures limited { (limits : List Limit) → IsSome (lookup (same_path role.now) limits)
-        → AreLimited limits copy.old.entries → AreLimited limits copy.new.entries }
+    ensures { (used : List Usage) → IsExact used role.now total.now → AreExact used copy.old.entries → AreExact used copy.new.entries }
 {
     let Ok(amounts) = total.amounts.copy() else {
         return;
@@ -344,8 +311,7 @@ fn copy_total(copy: &mut IndexMap<Role, Total>, role: &Role, total: &Total)
 
 /// The totals, copied as far as there is memory.
 pub(crate) fn copy_totals(totals: &IndexMap<Role, Total>, alloc: Global) -> IndexMap<Role, Total>
-    ensures exact { (used : List Usage) → AreExact used totals.now.entries → AreExact used result.entries }
-    ensures limited { (limits : List Limit) → AreLimited limits totals.now.entries → AreLimited limits result.entries }
+    ensures { (used : List Usage) → AreExact used totals.now.entries → AreExact used result.entries }
 {
     let mut copy = IndexMap::new(alloc);
     let _ = copy.reserve(totals.len());

@@ -1,10 +1,10 @@
 -- What roles consume: those above at least as much, an accept all but the rest, and never as much as 2^52 thousandths.
-use Rattle.std.specs.Prelude.{◌≡◌, ℕ, ◌+◌, ◌≤◌, ◌<◌, ◌^◌, Bool, true, false, not, ◌&&◌, List, [], ◌∷◌, ◌++◌, length, drop, sum_by, Option, Some, None, IsTrue, nat_lt}
-use Rattle.std.specs.List.{list_any, AllByRecursion}
+use Rattle.std.specs.Prelude.{◌≡◌, ℕ, ◌+◌, ◌≤◌, ◌<◌, ◌^◌, Bool, true, false, not, ◌&&◌, List, [], ◌∷◌, ◌++◌, length, drop, sum_by, Option, Some, None, IsTrue}
+use Rattle.std.specs.List.{AllByRecursion}
 use Rattle.std.specs.Option.{option_map_or}
 use Rattle.std.specs.Cmp.Lexicographic.{bytes_decides}
 use Rattle.std.proofs.Common.{refl, sym, ap, ◌∙◌, cond, arith, append_assoc}
-use Rattle.std.proofs.lemmas.Bool.{and_parts, and_from, or_parts, not-false, false≢true}
+use Rattle.std.proofs.lemmas.Bool.{and_parts, and_from, not-false, false≢true}
 use Rattle.std.proofs.lemmas.List.Sums.{sum_by-cons, sum_by-append}
 use Rattle.std.proofs.lemmas.Slice.Eq.{starts_is}
 use Rattle.drf_role.specs.Text.{Text, same_text}
@@ -20,16 +20,14 @@ use Rattle.drf_rows.specs.Cycle.{at_moment}
 use Rattle.drf_rows.specs.Consistent.{IsConsistent}
 use Rattle.drf_row_laws.specs.EndingLaws.{sum_by-out, started_by, accepted_in, between, offer_out, tasks_last, offer_held}
 use Rattle.drf_bundle.specs.ListLaws.{sum_by_each_le}
-use Rattle.drf_rows.specs.Members.{has_framework}
-use Rattle.drf_rows.specs.Offers.{offer_at, has_offer, is_anothers, is_beyond, is_task_known, is_empty, left_of_offer, task_of, offer_accepted}
+use Rattle.drf_rows.specs.Offers.{offer_at, left_of_offer, task_of, offer_accepted}
 use Rattle.drf_rows.specs.Quota.{unreserved_in, reserves, reserved_in, consumption_where, consumption, is_within}
 use Rattle.drf_row_laws.specs.QuotaLaws.{consumption_is_part_of_total}
 use Rattle.drf_row_laws.specs.ReportedShares.{small_total}
-use Rattle.drf_rows.specs.Step.{refusal_of, effect, is_full}
-use Rattle.drf_row_laws.specs.StepLaws.{least_is_told}
+use Rattle.drf_rows.specs.Step.{refusal_of, effect}
+use Rattle.drf_row_laws.specs.StepLaws.{no_case_of}
 use Rattle.drf_rows.specs.TaskLaws.{units-covers_all}
 use Rattle.drf_rows.specs.Tasks.{Start, uses, covers_all}
-use Rattle.drf_rows.specs.declared.limits.TheConstants.{LATEST_MOMENT}
 use Rattle.drf_rows.specs.declared.event.Accept as accepting
 use Rattle.drf_rows.specs.declared.event.Event.TheVariants.{Accept}
 use Rattle.drf_rows.specs.declared.rows.OfferRow.{OfferRow}
@@ -166,17 +164,9 @@ module _ (test : Path → Bool) (label : Text) where
 pub covered-accept : (limits : LimitNumbers) (rows : Rows) (a : accepting.Accept) (o : OfferRow) → offer_at rows a.offer ≡ Some o
     → refusal_of limits rows (Accept a) ≡ None → covers_all o.bundle (uses a.tasks) ≡ true
 covered-accept limits rows a o found accepted =
-    let none = (least_is_told limits rows (Accept a)).1 accepted in
-    let one = or_parts (is_full limits rows) _ none in
-    let two = or_parts (nat_lt LATEST_MOMENT a.at) _ one.1 in
-    let three = or_parts (not (has_framework rows a.framework)) _ two.1 in
-    let four = or_parts (not (has_offer rows a.offer)) _ three.1 in
-    let five = or_parts (is_anothers rows a.framework a.offer) _ four.1 in
-    let six = or_parts (is_task_known rows a.framework a.tasks) _ five.1 in
-    let seven = or_parts (list_any is_empty (uses a.tasks)) _ six.1 in
-    let eight = or_parts (is_beyond rows a.offer a.tasks) _ seven.1 in
+    let beyond = (no_case_of limits rows (Accept a) accepted).1.1.1.1.1.1.1.0 in
     not-false (covers_all o.bundle (uses a.tasks))
-    (sym (ap (λ (f : Option OfferRow). option_map_or (λ o. not (covers_all o.bundle (uses a.tasks))) f false) found) ∙ eight.0)
+    (sym (ap (λ (f : Option OfferRow). option_map_or (λ o. not (covers_all o.bundle (uses a.tasks))) f false) found) ∙ beyond)
 
 pub rest_is_consumed_no_longer : RestIsConsumedNoLonger
 unfolding effect

@@ -1,5 +1,5 @@
 -- What is reserved is held by clients of its role and of the roles below it alone, whatever happens.
-use Rattle.std.specs.Prelude.{◌≡◌, ℕ, ◌≤◌, Bool, true, false, not, List, [], ◌∷◌, map, filter, Option, Some, None, if◌then◌else◌}
+use Rattle.std.specs.Prelude.{◌≡◌, ℕ, ◌≤◌, Bool, true, false, not, List, [], ◌∷◌, map, filter, Option, Some, None}
 use Rattle.std.specs.List.{AllByRecursion}
 use Rattle.std.specs.Option.{option_map_or}
 use Rattle.std.proofs.Common.{refl, sym, ap, subst, ◌∙◌, cond, arith}
@@ -14,22 +14,23 @@ use Rattle.drf_rows.specs.LimitNumbers.{LimitNumbers}
 use Rattle.drf_rows.specs.Client.{Client}
 use Rattle.drf_rows.specs.Holdings.{Holding, of_offer, of_task, holdings_of}
 use Rattle.drf_row_laws.specs.HoldingsLaws.{each-with_offer}
-use Rattle.drf_rows.specs.Cycle.{free_of, is_grantable, new_offer, with_offer, tried, all_tried, turn, turn_order, turns, at_moment, cycle}
+use Rattle.drf_rows.specs.Cycle.{free_of, new_offer, turn_order, at_moment, cycle}
+use Rattle.drf_row_laws.specs.FrameLaws.{its_part, Any, turns_keep}
 use Rattle.drf_row_laws.specs.CycleLaws.{bundle-free_of}
 use Rattle.drf_rows.specs.Consistent.{IsAgent, IsConsistent}
 use Rattle.drf_rows.specs.Endings.{Ending, ends_offer, ends_task, without_ended, one_offer, one_task, offers_on, all_on, all_of}
 use Rattle.drf_row_laws.specs.EndingLaws.{started_by, accepted_in, between, offer_out, tasks_last, offer_held, each-one_less, one-one_less}
 use Rattle.drf_row_laws.specs.EntitlementLaws.{entitled_by_units}
 use Rattle.drf_laws.specs.ConsumptionLaws.{covered-accept}
-use Rattle.drf_bundle.specs.ListLaws.{each_from, each_append, each_parts, each_map, each_filter}
+use Rattle.drf_bundle.specs.ListLaws.{each_from, each_append, each_parts, each_map, each_filter, each_true}
 use Rattle.drf_laws.specs.KeptLimitLaws.{IsGivenBundles}
 use Rattle.drf_rows.specs.Offers.{offer_at, offer_accepted, offer_declined}
-use Rattle.drf_rows.specs.Quota.{is_within, entitlement}
+use Rattle.drf_rows.specs.Quota.{is_within}
 use Rattle.drf_rows.specs.Step.{refusal_of, effect}
 use Rattle.drf_rows.specs.TaskLaws.{units-covers_all}
 use Rattle.drf_rows.specs.Tasks.{Start, uses, covers_all}
 use Rattle.drf_rows.specs.declared.event.Event.{Event}
-use Rattle.drf_rows.specs.declared.event.Event.TheVariants.{AddAgent, RemoveAgent, ActivateAgent, DeactivateAgent, SetAgent, AddFramework, RemoveFramework, Accept, Decline, Rescind, Finish, Suppress, Revive, Reserve, Unreserve, SetWeight, SetLimit, Cycle, Report}
+use Rattle.drf_rows.specs.declared.event.Event.TheVariants.{RemoveAgent, DeactivateAgent, RemoveFramework, Accept, Decline, Rescind, Finish, Cycle}
 use Rattle.drf_rows.specs.declared.rows.AgentRow.{AgentRow}
 use Rattle.drf_rows.specs.declared.rows.OfferRow.{OfferRow}
 use Rattle.drf_rows.specs.declared.rows.TaskRow.{TaskRow}
@@ -103,57 +104,30 @@ accepted_for rows number o starts consistent found each covered all =
 
 -- ---- a cycle
 
-module _ (client : Client) where
-  granted_for : (rows : Rows) (agent : AgentRow) → IsBundle agent.total
-      → IsForItsRole (of_offer (new_offer rows agent client (entitlement rows (free_of rows agent) client)))
-  granted_for rows agent right label byte bytes p apart =
-      let free : List Resource = free_of rows agent in
-      entitled_by_units rows free client (label, byte ∷ bytes) p (bundle-free_of rows agent right)
-      ∙ ap (λ (b : Bool). cond b (units free (label, byte ∷ bytes) p) 0) apart
-
-  tried_for : (rows : Rows) (agent : AgentRow) → IsBundle agent.total → AllByRecursion IsForItsRole (holdings_of rows)
-      → AllByRecursion IsForItsRole (holdings_of (tried rows agent client))
-  tried_for rows agent right all = by (is_grantable rows agent client (entitlement rows (free_of rows agent) client))
-    where
-      by : (granted : Bool)
-          → AllByRecursion IsForItsRole (holdings_of (option_map_or (λ bundle. with_offer rows (new_offer rows agent client bundle))
-          (if granted then Some (entitlement rows (free_of rows agent) client) else None) rows))
-      by true =
-          each-with_offer IsForItsRole rows (new_offer rows agent client (entitlement rows (free_of rows agent) client)) all
-          (granted_for rows agent right)
-      by false = all
-
-all_tried_for : (rows : Rows) (agent : AgentRow) (clients : List Client) → IsBundle agent.total
-    → AllByRecursion IsForItsRole (holdings_of rows) → AllByRecursion IsForItsRole (holdings_of (all_tried rows agent clients))
-all_tried_for rows agent [] right all = all
-all_tried_for rows agent (client ∷ clients) right all =
-    all_tried_for (tried rows agent client) agent clients right (tried_for client rows agent right all)
-
-turns_for : (rows : Rows) (agents : List AgentRow) → AllByRecursion (λ a. IsBundle a.total) agents
-    → AllByRecursion IsForItsRole (holdings_of rows) → AllByRecursion IsForItsRole (holdings_of (turns rows agents))
-unfolding turn
-turns_for rows [] right all = all
-turns_for rows (agent ∷ agents) right all =
-    turns_for (turn rows agent) agents right.1 (all_tried_for rows agent (turn_order rows) right.0 all)
+granted_for : (client : Client) (rows : Rows) (agent : AgentRow) → IsBundle agent.total
+    → IsForItsRole (of_offer (new_offer rows agent client (its_part rows agent client)))
+granted_for client rows agent right label byte bytes p apart =
+    let free : List Resource = free_of rows agent in
+    entitled_by_units rows free client (label, byte ∷ bytes) p (bundle-free_of rows agent right)
+    ∙ ap (λ (b : Bool). cond b (units free (label, byte ∷ bytes) p) 0) apart
 
 cycle_for : (rows : Rows) (at : ℕ) → IsConsistent rows → AllByRecursion IsForItsRole (holdings_of rows)
     → AllByRecursion IsForItsRole (holdings_of (cycle rows at))
 unfolding cycle
 cycle_for rows at consistent all =
     let totals = each_from IsAgent (λ a. IsBundle a.total) rows.agents (λ a right. right.total) consistent.agents.each in
-    turns_for (at_moment rows at) (filter (λ a. a.active) rows.agents)
+    turns_keep (λ r. AllByRecursion IsForItsRole (holdings_of r)) (λ a. IsBundle a.total) Any (λ r all. each_true (turn_order r))
+    (λ r agent client right known is all.
+    each-with_offer IsForItsRole r (new_offer r agent client (its_part r agent client)) all (granted_for client r agent right))
+    (at_moment rows at) (filter (λ a. a.active) rows.agents)
     (each_filter (λ a. IsBundle a.total) (λ a. a.active) rows.agents totals) all
 
 -- ---- each event
 
 pub reserved_is_held_by_its_role : ReservedIsHeldByItsRole
 unfolding effect
-reserved_is_held_by_its_role limits rows (AddAgent agent total) consistent given accepted all = all
 reserved_is_held_by_its_role limits rows (RemoveAgent agent) consistent given accepted all = left_for rows (all_on agent) all
-reserved_is_held_by_its_role limits rows (ActivateAgent agent) consistent given accepted all = all
 reserved_is_held_by_its_role limits rows (DeactivateAgent agent) consistent given accepted all = left_for rows (offers_on agent) all
-reserved_is_held_by_its_role limits rows (SetAgent agent total) consistent given accepted all = all
-reserved_is_held_by_its_role limits rows (AddFramework framework roles) consistent given accepted all = all
 reserved_is_held_by_its_role limits rows (RemoveFramework framework) consistent given accepted all = left_for rows (all_of framework) all
 reserved_is_held_by_its_role limits rows (Accept a) consistent given accepted all = by (offer_at rows a.offer) refl
   where
@@ -170,11 +144,5 @@ reserved_is_held_by_its_role limits rows (Decline d) consistent given accepted a
     by (Some o) = left_for rows (one_offer o.number) all
 reserved_is_held_by_its_role limits rows (Rescind offer) consistent given accepted all = left_for rows (one_offer offer) all
 reserved_is_held_by_its_role limits rows (Finish framework task) consistent given accepted all = left_for rows (one_task framework task) all
-reserved_is_held_by_its_role limits rows (Suppress framework role) consistent given accepted all = all
-reserved_is_held_by_its_role limits rows (Revive framework role) consistent given accepted all = all
-reserved_is_held_by_its_role limits rows (Reserve agent role resources) consistent given accepted all = all
-reserved_is_held_by_its_role limits rows (Unreserve agent role resources) consistent given accepted all = all
-reserved_is_held_by_its_role limits rows (SetWeight role weight) consistent given accepted all = all
-reserved_is_held_by_its_role limits rows (SetLimit role limit) consistent given accepted all = all
 reserved_is_held_by_its_role limits rows (Cycle at) consistent given accepted all = cycle_for rows at consistent all
-reserved_is_held_by_its_role limits rows Report consistent given accepted all = all
+reserved_is_held_by_its_role limits rows event consistent given accepted all = all

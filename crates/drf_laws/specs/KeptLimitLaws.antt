@@ -18,7 +18,7 @@ use Rattle.drf_rows.specs.Endings.{Ending, ends_offer, ends_task, without_ended,
 use Rattle.drf_bundle.specs.ListLaws.{sum_by-map, sum_by-filter, sum_by_each_le, cond_le}
 use Rattle.drf_rows.specs.Members.{active_at}
 use Rattle.drf_rows.specs.Offers.{offer_at, offer_accepted, offer_declined}
-use Rattle.drf_row_laws.specs.OthersLaws.{cycle_only_offers}
+use Rattle.drf_row_laws.specs.FrameLaws.{only_changed}
 use Rattle.drf_rows.specs.Quota.{unreserved_in, reserved_in, held_unreserved, reserved_for, consumption_where, consumption, is_within}
 use Rattle.drf_row_laws.specs.QuotaLaws.{cycle_keeps_limits}
 use Rattle.drf_row_laws.specs.ReservationLaws.{IsAsked, reserving_keeps_limits, moved_is_consumed, consumption-with_total}
@@ -29,7 +29,7 @@ use Rattle.drf_row_laws.specs.StepLaws.{rows_after-refused, rows_after-accepted}
 use Rattle.drf_rows.specs.Tasks.{uses}
 use Rattle.drf_rows.specs.Totals.{agent_at}
 use Rattle.drf_rows.specs.declared.event.Event.{Event}
-use Rattle.drf_rows.specs.declared.event.Event.TheVariants.{AddAgent, RemoveAgent, ActivateAgent, DeactivateAgent, SetAgent, AddFramework, RemoveFramework, Accept, Decline, Rescind, Finish, Suppress, Revive, Reserve, Unreserve, SetWeight, SetLimit, Cycle, Report}
+use Rattle.drf_rows.specs.declared.event.Event.TheVariants.{AddAgent, RemoveAgent, ActivateAgent, DeactivateAgent, SetAgent, RemoveFramework, Accept, Decline, Rescind, Finish, Reserve, Unreserve, SetLimit, Cycle}
 use Rattle.drf_rows.specs.declared.reply.Refusal.{Refusal}
 use Rattle.drf_rows.specs.declared.rows.AgentRow.{AgentRow}
 use Rattle.drf_rows.specs.declared.rows.LimitRow.{LimitRow}
@@ -169,7 +169,6 @@ module _ (limits : LimitNumbers) (rows : Rows) (label : Text) (place : ℕ) (l :
   effect_keeps (DeactivateAgent agent) given kind accepted =
       at_most _ _ _ (omega (arith, reserved-active its label agent false rows.agents, ended_le its label rows (offers_on agent)))
   effect_keeps (SetAgent agent total) given kind accepted = cc
-  effect_keeps (AddFramework framework roles) given kind accepted = stays
   effect_keeps (RemoveFramework framework) given kind accepted = at_most _ _ _ (ended_le its label rows (all_of framework))
   effect_keeps (Accept a) given kind accepted = by (offer_at rows a.offer) refl
     where
@@ -190,48 +189,18 @@ module _ (limits : LimitNumbers) (rows : Rows) (label : Text) (place : ℕ) (l :
       by (Some o) = at_most _ _ _ (ended_le its label rows (one_offer o.number))
   effect_keeps (Rescind offer) given kind accepted = at_most _ _ _ (ended_le its label rows (one_offer offer))
   effect_keeps (Finish framework task) given kind accepted = at_most _ _ _ (ended_le its label rows (one_task framework task))
-  effect_keeps (Suppress framework role) given kind accepted = stays
-  effect_keeps (Revive framework role) given kind accepted = stays
   effect_keeps (Reserve agent role resources) given kind accepted =
       reserving_keeps_limits limits rows agent role resources label place l consistent given accepted at named
   effect_keeps (Unreserve agent role resources) given kind accepted =
       at_most _ _ _ (omega (arith, (moved_is_consumed limits rows agent role resources its label consistent given).1 accepted))
-  effect_keeps (SetWeight role weight) given kind accepted = stays
   effect_keeps (SetLimit role limit) given kind accepted = cc
   effect_keeps (Cycle moment) given kind accepted = cycle_keeps_limits rows moment label place l consistent at named
-  effect_keeps Report given kind accepted = stays
+  effect_keeps event given kind accepted = stays
 
 -- no other event sets a limit
 limits_stay : (rows : Rows) (event : Event) → changes_totals event ≡ false → (effect rows event).limits ≡ rows.limits
-unfolding effect
-limits_stay rows (AddAgent agent total) kind = cc
-limits_stay rows (RemoveAgent agent) kind = refl
-limits_stay rows (ActivateAgent agent) kind = refl
-limits_stay rows (DeactivateAgent agent) kind = refl
-limits_stay rows (SetAgent agent total) kind = cc
-limits_stay rows (AddFramework framework roles) kind = refl
-limits_stay rows (RemoveFramework framework) kind = refl
-limits_stay rows (Accept a) kind = by (offer_at rows a.offer)
-  where
-    by : (f : Option OfferRow)
-        → (option_map_or (λ o. offer_accepted (at_moment rows a.at) o a.tasks a.refuse_ms) f rows).limits ≡ rows.limits
-    by None = refl
-    by (Some o) = refl
-limits_stay rows (Decline d) kind = by (offer_at rows d.offer)
-  where
-    by : (f : Option OfferRow) → (option_map_or (λ o. offer_declined (at_moment rows d.at) o d.refuse_ms) f rows).limits ≡ rows.limits
-    by None = refl
-    by (Some o) = refl
-limits_stay rows (Rescind offer) kind = refl
-limits_stay rows (Finish framework task) kind = refl
-limits_stay rows (Suppress framework role) kind = refl
-limits_stay rows (Revive framework role) kind = refl
-limits_stay rows (Reserve agent role resources) kind = refl
-limits_stay rows (Unreserve agent role resources) kind = refl
-limits_stay rows (SetWeight role weight) kind = refl
 limits_stay rows (SetLimit role limit) kind = cc
-limits_stay rows (Cycle at) kind = ap (λ (r : Rows). r.limits) (cycle_only_offers rows at).nothing_else
-limits_stay rows Report kind = refl
+limits_stay rows event kind = ap (λ (r : Rows). r.limits) (only_changed rows event)
 
 -- ---- a step, and a run
 

@@ -3,7 +3,7 @@ use Rattle.std.specs.Prelude.{◌≡◌, ℕ, ◌+◌, ◌≤◌, ◌<◌, Bool,
 use Rattle.std.specs.List.{list_all}
 use Rattle.std.specs.Option.{option_map_or}
 use Rattle.std.proofs.Common.{refl, sym, ap, subst, ◌∙◌, inl, inr, cond, arith, suc}
-use Rattle.std.proofs.lemmas.Bool.{cases_Bool, and_parts, and_from, or_parts, not-true, not-false, leb-true, leb-false, le-leb, false≢true}
+use Rattle.std.proofs.lemmas.Bool.{cases_Bool, and_parts, and_from, not-true, not-false, leb-true, leb-false, le-leb, false≢true}
 use Rattle.drf_role.specs.Text.{Text, same_text}
 use Rattle.drf_role.specs.TextLaws.{same_from_test}
 use Rattle.drf_role.specs.Path.{Path}
@@ -22,11 +22,11 @@ use Rattle.drf_rows.specs.Offers.{is_empty}
 use Rattle.drf_rows.specs.Quota.{Consumed, consumption, is_within, binds, stays_within, admits}
 use Rattle.drf_row_laws.specs.ReservationLaws.{IsAsked, CanMove, can_move-reserve, can_move-unreserve, can_exchange-reserve, can_exchange-unreserve, changed_back, found-with_total, moved_is_consumed}
 use Rattle.drf_rows.specs.Step.{first_case, refusal_of, effect, rows_after, is_full}
-use Rattle.drf_row_laws.specs.StepLaws.{least_is_told, rows_after-accepted}
+use Rattle.drf_row_laws.specs.StepLaws.{no_case_of, rows_after-accepted}
 use Rattle.drf_rows.specs.Totals.{CanExchange, agent_at, total_at, with_total, exchanged, is_not_free}
 use Rattle.drf_row_laws.specs.TotalsLaws.{joined-exchanged, exchanged-back, bundle-exchanged, can_exchange-back, can_in_total, if_named, names-with_total, activity-with_total, has_agent-with_total, free_of-exchanged, cluster_total-exchanged}
 use Rattle.drf_rows.specs.declared.event.Event.{Event}
-use Rattle.drf_rows.specs.declared.event.Event.TheVariants.{AddAgent, RemoveAgent, ActivateAgent, DeactivateAgent, SetAgent, AddFramework, RemoveFramework, Accept, Decline, Rescind, Finish, Suppress, Revive, Reserve, Unreserve, SetWeight, SetLimit, Cycle, Report}
+use Rattle.drf_rows.specs.declared.event.Event.TheVariants.{Reserve, Unreserve, SetLimit}
 use Rattle.drf_rows.specs.declared.reply.Refusal.{Refusal}
 use Rattle.drf_rows.specs.declared.reply.Refusal.TheVariants.{HistoryFull, UnknownAgent, DefaultRole, Empty, NotUnreserved, NotCovered, OverLimit}
 use Rattle.drf_rows.specs.declared.rows.AgentRow.{AgentRow}
@@ -215,31 +215,23 @@ pub record IsMovable (rows : Rows) (agent : Text) (role : Path) (resources : Lis
 movable-reserve : (limits : LimitNumbers) (rows : Rows) (agent : Text) (role : Path) (resources : List Resource)
     → refusal_of limits rows (Reserve agent role resources) ≡ None → IsMovable rows agent role resources
 movable-reserve limits rows agent role resources accepted =
-    let none = (least_is_told limits rows (Reserve agent role resources)).1 accepted in
-    let known = or_parts (not (has_agent rows agent)) _ (or_parts (is_full limits rows) _ none).1 in
-    let other = or_parts (is_default role) _ known.1 in
-    let some = or_parts (is_empty resources) _ other.1 in
-    let unreserved = or_parts (not (is_unreserved resources)) _ some.1 in
+    let no = (no_case_of limits rows (Reserve agent role resources) accepted).1 in
     record {
-      known = not-false (has_agent rows agent) known.0;
-      other = other.0;
-      some = some.0;
-      unreserved = not-false (is_unreserved resources) unreserved.0;
+      known = not-false (has_agent rows agent) no.0;
+      other = no.1.0;
+      some = no.1.1.0;
+      unreserved = not-false (is_unreserved resources) no.1.1.1.0;
     }
 
 movable-unreserve : (limits : LimitNumbers) (rows : Rows) (agent : Text) (role : Path) (resources : List Resource)
     → refusal_of limits rows (Unreserve agent role resources) ≡ None → IsMovable rows agent role resources
 movable-unreserve limits rows agent role resources accepted =
-    let none = (least_is_told limits rows (Unreserve agent role resources)).1 accepted in
-    let known = or_parts (not (has_agent rows agent)) _ (or_parts (is_full limits rows) _ none).1 in
-    let other = or_parts (is_default role) _ known.1 in
-    let some = or_parts (is_empty resources) _ other.1 in
-    let unreserved = or_parts (not (is_unreserved resources)) _ some.1 in
+    let no = (no_case_of limits rows (Unreserve agent role resources) accepted).1 in
     record {
-      known = not-false (has_agent rows agent) known.0;
-      other = other.0;
-      some = some.0;
-      unreserved = not-false (is_unreserved resources) unreserved.0;
+      known = not-false (has_agent rows agent) no.0;
+      other = no.1.0;
+      some = no.1.1.0;
+      unreserved = not-false (is_unreserved resources) no.1.1.1.0;
     }
 
 module _ (limits : LimitNumbers) (rows : Rows) (agent : Text) (role : Path) (resources : List Resource)
@@ -562,22 +554,6 @@ refused_would_pass limits rows agent role resources consistent asked told =
 
 pub limits_refuse_nothing_else : LimitsRefuseNothingElse
 unfolding refusal_of free_of
-limits_refuse_nothing_else limits rows others (AddAgent agent total) none = refl
-limits_refuse_nothing_else limits rows others (RemoveAgent agent) none = refl
-limits_refuse_nothing_else limits rows others (ActivateAgent agent) none = refl
-limits_refuse_nothing_else limits rows others (DeactivateAgent agent) none = refl
-limits_refuse_nothing_else limits rows others (SetAgent agent total) none = refl
-limits_refuse_nothing_else limits rows others (AddFramework framework roles) none = refl
-limits_refuse_nothing_else limits rows others (RemoveFramework framework) none = refl
-limits_refuse_nothing_else limits rows others (Accept a) none = refl
-limits_refuse_nothing_else limits rows others (Decline d) none = refl
-limits_refuse_nothing_else limits rows others (Rescind offer) none = refl
-limits_refuse_nothing_else limits rows others (Finish framework task) none = refl
-limits_refuse_nothing_else limits rows others (Suppress framework role) none = refl
-limits_refuse_nothing_else limits rows others (Revive framework role) none = refl
 limits_refuse_nothing_else limits rows others (Reserve agent role resources) none = cc
-limits_refuse_nothing_else limits rows others (Unreserve agent role resources) none = refl
-limits_refuse_nothing_else limits rows others (SetWeight role weight) none = refl
 limits_refuse_nothing_else limits rows others (SetLimit role limit) none = cc
-limits_refuse_nothing_else limits rows others (Cycle at) none = refl
-limits_refuse_nothing_else limits rows others Report none = refl
+limits_refuse_nothing_else limits rows others event none = refl

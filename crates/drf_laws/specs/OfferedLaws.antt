@@ -1,5 +1,5 @@
 -- To whom a cycle makes offers, and with what numbers.
-use Rattle.std.specs.Prelude.{◌≡◌, ℕ, zero, suc, ◌+◌, Bool, true, false, not, ◌||◌, List, [], ◌∷◌, ◌++◌, length, map, filter, drop, Option, Some, None, if◌then◌else◌}
+use Rattle.std.specs.Prelude.{◌≡◌, ℕ, zero, suc, ◌+◌, Bool, true, false, not, ◌||◌, List, [], ◌∷◌, ◌++◌, length, map, filter, drop, Option, Some, None}
 use Rattle.std.specs.List.{list_all, list_any, flat_map, AllByRecursion}
 use Rattle.std.specs.Option.{option_map_or}
 use Rattle.std.proofs.Common.{refl, sym, ap, subst, ◌∙◌, inl, inr}
@@ -13,18 +13,16 @@ use Rattle.drf_rows.specs.Client.{Client, path_of}
 use Rattle.drf_rows.specs.Share.{Standing, stands_before}
 use Rattle.drf_rows.specs.Holdings.{of_offer}
 use Rattle.drf_rows.specs.Held.{client_of, active_clients, standing_of}
-use Rattle.drf_rows.specs.Quota.{entitlement}
 use Rattle.drf_rows.specs.Filters.{is_held_back}
-use Rattle.drf_rows.specs.Cycle.{free_of, is_allocatable, is_grantable, grant, new_offer, with_offer, tried, all_tried, first_of, without, serving_order, turn, turn_order, turns, at_moment, cycle}
+use Rattle.drf_rows.specs.Cycle.{is_allocatable, is_grantable, new_offer, with_offer, first_of, without, serving_order, turns, at_moment, cycle}
 use Rattle.drf_row_laws.specs.CycleLaws.{active_clients-with_offer}
-use Rattle.drf_rows.specs.Offers.{offer_at, offer_accepted, offer_declined}
-use Rattle.drf_rows.specs.Tasks.{Start}
 use Rattle.drf_bundle.specs.ListLaws.{each_append, each_map, each_filter, each_find, each_true, any_fails}
 use Rattle.drf_rows.specs.Step.{refusal_of, effect, answer, line_told, new_offers, rows_after, rows_after_all, reply_to, replies_to}
+use Rattle.drf_row_laws.specs.FrameLaws.{its_part, Any, turns_keep, only_changed}
 use Rattle.drf_row_laws.specs.LiveLaws.{kept-turns}
 use Rattle.drf_row_laws.specs.LifeLaws.{is_same_client, SuppressedIsNotOffered, FilteredIsNotOffered, CountUp, lines_told, NumbersAreNew}
 use Rattle.drf_rows.specs.declared.event.Event.{Event}
-use Rattle.drf_rows.specs.declared.event.Event.TheVariants.{AddAgent, RemoveAgent, ActivateAgent, DeactivateAgent, SetAgent, AddFramework, RemoveFramework, Accept, Decline, Rescind, Finish, Suppress, Revive, Reserve, Unreserve, SetWeight, SetLimit, Cycle, Report}
+use Rattle.drf_rows.specs.declared.event.Event.TheVariants.{Cycle}
 use Rattle.drf_rows.specs.declared.reply.OfferLine.{OfferLine}
 use Rattle.drf_rows.specs.declared.reply.Refusal.{Refusal}
 use Rattle.drf_rows.specs.declared.reply.Reply.{Reply}
@@ -66,21 +64,11 @@ abbrev is_stopped : Rows → OfferRow → Bool
 is_stopped rows o = is_held_back rows.filters rows.clock (of_offer o).client o.agent o.bundle
 
 -- what a client is granted no filter holds back
-not_stopped : (rows : Rows) (agent : AgentRow) (client : Client) (bundle : List Resource) → grant rows agent client ≡ Some bundle
+not_stopped : (rows : Rows) (agent : AgentRow) (client : Client) (bundle : List Resource) → is_grantable rows agent client bundle ≡ true
     → is_held_back rows.filters rows.clock client agent.name bundle ≡ false
-not_stopped rows agent client bundle = by (entitlement rows (free_of rows agent) client)
-  where
-    at : (part : List Resource) (b : Bool) → is_grantable rows agent client part ≡ b → (if b then Some part else None) ≡ Some bundle
-        → is_held_back rows.filters rows.clock client agent.name bundle ≡ false
-    at part true right granted =
-        let held : List Resource → Bool = λ part. is_held_back rows.filters rows.clock client agent.name part in
-        let same : part ≡ bundle = cc in
-        ap held (sym same) ∙ not-true (held part) (and_parts (is_allocatable part) (not (held part)) right).1
-    at part false past granted = cc
-
-    by : (part : List Resource) → (if is_grantable rows agent client part then Some part else None) ≡ Some bundle
-        → is_held_back rows.filters rows.clock client agent.name bundle ≡ false
-    by part = at part (is_grantable rows agent client part) refl
+not_stopped rows agent client bundle is =
+    let held : Bool = is_held_back rows.filters rows.clock client agent.name bundle in
+    not-true held (and_parts (is_allocatable bundle) (not held) is).1
 
 -- offers were made, with the next numbers, and each to a client of which something holds, as of all that are active; no filter
 -- holds one back
@@ -112,34 +100,19 @@ module _ (P : Client → Type 0) (start : Rows) where
         active = subst (AllByRecursion P) (sym (active_clients-with_offer rows o)) so.active;
       }
 
-  offered-tried : (rows : Rows) (agent : AgentRow) (client : Client) → P client → Offered P start rows → Offered P start (tried rows agent client)
-  offered-tried rows agent client right so = by (grant rows agent client) refl
-    where
-      by : (granted : Option (List Resource)) → grant rows agent client ≡ granted
-          → Offered P start (option_map_or (λ bundle. with_offer rows (new_offer rows agent client bundle)) granted rows)
-      by None found = so
-      by (Some bundle) found = offered-more rows agent client bundle right (not_stopped rows agent client bundle found) so
-
-  offered-all_tried : (rows : Rows) (agent : AgentRow) (clients : List Client) → AllByRecursion P clients → Offered P start rows
-      → Offered P start (all_tried rows agent clients)
-  offered-all_tried rows agent [] all so = so
-  offered-all_tried rows agent (client ∷ clients) all so =
-      offered-all_tried (tried rows agent client) agent clients all.1 (offered-tried rows agent client all.0 so)
-
-  offered-turn : (rows : Rows) (agent : AgentRow) → Offered P start rows → Offered P start (turn rows agent)
-  unfolding turn
-  offered-turn rows agent so =
-      offered-all_tried rows agent (turn_order rows) (each_served P (standing_of rows) (length (active_clients rows)) (active_clients rows) so.active) so
-
-  offered-turns : (rows : Rows) (agents : List AgentRow) → Offered P start rows → Offered P start (turns rows agents)
-  offered-turns rows [] so = so
-  offered-turns rows (agent ∷ agents) so = offered-turns (turn rows agent) agents (offered-turn rows agent so)
+  offered-turns : (agents : List AgentRow) → Offered P start start → Offered P start (turns start agents)
+  offered-turns agents =
+      turns_keep (Offered P start) Any P
+      (λ rows so. each_served P (standing_of rows) (length (active_clients rows)) (active_clients rows) so.active)
+      (λ rows agent client right known is so.
+      offered-more rows agent client (its_part rows agent client) known (not_stopped rows agent client (its_part rows agent client) is) so)
+      start agents (each_true agents)
 
 module _ (P : Client → Type 0) (rows : Rows) (at : ℕ) (all : AllByRecursion P (active_clients rows)) where
   offered : Offered P rows (cycle rows at)
   unfolding cycle
   offered =
-      let so = offered-turns P (at_moment rows at) (at_moment rows at) (filter (λ a. a.active) rows.agents) (offered-none P (at_moment rows at) all) in
+      let so = offered-turns P (at_moment rows at) (filter (λ a. a.active) rows.agents) (offered-none P (at_moment rows at) all) in
       record {
         made = so.made;
         offers = so.offers;
@@ -197,7 +170,6 @@ suppressed_is_not_offered rows client at silent =
 pub filtered_is_not_offered : FilteredIsNotOffered
 unfolding cycle
 filtered_is_not_offered rows at =
-    let Any : Client → Type 0 = λ c. ◌≡◌ {A = Bool} true true in
     let all = each_true (active_clients rows) in
     let after : Rows = cycle rows at in
     let kept = kept-turns (at_moment rows at) (filter (λ a. a.active) rows.agents) in
@@ -215,43 +187,15 @@ numbers_of_lines (o ∷ os) = ap (λ (ns : List ℕ). o.number ∷ ns) (numbers_
 
 told_by_cycle : (rows : Rows) (at : ℕ) → AreTold rows (answer rows (cycle rows at) (Cycle at)) (cycle rows at)
 told_by_cycle rows at =
-    let Any : Client → Type 0 = λ c. ◌≡◌ {A = Bool} true true in
     let all = each_true (active_clients rows) in
     subst (λ (ns : List ℕ). CountUp rows.next_offer ns (cycle rows at).next_offer)
     (sym (ap (λ (os : List OfferRow). map (λ line. line.number) (map line_told os)) (offered_new Any rows at all) ∙ numbers_of_lines (offered Any rows at all).made))
     (offered Any rows at all).numbers
 
-told-accepted : (rows : Rows) (at : ℕ) (starts : List Start) (refuse_ms : ℕ) (found : Option OfferRow)
-    → (option_map_or (λ o. offer_accepted (at_moment rows at) o starts refuse_ms) found rows).next_offer ≡ rows.next_offer
-told-accepted rows at starts refuse_ms None = refl
-told-accepted rows at starts refuse_ms (Some o) = refl
-
-told-declined : (rows : Rows) (at refuse_ms : ℕ) (found : Option OfferRow)
-    → (option_map_or (λ o. offer_declined (at_moment rows at) o refuse_ms) found rows).next_offer ≡ rows.next_offer
-told-declined rows at refuse_ms None = refl
-told-declined rows at refuse_ms (Some o) = refl
-
 told_by_effect : (rows : Rows) (event : Event) → AreTold rows (answer rows (effect rows event) event) (effect rows event)
 unfolding effect
-told_by_effect rows (AddAgent agent total) = refl
-told_by_effect rows (RemoveAgent agent) = refl
-told_by_effect rows (ActivateAgent agent) = refl
-told_by_effect rows (DeactivateAgent agent) = refl
-told_by_effect rows (SetAgent agent total) = refl
-told_by_effect rows (AddFramework framework roles) = refl
-told_by_effect rows (RemoveFramework framework) = refl
-told_by_effect rows (Accept a) = told-accepted rows a.at a.tasks a.refuse_ms (offer_at rows a.offer)
-told_by_effect rows (Decline d) = told-declined rows d.at d.refuse_ms (offer_at rows d.offer)
-told_by_effect rows (Rescind offer) = refl
-told_by_effect rows (Finish framework task) = refl
-told_by_effect rows (Suppress framework role) = refl
-told_by_effect rows (Revive framework role) = refl
-told_by_effect rows (Reserve agent role resources) = refl
-told_by_effect rows (Unreserve agent role resources) = refl
-told_by_effect rows (SetWeight role weight) = refl
-told_by_effect rows (SetLimit role limit) = refl
 told_by_effect rows (Cycle at) = told_by_cycle rows at
-told_by_effect rows Report = refl
+told_by_effect rows event = ap (λ (r : Rows). r.next_offer) (only_changed rows event)
 
 told_by_step : (limits : LimitNumbers) (rows : Rows) (event : Event) → AreTold rows (reply_to limits rows event) (rows_after limits rows event)
 unfolding reply_to rows_after

@@ -18,6 +18,7 @@ pub mod Rows
 pub mod OneLines
 pub mod Events
 pub mod ReplyTexts
+pub mod Appends
 pub mod Lanes
 pub mod LeftAmounts
 pub mod KeptTexts

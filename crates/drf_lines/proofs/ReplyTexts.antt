@@ -1,16 +1,15 @@
 -- The texts of replies, one after another.
-use Rattle.std.proofs.Common.{◌≡◌, ℕ, ◌+◌, ◌<◌, ◌≤◌, ◌^◌, true, List, [], ◌∷◌, ◌++◌, map, drop, get_or, length, decimal, refl, sym, ap, ◌∙◌, append_assoc, append-nil, cond, subst, IsUtf8, Result, Ok, Err, OnOk, arith}
+use Rattle.std.proofs.Common.{◌≡◌, ℕ, ◌+◌, ◌<◌, ◌≤◌, ◌^◌, true, List, [], ◌∷◌, ◌++◌, map, drop, get_or, length, decimal, refl, sym, ap, ◌∙◌, append_assoc, append-nil, subst, IsUtf8, arith}
 use Rattle.std.specs.Prelude.{nat_lt, All}
 use Rattle.std.specs.List.{list_all}
 use Rattle.std.proofs.lemmas.Bool.{and_parts, not-true, eqb-false, leb-true, le-leb, lt-ltb, ne_eqb}
-use Rattle.std.proofs.lemmas.Fmt.{decimal_is_IsNumeral_wide}
+use Rattle.std.proofs.lemmas.Fmt.{decimal_is_IsNumeral_wide, IsAscii-decimal}
 use Rattle.std.proofs.lemmas.List.Folds.{list_all-append}
 use Rattle.std.proofs.lemmas.Str.Parse.{digit_from_value}
 use Rattle.std.specs.Str.Parse.{AllDigits}
 use Rattle.std.proofs.lemmas.List.{at_drop_more, at_drop_all}
 use Rattle.std.proofs.lemmas.List.Elements.{All-tail}
-use Rattle.std.proofs.lemmas.Str.{IsUtf8-append, IsUtf8-drop, IsCharBoundary-after_ascii}
-use Rattle.std.specs.Result.{is_ok}
+use Rattle.std.proofs.lemmas.Str.{IsUtf8-append, IsUtf8-drop, IsUtf8-from_ascii, IsCharBoundary-after_ascii}
 use Rattle.json.proofs.Printed.Utf8.{IsUtf8-are_ascii, IsUtf8-quoted}
 use Rattle.json.specs.Token.{string}
 use Rattle.json.specs.Print.{escape, escape_byte, quoted, print, print_from}
@@ -67,12 +66,6 @@ fraction_is_kept part whole small small_too =
     plain_is_kept (decimal part ++ 47 ∷ decimal whole)
     (list_all-append is_plain_byte (decimal part) (47 ∷ decimal whole) ∙ rw (decimal_is_plain part small, decimal_is_plain whole small_too) refl)
 
--- what a vector was extended by stands there where memory sufficed
-pub extended : {T E : Type 0} (r : Result T E) (old added : List ℕ) {new more : List ℕ} → new ≡ cond (is_ok r) (old ++ more) old
-    → more ≡ added → OnOk r (new ≡ old ++ added)
-extended (Ok x) old added is same = is ∙ ap (λ (bytes : List ℕ). old ++ bytes) same
-extended (Err error) old added is same = tt
-
 -- ---- UTF-8
 
 pub byte_utf8 : (byte : ℕ) → byte < 128 → IsUtf8 (byte ∷ [])
@@ -86,10 +79,15 @@ string_end_utf8 s utf8 =
 pub added_utf8 : (old added : List ℕ) {new : List ℕ} → new ≡ old ++ added → IsUtf8 added → KeepsUtf8 old new
 added_utf8 old added is right utf8 = subst IsUtf8 (sym is) (IsUtf8-append old added utf8 right)
 
-pub extended_utf8 : {T E : Type 0} (r : Result T E) (old added : List ℕ) {new : List ℕ} → new ≡ cond (is_ok r) (old ++ added) old
-    → IsUtf8 added → OnOk r (KeepsUtf8 old new)
-extended_utf8 (Ok x) old added is right = added_utf8 old added is right
-extended_utf8 (Err error) old added is right = tt
+digits_utf8 : (n : ℕ) → n < 2 ^ 64 → IsUtf8 (decimal n)
+digits_utf8 n small = IsUtf8-from_ascii (decimal n) (IsAscii-decimal n small)
+
+pub fraction_utf8 : (part whole : ℕ) → part < 2 ^ 64 → whole < 2 ^ 64 → IsUtf8 ((decimal part ++ 47 ∷ decimal whole) ++ 34 ∷ [])
+fraction_utf8 part whole small small_too =
+    IsUtf8-append (decimal part ++ 47 ∷ decimal whole) (34 ∷ [])
+    (IsUtf8-append (decimal part) (47 ∷ decimal whole) (digits_utf8 part small)
+    (IsUtf8-append (47 ∷ []) (decimal whole) (byte_utf8 47 (omega arith)) (digits_utf8 whole small_too)))
+    (byte_utf8 34 (omega arith))
 
 -- ---- the items of an array, one after another
 

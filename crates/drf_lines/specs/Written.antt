@@ -1,7 +1,9 @@
--- What a reply's writer has to know of the texts that it puts between quotes, and what it leaves alone.
+-- What a line's writer has to know of the texts that it puts between quotes, and what it leaves alone.
 use Rattle.std.specs.Io.{StartsWith}
-use Rattle.std.specs.Prelude.{ℕ, List, Bool, not, ◌&&◌, ◌==◌, nat_le}
+use Rattle.std.specs.Prelude.{◌≡◌, ℕ, List, ◌++◌, Bool, true, not, ◌&&◌, ◌==◌, nat_le, Result, OnOk}
 use Rattle.std.specs.Str.{IsUtf8}
+use Rattle.serde_json.specs.Data.{Members}
+use Rattle.serde_json.specs.Written.{members_text}
 
 -- a byte that stands in a JSON string as it is (RFC 8259, section 7)
 abbrev pub is_plain_byte : ℕ → Bool
@@ -18,3 +20,15 @@ IsText text = IsUtf8 text
 -- UTF-8 stays UTF-8
 abbrev pub KeepsUtf8 : List ℕ → List ℕ → Type 0
 KeepsUtf8 old new = IsUtf8 old → IsUtf8 new
+
+-- a text is appended; where memory ends, what stood there still stands in front
+pub record AppendsText {T E : Type 0} (result : Result T E) (old new text : List ℕ) : Type 0 where
+  pub ok : OnOk result (new ≡ old ++ text)
+  pub front : KeepsFront old new
+  pub utf8 : OnOk result (KeepsUtf8 old new)
+
+-- the same of members of an object, whatever members come after them
+pub record AppendsMembers {T E : Type 0} (result : Result T E) (old new : List ℕ) (members : Members → Members) : Type 0 where
+  pub ok : OnOk result ((more : Members) → new ++ members_text true more ≡ old ++ members_text true (members more))
+  pub front : KeepsFront old new
+  pub utf8 : OnOk result (KeepsUtf8 old new)

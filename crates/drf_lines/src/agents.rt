@@ -1,5 +1,5 @@
 //! The events and the rows of agents.
-ghost use Rattle.std.specs.Prelude.{◌≡◌, ◌++◌, Ok, OnOk};
+ghost use Rattle.std.specs.Prelude.{◌≡◌, Ok, OnOk};
 ghost use Rattle.serde_json.specs.Written.{compact_text};
 ghost use Rattle.drf_text.specs.Written.{bundle_text};
 ghost use Rattle.drf_saved.specs.declared.saved.SavedRow.TheVariants.{Agent};
@@ -12,7 +12,7 @@ ghost use Rattle.drf_lines.specs.Resources.{bundle_in};
 ghost use Rattle.drf_lines.specs.StateLine.{row_line};
 ghost use Rattle.drf_lines.specs.StateMeaning.{state_line_meaning};
 ghost use Rattle.drf_lines.specs.Words.{name_in};
-ghost use Rattle.drf_lines.specs.Written.{KeepsFront, KeepsUtf8};
+ghost use Rattle.drf_lines.specs.Written.{AppendsText};
 
 use crate::fault::LineError;
 use crate::member::{put_boolean, put_bundle, put_byte, put_name, put_text};
@@ -45,9 +45,7 @@ pub fn put_of_total(
     agent: &Name,
     total: &Bundle,
 ) -> Result<(), AllocError>
-    ensures ok { OnOk result (line.new.items ≡ line.old.items ++ compact_text (of_total event.now agent.now total.now)) }
-    ensures front { KeepsFront line.old.items line.new.items }
-    ensures utf8 { OnOk result (KeepsUtf8 line.old.items line.new.items) }
+    ensures appends { AppendsText result line.old.items line.new.items (compact_text (of_total event.now agent.now total.now)) }
     ensures read { OnOk result ((name_in agent.now ≡ Ok agent.now) × (bundle_in (bundle_text total.now) ≡ Ok total.now)) }
 {
     let mut text = String::new(*line.allocator());
@@ -73,9 +71,7 @@ pub fn read_its_agent(
 
 /// An event of an agent alone.
 pub fn put_of_agent(line: &mut Vec<u8>, event: &str, agent: &Name) -> Result<(), AllocError>
-    ensures ok { OnOk result (line.new.items ≡ line.old.items ++ compact_text (of_agent event.now agent.now)) }
-    ensures front { KeepsFront line.old.items line.new.items }
-    ensures utf8 { OnOk result (KeepsUtf8 line.old.items line.new.items) }
+    ensures appends { AppendsText result line.old.items line.new.items (compact_text (of_agent event.now agent.now)) }
     ensures read { OnOk result (name_in agent.now ≡ Ok agent.now) }
 {
     put_name(line, "{\"agent\":\"", agent)?;
@@ -104,9 +100,7 @@ pub fn read_agent_row(
 
 /// Adds the line of an agent's row, as `push_row` does.
 pub fn push_agent_row(text: &mut Vec<u8>, row: &AgentRow) -> Result<(), AllocError>
-    ensures ok { OnOk result (text.new.items ≡ text.old.items ++ row_line (Agent row.now)) }
-    ensures front { KeepsFront text.old.items text.new.items }
-    ensures utf8 { OnOk result (KeepsUtf8 text.old.items text.new.items) }
+    ensures appends { AppendsText result text.old.items text.new.items (row_line (Agent row.now)) }
     ensures read { OnOk result (state_line_meaning (row_line (Agent row.now)) ≡ Ok (Row (Agent row.now))) }
 {
     let mut between = String::new(*text.allocator());

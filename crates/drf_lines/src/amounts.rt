@@ -5,7 +5,7 @@ ghost use Rattle.drf_bundle.specs.declared.quantities.Entry.{Entry};
 ghost use Rattle.drf_text.specs.Written.{amount_text, decimals_text, quantity_text};
 ghost use Rattle.drf_lines.specs.Amounts.{left_amounts};
 ghost use Rattle.drf_lines.specs.ReportLine.{amounts_text};
-ghost use Rattle.drf_lines.specs.Written.{KeepsFront};
+ghost use Rattle.drf_lines.specs.Written.{AppendsText, KeepsFront, KeepsUtf8};
 
 use crate::member::{put, put_byte};
 use drf_bundle::{Entry, Quantities};
@@ -14,8 +14,7 @@ use std::alloc::AllocError;
 
 fn put_digit(line: &mut Vec<u8>, digit: u64) -> Result<(), AllocError>
     requires { digit < 10 }
-    ensures ok { OnOk result (line.new.items ≡ line.old.items ++ (48 + digit) ∷ []) }
-    ensures front { KeepsFront line.old.items line.new.items }
+    ensures { AppendsText result line.old.items line.new.items ((48 + digit) ∷ []) }
 {
     put_byte(line, b'0' + digit as u8)
 }
@@ -23,8 +22,7 @@ fn put_digit(line: &mut Vec<u8>, digit: u64) -> Result<(), AllocError>
 /// Writes the decimals that are needed of a number of thousandths below 1.
 fn put_decimals(line: &mut Vec<u8>, thousandths: u64) -> Result<(), AllocError>
     requires { thousandths < 1000 }
-    ensures ok { OnOk result (line.new.items ≡ line.old.items ++ decimals_text thousandths) }
-    ensures front { KeepsFront line.old.items line.new.items }
+    ensures { AppendsText result line.old.items line.new.items (decimals_text thousandths) }
 {
     if thousandths == 0 {
         return Ok(());
@@ -42,16 +40,14 @@ fn put_decimals(line: &mut Vec<u8>, thousandths: u64) -> Result<(), AllocError>
 }
 
 fn put_amount(line: &mut Vec<u8>, amount: u64) -> Result<(), AllocError>
-    ensures ok { OnOk result (line.new.items ≡ line.old.items ++ amount_text amount) }
-    ensures front { KeepsFront line.old.items line.new.items }
+    ensures { AppendsText result line.old.items line.new.items (amount_text amount) }
 {
     put(line, Buffer::new().format(amount / 1000))?;
     put_decimals(line, amount % 1000)
 }
 
 fn put_entry(line: &mut Vec<u8>, entry: &Entry) -> Result<(), AllocError>
-    ensures ok { OnOk result (line.new.items ≡ line.old.items ++ escape (quantity_text entry.now)) }
-    ensures front { KeepsFront line.old.items line.new.items }
+    ensures { AppendsText result line.old.items line.new.items (escape (quantity_text entry.now)) }
 {
     put(line, entry.label.text())?;
     put_byte(line, b':')?;
@@ -62,6 +58,7 @@ fn put_entry(line: &mut Vec<u8>, entry: &Entry) -> Result<(), AllocError>
 fn put_next(line: &mut Vec<u8>, entry: &Entry, has_any: bool) -> Result<bool, AllocError>
     ensures ok { IfOk result (λ has_now. (left : List Entry) → line.new.items ++ left_amounts has_now left ≡ line.old.items ++ left_amounts has_any (entry.now ∷ left)) }
     ensures front { KeepsFront line.old.items line.new.items }
+    ensures utf8 { OnOk result (KeepsUtf8 line.old.items line.new.items) }
 {
     if entry.amount.thousandths() == 0 {
         return Ok(has_any);
@@ -74,8 +71,7 @@ fn put_next(line: &mut Vec<u8>, entry: &Entry, has_any: bool) -> Result<bool, Al
 }
 
 fn put_entries(line: &mut Vec<u8>, entries: &[Entry]) -> Result<(), AllocError>
-    ensures ok { OnOk result (line.new.items ≡ line.old.items ++ escape (amounts_text entries.now)) }
-    ensures front { KeepsFront line.old.items line.new.items }
+    ensures { AppendsText result line.old.items line.new.items (escape (amounts_text entries.now)) }
 {
     let mut has_any = false;
     for entry in entries {
@@ -90,8 +86,7 @@ pub fn put_amounts(
     before: &str,
     quantities: &Quantities,
 ) -> Result<(), AllocError>
-    ensures ok { OnOk result (line.new.items ≡ line.old.items ++ (before.now ++ (escape (amounts_text quantities.now) ++ 34 ∷ []))) }
-    ensures front { KeepsFront line.old.items line.new.items }
+    ensures { AppendsText result line.old.items line.new.items (before.now ++ (escape (amounts_text quantities.now) ++ 34 ∷ [])) }
 {
     put(line, before)?;
     put_entries(line, quantities.entries())?;

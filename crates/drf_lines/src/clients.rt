@@ -1,5 +1,5 @@
 //! The clients in the row of a framework.
-ghost use Rattle.std.specs.Prelude.{◌≡◌, ◌++◌, map, All, OnOk};
+ghost use Rattle.std.specs.Prelude.{map, All, OnOk};
 ghost use Rattle.serde_json.specs.Data.{array};
 ghost use Rattle.serde_json.specs.View.{items_of};
 ghost use Rattle.serde_json.specs.Written.{compact_text};
@@ -7,7 +7,7 @@ ghost use Rattle.drf_lines.specs.Fault.{IsReadAs, IsReadOf};
 ghost use Rattle.drf_lines.specs.FrameworkRows.{client_text, client_in, client_value, IsClientRead};
 ghost use Rattle.drf_lines.specs.LineValue.{line_view};
 ghost use Rattle.drf_lines.specs.TaskTexts.{each_in};
-ghost use Rattle.drf_lines.specs.Written.{KeepsFront, KeepsUtf8};
+ghost use Rattle.drf_lines.specs.Written.{AppendsText};
 
 use crate::fault::LineError;
 use crate::member::{put_boolean, put_byte, put_comma, put_number, put_role};
@@ -85,9 +85,7 @@ pub fn read_clients(
 }
 
 fn put_client(line: &mut Vec<u8>, client: &ClientRow) -> Result<(), AllocError>
-    ensures ok { OnOk result (line.new.items ≡ line.old.items ++ compact_text (client_value client.now)) }
-    ensures front { KeepsFront line.old.items line.new.items }
-    ensures utf8 { OnOk result (KeepsUtf8 line.old.items line.new.items) }
+    ensures appends { AppendsText result line.old.items line.new.items (compact_text (client_value client.now)) }
     ensures read { OnOk result (IsClientRead client.now) }
 {
     put_number(line, "{\"count\":", client.count)?;
@@ -98,9 +96,7 @@ fn put_client(line: &mut Vec<u8>, client: &ClientRow) -> Result<(), AllocError>
 
 /// The clients as objects, in their order.
 pub fn put_client_list(line: &mut Vec<u8>, clients: &[ClientRow]) -> Result<(), AllocError>
-    ensures ok { OnOk result (line.new.items ≡ line.old.items ++ compact_text (array (items_of (map client_value clients.now)))) }
-    ensures front { KeepsFront line.old.items line.new.items }
-    ensures utf8 { OnOk result (KeepsUtf8 line.old.items line.new.items) }
+    ensures appends { AppendsText result line.old.items line.new.items (compact_text (array (items_of (map client_value clients.now)))) }
     ensures read { OnOk result (All IsClientRead clients.now) }
 {
     put_byte(line, b'[')?;

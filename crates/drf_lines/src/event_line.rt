@@ -1,11 +1,11 @@
 //! The writer of an event's line.
-ghost use Rattle.std.specs.Prelude.{◌≡◌, ◌≤◌, ◌++◌, length, Ok, IfOk, OnOk};
+ghost use Rattle.std.specs.Prelude.{◌≡◌, ◌≤◌, length, Ok, IfOk, OnOk};
 ghost use Rattle.serde_json.specs.Written.{compact_text};
 ghost use Rattle.drf_rows.specs.declared.event.Event.TheVariants.{Cycle, Report};
 ghost use Rattle.drf_lines.specs.EventLine.{cycle_value, report_request, event_line};
 ghost use Rattle.drf_lines.specs.Meaning.{meaning_of};
 ghost use Rattle.drf_lines.specs.Spelled.{IsSpelled};
-ghost use Rattle.drf_lines.specs.Written.{KeepsFront, KeepsUtf8};
+ghost use Rattle.drf_lines.specs.Written.{AppendsText};
 
 use crate::agents::{put_of_agent, put_of_total};
 use crate::frameworks::{put_add_framework, put_of_client, put_of_framework};
@@ -18,9 +18,7 @@ use drf_rows::Event;
 use std::alloc::{AllocError, Global};
 
 fn put_cycle(line: &mut Vec<u8>, at: u64) -> Result<(), AllocError>
-    ensures ok { OnOk result (line.new.items ≡ line.old.items ++ compact_text (cycle_value at)) }
-    ensures front { KeepsFront line.old.items line.new.items }
-    ensures utf8 { OnOk result (KeepsUtf8 line.old.items line.new.items) }
+    ensures appends { AppendsText result line.old.items line.new.items (compact_text (cycle_value at)) }
     ensures read { OnOk result (IsSpelled (Cycle at)) }
 {
     put_number(line, "{\"at\":", at)?;
@@ -28,9 +26,7 @@ fn put_cycle(line: &mut Vec<u8>, at: u64) -> Result<(), AllocError>
 }
 
 fn put_report_request(line: &mut Vec<u8>) -> Result<(), AllocError>
-    ensures ok { OnOk result (line.new.items ≡ line.old.items ++ compact_text report_request) }
-    ensures front { KeepsFront line.old.items line.new.items }
-    ensures utf8 { OnOk result (KeepsUtf8 line.old.items line.new.items) }
+    ensures appends { AppendsText result line.old.items line.new.items (compact_text report_request) }
     ensures read { OnOk result (IsSpelled Report) }
 {
     put(line, "{\"event\":\"report\"}")
@@ -40,9 +36,7 @@ fn put_report_request(line: &mut Vec<u8>) -> Result<(), AllocError>
 /// of it may stand behind what stood there.
 #[tactic(auto, unfolding(crate::specs::EventLine::event_line))]
 pub fn push_event(text: &mut Vec<u8>, event: &Event) -> Result<(), AllocError>
-    ensures ok { OnOk result (text.new.items ≡ text.old.items ++ event_line event.now) }
-    ensures front { KeepsFront text.old.items text.new.items }
-    ensures utf8 { OnOk result (KeepsUtf8 text.old.items text.new.items) }
+    ensures appends { AppendsText result text.old.items text.new.items (event_line event.now) }
     ensures read { OnOk result (IsSpelled event.now) }
 {
     match event {

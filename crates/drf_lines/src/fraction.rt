@@ -1,8 +1,8 @@
 //! Writers of a fraction. Its digits need no escape.
-ghost use Rattle.std.specs.Prelude.{◌≡◌, ◌∷◌, ◌++◌, [], IfOk, OnOk, string_bytes};
+ghost use Rattle.std.specs.Prelude.{◌≡◌, ◌∷◌, ◌++◌, [], IfOk, string_bytes};
 ghost use Rattle.json.specs.Print.{escape};
 ghost use Rattle.drf_lines.specs.ReportLine.{fraction_text};
-ghost use Rattle.drf_lines.specs.Written.{KeepsFront};
+ghost use Rattle.drf_lines.specs.Written.{AppendsText};
 
 use crate::member::{put, put_byte};
 use itoa::{Buffer, write_digits};
@@ -13,8 +13,7 @@ const SHORT_FRACTION: usize = 41;
 
 /// Writes a fraction of numbers below 2^64, and `"`.
 fn put_short_fraction(line: &mut Vec<u8>, part: u64, whole: u64) -> Result<(), AllocError>
-    ensures ok { OnOk result (line.new.items ≡ line.old.items ++ (fraction_text (part, whole) ++ 34 ∷ [])) }
-    ensures front { KeepsFront line.old.items line.new.items }
+    ensures { AppendsText result line.old.items line.new.items (fraction_text (part, whole) ++ 34 ∷ []) }
 {
     let mut text = [b'"'; SHORT_FRACTION + 1];
     let slash = write_digits(whole, &mut text, SHORT_FRACTION) - 1;
@@ -25,8 +24,7 @@ fn put_short_fraction(line: &mut Vec<u8>, part: u64, whole: u64) -> Result<(), A
 
 /// Writes a fraction, and `"`.
 fn put_long_fraction(line: &mut Vec<u8>, part: u128, whole: u128) -> Result<(), AllocError>
-    ensures ok { OnOk result (line.new.items ≡ line.old.items ++ (fraction_text (part, whole) ++ 34 ∷ [])) }
-    ensures front { KeepsFront line.old.items line.new.items }
+    ensures { AppendsText result line.old.items line.new.items (fraction_text (part, whole) ++ 34 ∷ []) }
 {
     put(line, Buffer::new().format(part))?;
     put_byte(line, b'/')?;
@@ -40,8 +38,7 @@ pub fn put_fraction(
     before: &str,
     fraction: (u128, u128),
 ) -> Result<(), AllocError>
-    ensures ok { OnOk result (line.new.items ≡ line.old.items ++ (before.now ++ (escape (fraction_text fraction) ++ 34 ∷ []))) }
-    ensures front { KeepsFront line.old.items line.new.items }
+    ensures { AppendsText result line.old.items line.new.items (before.now ++ (escape (fraction_text fraction) ++ 34 ∷ [])) }
 {
     let (part, whole) = fraction;
     put(line, before)?;

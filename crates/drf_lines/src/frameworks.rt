@@ -1,5 +1,5 @@
 //! The events of frameworks and of their clients, and the rows of frameworks.
-ghost use Rattle.std.specs.Prelude.{◌≡◌, ◌++◌, map, Ok, OnOk};
+ghost use Rattle.std.specs.Prelude.{◌≡◌, map, Ok, OnOk};
 ghost use Rattle.serde_json.specs.Data.{array};
 ghost use Rattle.serde_json.specs.View.{items_of};
 ghost use Rattle.serde_json.specs.Written.{compact_text};
@@ -15,7 +15,7 @@ ghost use Rattle.drf_lines.specs.Spelled.{IsSpelled};
 ghost use Rattle.drf_lines.specs.StateLine.{row_line};
 ghost use Rattle.drf_lines.specs.StateMeaning.{state_line_meaning};
 ghost use Rattle.drf_lines.specs.Words.{name_in, role_in, roles_in};
-ghost use Rattle.drf_lines.specs.Written.{KeepsFront, KeepsUtf8};
+ghost use Rattle.drf_lines.specs.Written.{AppendsText};
 
 use crate::clients::{client_texts, put_client_list, read_clients};
 use crate::fault::LineError;
@@ -61,9 +61,7 @@ pub fn read_framework(
 
 /// The roles as texts, each as often as it stands.
 fn put_role_list(line: &mut Vec<u8>, roles: &[Role]) -> Result<(), AllocError>
-    ensures ok { OnOk result (line.new.items ≡ line.old.items ++ compact_text (array (items_of (map role_value roles.now)))) }
-    ensures front { KeepsFront line.old.items line.new.items }
-    ensures utf8 { OnOk result (KeepsUtf8 line.old.items line.new.items) }
+    ensures appends { AppendsText result line.old.items line.new.items (compact_text (array (items_of (map role_value roles.now)))) }
     ensures read { OnOk result (roles_in (map text_of roles.now) ≡ Ok roles.now) }
 {
     put_byte(line, b'[')?;
@@ -79,9 +77,7 @@ pub fn put_add_framework(
     framework: &Name,
     roles: &[Role],
 ) -> Result<(), AllocError>
-    ensures ok { OnOk result (line.new.items ≡ line.old.items ++ compact_text (framework_value framework.now roles.now)) }
-    ensures front { KeepsFront line.old.items line.new.items }
-    ensures utf8 { OnOk result (KeepsUtf8 line.old.items line.new.items) }
+    ensures appends { AppendsText result line.old.items line.new.items (compact_text (framework_value framework.now roles.now)) }
     ensures read { OnOk result (IsSpelled (AddFramework framework.now roles.now)) }
 {
     put_name(
@@ -110,9 +106,7 @@ pub fn read_its_framework(
 
 /// An event of a framework alone.
 pub fn put_of_framework(line: &mut Vec<u8>, event: &str, framework: &Name) -> Result<(), AllocError>
-    ensures ok { OnOk result (line.new.items ≡ line.old.items ++ compact_text (of_framework event.now framework.now)) }
-    ensures front { KeepsFront line.old.items line.new.items }
-    ensures utf8 { OnOk result (KeepsUtf8 line.old.items line.new.items) }
+    ensures appends { AppendsText result line.old.items line.new.items (compact_text (of_framework event.now framework.now)) }
     ensures read { OnOk result (name_in framework.now ≡ Ok framework.now) }
 {
     put_text(line, "{\"event\":\"", event)?;
@@ -142,9 +136,7 @@ pub fn put_of_client(
     framework: &Name,
     role: &Role,
 ) -> Result<(), AllocError>
-    ensures ok { OnOk result (line.new.items ≡ line.old.items ++ compact_text (of_client event.now framework.now role.now)) }
-    ensures front { KeepsFront line.old.items line.new.items }
-    ensures utf8 { OnOk result (KeepsUtf8 line.old.items line.new.items) }
+    ensures appends { AppendsText result line.old.items line.new.items (compact_text (of_client event.now framework.now role.now)) }
     ensures read { OnOk result ((name_in framework.now ≡ Ok framework.now) × (role_in (text_of role.now) ≡ Ok role.now)) }
 {
     put_text(line, "{\"event\":\"", event)?;
@@ -172,9 +164,7 @@ pub fn read_framework_row(
 
 /// Adds the line of a framework's row, as `push_row` does.
 pub fn push_framework_row(text: &mut Vec<u8>, row: &FrameworkRow) -> Result<(), AllocError>
-    ensures ok { OnOk result (text.new.items ≡ text.old.items ++ row_line (Framework row.now)) }
-    ensures front { KeepsFront text.old.items text.new.items }
-    ensures utf8 { OnOk result (KeepsUtf8 text.old.items text.new.items) }
+    ensures appends { AppendsText result text.old.items text.new.items (row_line (Framework row.now)) }
     ensures read { OnOk result (state_line_meaning (row_line (Framework row.now)) ≡ Ok (Row (Framework row.now))) }
 {
     put(text, "{\"clients\":")?;

@@ -1,5 +1,5 @@
 //! The rows of what a client has on an agent: offers, tasks and filters.
-ghost use Rattle.std.specs.Prelude.{◌≡◌, ◌++◌, Ok, OnOk};
+ghost use Rattle.std.specs.Prelude.{◌≡◌, Ok, OnOk};
 ghost use Rattle.drf_saved.specs.declared.saved.SavedRow.TheVariants.{Offer, Task, Filter};
 ghost use Rattle.drf_saved.specs.declared.saved.StateLine.TheVariants.{Row};
 ghost use Rattle.drf_lines.specs.Fault.{IsFoundAs, IsReadOf};
@@ -7,7 +7,7 @@ ghost use Rattle.drf_lines.specs.HeldRows.{owner_text, owner_in, offer_row, task
 ghost use Rattle.drf_lines.specs.LineValue.{line_view};
 ghost use Rattle.drf_lines.specs.StateLine.{row_line};
 ghost use Rattle.drf_lines.specs.StateMeaning.{state_line_meaning};
-ghost use Rattle.drf_lines.specs.Written.{KeepsFront, KeepsUtf8};
+ghost use Rattle.drf_lines.specs.Written.{AppendsText};
 
 use crate::fault::{LineError, LineFault};
 use crate::member::{put, put_bundle, put_byte, put_name, put_number, put_role};
@@ -122,9 +122,7 @@ pub fn read_filter_row(
 
 /// Adds the line of an offer's row, as `push_row` does.
 pub fn push_offer_row(text: &mut Vec<u8>, row: &OfferRow) -> Result<(), AllocError>
-    ensures ok { OnOk result (text.new.items ≡ text.old.items ++ row_line (Offer row.now)) }
-    ensures front { KeepsFront text.old.items text.new.items }
-    ensures utf8 { OnOk result (KeepsUtf8 text.old.items text.new.items) }
+    ensures appends { AppendsText result text.old.items text.new.items (row_line (Offer row.now)) }
     ensures read { OnOk result (state_line_meaning (row_line (Offer row.now)) ≡ Ok (Row (Offer row.now))) }
 {
     let mut between = String::new(*text.allocator());
@@ -138,9 +136,7 @@ pub fn push_offer_row(text: &mut Vec<u8>, row: &OfferRow) -> Result<(), AllocErr
 
 /// Adds the line of a task's row, as `push_row` does.
 pub fn push_task_row(text: &mut Vec<u8>, row: &TaskRow) -> Result<(), AllocError>
-    ensures ok { OnOk result (text.new.items ≡ text.old.items ++ row_line (Task row.now)) }
-    ensures front { KeepsFront text.old.items text.new.items }
-    ensures utf8 { OnOk result (KeepsUtf8 text.old.items text.new.items) }
+    ensures appends { AppendsText result text.old.items text.new.items (row_line (Task row.now)) }
     ensures read { OnOk result (state_line_meaning (row_line (Task row.now)) ≡ Ok (Row (Task row.now))) }
 {
     let mut between = String::new(*text.allocator());
@@ -154,9 +150,7 @@ pub fn push_task_row(text: &mut Vec<u8>, row: &TaskRow) -> Result<(), AllocError
 
 /// Adds the line of a filter's row, as `push_row` does.
 pub fn push_filter_row(text: &mut Vec<u8>, row: &FilterRow) -> Result<(), AllocError>
-    ensures ok { OnOk result (text.new.items ≡ text.old.items ++ row_line (Filter row.now)) }
-    ensures front { KeepsFront text.old.items text.new.items }
-    ensures utf8 { OnOk result (KeepsUtf8 text.old.items text.new.items) }
+    ensures appends { AppendsText result text.old.items text.new.items (row_line (Filter row.now)) }
     ensures read { OnOk result (state_line_meaning (row_line (Filter row.now)) ≡ Ok (Row (Filter row.now))) }
 {
     let mut between = String::new(*text.allocator());

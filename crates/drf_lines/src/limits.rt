@@ -13,7 +13,7 @@ ghost use Rattle.drf_lines.specs.Resources.{quantities_in};
 ghost use Rattle.drf_lines.specs.Spelled.{IsSpelled};
 ghost use Rattle.drf_lines.specs.StateLine.{row_line};
 ghost use Rattle.drf_lines.specs.StateMeaning.{state_line_meaning};
-ghost use Rattle.drf_lines.specs.Written.{IsText, KeepsFront, KeepsUtf8};
+ghost use Rattle.drf_lines.specs.Written.{AppendsText, IsText};
 
 use crate::fault::LineError;
 use crate::member::{put, put_byte, put_role, put_text};
@@ -43,9 +43,7 @@ pub fn read_its_limit(
 
 /// Writes what stands before a limit with its first `"`, and the limit, amounts of 0 too. It is read as this limit.
 fn put_limit(line: &mut Vec<u8>, before: &str, limit: &Quantities) -> Result<(), AllocError>
-    ensures ok { OnOk result (line.new.items ≡ line.old.items ++ (before.now ++ (escape (quantities_text limit.now) ++ 34 ∷ []))) }
-    ensures front { KeepsFront line.old.items line.new.items }
-    ensures utf8 { OnOk result (KeepsUtf8 line.old.items line.new.items) }
+    ensures appends { AppendsText result line.old.items line.new.items (before.now ++ (escape (quantities_text limit.now) ++ 34 ∷ [])) }
     ensures read { OnOk result (quantities_in (quantities_text limit.now) ≡ Ok limit.now) }
     ensures text { OnOk result (IsText (quantities_text limit.now)) }
 {
@@ -54,9 +52,7 @@ fn put_limit(line: &mut Vec<u8>, before: &str, limit: &Quantities) -> Result<(),
 }
 
 pub fn put_set_limit(line: &mut Vec<u8>, role: &Role, limit: &Quantities) -> Result<(), AllocError>
-    ensures ok { OnOk result (line.new.items ≡ line.old.items ++ compact_text (limit_value role.now limit.now)) }
-    ensures front { KeepsFront line.old.items line.new.items }
-    ensures utf8 { OnOk result (KeepsUtf8 line.old.items line.new.items) }
+    ensures appends { AppendsText result line.old.items line.new.items (compact_text (limit_value role.now limit.now)) }
     ensures read { OnOk result (IsSpelled (SetLimit role.now limit.now)) }
 {
     put_limit(line, "{\"event\":\"set_limit\",\"limit\":\"", limit)?;
@@ -66,9 +62,7 @@ pub fn put_set_limit(line: &mut Vec<u8>, role: &Role, limit: &Quantities) -> Res
 
 /// Adds the line of a limit's row, as `push_row` does.
 pub fn push_limit_row(text: &mut Vec<u8>, row: &LimitRow) -> Result<(), AllocError>
-    ensures ok { OnOk result (text.new.items ≡ text.old.items ++ row_line (Limit row.now)) }
-    ensures front { KeepsFront text.old.items text.new.items }
-    ensures utf8 { OnOk result (KeepsUtf8 text.old.items text.new.items) }
+    ensures appends { AppendsText result text.old.items text.new.items (row_line (Limit row.now)) }
     ensures read { OnOk result (state_line_meaning (row_line (Limit row.now)) ≡ Ok (Row (Limit row.now))) }
 {
     put_limit(text, "{\"limit\":\"", &row.limit)?;

@@ -175,7 +175,7 @@ fn read_object(
 const LONGEST_LINE: usize = 65_536;
 
 /// An arena of more bytes is not kept for the next line.
-const LARGE_ARENA: usize = 65_536;
+const LARGE_ARENA: usize = 8_388_608;
 
 /// A reader of lines, one after another, and a writer of what they are answered. What a line needs to be read is kept for the next one, and so is
 /// the report that was written last.

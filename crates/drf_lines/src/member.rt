@@ -8,7 +8,7 @@ ghost use Rattle.drf_role.specs.Parts.{text_of};
 ghost use Rattle.drf_text.specs.Written.{bundle_text};
 ghost use Rattle.drf_lines.specs.Resources.{bundle_in};
 ghost use Rattle.drf_lines.specs.Words.{name_in, role_in};
-ghost use Rattle.drf_lines.specs.Written.{is_plain_byte, IsText, KeepsFront, KeepsUtf8};
+ghost use Rattle.drf_lines.specs.Written.{is_plain_byte, AppendsText, IsText};
 
 use crate::plain::is_plain;
 use drf_bundle::Bundle;
@@ -29,9 +29,7 @@ fn quoted(alloc: Global, text: &str) -> Result<Vec<u8>, AllocError>
 
 /// Writes a text.
 pub fn put(line: &mut Vec<u8>, text: &str) -> Result<(), AllocError>
-    ensures ok { OnOk result (line.new.items ≡ line.old.items ++ text.now) }
-    ensures front { KeepsFront line.old.items line.new.items }
-    ensures utf8 { OnOk result (KeepsUtf8 line.old.items line.new.items) }
+    ensures { AppendsText result line.old.items line.new.items text.now }
 {
     line.extend_from_slice(text.as_bytes())
 }
@@ -39,9 +37,7 @@ pub fn put(line: &mut Vec<u8>, text: &str) -> Result<(), AllocError>
 /// Writes one character, as a closing bracket.
 pub fn put_byte(line: &mut Vec<u8>, byte: u8) -> Result<(), AllocError>
     requires { byte < 128 }
-    ensures ok { OnOk result (line.new.items ≡ line.old.items ++ byte ∷ []) }
-    ensures front { KeepsFront line.old.items line.new.items }
-    ensures utf8 { OnOk result (KeepsUtf8 line.old.items line.new.items) }
+    ensures { AppendsText result line.old.items line.new.items (byte ∷ []) }
 {
     line.push(byte)?;
     Ok(())
@@ -49,8 +45,7 @@ pub fn put_byte(line: &mut Vec<u8>, byte: u8) -> Result<(), AllocError>
 
 /// Writes what stands behind the first `"` of a JSON string.
 fn put_string(line: &mut Vec<u8>, text: &str) -> Result<(), AllocError>
-    ensures ok { OnOk result (line.new.items ≡ line.old.items ++ (escape text.now ++ 34 ∷ [])) }
-    ensures front { KeepsFront line.old.items line.new.items }
+    ensures { AppendsText result line.old.items line.new.items (escape text.now ++ 34 ∷ []) }
 {
     if is_plain(text) {
         put(line, text)?;
@@ -62,9 +57,7 @@ fn put_string(line: &mut Vec<u8>, text: &str) -> Result<(), AllocError>
 
 /// Writes what stands before a text with its first `"`, and the text.
 pub fn put_text(line: &mut Vec<u8>, before: &str, text: &str) -> Result<(), AllocError>
-    ensures ok { OnOk result (line.new.items ≡ line.old.items ++ (before.now ++ (escape text.now ++ 34 ∷ []))) }
-    ensures front { KeepsFront line.old.items line.new.items }
-    ensures utf8 { OnOk result (KeepsUtf8 line.old.items line.new.items) }
+    ensures { AppendsText result line.old.items line.new.items (before.now ++ (escape text.now ++ 34 ∷ [])) }
 {
     put(line, before)?;
     put_string(line, text)
@@ -73,9 +66,7 @@ pub fn put_text(line: &mut Vec<u8>, before: &str, text: &str) -> Result<(), Allo
 /// The same, where no byte of the text needs an escape.
 fn put_plain(line: &mut Vec<u8>, before: &str, text: &str) -> Result<(), AllocError>
     requires { list_all is_plain_byte text.now ≡ true }
-    ensures ok { OnOk result (line.new.items ≡ line.old.items ++ (before.now ++ (escape text.now ++ 34 ∷ []))) }
-    ensures front { KeepsFront line.old.items line.new.items }
-    ensures utf8 { OnOk result (KeepsUtf8 line.old.items line.new.items) }
+    ensures { AppendsText result line.old.items line.new.items (before.now ++ (escape text.now ++ 34 ∷ [])) }
 {
     put(line, before)?;
     put(line, text)?;
@@ -84,9 +75,7 @@ fn put_plain(line: &mut Vec<u8>, before: &str, text: &str) -> Result<(), AllocEr
 
 /// Writes what stands before a number, and the number.
 pub fn put_number(line: &mut Vec<u8>, before: &str, value: u64) -> Result<(), AllocError>
-    ensures ok { OnOk result (line.new.items ≡ line.old.items ++ (before.now ++ decimal value)) }
-    ensures front { KeepsFront line.old.items line.new.items }
-    ensures utf8 { OnOk result (KeepsUtf8 line.old.items line.new.items) }
+    ensures appends { AppendsText result line.old.items line.new.items (before.now ++ decimal value) }
     ensures small { value < 2 ^ 64 }
 {
     put(line, before)?;
@@ -95,9 +84,7 @@ pub fn put_number(line: &mut Vec<u8>, before: &str, value: u64) -> Result<(), Al
 
 /// Writes what stands before a truth value, and the value.
 pub fn put_boolean(line: &mut Vec<u8>, before: &str, value: bool) -> Result<(), AllocError>
-    ensures ok { OnOk result (line.new.items ≡ line.old.items ++ (before.now ++ token_text (boolean value))) }
-    ensures front { KeepsFront line.old.items line.new.items }
-    ensures utf8 { OnOk result (KeepsUtf8 line.old.items line.new.items) }
+    ensures { AppendsText result line.old.items line.new.items (before.now ++ token_text (boolean value)) }
 {
     put(line, before)?;
     if value {
@@ -108,9 +95,7 @@ pub fn put_boolean(line: &mut Vec<u8>, before: &str, value: bool) -> Result<(), 
 
 /// Writes the comma before an item, but not before the first.
 pub fn put_comma(line: &mut Vec<u8>, place: usize) -> Result<(), AllocError>
-    ensures ok { OnOk result (line.new.items ≡ line.old.items ++ comma_if (nat_lt 0 place)) }
-    ensures front { KeepsFront line.old.items line.new.items }
-    ensures utf8 { OnOk result (KeepsUtf8 line.old.items line.new.items) }
+    ensures { AppendsText result line.old.items line.new.items (comma_if (nat_lt 0 place)) }
 {
     if place == 0 {
         return Ok(());
@@ -120,9 +105,7 @@ pub fn put_comma(line: &mut Vec<u8>, place: usize) -> Result<(), AllocError>
 
 /// Writes what stands before a name with its first `"`, and the name. It is read as this name.
 pub fn put_name(line: &mut Vec<u8>, before: &str, name: &Name) -> Result<(), AllocError>
-    ensures ok { OnOk result (line.new.items ≡ line.old.items ++ (before.now ++ (escape name.now ++ 34 ∷ []))) }
-    ensures front { KeepsFront line.old.items line.new.items }
-    ensures utf8 { OnOk result (KeepsUtf8 line.old.items line.new.items) }
+    ensures appends { AppendsText result line.old.items line.new.items (before.now ++ (escape name.now ++ 34 ∷ [])) }
     ensures read { OnOk result (name_in name.now ≡ Ok name.now) }
     ensures text { IsText name.now }
 {
@@ -131,9 +114,7 @@ pub fn put_name(line: &mut Vec<u8>, before: &str, name: &Name) -> Result<(), All
 
 /// Writes what stands before a role with its first `"`, and the role. It is read as this role.
 pub fn put_role(line: &mut Vec<u8>, before: &str, role: &Role) -> Result<(), AllocError>
-    ensures ok { OnOk result (line.new.items ≡ line.old.items ++ (before.now ++ (escape (text_of role.now) ++ 34 ∷ []))) }
-    ensures front { KeepsFront line.old.items line.new.items }
-    ensures utf8 { OnOk result (KeepsUtf8 line.old.items line.new.items) }
+    ensures appends { AppendsText result line.old.items line.new.items (before.now ++ (escape (text_of role.now) ++ 34 ∷ [])) }
     ensures read { OnOk result (role_in (text_of role.now) ≡ Ok role.now) }
     ensures text { IsText (text_of role.now) }
 {
@@ -148,9 +129,7 @@ pub fn put_bundle(
     before: &str,
     bundle: &Bundle,
 ) -> Result<(), AllocError>
-    ensures ok { OnOk result (line.new.items ≡ line.old.items ++ (before.now ++ (escape (bundle_text bundle.now) ++ 34 ∷ []))) }
-    ensures front { KeepsFront line.old.items line.new.items }
-    ensures utf8 { OnOk result (KeepsUtf8 line.old.items line.new.items) }
+    ensures appends { AppendsText result line.old.items line.new.items (before.now ++ (escape (bundle_text bundle.now) ++ 34 ∷ [])) }
     ensures read { OnOk result (bundle_in (bundle_text bundle.now) ≡ Ok bundle.now) }
     ensures text { OnOk result (IsText (bundle_text bundle.now)) }
 {

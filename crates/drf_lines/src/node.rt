@@ -1,10 +1,10 @@
 //! The writer of a report's nodes.
-ghost use Rattle.std.specs.Prelude.{◌≡◌, ◌++◌, map, IsTrue, OnOk};
+ghost use Rattle.std.specs.Prelude.{◌≡◌, map, IsTrue};
 ghost use Rattle.serde_json.specs.Data.{array};
 ghost use Rattle.serde_json.specs.View.{items_of};
 ghost use Rattle.serde_json.specs.Written.{compact_text};
 ghost use Rattle.drf_lines.specs.ReportLine.{node_value};
-ghost use Rattle.drf_lines.specs.Written.{KeepsFront};
+ghost use Rattle.drf_lines.specs.Written.{AppendsText};
 
 use crate::amounts::put_amounts;
 use crate::fraction::put_fraction;
@@ -57,8 +57,7 @@ pub fn is_same_node(node: &NodeLine, other: &NodeLine) -> bool
 }
 
 pub fn put_node(line: &mut Vec<u8>, node: &NodeLine) -> Result<(), AllocError>
-    ensures ok { OnOk result (line.new.items ≡ line.old.items ++ compact_text (node_value node.now)) }
-    ensures front { KeepsFront line.old.items line.new.items }
+    ensures { AppendsText result line.old.items line.new.items (compact_text (node_value node.now)) }
 {
     put_number(line, "{\"count\":", node.count)?;
     put_amounts(line, ",\"held\":\"", &node.held)?;
@@ -70,8 +69,7 @@ pub fn put_node(line: &mut Vec<u8>, node: &NodeLine) -> Result<(), AllocError>
 
 /// The nodes, one after another.
 pub fn put_node_list(line: &mut Vec<u8>, nodes: &[NodeLine]) -> Result<(), AllocError>
-    ensures ok { OnOk result (line.new.items ≡ line.old.items ++ compact_text (array (items_of (map node_value nodes.now)))) }
-    ensures front { KeepsFront line.old.items line.new.items }
+    ensures { AppendsText result line.old.items line.new.items (compact_text (array (items_of (map node_value nodes.now)))) }
 {
     put_byte(line, b'[')?;
     for (i, node) in nodes.iter().enumerate() {

@@ -1,6 +1,5 @@
 //! The events of offers, and of the tasks that come of them.
 ghost use Rattle.std.specs.Prelude.{◌≡◌, ◌<◌, ◌^◌, ◌++◌, map, true, Ok, OnOk, codes, decimal};
-ghost use Rattle.serde_json.specs.Data.{Members};
 ghost use Rattle.serde_json.specs.Written.{compact_text, members_text};
 ghost use Rattle.drf_rows.specs.declared.event.Event.TheVariants.{Rescind, Finish};
 ghost use Rattle.drf_lines.specs.Fault.{IsReadOf};
@@ -8,7 +7,7 @@ ghost use Rattle.drf_lines.specs.LineValue.{line_view};
 ghost use Rattle.drf_lines.specs.TaskTexts.{each_in, start_in, start_text, several_members, tasks_members};
 ghost use Rattle.drf_lines.specs.Spelled.{IsSpelled};
 ghost use Rattle.drf_lines.specs.Words.{name_in};
-ghost use Rattle.drf_lines.specs.Written.{KeepsFront, KeepsUtf8};
+ghost use Rattle.drf_lines.specs.Written.{AppendsMembers, AppendsText};
 ghost use Rattle.drf_lines.specs.OfferEvents.{refusal_member, offer_members, accept_event, accept_value, decline_event, decline_value, rescind_event, rescind_value, finish_event, finish_value};
 
 use crate::fault::LineError;
@@ -95,9 +94,7 @@ pub fn read_finish(
 
 /// Writes for how long an offer is refused, where that is not the usual time.
 fn put_refusal(line: &mut Vec<u8>, refuse_ms: u64) -> Result<(), AllocError>
-    ensures ok { OnOk result ((more : Members) → line.new.items ++ members_text true more ≡ line.old.items ++ members_text true (refusal_member refuse_ms more)) }
-    ensures front { KeepsFront line.old.items line.new.items }
-    ensures utf8 { OnOk result (KeepsUtf8 line.old.items line.new.items) }
+    ensures { AppendsMembers result line.old.items line.new.items (refusal_member refuse_ms) }
 {
     if refuse_ms == USUAL_REFUSAL {
         return Ok(());
@@ -107,9 +104,7 @@ fn put_refusal(line: &mut Vec<u8>, refuse_ms: u64) -> Result<(), AllocError>
 
 /// Writes the opening bracket and the moment.
 fn put_moment(line: &mut Vec<u8>, at: u64) -> Result<(), AllocError>
-    ensures ok { OnOk result (line.new.items ≡ line.old.items ++ (codes "{\"at\":" ++ decimal at)) }
-    ensures front { KeepsFront line.old.items line.new.items }
-    ensures utf8 { OnOk result (KeepsUtf8 line.old.items line.new.items) }
+    ensures appends { AppendsText result line.old.items line.new.items (codes "{\"at\":" ++ decimal at) }
     ensures small { at < 2 ^ 64 }
 {
     put_number(line, "{\"at\":", at)
@@ -117,9 +112,7 @@ fn put_moment(line: &mut Vec<u8>, at: u64) -> Result<(), AllocError>
 
 /// Writes which offer is answered, and for how long it is refused.
 fn put_answered(line: &mut Vec<u8>, offer: u64, refuse_ms: u64) -> Result<(), AllocError>
-    ensures ok { OnOk result ((more : Members) → line.new.items ++ members_text true more ≡ line.old.items ++ members_text true (offer_members offer refuse_ms more)) }
-    ensures front { KeepsFront line.old.items line.new.items }
-    ensures utf8 { OnOk result (KeepsUtf8 line.old.items line.new.items) }
+    ensures appends { AppendsMembers result line.old.items line.new.items (offer_members offer refuse_ms) }
     ensures small { (offer < 2 ^ 64) × (refuse_ms < 2 ^ 64) }
 {
     put_number(line, ",\"offer\":", offer)?;
@@ -132,9 +125,7 @@ fn put_several(
     text: &mut String,
     tasks: &[(Name, Bundle)],
 ) -> Result<(), AllocError>
-    ensures ok { OnOk result (line.new.items ≡ line.old.items ++ members_text true (several_members tasks.now)) }
-    ensures front { KeepsFront line.old.items line.new.items }
-    ensures utf8 { OnOk result (KeepsUtf8 line.old.items line.new.items) }
+    ensures appends { AppendsText result line.old.items line.new.items (members_text true (several_members tasks.now)) }
     ensures read { OnOk result (each_in start_in (map start_text tasks.now) ≡ Ok tasks.now) }
 {
     put(line, ",\"tasks\":")?;
@@ -148,9 +139,7 @@ fn put_tasks(
     text: &mut String,
     tasks: &[(Name, Bundle)],
 ) -> Result<(), AllocError>
-    ensures ok { OnOk result (line.new.items ≡ line.old.items ++ members_text true (tasks_members tasks.now)) }
-    ensures front { KeepsFront line.old.items line.new.items }
-    ensures utf8 { OnOk result (KeepsUtf8 line.old.items line.new.items) }
+    ensures appends { AppendsText result line.old.items line.new.items (members_text true (tasks_members tasks.now)) }
     ensures read { OnOk result (each_in start_in (map start_text tasks.now) ≡ Ok tasks.now) }
 {
     match tasks {
@@ -160,9 +149,7 @@ fn put_tasks(
 }
 
 pub fn put_accept(line: &mut Vec<u8>, accept: &Accept) -> Result<(), AllocError>
-    ensures ok { OnOk result (line.new.items ≡ line.old.items ++ compact_text (accept_value accept.now)) }
-    ensures front { KeepsFront line.old.items line.new.items }
-    ensures utf8 { OnOk result (KeepsUtf8 line.old.items line.new.items) }
+    ensures appends { AppendsText result line.old.items line.new.items (compact_text (accept_value accept.now)) }
     ensures read { OnOk result (IsSpelled (Event.Accept accept.now)) }
 {
     let Accept {
@@ -180,9 +167,7 @@ pub fn put_accept(line: &mut Vec<u8>, accept: &Accept) -> Result<(), AllocError>
 }
 
 pub fn put_decline(line: &mut Vec<u8>, decline: &Decline) -> Result<(), AllocError>
-    ensures ok { OnOk result (line.new.items ≡ line.old.items ++ compact_text (decline_value decline.now)) }
-    ensures front { KeepsFront line.old.items line.new.items }
-    ensures utf8 { OnOk result (KeepsUtf8 line.old.items line.new.items) }
+    ensures appends { AppendsText result line.old.items line.new.items (compact_text (decline_value decline.now)) }
     ensures read { OnOk result (IsSpelled (Event.Decline decline.now)) }
 {
     let Decline {
@@ -198,9 +183,7 @@ pub fn put_decline(line: &mut Vec<u8>, decline: &Decline) -> Result<(), AllocErr
 }
 
 pub fn put_rescind(line: &mut Vec<u8>, offer: u64) -> Result<(), AllocError>
-    ensures ok { OnOk result (line.new.items ≡ line.old.items ++ compact_text (rescind_value offer)) }
-    ensures front { KeepsFront line.old.items line.new.items }
-    ensures utf8 { OnOk result (KeepsUtf8 line.old.items line.new.items) }
+    ensures appends { AppendsText result line.old.items line.new.items (compact_text (rescind_value offer)) }
     ensures read { OnOk result (IsSpelled (Rescind offer)) }
 {
     put_number(line, "{\"event\":\"rescind\",\"offer\":", offer)?;
@@ -208,9 +191,7 @@ pub fn put_rescind(line: &mut Vec<u8>, offer: u64) -> Result<(), AllocError>
 }
 
 pub fn put_finish(line: &mut Vec<u8>, framework: &Name, task: &Name) -> Result<(), AllocError>
-    ensures ok { OnOk result (line.new.items ≡ line.old.items ++ compact_text (finish_value framework.now task.now)) }
-    ensures front { KeepsFront line.old.items line.new.items }
-    ensures utf8 { OnOk result (KeepsUtf8 line.old.items line.new.items) }
+    ensures appends { AppendsText result line.old.items line.new.items (compact_text (finish_value framework.now task.now)) }
     ensures read { OnOk result (IsSpelled (Finish framework.now task.now)) }
 {
     put_name(line, "{\"event\":\"finish\",\"framework\":\"", framework)?;

@@ -4,7 +4,7 @@ ghost use Rattle.serde_json.specs.Data.{array};
 ghost use Rattle.serde_json.specs.View.{items_of};
 ghost use Rattle.serde_json.specs.Written.{compact_text};
 ghost use Rattle.drf_lines.specs.ReplyLine.{offer_value, offers_value, refused_value, reply_value, reply_line, fault_line};
-ghost use Rattle.drf_lines.specs.Written.{KeepsFront};
+ghost use Rattle.drf_lines.specs.Written.{AppendsText, KeepsFront};
 
 use crate::fault::LineFault;
 use crate::last_report::LastReport;
@@ -16,8 +16,7 @@ use drf_rows::{OfferLine, Reply};
 use std::alloc::{AllocError, Global};
 
 fn put_offer(line: &mut Vec<u8>, text: &mut String, offer: &OfferLine) -> Result<(), AllocError>
-    ensures ok { OnOk result (line.new.items ≡ line.old.items ++ compact_text (offer_value offer.now)) }
-    ensures front { KeepsFront line.old.items line.new.items }
+    ensures { AppendsText result line.old.items line.new.items (compact_text (offer_value offer.now)) }
 {
     put_name(line, "{\"agent\":\"", &offer.agent)?;
     put_name(line, ",\"framework\":\"", &offer.framework)?;
@@ -33,8 +32,7 @@ fn put_offer_list(
     text: &mut String,
     offers: &[OfferLine],
 ) -> Result<(), AllocError>
-    ensures ok { OnOk result (line.new.items ≡ line.old.items ++ compact_text (array (items_of (map offer_value offers.now)))) }
-    ensures front { KeepsFront line.old.items line.new.items }
+    ensures { AppendsText result line.old.items line.new.items (compact_text (array (items_of (map offer_value offers.now)))) }
 {
     put_byte(line, b'[')?;
     for (i, offer) in offers.iter().enumerate() {
@@ -45,8 +43,7 @@ fn put_offer_list(
 }
 
 fn put_offers(line: &mut Vec<u8>, offers: &[OfferLine]) -> Result<(), AllocError>
-    ensures ok { OnOk result (line.new.items ≡ line.old.items ++ compact_text (offers_value offers.now)) }
-    ensures front { KeepsFront line.old.items line.new.items }
+    ensures { AppendsText result line.old.items line.new.items (compact_text (offers_value offers.now)) }
 {
     let mut text = String::new(*line.allocator());
     put(line, "{\"offers\":")?;
@@ -55,8 +52,7 @@ fn put_offers(line: &mut Vec<u8>, offers: &[OfferLine]) -> Result<(), AllocError
 }
 
 fn put_refused(line: &mut Vec<u8>, name: &str, reason: u64) -> Result<(), AllocError>
-    ensures ok { OnOk result (line.new.items ≡ line.old.items ++ compact_text (refused_value name.now reason)) }
-    ensures front { KeepsFront line.old.items line.new.items }
+    ensures { AppendsText result line.old.items line.new.items (compact_text (refused_value name.now reason)) }
 {
     put_text(line, "{\"name\":\"", name)?;
     put_number(line, ",\"refused\":", reason)?;
@@ -64,8 +60,7 @@ fn put_refused(line: &mut Vec<u8>, name: &str, reason: u64) -> Result<(), AllocE
 }
 
 fn put_done(line: &mut Vec<u8>) -> Result<(), AllocError>
-    ensures ok { OnOk result (line.new.items ≡ line.old.items ++ compact_text (reply_value Reply.Done)) }
-    ensures front { KeepsFront line.old.items line.new.items }
+    ensures { AppendsText result line.old.items line.new.items (compact_text (reply_value Reply.Done)) }
 {
     put(line, "{\"ok\":true}")
 }
@@ -107,8 +102,7 @@ pub fn push_reply(text: &mut Vec<u8>, reply: &Reply) -> Result<(), AllocError>
 
 /// Adds the line that tells why a line is no event. At want of memory a part of it may stand behind what stood there.
 pub fn push_fault(text: &mut Vec<u8>, fault: LineFault) -> Result<(), AllocError>
-    ensures ok { OnOk result (text.new.items ≡ text.old.items ++ fault_line fault) }
-    ensures front { KeepsFront text.old.items text.new.items }
+    ensures { AppendsText result text.old.items text.new.items (fault_line fault) }
 {
     put_refused(text, fault.name(), fault.number())?;
     put_byte(text, b'\n')

@@ -1,5 +1,5 @@
 //! The events of reservations.
-ghost use Rattle.std.specs.Prelude.{◌≡◌, ◌++◌, Ok, OnOk};
+ghost use Rattle.std.specs.Prelude.{◌≡◌, Ok, OnOk};
 ghost use Rattle.serde_json.specs.Written.{compact_text};
 ghost use Rattle.drf_role.specs.Parts.{text_of};
 ghost use Rattle.drf_text.specs.Written.{bundle_text};
@@ -8,7 +8,7 @@ ghost use Rattle.drf_lines.specs.LineValue.{line_view};
 ghost use Rattle.drf_lines.specs.ReservationEvents.{its_reservation, of_reservation};
 ghost use Rattle.drf_lines.specs.Resources.{bundle_in};
 ghost use Rattle.drf_lines.specs.Words.{name_in, role_in};
-ghost use Rattle.drf_lines.specs.Written.{KeepsFront, KeepsUtf8};
+ghost use Rattle.drf_lines.specs.Written.{AppendsText};
 
 use crate::fault::LineError;
 use crate::member::{put_bundle, put_byte, put_name, put_role, put_text};
@@ -46,9 +46,7 @@ pub fn put_of_reservation(
     role: &Role,
     resources: &Bundle,
 ) -> Result<(), AllocError>
-    ensures ok { OnOk result (line.new.items ≡ line.old.items ++ compact_text (of_reservation event.now agent.now role.now resources.now)) }
-    ensures front { KeepsFront line.old.items line.new.items }
-    ensures utf8 { OnOk result (KeepsUtf8 line.old.items line.new.items) }
+    ensures appends { AppendsText result line.old.items line.new.items (compact_text (of_reservation event.now agent.now role.now resources.now)) }
     ensures read { OnOk result ((name_in agent.now ≡ Ok agent.now) × (role_in (text_of role.now) ≡ Ok role.now) × (bundle_in (bundle_text resources.now) ≡ Ok resources.now)) }
 {
     let mut text = String::new(*line.allocator());

@@ -1,11 +1,11 @@
 //! The lines of a state.
-ghost use Rattle.std.specs.Prelude.{◌≡◌, ◌++◌, Ok, OnOk};
+ghost use Rattle.std.specs.Prelude.{◌≡◌, Ok, OnOk};
 ghost use Rattle.drf_saved.specs.declared.saved.StateLine.TheVariants.{Row, End};
 ghost use Rattle.drf_lines.specs.Fault.{IsReadOf};
 ghost use Rattle.drf_lines.specs.LineValue.{line_view};
 ghost use Rattle.drf_lines.specs.StateLine.{head_line, row_line, end_line};
 ghost use Rattle.drf_lines.specs.StateMeaning.{head_in, end_in, state_line_in, state_line_meaning};
-ghost use Rattle.drf_lines.specs.Written.{KeepsFront, KeepsUtf8};
+ghost use Rattle.drf_lines.specs.Written.{AppendsText};
 
 use crate::agents::{push_agent_row, read_agent_row};
 use crate::fault::{LineError, LineFault};
@@ -78,9 +78,7 @@ pub fn read_state_object(
 
 /// Adds the line with which a state begins, as `push_row` does.
 pub fn push_head(text: &mut Vec<u8>, head: &Head) -> Result<(), AllocError>
-    ensures ok { OnOk result (text.new.items ≡ text.old.items ++ head_line head.now) }
-    ensures front { KeepsFront text.old.items text.new.items }
-    ensures utf8 { OnOk result (KeepsUtf8 text.old.items text.new.items) }
+    ensures appends { AppendsText result text.old.items text.new.items (head_line head.now) }
     ensures read { OnOk result (state_line_meaning (head_line head.now) ≡ Ok (StateLine.Head head.now)) }
 {
     put_number(text, "{\"clock\":", head.clock)?;
@@ -92,9 +90,7 @@ pub fn push_head(text: &mut Vec<u8>, head: &Head) -> Result<(), AllocError>
 /// Adds the line of a row, without a line feed: compact JSON, the keys in order of bytes. It is read as this row. At want of memory a
 /// part of it may stand behind what stood there.
 pub fn push_row(text: &mut Vec<u8>, row: &SavedRow) -> Result<(), AllocError>
-    ensures ok { OnOk result (text.new.items ≡ text.old.items ++ row_line row.now) }
-    ensures front { KeepsFront text.old.items text.new.items }
-    ensures utf8 { OnOk result (KeepsUtf8 text.old.items text.new.items) }
+    ensures appends { AppendsText result text.old.items text.new.items (row_line row.now) }
     ensures read { OnOk result (state_line_meaning (row_line row.now) ≡ Ok (Row row.now)) }
 {
     match row {
@@ -110,9 +106,7 @@ pub fn push_row(text: &mut Vec<u8>, row: &SavedRow) -> Result<(), AllocError>
 
 /// Adds the line with which a state ends, as `push_row` does: how many lines stand before it, and the digest of their bytes.
 pub fn push_end(text: &mut Vec<u8>, rows: u64, sha256: &str) -> Result<(), AllocError>
-    ensures ok { OnOk result (text.new.items ≡ text.old.items ++ end_line rows sha256.now) }
-    ensures front { KeepsFront text.old.items text.new.items }
-    ensures utf8 { OnOk result (KeepsUtf8 text.old.items text.new.items) }
+    ensures appends { AppendsText result text.old.items text.new.items (end_line rows sha256.now) }
     ensures read { OnOk result (state_line_meaning (end_line rows sha256.now) ≡ Ok End) }
 {
     put_number(text, "{\"row\":\"end\",\"rows\":", rows)?;

@@ -8,7 +8,7 @@ ghost use Rattle.drf_text.specs.Written.{bundle_text};
 ghost use Rattle.drf_lines.specs.Fault.{IsFoundAs, IsReadAs, IsReadOf};
 ghost use Rattle.drf_lines.specs.LineValue.{line_view};
 ghost use Rattle.drf_lines.specs.TaskTexts.{each_in, task_text, is_few, if_few, one_text, several_texts, task_texts, start_in, starts_in, start_text, task_value};
-ghost use Rattle.drf_lines.specs.Written.{KeepsFront, KeepsUtf8};
+ghost use Rattle.drf_lines.specs.Written.{AppendsText};
 
 use crate::fault::{LineError, LineFault};
 use crate::member::{put_bundle, put_byte, put_comma, put_name};
@@ -158,9 +158,7 @@ pub fn put_start(
     before: &str,
     task: &(Name, Bundle),
 ) -> Result<(), AllocError>
-    ensures ok { OnOk result (line.new.items ≡ line.old.items ++ (before.now ++ ((escape task.now.0 ++ 34 ∷ []) ++ members_text true (member (codes "use") (string (bundle_text task.now.1)) no_members)))) }
-    ensures front { KeepsFront line.old.items line.new.items }
-    ensures utf8 { OnOk result (KeepsUtf8 line.old.items line.new.items) }
+    ensures appends { AppendsText result line.old.items line.new.items (before.now ++ ((escape task.now.0 ++ 34 ∷ []) ++ members_text true (member (codes "use") (string (bundle_text task.now.1)) no_members))) }
     ensures read { OnOk result (start_in (start_text task.now) ≡ Ok task.now) }
 {
     put_name(line, before, &task.0)?;
@@ -174,9 +172,7 @@ pub fn put_task_list(
     text: &mut String,
     tasks: &[(Name, Bundle)],
 ) -> Result<(), AllocError>
-    ensures ok { OnOk result (line.new.items ≡ line.old.items ++ compact_text (array (items_of (map task_value tasks.now)))) }
-    ensures front { KeepsFront line.old.items line.new.items }
-    ensures utf8 { OnOk result (KeepsUtf8 line.old.items line.new.items) }
+    ensures appends { AppendsText result line.old.items line.new.items (compact_text (array (items_of (map task_value tasks.now)))) }
     ensures read { OnOk result (each_in start_in (map start_text tasks.now) ≡ Ok tasks.now) }
 {
     put_byte(line, b'[')?;

@@ -13,7 +13,7 @@ ghost use Rattle.drf_lines.specs.Spelled.{IsSpelled};
 ghost use Rattle.drf_lines.specs.StateLine.{row_line};
 ghost use Rattle.drf_lines.specs.StateMeaning.{state_line_meaning};
 ghost use Rattle.drf_lines.specs.WeightEvents.{its_weight, weight_value};
-ghost use Rattle.drf_lines.specs.Written.{IsText, KeepsFront, KeepsUtf8};
+ghost use Rattle.drf_lines.specs.Written.{AppendsText, IsText};
 
 use crate::fault::LineError;
 use crate::member::{put_byte, put_role, put_text};
@@ -42,9 +42,7 @@ pub fn read_its_weight(
 
 /// Writes what stands before a weight with its first `"`, and the weight. It is read as this weight.
 fn put_weight(line: &mut Vec<u8>, before: &str, weight: u64) -> Result<(), AllocError>
-    ensures ok { OnOk result (line.new.items ≡ line.old.items ++ (before.now ++ (escape (amount_text weight) ++ 34 ∷ []))) }
-    ensures front { KeepsFront line.old.items line.new.items }
-    ensures utf8 { OnOk result (KeepsUtf8 line.old.items line.new.items) }
+    ensures appends { AppendsText result line.old.items line.new.items (before.now ++ (escape (amount_text weight) ++ 34 ∷ [])) }
     ensures read { OnOk result (weight_in (amount_text weight) ≡ Ok weight) }
     ensures text { OnOk result (IsText (amount_text weight)) }
 {
@@ -54,9 +52,7 @@ fn put_weight(line: &mut Vec<u8>, before: &str, weight: u64) -> Result<(), Alloc
 }
 
 pub fn put_set_weight(line: &mut Vec<u8>, role: &Role, weight: u64) -> Result<(), AllocError>
-    ensures ok { OnOk result (line.new.items ≡ line.old.items ++ compact_text (weight_value role.now weight)) }
-    ensures front { KeepsFront line.old.items line.new.items }
-    ensures utf8 { OnOk result (KeepsUtf8 line.old.items line.new.items) }
+    ensures appends { AppendsText result line.old.items line.new.items (compact_text (weight_value role.now weight)) }
     ensures read { OnOk result (IsSpelled (SetWeight role.now weight)) }
 {
     put_role(line, "{\"event\":\"set_weight\",\"role\":\"", role)?;
@@ -66,9 +62,7 @@ pub fn put_set_weight(line: &mut Vec<u8>, role: &Role, weight: u64) -> Result<()
 
 /// Adds the line of a weight's row, as `push_row` does.
 pub fn push_weight_row(text: &mut Vec<u8>, row: &WeightRow) -> Result<(), AllocError>
-    ensures ok { OnOk result (text.new.items ≡ text.old.items ++ row_line (Weight row.now)) }
-    ensures front { KeepsFront text.old.items text.new.items }
-    ensures utf8 { OnOk result (KeepsUtf8 text.old.items text.new.items) }
+    ensures appends { AppendsText result text.old.items text.new.items (row_line (Weight row.now)) }
     ensures read { OnOk result (state_line_meaning (row_line (Weight row.now)) ≡ Ok (Row (Weight row.now))) }
 {
     put_role(text, "{\"role\":\"", &row.role)?;

@@ -12,7 +12,7 @@ mod role;
 mod word;
 
 pub use laws::client_path_law;
-pub use mark::{mark_of, mixed};
+pub use mark::mixed;
 pub use name::{Label, Name, NameFault};
 pub use parts::Parts;
 pub use path::{ClientPath, NodePath};

@@ -24,7 +24,7 @@ pub fn mixed(hash: u64, text: &str) -> u64
 
 /// The hash of a framework in a role.
 #[tactic(auto, unfolding(crate::specs::Mark::mark_of))]
-pub fn mark_of(role: &Role, framework: &Name) -> u64
+pub(crate) fn mark_of(role: &Role, framework: &Name) -> u64
     ensures { result ≡ mark_of role.now framework.now }
 {
     mixed(mixed(START, framework.text()), role.text())

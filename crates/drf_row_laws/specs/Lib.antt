@@ -1,5 +1,6 @@
 pub mod ServingOrder
 pub mod HoldingsLaws
+pub mod FrameLaws
 pub mod StepLaws
 pub mod RunLaws
 pub mod FilterLaws

@@ -8,6 +8,7 @@ use Rattle.drf_rows.specs.LimitNumbers.{LimitNumbers}
 use Rattle.drf_rows.specs.Client.{Client}
 use Rattle.drf_rows.specs.Held.{standing_of}
 use Rattle.drf_rows.specs.Filters.{in_force, is_of_client, is_on_agent, is_held_back}
+use Rattle.drf_row_laws.specs.FrameLaws.{by_offer, with_tables, all_tried_only, turn_only, turns_only}
 use Rattle.drf_row_laws.specs.FilterLaws.{held_back-in_force, in_force-later, number_in_force-later, in_force-left, in_force-more}
 use Rattle.drf_rows.specs.Quota.{entitlement}
 use Rattle.drf_rows.specs.Cycle.{free_of, is_allocatable, grant, new_offer, with_offer, tried, all_tried, turn_order, turn, turns, at_moment, cycle}
@@ -16,7 +17,7 @@ use Rattle.drf_rows.specs.Tasks.{Start}
 use Rattle.drf_rows.specs.Report.{report_of}
 use Rattle.drf_rows.specs.Step.{live_rows, refusal_of, effect, answer, rows_after, rows_after_all, reply_to, replies_to}
 use Rattle.drf_rows.specs.declared.event.Event.{Event}
-use Rattle.drf_rows.specs.declared.event.Event.TheVariants.{AddAgent, RemoveAgent, ActivateAgent, DeactivateAgent, SetAgent, AddFramework, RemoveFramework, Accept, Decline, Rescind, Finish, Suppress, Revive, Reserve, Unreserve, SetWeight, SetLimit, Cycle, Report}
+use Rattle.drf_rows.specs.declared.event.Event.TheVariants.{RemoveAgent, RemoveFramework, Accept, Decline, Revive, Cycle}
 use Rattle.drf_rows.specs.declared.reply.Refusal.{Refusal}
 use Rattle.drf_rows.specs.declared.reply.Reply.TheVariants.{Refused}
 use Rattle.drf_rows.specs.declared.rows.AgentRow.{AgentRow}
@@ -56,35 +57,14 @@ tried-filters rows fs agent client same =
     ∙ offered-filters rows fs agent client (grant rows agent client)
 
 -- filters and clock stay in a turn, and so does what is held back
-kept-tried : (rows : Rows) (agent : AgentRow) (client : Client) (granted : Option (List Resource))
-    → let after : Rows = option_map_or (λ bundle. with_offer rows (new_offer rows agent client bundle)) granted rows in
-    (after.filters ≡ rows.filters) × (after.clock ≡ rows.clock)
-unfolding with_offer
-kept-tried rows agent client None = (refl, refl)
-kept-tried rows agent client (Some bundle) = (refl, refl)
-
-kept-all_tried : (rows : Rows) (agent : AgentRow) (clients : List Client)
-    → ((all_tried rows agent clients).filters ≡ rows.filters) × ((all_tried rows agent clients).clock ≡ rows.clock)
-kept-all_tried rows agent [] = (refl, refl)
-kept-all_tried rows agent (client ∷ clients) =
-    let first = kept-tried rows agent client (grant rows agent client) in
-    let later = kept-all_tried (tried rows agent client) agent clients in
-    (later.0 ∙ first.0, later.1 ∙ first.1)
-
-kept-turn : (rows : Rows) (agent : AgentRow) → ((turn rows agent).filters ≡ rows.filters) × ((turn rows agent).clock ≡ rows.clock)
-unfolding turn
-kept-turn rows agent = kept-all_tried rows agent (turn_order rows)
-
 pub kept-turns : (rows : Rows) (agents : List AgentRow) → ((turns rows agents).filters ≡ rows.filters) × ((turns rows agents).clock ≡ rows.clock)
-kept-turns rows [] = (refl, refl)
-kept-turns rows (agent ∷ agents) =
-    let first = kept-turn rows agent in
-    let later = kept-turns (turn rows agent) agents in
-    (later.0 ∙ first.0, later.1 ∙ first.1)
+kept-turns rows agents =
+    let only = turns_only rows agents in
+    (ap (λ (r : Rows). r.filters) only, ap (λ (r : Rows). r.clock) only)
 
-still_the_same : (rows after : Rows) (fs : List FilterRow) → (after.filters ≡ rows.filters) × (after.clock ≡ rows.clock)
+still_the_same : (rows after : Rows) (fs : List FilterRow) → after ≡ with_tables by_offer rows after
     → HoldTheSame fs rows.filters rows.clock → HoldTheSame fs after.filters after.clock
-still_the_same rows after fs kept same = subst (λ (q : List FilterRow × ℕ). HoldTheSame fs q.0 q.1) (λ i. (sym kept.0 i, sym kept.1 i)) same
+still_the_same rows after fs only same = subst (λ (r : Rows). HoldTheSame fs r.filters r.clock) (sym only) same
 
 all_tried-filters : (rows : Rows) (fs : List FilterRow) (agent : AgentRow) (clients : List Client) → HoldTheSame fs rows.filters rows.clock
     → all_tried (with_filters rows fs) agent clients ≡ with_filters (all_tried rows agent clients) fs
@@ -92,7 +72,7 @@ all_tried-filters rows fs agent [] same = refl
 all_tried-filters rows fs agent (client ∷ clients) same =
     let after : Rows = tried rows agent client in
     ap (λ (r : Rows). all_tried r agent clients) (tried-filters rows fs agent client same)
-    ∙ all_tried-filters after fs agent clients (still_the_same rows after fs (kept-tried rows agent client (grant rows agent client)) same)
+    ∙ all_tried-filters after fs agent clients (still_the_same rows after fs (all_tried_only rows agent (client ∷ [])) same)
 
 turn-filters : (rows : Rows) (fs : List FilterRow) (agent : AgentRow) → HoldTheSame fs rows.filters rows.clock
     → turn (with_filters rows fs) agent ≡ with_filters (turn rows agent) fs
@@ -105,7 +85,7 @@ turns-filters rows fs [] same = refl
 turns-filters rows fs (agent ∷ agents) same =
     let after : Rows = turn rows agent in
     ap (λ (r : Rows). turns r agents) (turn-filters rows fs agent same)
-    ∙ turns-filters after fs agents (still_the_same rows after fs (kept-turn rows agent) same)
+    ∙ turns-filters after fs agents (still_the_same rows after fs (turn_only rows agent) same)
 
 -- ---- the rows with the filters in force alone
 
@@ -126,25 +106,9 @@ module _ (rows : Rows) (at : ℕ) where
 
 refusal_of-live : (limits : LimitNumbers) (rows : Rows) (event : Event) → refusal_of limits (live_rows rows) event ≡ refusal_of limits rows event
 unfolding refusal_of free_of
-refusal_of-live limits rows (AddAgent agent total) = refl
-refusal_of-live limits rows (RemoveAgent agent) = refl
-refusal_of-live limits rows (ActivateAgent agent) = refl
-refusal_of-live limits rows (DeactivateAgent agent) = refl
-refusal_of-live limits rows (SetAgent agent total) = refl
-refusal_of-live limits rows (AddFramework framework roles) = refl
-refusal_of-live limits rows (RemoveFramework framework) = refl
 refusal_of-live limits rows (Accept a) = rw (are_many-live rows a.at limits)
 refusal_of-live limits rows (Decline d) = rw (are_many-live rows d.at limits)
-refusal_of-live limits rows (Rescind offer) = refl
-refusal_of-live limits rows (Finish framework task) = refl
-refusal_of-live limits rows (Suppress framework role) = refl
-refusal_of-live limits rows (Revive framework role) = refl
-refusal_of-live limits rows (Reserve agent role resources) = refl
-refusal_of-live limits rows (Unreserve agent role resources) = refl
-refusal_of-live limits rows (SetWeight role weight) = refl
-refusal_of-live limits rows (SetLimit role limit) = refl
-refusal_of-live limits rows (Cycle at) = refl
-refusal_of-live limits rows Report = refl
+refusal_of-live limits rows event = refl
 
 -- rows that are the same but for filters, of which the same are in force at their clock
 live-kept : (after : Rows) (fs : List FilterRow) → in_force after.clock fs ≡ in_force after.clock after.filters
@@ -209,26 +173,14 @@ module _ (rows : Rows) (n : ℕ) where
   -- the effect on the live rows has the live rows of the effect
   effect-live : (event : Event) → live_rows (record (effect (live_rows rows) event) { events = n }) ≡ live_rows (record (effect rows event) { events = n })
   unfolding effect
-  effect-live (AddAgent agent total) = live-stay (effect rows (AddAgent agent total)) (omega arith) refl
   effect-live (RemoveAgent agent) = live-leave (effect rows (RemoveAgent agent)) (λ f. not (is_on_agent agent f)) refl refl
-  effect-live (ActivateAgent agent) = live-stay (effect rows (ActivateAgent agent)) (omega arith) refl
-  effect-live (DeactivateAgent agent) = live-stay (effect rows (DeactivateAgent agent)) (omega arith) refl
-  effect-live (SetAgent agent total) = live-stay (effect rows (SetAgent agent total)) (omega arith) refl
-  effect-live (AddFramework framework roles) = live-stay (effect rows (AddFramework framework roles)) (omega arith) refl
   effect-live (RemoveFramework framework) = live-leave (effect rows (RemoveFramework framework)) (λ f. not (same_text f.framework framework)) refl refl
   effect-live (Accept a) = live-accepted a.at a.tasks a.refuse_ms (offer_at rows a.offer)
   effect-live (Decline d) = live-declined d.at d.refuse_ms (offer_at rows d.offer)
-  effect-live (Rescind offer) = live-stay (effect rows (Rescind offer)) (omega arith) refl
-  effect-live (Finish framework task) = live-stay (effect rows (Finish framework task)) (omega arith) refl
-  effect-live (Suppress framework role) = live-stay (effect rows (Suppress framework role)) (omega arith) refl
   effect-live (Revive framework role) =
       live-leave (effect rows (Revive framework role)) (λ f. not (is_of_client (record { role = role; framework = framework }) f)) refl refl
-  effect-live (Reserve agent role resources) = live-stay (effect rows (Reserve agent role resources)) (omega arith) refl
-  effect-live (Unreserve agent role resources) = live-stay (effect rows (Unreserve agent role resources)) (omega arith) refl
-  effect-live (SetWeight role weight) = live-stay (effect rows (SetWeight role weight)) (omega arith) refl
-  effect-live (SetLimit role limit) = live-stay (effect rows (SetLimit role limit)) (omega arith) refl
   effect-live (Cycle at) = live-cycle at
-  effect-live Report = live-stay rows (omega arith) refl
+  effect-live event = live-stay (effect rows event) (omega arith) refl
 
 pub report_of-live : (rows : Rows) → report_of (live_rows rows) ≡ report_of rows
 unfolding report_of standing_of
@@ -236,25 +188,8 @@ report_of-live rows = refl
 
 answer-live : (rows : Rows) (event : Event) → answer (live_rows rows) (effect (live_rows rows) event) event ≡ answer rows (effect rows event) event
 unfolding effect report_of standing_of
-answer-live rows (AddAgent agent total) = refl
-answer-live rows (RemoveAgent agent) = refl
-answer-live rows (ActivateAgent agent) = refl
-answer-live rows (DeactivateAgent agent) = refl
-answer-live rows (SetAgent agent total) = refl
-answer-live rows (AddFramework framework roles) = refl
-answer-live rows (RemoveFramework framework) = refl
-answer-live rows (Accept a) = refl
-answer-live rows (Decline d) = refl
-answer-live rows (Rescind offer) = refl
-answer-live rows (Finish framework task) = refl
-answer-live rows (Suppress framework role) = refl
-answer-live rows (Revive framework role) = refl
-answer-live rows (Reserve agent role resources) = refl
-answer-live rows (Unreserve agent role resources) = refl
-answer-live rows (SetWeight role weight) = refl
-answer-live rows (SetLimit role limit) = refl
 answer-live rows (Cycle at) = ap (λ (r : Rows). answer rows r (Cycle at)) (cycle-live rows at)
-answer-live rows Report = refl
+answer-live rows event = refl
 
 reply_by : (rows live : Rows) (event : Event) (refusal : Option Refusal) → answer live (effect live event) event ≡ answer rows (effect rows event) event
     → option_map_or Refused refusal (answer live (effect live event) event) ≡ option_map_or Refused refusal (answer rows (effect rows event) event)

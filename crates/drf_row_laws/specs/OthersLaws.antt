@@ -14,20 +14,20 @@ use Rattle.drf_role.specs.Path.{same_path}
 use Rattle.drf_bundle.specs.declared.resource.Resource.{Resource}
 use Rattle.drf_rows.specs.Client.{Client}
 use Rattle.drf_rows.specs.Holdings.{of_offer}
-use Rattle.drf_rows.specs.Cycle.{grant, counted, count_offer, new_offer, with_offer, tried, all_tried, turn, turn_order, turns, at_moment, cycle}
+use Rattle.drf_rows.specs.Cycle.{counted, count_offer, with_offer, at_moment, cycle}
 use Rattle.drf_rows.specs.Endings.{is_task}
+use Rattle.drf_row_laws.specs.FrameLaws.{any_turns, cycle_only, all_stay, only_changed, step_keeps}
 use Rattle.drf_row_laws.specs.EndingLaws.{filter-out, find-place}
 use Rattle.drf_rows.specs.Offers.{offer_at, offer_accepted, offer_declined}
 use Rattle.drf_rows.specs.Tasks.{Start}
 use Rattle.drf_bundle.specs.Bundle.{relabel}
 use Rattle.drf_rows.specs.Totals.{total_at, exchanged}
 use Rattle.drf_rows.specs.Members.{distinct, new_client, active_at, suppressed_at, suppressed_in}
-use Rattle.drf_bundle.specs.ListLaws.{filter_each, filter-again, each_true, none_left}
-use Rattle.drf_rows.specs.Step.{refusal_of, effect, new_offers, rows_after}
+use Rattle.drf_bundle.specs.ListLaws.{filter-again, none_left}
+use Rattle.drf_rows.specs.Step.{effect, new_offers}
 use Rattle.drf_row_laws.specs.LifeLaws.{is_cycle, other_agents, other_frameworks, OtherAgentsStay, OtherFrameworksStay, OthersStay, is_accept, other_offers, other_tasks, OtherHoldingsStay, EndedIsGone, RemovedIsGone, active_row, ActivityIsItsAgents, is_made_to, raised_row, with_counts, CycleOnlyOffers}
 use Rattle.drf_rows.specs.declared.event.Event.{Event}
-use Rattle.drf_rows.specs.declared.event.Event.TheVariants.{AddAgent, RemoveAgent, ActivateAgent, DeactivateAgent, SetAgent, AddFramework, RemoveFramework, Accept, Decline, Rescind, Finish, Suppress, Revive, Reserve, Unreserve, SetWeight, SetLimit, Cycle, Report}
-use Rattle.drf_rows.specs.declared.reply.Refusal.{Refusal}
+use Rattle.drf_rows.specs.declared.event.Event.TheVariants.{AddAgent, RemoveAgent, ActivateAgent, DeactivateAgent, SetAgent, AddFramework, RemoveFramework, Accept, Decline, Rescind, Finish, Suppress, Revive, Reserve, Unreserve, Cycle}
 use Rattle.drf_rows.specs.declared.rows.AgentRow.{AgentRow}
 use Rattle.drf_rows.specs.declared.rows.ClientRow.{ClientRow}
 use Rattle.drf_rows.specs.declared.rows.FrameworkRow.{FrameworkRow}
@@ -55,10 +55,9 @@ filter-changed {X} p f (x ∷ xs) stays past = elim (cases_Bool (p x)) [
 
 -- ---- a cycle
 
--- offers were made and counted, and nothing else was done
+-- offers were made and counted
 record MadeOffers (start after : Rows) : Type 0 where
   made : List OfferRow
-  rest : after ≡ record start { frameworks = after.frameworks; offers = after.offers; next_offer = after.next_offer }
   offers : after.offers ≡ start.offers ++ made
   counts : after.frameworks ≡ map (with_counts made) start.frameworks
 
@@ -123,74 +122,35 @@ counts-one o (f ∷ fs) =
     one = λ i. record f { clients = raised-one o (same_text f.name o.framework) f.clients i }
 
 made_none : (rows : Rows) → MadeOffers rows rows
-made_none rows =
-    record { made = []; rest = refl; offers = sym (append-nil rows.offers); counts = sym (counts-none rows.frameworks) }
+made_none rows = record { made = []; offers = sym (append-nil rows.offers); counts = sym (counts-none rows.frameworks) }
 
-made_both : (start middle after : Rows) → MadeOffers start middle → MadeOffers middle after → MadeOffers start after
-made_both start middle after first second = record {
-  made = first.made ++ second.made;
-  rest = second.rest
-      ∙ (λ i. record (first.rest i) { frameworks = after.frameworks; offers = after.offers; next_offer = after.next_offer });
-  offers = second.offers
-      ∙ ap (λ (os : List OfferRow). os ++ second.made) first.offers
-      ∙ append_assoc start.offers first.made second.made;
-  counts = second.counts
-      ∙ ap (map (with_counts second.made)) first.counts
-      ∙ counts-both first.made second.made start.frameworks;
-}
-
-made_tried : (rows : Rows) (agent : AgentRow) (client : Client) → MadeOffers rows (tried rows agent client)
+made_more : (start rows : Rows) (o : OfferRow) → MadeOffers start rows → MadeOffers start (with_offer rows o)
 unfolding with_offer
-made_tried rows agent client = by (grant rows agent client)
-  where
-    by : (granted : Option (List Resource))
-        → MadeOffers rows (option_map_or (λ bundle. with_offer rows (new_offer rows agent client bundle)) granted rows)
-    by None = made_none rows
-    by (Some bundle) =
-        let o : OfferRow = new_offer rows agent client bundle in
-        record { made = o ∷ []; rest = refl; offers = refl; counts = counts-one o rows.frameworks }
-
-made_all_tried : (rows : Rows) (agent : AgentRow) (clients : List Client) → MadeOffers rows (all_tried rows agent clients)
-made_all_tried rows agent [] = made_none rows
-made_all_tried rows agent (client ∷ clients) =
-    let next : Rows = tried rows agent client in
-    made_both rows next (all_tried next agent clients) (made_tried rows agent client) (made_all_tried next agent clients)
-
-made_turns : (rows : Rows) (agents : List AgentRow) → MadeOffers rows (turns rows agents)
-unfolding turn
-made_turns rows [] = made_none rows
-made_turns rows (agent ∷ agents) =
-    let next : Rows = turn rows agent in
-    made_both rows next (turns next agents) (made_all_tried rows agent (turn_order rows)) (made_turns next agents)
+made_more start rows o so = record {
+  made = so.made ++ o ∷ [];
+  offers = ap (λ (os : List OfferRow). os ++ o ∷ []) so.offers ∙ append_assoc start.offers so.made (o ∷ []);
+  counts = counts-one o rows.frameworks
+      ∙ ap (map (with_counts (o ∷ []))) so.counts
+      ∙ counts-both so.made (o ∷ []) start.frameworks;
+}
 
 made_cycle : (rows : Rows) (at : ℕ) → MadeOffers (at_moment rows at) (cycle rows at)
 unfolding cycle
-made_cycle rows at = made_turns (at_moment rows at) (filter (λ a. a.active) rows.agents)
+made_cycle rows at =
+    let start : Rows = at_moment rows at in
+    any_turns (MadeOffers start) (made_more start) start (filter (λ a. a.active) rows.agents) (made_none start)
 
 pub cycle_only_offers : CycleOnlyOffers
 cycle_only_offers rows at =
     let so = made_cycle rows at in
     let new : so.made ≡ new_offers rows (cycle rows at) = sym (ap (drop (length rows.offers)) so.offers ∙ drop-append_seam rows.offers so.made) in
     record {
-      nothing_else = so.rest;
+      nothing_else = cycle_only rows at;
       offers = so.offers ∙ ap (λ (os : List OfferRow). rows.offers ++ os) new;
       counts = so.counts ∙ ap (λ (os : List OfferRow). map (with_counts os) rows.frameworks) new;
     }
 
 -- ---- the others
-
--- an offer that is accepted or declined moves no row of an agent or of a framework
-same-accepted : (rows : Rows) (at : ℕ) (starts : List Start) (refuse_ms : ℕ) (found : Option OfferRow)
-    → let after : Rows = option_map_or (λ o. offer_accepted (at_moment rows at) o starts refuse_ms) found rows in
-    (after.agents ≡ rows.agents) × (after.frameworks ≡ rows.frameworks)
-same-accepted rows at starts refuse_ms None = (refl, refl)
-same-accepted rows at starts refuse_ms (Some o) = (refl, refl)
-
-same-declined : (rows : Rows) (at refuse_ms : ℕ) (found : Option OfferRow)
-    → let after : Rows = option_map_or (λ o. offer_declined (at_moment rows at) o refuse_ms) found rows in
-    (after.agents ≡ rows.agents) × (after.frameworks ≡ rows.frameworks)
-same-declined rows at refuse_ms None = (refl, refl)
-same-declined rows at refuse_ms (Some o) = (refl, refl)
 
 agents_active : (name : Text) (active : Bool) (agents : List AgentRow)
     → filter (λ a. not (same_text a.name name)) (map (active_at name active) agents) ≡ filter (λ a. not (same_text a.name name)) agents
@@ -228,22 +188,9 @@ agents_left rows (RemoveAgent agent) = filter-again (λ a. not (same_text a.name
 agents_left rows (ActivateAgent agent) = agents_active agent true rows.agents
 agents_left rows (DeactivateAgent agent) = agents_active agent false rows.agents
 agents_left rows (SetAgent agent total) = agents_other_total agent (λ old. total) rows.agents
-agents_left rows (AddFramework framework roles) = refl
-agents_left rows (RemoveFramework framework) = refl
-agents_left rows (Accept a) =
-    ap (filter (λ (a : AgentRow). true)) (same-accepted rows a.at a.tasks a.refuse_ms (offer_at rows a.offer)).0
-agents_left rows (Decline d) =
-    ap (filter (λ (a : AgentRow). true)) (same-declined rows d.at d.refuse_ms (offer_at rows d.offer)).0
-agents_left rows (Rescind offer) = refl
-agents_left rows (Finish framework task) = refl
-agents_left rows (Suppress framework role) = refl
-agents_left rows (Revive framework role) = refl
 agents_left rows (Reserve agent role resources) = agents_other_total agent (exchanged resources (relabel role resources)) rows.agents
 agents_left rows (Unreserve agent role resources) = agents_other_total agent (exchanged (relabel role resources) resources) rows.agents
-agents_left rows (SetWeight role weight) = refl
-agents_left rows (SetLimit role limit) = refl
-agents_left rows (Cycle at) = ap (λ (r : Rows). filter (λ a. true) r.agents) (made_cycle rows at).rest
-agents_left rows Report = refl
+agents_left rows event = ap (λ (r : Rows). other_agents event r.agents) (only_changed rows event)
 
 frameworks_suppressed : (client : Client) (suppressed : Bool) (frameworks : List FrameworkRow)
     → filter (λ f. not (same_text f.name client.framework)) (map (suppressed_in client suppressed) frameworks)
@@ -267,138 +214,25 @@ frameworks_suppressed client suppressed frameworks =
 frameworks_left : (rows : Rows) (event : Event) → is_cycle event ≡ false
     → other_frameworks event (effect rows event).frameworks ≡ other_frameworks event rows.frameworks
 unfolding effect
-frameworks_left rows (AddAgent agent total) no_cycle = refl
-frameworks_left rows (RemoveAgent agent) no_cycle = refl
-frameworks_left rows (ActivateAgent agent) no_cycle = refl
-frameworks_left rows (DeactivateAgent agent) no_cycle = refl
-frameworks_left rows (SetAgent agent total) no_cycle = refl
 frameworks_left rows (AddFramework framework roles) no_cycle =
     filter-last (λ f. not (same_text f.name framework)) rows.frameworks
     (record { name = framework; clients = map new_client (distinct roles) }) (ap not (same_itself framework))
 frameworks_left rows (RemoveFramework framework) no_cycle = filter-again (λ f. not (same_text f.name framework)) rows.frameworks
-frameworks_left rows (Accept a) no_cycle =
-    ap (filter (λ (f : FrameworkRow). true)) (same-accepted rows a.at a.tasks a.refuse_ms (offer_at rows a.offer)).1
-frameworks_left rows (Decline d) no_cycle =
-    ap (filter (λ (f : FrameworkRow). true)) (same-declined rows d.at d.refuse_ms (offer_at rows d.offer)).1
-frameworks_left rows (Rescind offer) no_cycle = refl
-frameworks_left rows (Finish framework task) no_cycle = refl
 frameworks_left rows (Suppress framework role) no_cycle =
     frameworks_suppressed (record { role = role; framework = framework }) true rows.frameworks
 frameworks_left rows (Revive framework role) no_cycle =
     frameworks_suppressed (record { role = role; framework = framework }) false rows.frameworks
-frameworks_left rows (Reserve agent role resources) no_cycle = refl
-frameworks_left rows (Unreserve agent role resources) no_cycle = refl
-frameworks_left rows (SetWeight role weight) no_cycle = refl
-frameworks_left rows (SetLimit role limit) no_cycle = refl
 frameworks_left rows (Cycle at) no_cycle = absurd (false≢true (sym no_cycle))
-frameworks_left rows Report no_cycle = refl
+frameworks_left rows event no_cycle = ap (λ (r : Rows). other_frameworks event r.frameworks) (only_changed rows event)
 
 pub other_agents_stay : OtherAgentsStay
-unfolding rows_after
-other_agents_stay limits rows event = by (refusal_of limits rows event)
-  where
-    by : (refusal : Option Refusal)
-        → other_agents event (option_map_or (λ refusal. rows) refusal (record (effect rows event) { events = rows.events + 1 })).agents
-        ≡ other_agents event rows.agents
-    by None = agents_left rows event
-    by (Some refusal) = refl
+other_agents_stay limits rows event =
+    step_keeps (λ after. other_agents event after.agents ≡ other_agents event rows.agents) limits rows event refl (agents_left rows event)
 
 pub other_frameworks_stay : OtherFrameworksStay
-unfolding rows_after
-other_frameworks_stay limits rows event no_cycle = by (refusal_of limits rows event)
-  where
-    by : (refusal : Option Refusal)
-        → other_frameworks event (option_map_or (λ refusal. rows) refusal (record (effect rows event) { events = rows.events + 1 })).frameworks
-        ≡ other_frameworks event rows.frameworks
-    by None = frameworks_left rows event no_cycle
-    by (Some refusal) = refl
-
--- ---- what is held
-
--- the offer that is accepted or declined has the event's number, and no other goes
-others_of_number : (rows : Rows) (number : ℕ) (o : OfferRow) → offer_at rows number ≡ Some o
-    → filter (λ p. not (p.number == number)) (filter (λ p. not (p.number == o.number)) rows.offers)
-    ≡ filter (λ p. not (p.number == number)) rows.offers
-others_of_number rows number o found =
-    let same : o.number ≡ number = eqb-true o.number number (find-place (λ (p : OfferRow). p.number == number) rows.offers o found).1 in
-    ap (λ (n : ℕ). filter (λ (p : OfferRow). not (p.number == number)) (filter (λ (p : OfferRow). not (p.number == n)) rows.offers)) same
-    ∙ filter-again (λ (p : OfferRow). not (p.number == number)) rows.offers
-
-offers-accepted : (rows : Rows) (at : ℕ) (starts : List Start) (refuse_ms number : ℕ) (found : Option OfferRow) → offer_at rows number ≡ found
-    → filter (λ p. not (p.number == number)) (option_map_or (λ o. offer_accepted (at_moment rows at) o starts refuse_ms) found rows).offers
-    ≡ filter (λ p. not (p.number == number)) rows.offers
-offers-accepted rows at starts refuse_ms number None there = refl
-offers-accepted rows at starts refuse_ms number (Some o) there = others_of_number rows number o there
-
-offers-declined : (rows : Rows) (at refuse_ms number : ℕ) (found : Option OfferRow) → offer_at rows number ≡ found
-    → filter (λ p. not (p.number == number)) (option_map_or (λ o. offer_declined (at_moment rows at) o refuse_ms) found rows).offers
-    ≡ filter (λ p. not (p.number == number)) rows.offers
-offers-declined rows at refuse_ms number None there = refl
-offers-declined rows at refuse_ms number (Some o) there = others_of_number rows number o there
-
-offers_left : (rows : Rows) (event : Event) → is_cycle event ≡ false
-    → other_offers event (effect rows event).offers ≡ other_offers event rows.offers
-unfolding effect
-offers_left rows (AddAgent agent total) no_cycle = refl
-offers_left rows (RemoveAgent agent) no_cycle = filter-again (λ o. not (same_text o.agent agent)) rows.offers
-offers_left rows (ActivateAgent agent) no_cycle = refl
-offers_left rows (DeactivateAgent agent) no_cycle = filter-again (λ o. not (same_text o.agent agent)) rows.offers
-offers_left rows (SetAgent agent total) no_cycle = refl
-offers_left rows (AddFramework framework roles) no_cycle = refl
-offers_left rows (RemoveFramework framework) no_cycle = filter-again (λ o. not (same_text o.framework framework)) rows.offers
-offers_left rows (Accept a) no_cycle =
-    offers-accepted rows a.at a.tasks a.refuse_ms a.offer (offer_at rows a.offer) refl
-offers_left rows (Decline d) no_cycle = offers-declined rows d.at d.refuse_ms d.offer (offer_at rows d.offer) refl
-offers_left rows (Rescind offer) no_cycle = filter-again (λ o. not (o.number == offer)) rows.offers
-offers_left rows (Finish framework task) no_cycle = filter_each (λ o. true) rows.offers (each_true rows.offers)
-offers_left rows (Suppress framework role) no_cycle = refl
-offers_left rows (Revive framework role) no_cycle = refl
-offers_left rows (Reserve agent role resources) no_cycle = refl
-offers_left rows (Unreserve agent role resources) no_cycle = refl
-offers_left rows (SetWeight role weight) no_cycle = refl
-offers_left rows (SetLimit role limit) no_cycle = refl
-offers_left rows (Cycle at) no_cycle = absurd (false≢true (sym no_cycle))
-offers_left rows Report no_cycle = refl
-
-all_tasks : (tasks : List TaskRow) → filter (λ t. true) tasks ≡ tasks
-all_tasks tasks = filter_each (λ t. true) tasks (each_true tasks)
-
-tasks-declined : (rows : Rows) (at refuse_ms : ℕ) (found : Option OfferRow)
-    → (option_map_or (λ o. offer_declined (at_moment rows at) o refuse_ms) found rows).tasks ≡ rows.tasks
-tasks-declined rows at refuse_ms None = refl
-tasks-declined rows at refuse_ms (Some o) = all_tasks rows.tasks
-
-tasks_left : (rows : Rows) (event : Event) → is_accept event ≡ false
-    → other_tasks event (effect rows event).tasks ≡ other_tasks event rows.tasks
-unfolding effect
-tasks_left rows (AddAgent agent total) no_accept = refl
-tasks_left rows (RemoveAgent agent) no_accept = filter-again (λ t. not (same_text t.agent agent)) rows.tasks
-tasks_left rows (ActivateAgent agent) no_accept = refl
-tasks_left rows (DeactivateAgent agent) no_accept = all_tasks rows.tasks
-tasks_left rows (SetAgent agent total) no_accept = refl
-tasks_left rows (AddFramework framework roles) no_accept = refl
-tasks_left rows (RemoveFramework framework) no_accept = filter-again (λ t. not (same_text t.framework framework)) rows.tasks
-tasks_left rows (Accept a) no_accept = absurd (false≢true (sym no_accept))
-tasks_left rows (Decline d) no_accept = tasks-declined rows d.at d.refuse_ms (offer_at rows d.offer)
-tasks_left rows (Rescind offer) no_accept = all_tasks rows.tasks
-tasks_left rows (Finish framework task) no_accept = filter-again (λ t. not (is_task framework task t)) rows.tasks
-tasks_left rows (Suppress framework role) no_accept = refl
-tasks_left rows (Revive framework role) no_accept = refl
-tasks_left rows (Reserve agent role resources) no_accept = refl
-tasks_left rows (Unreserve agent role resources) no_accept = refl
-tasks_left rows (SetWeight role weight) no_accept = refl
-tasks_left rows (SetLimit role limit) no_accept = refl
-tasks_left rows (Cycle at) no_accept = ap (λ (r : Rows). r.tasks) (made_cycle rows at).rest
-tasks_left rows Report no_accept = refl
-
-pub other_holdings_stay : OtherHoldingsStay
-unfolding rows_after
-other_holdings_stay limits rows event = by (refusal_of limits rows event)
-  where
-    by : (refusal : Option Refusal)
-        → OthersStay event rows (option_map_or (λ refusal. rows) refusal (record (effect rows event) { events = rows.events + 1 }))
-    by None = record { offers = offers_left rows event; tasks = tasks_left rows event }
-    by (Some refusal) = record { offers = λ no_cycle. refl; tasks = λ no_accept. refl }
+other_frameworks_stay limits rows event no_cycle =
+    step_keeps (λ after. other_frameworks event after.frameworks ≡ other_frameworks event rows.frameworks) limits rows event refl
+    (frameworks_left rows event no_cycle)
 
 -- ---- what goes
 
@@ -433,51 +267,43 @@ gone-declined rows at refuse_ms number (Some o) there = number_gone rows number 
 
 offers_gone : (rows : Rows) (event : Event) → is_cycle event ≡ false → (effect rows event).offers ≡ other_offers event rows.offers
 unfolding effect
-offers_gone rows (AddAgent agent total) no_cycle = refl
-offers_gone rows (RemoveAgent agent) no_cycle = refl
-offers_gone rows (ActivateAgent agent) no_cycle = refl
-offers_gone rows (DeactivateAgent agent) no_cycle = refl
-offers_gone rows (SetAgent agent total) no_cycle = refl
-offers_gone rows (AddFramework framework roles) no_cycle = refl
-offers_gone rows (RemoveFramework framework) no_cycle = refl
 offers_gone rows (Accept a) no_cycle =
     gone-accepted rows a.at a.tasks a.refuse_ms a.offer (offer_at rows a.offer) refl
 offers_gone rows (Decline d) no_cycle = gone-declined rows d.at d.refuse_ms d.offer (offer_at rows d.offer) refl
-offers_gone rows (Rescind offer) no_cycle = refl
-offers_gone rows (Finish framework task) no_cycle = filter_each (λ o. true) rows.offers (each_true rows.offers)
-offers_gone rows (Suppress framework role) no_cycle = refl
-offers_gone rows (Revive framework role) no_cycle = refl
-offers_gone rows (Reserve agent role resources) no_cycle = refl
-offers_gone rows (Unreserve agent role resources) no_cycle = refl
-offers_gone rows (SetWeight role weight) no_cycle = refl
-offers_gone rows (SetLimit role limit) no_cycle = refl
 offers_gone rows (Cycle at) no_cycle = absurd (false≢true (sym no_cycle))
-offers_gone rows Report no_cycle = refl
+offers_gone rows event no_cycle = ap (λ (r : Rows). r.offers) (only_changed rows event)
 
 tasks_gone : (rows : Rows) (event : Event) → is_accept event ≡ false → (effect rows event).tasks ≡ other_tasks event rows.tasks
 unfolding effect
-tasks_gone rows (AddAgent agent total) no_accept = refl
-tasks_gone rows (RemoveAgent agent) no_accept = refl
-tasks_gone rows (ActivateAgent agent) no_accept = refl
-tasks_gone rows (DeactivateAgent agent) no_accept = all_tasks rows.tasks
-tasks_gone rows (SetAgent agent total) no_accept = refl
-tasks_gone rows (AddFramework framework roles) no_accept = refl
-tasks_gone rows (RemoveFramework framework) no_accept = refl
 tasks_gone rows (Accept a) no_accept = absurd (false≢true (sym no_accept))
-tasks_gone rows (Decline d) no_accept = tasks-declined rows d.at d.refuse_ms (offer_at rows d.offer)
-tasks_gone rows (Rescind offer) no_accept = all_tasks rows.tasks
-tasks_gone rows (Finish framework task) no_accept = refl
-tasks_gone rows (Suppress framework role) no_accept = refl
-tasks_gone rows (Revive framework role) no_accept = refl
-tasks_gone rows (Reserve agent role resources) no_accept = refl
-tasks_gone rows (Unreserve agent role resources) no_accept = refl
-tasks_gone rows (SetWeight role weight) no_accept = refl
-tasks_gone rows (SetLimit role limit) no_accept = refl
-tasks_gone rows (Cycle at) no_accept = ap (λ (r : Rows). r.tasks) (made_cycle rows at).rest
-tasks_gone rows Report no_accept = refl
+tasks_gone rows event no_accept = ap (λ (r : Rows). r.tasks) (only_changed rows event)
 
 pub ended_is_gone : EndedIsGone
 ended_is_gone rows event = record { offers = offers_gone rows event; tasks = tasks_gone rows event }
+
+-- ---- what is left
+
+offers_again : (event : Event) (offers : List OfferRow) → other_offers event (other_offers event offers) ≡ other_offers event offers
+offers_again (RemoveAgent agent) offers = filter-again (λ o. not (same_text o.agent agent)) offers
+offers_again (DeactivateAgent agent) offers = filter-again (λ o. not (same_text o.agent agent)) offers
+offers_again (RemoveFramework framework) offers = filter-again (λ o. not (same_text o.framework framework)) offers
+offers_again (Accept a) offers = filter-again (λ o. not (o.number == a.offer)) offers
+offers_again (Decline d) offers = filter-again (λ o. not (o.number == d.offer)) offers
+offers_again (Rescind offer) offers = filter-again (λ o. not (o.number == offer)) offers
+offers_again event offers = refl
+
+tasks_again : (event : Event) (tasks : List TaskRow) → other_tasks event (other_tasks event tasks) ≡ other_tasks event tasks
+tasks_again (RemoveAgent agent) tasks = filter-again (λ t. not (same_text t.agent agent)) tasks
+tasks_again (RemoveFramework framework) tasks = filter-again (λ t. not (same_text t.framework framework)) tasks
+tasks_again (Finish framework task) tasks = filter-again (λ t. not (is_task framework task t)) tasks
+tasks_again event tasks = refl
+
+pub other_holdings_stay : OtherHoldingsStay
+other_holdings_stay limits rows event =
+    step_keeps (OthersStay event rows) limits rows event (record { offers = λ no_cycle. refl; tasks = λ no_accept. refl }) (record {
+      offers = λ no_cycle. ap (other_offers event) (offers_gone rows event no_cycle) ∙ offers_again event rows.offers;
+      tasks = λ no_accept. ap (other_tasks event) (tasks_gone rows event no_accept) ∙ tasks_again event rows.tasks;
+    })
 
 -- ---- the one
 
@@ -522,7 +348,7 @@ activity_is_its_agents rows name = (
     only_agents_and_offers = λ i. record rows {
       agents = map (active_at name false) rows.agents;
       offers = filter (λ o. not (same_text o.agent name)) rows.offers;
-      tasks = filter_each (λ t. true) rows.tasks (each_true rows.tasks) i;
+      tasks = all_stay rows.tasks i;
     };
   },
 )

@@ -1,6 +1,6 @@
 -- What limits hold: a grant cut to the headroom takes no role over its limit, a limit below the consumption leaves nothing, no
 -- role consumes more than there is, and what is moved to a role and back is consumed as before.
-use Rattle.std.specs.Prelude.{◌≡◌, ℕ, zero, suc, ◌+◌, ◌≤◌, max, min, Bool, true, false, not, ◌&&◌, ◌||◌, List, [], ◌∷◌, ◌++◌, map, fold, filter, flat_map, sum_by, slice_get, Option, Some, None, IsTrue, All, if◌then◌else◌}
+use Rattle.std.specs.Prelude.{◌≡◌, ℕ, zero, suc, ◌+◌, ◌≤◌, max, min, Bool, true, false, not, ◌&&◌, ◌||◌, List, [], ◌∷◌, ◌++◌, map, fold, filter, flat_map, sum_by, slice_get, Option, Some, IsTrue, All}
 use Rattle.std.specs.List.{list_any, count_by, reduce, AllByRecursion}
 use Rattle.std.specs.Option.{option_map_or}
 use Rattle.std.proofs.Common.{refl, sym, ap, ◌∙◌, inl, inr, cond, arith}
@@ -28,11 +28,12 @@ use Rattle.drf_bundle.specs.declared.value.Value.TheVariants.{Scalar, Ranges, It
 use Rattle.drf_rows.specs.Client.{Client}
 use Rattle.drf_rows.specs.Holdings.{Holding, of_offer, of_task, holdings_of, is_on}
 use Rattle.drf_row_laws.specs.HoldingsLaws.{holdings_of-with_offer}
-use Rattle.drf_rows.specs.Cycle.{free_of, is_grantable, new_offer, with_offer, tried, all_tried, turn, turn_order, turns, at_moment, cycle}
+use Rattle.drf_rows.specs.Cycle.{free_of, new_offer, with_offer, turn_order, at_moment, cycle}
+use Rattle.drf_row_laws.specs.FrameLaws.{Any, turns_keep}
 use Rattle.drf_row_laws.specs.CycleLaws.{bundle-free_of}
 use Rattle.drf_rows.specs.Held.{cluster_total}
 use Rattle.drf_rows.specs.Consistent.{IsAgent, IsHeld, IsCovered, IsConsistent}
-use Rattle.drf_bundle.specs.ListLaws.{sum_by-map, sum_by-plus, sum_by_each_le, sum_by-groups, list_any-map, cond_le, each_from, each_filter}
+use Rattle.drf_bundle.specs.ListLaws.{sum_by-map, sum_by-plus, sum_by_each_le, sum_by-groups, list_any-map, cond_le, each_from, each_filter, each_true}
 use Rattle.drf_row_laws.specs.TotalLaws.{one_agent}
 use Rattle.drf_row_laws.specs.MemberLaws.{amount_on, amount-cluster_total}
 use Rattle.drf_rows.specs.Quota.{Consumed, unreserved_in, reserves, reserved_in, consumption_where, consumption, is_within, binds, room_under, headroom_under, headroom_at, limited_names, headroom, entitlement}
@@ -370,33 +371,14 @@ module _ (start : Rows) (label : Text) (place : ℕ) (l : LimitRow) (at : slice_
         ];
       }
 
-  keeps-tried : (rows : Rows) (agent : AgentRow) (client : Client) → IsBundle agent.total → Keeps rows → Keeps (tried rows agent client)
-  keeps-tried rows agent client right keeps =
-      by (is_grantable rows agent client (entitlement rows (free_of rows agent) client))
-    where
-      by : (granted : Bool)
-          → Keeps (option_map_or (λ bundle. with_offer rows (new_offer rows agent client bundle))
-          (if granted then Some (entitlement rows (free_of rows agent) client) else None) rows)
-      by true = keeps-offer rows agent client right keeps
-      by false = keeps
-
-  keeps-all_tried : (rows : Rows) (agent : AgentRow) (clients : List Client) → IsBundle agent.total → Keeps rows
-      → Keeps (all_tried rows agent clients)
-  keeps-all_tried rows agent [] right keeps = keeps
-  keeps-all_tried rows agent (client ∷ clients) right keeps =
-      keeps-all_tried (tried rows agent client) agent clients right (keeps-tried rows agent client right keeps)
-
-  keeps-turns : (rows : Rows) (agents : List AgentRow) → AllByRecursion (λ a. IsBundle a.total) agents → Keeps rows → Keeps (turns rows agents)
-  unfolding turn
-  keeps-turns rows [] right keeps = keeps
-  keeps-turns rows (agent ∷ agents) right keeps =
-      keeps-turns (turn rows agent) agents right.1 (keeps-all_tried rows agent (turn_order rows) right.0 keeps)
-
 pub cycle_keeps_limits : CycleKeepsLimits
 unfolding cycle
 cycle_keeps_limits rows at label place l consistent here named =
     let totals = each_from IsAgent (λ a. IsBundle a.total) rows.agents (λ a right. right.total) consistent.agents.each in
-    (keeps-turns (at_moment rows at) label place l here named (at_moment rows at) (filter (λ a. a.active) rows.agents)
+    let start : Rows = at_moment rows at in
+    (turns_keep (λ after. KeepsLimit start after label l) (λ a. IsBundle a.total) Any (λ r kept. each_true (turn_order r))
+    (λ r agent client right known is kept. keeps-offer start label place l here named r agent client right kept)
+    start (filter (λ a. a.active) rows.agents)
     (each_filter (λ a. IsBundle a.total) (λ a. a.active) rows.agents totals)
     (record { limits = refl; consumed = omega arith })).consumed
 

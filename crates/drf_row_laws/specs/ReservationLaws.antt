@@ -3,7 +3,7 @@ use Rattle.std.specs.Prelude.{◌≡◌, ℕ, ◌+◌, ◌≤◌, max, Bool, tru
 use Rattle.std.specs.List.{list_any, list_all, AllByRecursion}
 use Rattle.std.specs.Option.{option_map_or}
 use Rattle.std.proofs.Common.{refl, sym, ap, subst, ◌∙◌, inl, inr, cond, arith, zero, suc}
-use Rattle.std.proofs.lemmas.Bool.{cases_Bool, and_parts, and_from, or_parts, leb-true, not-false, false≢true}
+use Rattle.std.proofs.lemmas.Bool.{cases_Bool, and_parts, and_from, leb-true, not-false, false≢true}
 use Rattle.drf_role.specs.Text.{Text, same_text}
 use Rattle.drf_role.specs.TextLaws.{same_from_test}
 use Rattle.drf_role.specs.Path.{Path}
@@ -23,15 +23,14 @@ use Rattle.drf_rows.specs.Holdings.{holdings_of, parts_on}
 use Rattle.drf_row_laws.specs.HoldingsLaws.{each_part}
 use Rattle.drf_rows.specs.Cycle.{free_of}
 use Rattle.drf_rows.specs.Members.{has_agent}
-use Rattle.drf_rows.specs.Offers.{is_empty}
 use Rattle.drf_rows.specs.Consistent.{IsAgent, IsCovered, IsConsistent, IsConserved}
 use Rattle.drf_row_laws.specs.ConsistentLaws.{bundles-consistent}
 use Rattle.drf_row_laws.specs.EndingLaws.{sum_by-out}
 use Rattle.drf_rows.specs.TaskLaws.{units-covers_all}
 use Rattle.drf_rows.specs.Quota.{reserves, unreserved_in, reserved_in, consumption_where, consumption, is_within, binds, stays_within, admits}
 use Rattle.drf_row_laws.specs.QuotaLaws.{moved_is_reserved}
-use Rattle.drf_rows.specs.Step.{refusal_of, effect, is_full}
-use Rattle.drf_row_laws.specs.StepLaws.{least_is_told}
+use Rattle.drf_rows.specs.Step.{refusal_of, effect}
+use Rattle.drf_row_laws.specs.StepLaws.{no_case_of}
 use Rattle.drf_rows.specs.Totals.{CanExchange, agent_at, total_at, with_total, with_other_total, exchanged, is_not_free, is_below_held}
 use Rattle.drf_row_laws.specs.TotalsLaws.{can_reserve, can_unreserve, where-exchanged, exchanged-back, with_total-place, agents_before, agents_after, agents_stand, same_name, if_named, bundle_free, can_in_total, names-with_total, activity-with_total, IsRightTotal, IsConsistent-with_total}
 use Rattle.drf_rows.specs.declared.event.Event.TheVariants.{SetAgent, Reserve, Unreserve}
@@ -140,25 +139,20 @@ module _ (limits : LimitNumbers) (rows : Rows) (agent : Text) (role : Path) (res
   pub can_move-reserve : refusal_of limits rows (Reserve agent role resources) ≡ None
       → CanMove rows agent role resources resources × (admits rows role (quantities_of resources) ≡ true)
   can_move-reserve accepted =
-      let none = (least_is_told limits rows (Reserve agent role resources)).1 accepted in
-      let known = or_parts (not (has_agent rows agent)) _ (or_parts (is_full limits rows) _ none).1 in
-      let other = or_parts (is_default role) _ known.1 in
-      let unreserved = or_parts (not (is_unreserved resources)) _ (or_parts (is_empty resources) _ other.1).1 in
-      let free = or_parts (is_not_free rows agent resources) _ unreserved.1 in (
-        can_move rows agent role resources resources (not-false (has_agent rows agent) known.0) other.0
-            (not-false (is_unreserved resources) unreserved.0) free.0,
-        not-false (admits rows role (quantities_of resources)) (or_parts (not (admits rows role (quantities_of resources))) _ free.1).0,
+      let known = (no_case_of limits rows (Reserve agent role resources) accepted).1 in
+      let some = known.1.1 in (
+        can_move rows agent role resources resources (not-false (has_agent rows agent) known.0) known.1.0
+            (not-false (is_unreserved resources) some.1.0) some.1.1.0,
+        not-false (admits rows role (quantities_of resources)) some.1.1.1.0,
       )
 
   pub can_move-unreserve : refusal_of limits rows (Unreserve agent role resources) ≡ None
       → CanMove rows agent role resources (relabel role resources)
   can_move-unreserve accepted =
-      let none = (least_is_told limits rows (Unreserve agent role resources)).1 accepted in
-      let known = or_parts (not (has_agent rows agent)) _ (or_parts (is_full limits rows) _ none).1 in
-      let other = or_parts (is_default role) _ known.1 in
-      let unreserved = or_parts (not (is_unreserved resources)) _ (or_parts (is_empty resources) _ other.1).1 in
-      can_move rows agent role resources (relabel role resources) (not-false (has_agent rows agent) known.0) other.0
-      (not-false (is_unreserved resources) unreserved.0) (or_parts (is_not_free rows agent (relabel role resources)) _ unreserved.1).0
+      let known = (no_case_of limits rows (Unreserve agent role resources) accepted).1 in
+      let some = known.1.1 in
+      can_move rows agent role resources (relabel role resources) (not-false (has_agent rows agent) known.0) known.1.0
+      (not-false (is_unreserved resources) some.1.0) some.1.1.0
 
 -- ---- a part that moves
 
@@ -415,9 +409,7 @@ found-with_total name made (b ∷ agents) a found = elim (cases_Bool (same_text 
 pub changed_agent_keeps_all : ChangedAgentKeepsAll
 unfolding effect
 changed_agent_keeps_all limits rows agent total row consistent right found accepted =
-    let none = (least_is_told limits rows (SetAgent agent total)).1 accepted in
-    let known = or_parts (not (has_agent rows agent)) _ (or_parts (is_full limits rows) _ none).1 in
-    let all = (or_parts (is_below_held rows agent total) _ known.1).0 in (
+    let all = (no_case_of limits rows (SetAgent agent total) accepted).1.1.0 in (
       refl,
       found-with_total agent (λ old. total) rows.agents row found,
       names-with_total rows agent (λ old. total),

@@ -1,40 +1,25 @@
 -- The step, refused and not.
 use Rattle.std.specs.Prelude.{◌≡◌, ◌+◌, suc, Bool, true, false, not, ◌||◌, List, [], ◌∷◌, map, Some, None, Contains, nat_lt, nat_le}
-use Rattle.std.specs.List.{list_all, list_any}
+use Rattle.std.specs.List.{list_all, AllByRecursion}
 use Rattle.std.proofs.Common.{refl, ap, subst, ◌∙◌, arith}
 use Rattle.std.proofs.Math.Bool.{or-true}
 use Rattle.std.proofs.lemmas.Bool.{and_parts, and_from}
 use Rattle.std.proofs.lemmas.Bool.Decides.{nat_tests}
+use Rattle.drf_bundle.specs.ListLaws.{any_fails}
 use Rattle.drf_rows.specs.LimitNumbers.{LimitNumbers}
 use Rattle.drf_rows.specs.Step.{first_case, cases_of, refusal_of, effect, answer, rows_after, reply_to}
 use Rattle.drf_row_laws.specs.Laws.{is_rising, CasesRise, LeastIsTold}
 use Rattle.drf_rows.specs.Refusal.{refusal_number}
 use Rattle.drf_rows.specs.declared.event.Event.{Event}
-use Rattle.drf_rows.specs.declared.event.Event.TheVariants.{AddAgent, RemoveAgent, ActivateAgent, DeactivateAgent, SetAgent, AddFramework, RemoveFramework, Accept, Decline, Rescind, Finish, Suppress, Revive, Reserve, Unreserve, SetWeight, SetLimit, Cycle, Report}
+use Rattle.drf_rows.specs.declared.event.Event.TheVariants.{AddAgent}
 use Rattle.drf_rows.specs.declared.reply.Refusal.{Refusal}
 use Rattle.drf_rows.specs.declared.reply.Reply.TheVariants.{Refused}
 use Rattle.drf_rows.specs.declared.rows.Rows.{Rows}
 
+-- the first clause has each event looked at
 pub cases_rise : CasesRise
 cases_rise limits rows (AddAgent agent total) = refl
-cases_rise limits rows (RemoveAgent agent) = refl
-cases_rise limits rows (ActivateAgent agent) = refl
-cases_rise limits rows (DeactivateAgent agent) = refl
-cases_rise limits rows (SetAgent agent total) = refl
-cases_rise limits rows (AddFramework framework roles) = refl
-cases_rise limits rows (RemoveFramework framework) = refl
-cases_rise limits rows (Accept a) = refl
-cases_rise limits rows (Decline d) = refl
-cases_rise limits rows (Rescind offer) = refl
-cases_rise limits rows (Finish framework task) = refl
-cases_rise limits rows (Suppress framework role) = refl
-cases_rise limits rows (Revive framework role) = refl
-cases_rise limits rows (Reserve agent role resources) = refl
-cases_rise limits rows (Unreserve agent role resources) = refl
-cases_rise limits rows (SetWeight role weight) = refl
-cases_rise limits rows (SetLimit role limit) = refl
-cases_rise limits rows (Cycle at) = refl
-cases_rise limits rows Report = refl
+cases_rise limits rows event = refl
 
 -- ---- the first of some cases that rise is the least that holds
 
@@ -65,16 +50,23 @@ least_first ((false, q) ∷ cases) refusal rise found =
     let later = least_first cases refusal parts.1 found in
     ((suc later.0.0, omega (arith, later.0.1), later.0.2), later.1)
 
-none_first : (cases : List (Bool × Refusal)) → first_case cases ≡ None → list_any (λ c. c.0) cases ≡ false
-none_first [] none = refl
-none_first ((true, q) ∷ cases) none = cc
-none_first ((false, q) ∷ cases) none = none_first cases none
+-- ---- no case of an event that is not refused
+
+pub no_case : (cases : List (Bool × Refusal)) → first_case cases ≡ None → AllByRecursion (λ c. c.0 ≡ false) cases
+no_case [] none = tt
+no_case ((true, r) ∷ cases) none = cc
+no_case ((false, r) ∷ cases) none = (refl, no_case cases none)
+
+pub no_case_of : (limits : LimitNumbers) (rows : Rows) (event : Event) → refusal_of limits rows event ≡ None
+    → AllByRecursion (λ c. c.0 ≡ false) (cases_of limits rows event)
+unfolding refusal_of
+no_case_of limits rows event none = no_case (cases_of limits rows event) none
 
 pub least_is_told : LeastIsTold
 unfolding refusal_of
 least_is_told limits rows event = (
   λ refusal found. least_first (cases_of limits rows event) refusal (cases_rise limits rows event) found,
-  λ none. none_first (cases_of limits rows event) none,
+  λ none. any_fails (λ c. c.0) (cases_of limits rows event) (no_case (cases_of limits rows event) none),
 )
 
 -- ---- the step

@@ -1,7 +1,6 @@
 -- What an event that sets a weight changes: the weight of its role, and no other. Weights stay in their range.
-use Rattle.std.specs.Prelude.{◌≡◌, ℕ, ◌+◌, ◌≤◌, Bool, true, false, not, nat_le, IsTrue, List, [], ◌∷◌, map, Option, Some, None}
+use Rattle.std.specs.Prelude.{◌≡◌, ℕ, ◌≤◌, Bool, true, false, not, nat_le, IsTrue, List, [], ◌∷◌, map, Some}
 use Rattle.std.specs.List.{find, AllByRecursion}
-use Rattle.std.specs.Option.{option_map_or}
 use Rattle.std.proofs.Common.{refl, sym, ap, subst, ◌∙◌, inl, inr, arith}
 use Rattle.std.proofs.lemmas.Bool.{cases_Bool, and_parts, and_from, leb-true}
 use Rattle.drf_role.specs.Path.{Path, same_path}
@@ -10,16 +9,12 @@ use Rattle.drf_role.specs.Role.{IsRole}
 use Rattle.drf_rows.specs.Held.{weight_of}
 use Rattle.drf_rows.specs.Weights.{is_weight, are_weights, weights_with}
 use Rattle.drf_rows.specs.LimitNumbers.{LimitNumbers}
-use Rattle.drf_rows.specs.Cycle.{at_moment}
-use Rattle.drf_rows.specs.Offers.{offer_at, offer_accepted, offer_declined}
-use Rattle.drf_row_laws.specs.OthersLaws.{cycle_only_offers}
-use Rattle.drf_rows.specs.Step.{opening, refusal_of, effect, rows_after, rows_after_all}
+use Rattle.drf_row_laws.specs.FrameLaws.{only_changed, step_keeps}
+use Rattle.drf_rows.specs.Step.{opening, effect, rows_after, rows_after_all}
 use Rattle.drf_rows.specs.Consistent.{are_distinct_roles, IsConsistent}
 use Rattle.drf_bundle.specs.ListLaws.{none_has}
 use Rattle.drf_rows.specs.declared.event.Event.{Event}
-use Rattle.drf_rows.specs.declared.event.Event.TheVariants.{AddAgent, RemoveAgent, ActivateAgent, DeactivateAgent, SetAgent, AddFramework, RemoveFramework, Accept, Decline, Rescind, Finish, Suppress, Revive, Reserve, Unreserve, SetWeight, SetLimit, Cycle, Report}
-use Rattle.drf_rows.specs.declared.reply.Refusal.{Refusal}
-use Rattle.drf_rows.specs.declared.rows.OfferRow.{OfferRow}
+use Rattle.drf_rows.specs.declared.event.Event.TheVariants.{SetWeight}
 use Rattle.drf_rows.specs.declared.rows.WeightRow.{WeightRow}
 use Rattle.drf_rows.specs.declared.rows.Rows.{Rows}
 
@@ -198,46 +193,13 @@ each_has_one_row rows role weight consistent = distinct-with role weight rows.we
 rows_stay_apart : (rows : Rows) (event : Event) → are_distinct_roles (weighed_roles rows) ≡ true
     → are_distinct_roles (weighed_roles (effect rows event)) ≡ true
 unfolding effect
-rows_stay_apart rows (AddAgent agent total) apart = apart
-rows_stay_apart rows (RemoveAgent agent) apart = apart
-rows_stay_apart rows (ActivateAgent agent) apart = apart
-rows_stay_apart rows (DeactivateAgent agent) apart = apart
-rows_stay_apart rows (SetAgent agent total) apart = apart
-rows_stay_apart rows (AddFramework framework roles) apart = apart
-rows_stay_apart rows (RemoveFramework framework) apart = apart
-rows_stay_apart rows (Accept a) apart = by (offer_at rows a.offer)
-  where
-    by : (f : Option OfferRow)
-        → are_distinct_roles (weighed_roles (option_map_or (λ o. offer_accepted (at_moment rows a.at) o a.tasks a.refuse_ms) f rows)) ≡ true
-    by None = apart
-    by (Some o) = apart
-rows_stay_apart rows (Decline d) apart = by (offer_at rows d.offer)
-  where
-    by : (f : Option OfferRow)
-        → are_distinct_roles (weighed_roles (option_map_or (λ o. offer_declined (at_moment rows d.at) o d.refuse_ms) f rows)) ≡ true
-    by None = apart
-    by (Some o) = apart
-rows_stay_apart rows (Rescind offer) apart = apart
-rows_stay_apart rows (Finish framework task) apart = apart
-rows_stay_apart rows (Suppress framework role) apart = apart
-rows_stay_apart rows (Revive framework role) apart = apart
-rows_stay_apart rows (Reserve agent role resources) apart = apart
-rows_stay_apart rows (Unreserve agent role resources) apart = apart
 rows_stay_apart rows (SetWeight role weight) apart = distinct-with role weight rows.weights apart
-rows_stay_apart rows (SetLimit role limit) apart = apart
-rows_stay_apart rows (Cycle at) apart =
-    ap (λ (r : Rows). are_distinct_roles (weighed_roles r)) (cycle_only_offers rows at).nothing_else ∙ apart
-rows_stay_apart rows Report apart = apart
+rows_stay_apart rows event apart = ap (λ (r : Rows). are_distinct_roles (weighed_roles r)) (only_changed rows event) ∙ apart
 
 step_apart : (limits : LimitNumbers) (rows : Rows) (event : Event) → are_distinct_roles (weighed_roles rows) ≡ true
     → are_distinct_roles (weighed_roles (rows_after limits rows event)) ≡ true
-unfolding rows_after
-step_apart limits rows event apart = by (refusal_of limits rows event)
-  where
-    by : (f : Option Refusal)
-        → are_distinct_roles (weighed_roles (option_map_or (λ refusal. rows) f (record (effect rows event) { events = rows.events + 1 }))) ≡ true
-    by None = rows_stay_apart rows event apart
-    by (Some refusal) = apart
+step_apart limits rows event apart =
+    step_keeps (λ r. are_distinct_roles (weighed_roles r) ≡ true) limits rows event apart (rows_stay_apart rows event apart)
 
 run_apart : (limits : LimitNumbers) (rows : Rows) (events : List Event) → are_distinct_roles (weighed_roles rows) ≡ true
     → are_distinct_roles (weighed_roles (rows_after_all limits rows events)) ≡ true

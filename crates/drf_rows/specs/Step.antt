@@ -98,46 +98,30 @@ is_too_large total = list_any (λ e. nat_lt LARGEST_AMOUNT e.amount) (quantities
 abbrev pub first_case : List (Bool × Refusal) → Option Refusal
 first_case cases = option_map (λ c. c.1) (find (λ c. c.0) cases)
 
--- the cases in which an event is refused, by their numbers
-abbrev pub cases_of : LimitNumbers → Rows → Event → List (Bool × Refusal)
-cases_of limits rows (AddAgent agent total) =
-    (is_full limits rows, HistoryFull)
-    ∷ (has_agent rows agent, KnownAgent)
+-- the cases in which an event is refused, by their numbers, behind the one that all events share
+abbrev pub own_cases_of : LimitNumbers → Rows → Event → List (Bool × Refusal)
+own_cases_of limits rows (AddAgent agent total) =
+    (has_agent rows agent, KnownAgent)
     ∷ (is_too_large total, TooLarge)
     ∷ (too_many_agents limits (with_agent rows agent total), TooMany)
     ∷ []
-cases_of limits rows (RemoveAgent agent) =
-    (is_full limits rows, HistoryFull)
-    ∷ (not (has_agent rows agent), UnknownAgent)
-    ∷ []
-cases_of limits rows (ActivateAgent agent) =
-    (is_full limits rows, HistoryFull)
-    ∷ (not (has_agent rows agent), UnknownAgent)
-    ∷ []
-cases_of limits rows (DeactivateAgent agent) =
-    (is_full limits rows, HistoryFull)
-    ∷ (not (has_agent rows agent), UnknownAgent)
-    ∷ []
-cases_of limits rows (SetAgent agent total) =
-    (is_full limits rows, HistoryFull)
-    ∷ (not (has_agent rows agent), UnknownAgent)
+own_cases_of limits rows (RemoveAgent agent) = (not (has_agent rows agent), UnknownAgent) ∷ []
+own_cases_of limits rows (ActivateAgent agent) = (not (has_agent rows agent), UnknownAgent) ∷ []
+own_cases_of limits rows (DeactivateAgent agent) = (not (has_agent rows agent), UnknownAgent) ∷ []
+own_cases_of limits rows (SetAgent agent total) =
+    (not (has_agent rows agent), UnknownAgent)
     ∷ (is_below_held rows agent total, NotCovered)
     ∷ (is_too_large total, TooLarge)
     ∷ (too_many_names limits (with_other_total rows agent total), TooMany)
     ∷ []
-cases_of limits rows (AddFramework framework roles) =
-    (is_full limits rows, HistoryFull)
-    ∷ (has_framework rows framework, KnownFramework)
+own_cases_of limits rows (AddFramework framework roles) =
+    (has_framework rows framework, KnownFramework)
     ∷ (is_empty roles, Empty)
     ∷ (too_many_frameworks limits rows roles, TooMany)
     ∷ []
-cases_of limits rows (RemoveFramework framework) =
-    (is_full limits rows, HistoryFull)
-    ∷ (not (has_framework rows framework), UnknownFramework)
-    ∷ []
-cases_of limits rows (Accept a) =
-    (is_full limits rows, HistoryFull)
-    ∷ (nat_lt LATEST_MOMENT a.at, BadMoment)
+own_cases_of limits rows (RemoveFramework framework) = (not (has_framework rows framework), UnknownFramework) ∷ []
+own_cases_of limits rows (Accept a) =
+    (nat_lt LATEST_MOMENT a.at, BadMoment)
     ∷ (not (has_framework rows a.framework), UnknownFramework)
     ∷ (not (has_offer rows a.offer), UnknownOffer)
     ∷ (is_anothers rows a.framework a.offer, NotYours)
@@ -146,65 +130,55 @@ cases_of limits rows (Accept a) =
     ∷ (is_beyond rows a.offer a.tasks, NotCovered)
     ∷ (accept_is_too_much limits rows a, TooMany)
     ∷ []
-cases_of limits rows (Decline d) =
-    (is_full limits rows, HistoryFull)
-    ∷ (nat_lt LATEST_MOMENT d.at, BadMoment)
+own_cases_of limits rows (Decline d) =
+    (nat_lt LATEST_MOMENT d.at, BadMoment)
     ∷ (not (has_framework rows d.framework), UnknownFramework)
     ∷ (not (has_offer rows d.offer), UnknownOffer)
     ∷ (is_anothers rows d.framework d.offer, NotYours)
     ∷ (decline_is_too_much limits rows d, TooMany)
     ∷ []
-cases_of limits rows (Rescind offer) =
-    (is_full limits rows, HistoryFull)
-    ∷ (not (has_offer rows offer), UnknownOffer)
-    ∷ []
-cases_of limits rows (Finish framework task) =
-    (is_full limits rows, HistoryFull)
-    ∷ (not (has_framework rows framework), UnknownFramework)
+own_cases_of limits rows (Rescind offer) = (not (has_offer rows offer), UnknownOffer) ∷ []
+own_cases_of limits rows (Finish framework task) =
+    (not (has_framework rows framework), UnknownFramework)
     ∷ (not (has_task rows framework task), UnknownTask)
     ∷ []
-cases_of limits rows (Suppress framework role) =
-    (is_full limits rows, HistoryFull)
-    ∷ (not (has_framework rows framework), UnknownFramework)
+own_cases_of limits rows (Suppress framework role) =
+    (not (has_framework rows framework), UnknownFramework)
     ∷ (not (is_in_role rows framework role), NotInRole)
     ∷ []
-cases_of limits rows (Revive framework role) =
-    (is_full limits rows, HistoryFull)
-    ∷ (not (has_framework rows framework), UnknownFramework)
+own_cases_of limits rows (Revive framework role) =
+    (not (has_framework rows framework), UnknownFramework)
     ∷ (not (is_in_role rows framework role), NotInRole)
     ∷ []
-cases_of limits rows (Reserve agent role resources) =
-    (is_full limits rows, HistoryFull)
-    ∷ (not (has_agent rows agent), UnknownAgent)
+own_cases_of limits rows (Reserve agent role resources) =
+    (not (has_agent rows agent), UnknownAgent)
     ∷ (is_default role, DefaultRole)
     ∷ (is_empty resources, Empty)
     ∷ (not (is_unreserved resources), NotUnreserved)
     ∷ (is_not_free rows agent resources, NotCovered)
     ∷ (not (admits rows role (quantities_of resources)), OverLimit)
     ∷ []
-cases_of limits rows (Unreserve agent role resources) =
-    (is_full limits rows, HistoryFull)
-    ∷ (not (has_agent rows agent), UnknownAgent)
+own_cases_of limits rows (Unreserve agent role resources) =
+    (not (has_agent rows agent), UnknownAgent)
     ∷ (is_default role, DefaultRole)
     ∷ (is_empty resources, Empty)
     ∷ (not (is_unreserved resources), NotUnreserved)
     ∷ (is_not_free rows agent (relabel role resources), NotCovered)
     ∷ []
-cases_of limits rows (SetWeight role weight) =
-    (is_full limits rows, HistoryFull)
-    ∷ (not (is_weight weight), BadWeight)
+own_cases_of limits rows (SetWeight role weight) =
+    (not (is_weight weight), BadWeight)
     ∷ (too_many_weights limits rows role, TooMany)
     ∷ []
-cases_of limits rows (SetLimit role limit) =
-    (is_full limits rows, HistoryFull)
-    ∷ (is_default role, DefaultRole)
+own_cases_of limits rows (SetLimit role limit) =
+    (is_default role, DefaultRole)
     ∷ (too_many_limits limits rows role limit, TooMany)
     ∷ []
-cases_of limits rows (Cycle at) =
-    (is_full limits rows, HistoryFull)
-    ∷ (nat_lt LATEST_MOMENT at, BadMoment)
-    ∷ []
-cases_of limits rows event.Report = (is_full limits rows, HistoryFull) ∷ []
+own_cases_of limits rows (Cycle at) = (nat_lt LATEST_MOMENT at, BadMoment) ∷ []
+own_cases_of limits rows event.Report = []
+
+-- the cases of an event by their numbers: no event is counted in a full history
+abbrev pub cases_of : LimitNumbers → Rows → Event → List (Bool × Refusal)
+cases_of limits rows event = (is_full limits rows, HistoryFull) ∷ own_cases_of limits rows event
 
 -- why an event is refused, if it is; where several cases hold, the least number is told
 unfoldable pub refusal_of : LimitNumbers → Rows → Event → Option Refusal

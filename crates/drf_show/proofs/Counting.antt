@@ -11,7 +11,7 @@ use Rattle.drf_rows.specs.Holdings.{Holding, of_offer, of_task}
 use Rattle.drf_rows.specs.Quota.{consumption_where, held_unreserved, is_within, reserved_for, unreserved_in}
 use Rattle.drf_rows.specs.declared.rows.LimitRow.{LimitRow}
 use Rattle.drf_rows.specs.declared.rows.Rows.{Rows}
-use Rattle.drf_gates.specs.Quota.{Usage, used_at, used_where}
+use Rattle.drf_gates.specs.Quota.{IsConsumptionOf, Usage, used_at}
 use Rattle.drf_show.specs.Consuming.{limit_line_by, used_of}
 use Rattle.drf_show.specs.Shown.{limit_line}
 
@@ -35,10 +35,9 @@ used_more used role entries now new i e inside is so_far added =
     ∙ (λ j. add (so_far j) (is j))
     ∙ sym (ap (used_of used role) (take_more entries i e inside) ∙ fold-append add [] (take i entries) (get_or entries i e ∷ []))
 
--- a line by what a quota counts is that of the rows
+-- a line by what is consumed is that of the rows
 pub limit_line_is : (rows : Rows) (used : List Usage) (l : LimitRow)
-    → ((test : Path → Bool) (label : Text) → used_where test used label ≡ consumption_where test rows label)
-    → limit_line_by used l ≡ limit_line rows l
+    → IsConsumptionOf rows used → limit_line_by used l ≡ limit_line rows l
 limit_line_is rows used l same = λ i. record {
   role = l.role;
   limit = l.limit;

@@ -1,5 +1,5 @@
--- What a quota counts, and what limits have beside it.
-use Rattle.std.specs.Prelude.{◌≡◌, ℕ, ◌+◌, ◌≤◌, ◌<◌, ◌^◌, Bool, List, [], fold, length}
+-- What roles consume, and what limits have beside it.
+use Rattle.std.specs.Prelude.{◌≤◌, ◌<◌, ◌^◌, List, [], fold, length}
 use Rattle.drf_role.specs.Text.{Text}
 use Rattle.drf_role.specs.Path.{Path}
 use Rattle.drf_bundle.specs.Quantities.{with_amount}
@@ -8,7 +8,7 @@ use Rattle.drf_rows.specs.Consistent.{IsConsistent}
 use Rattle.drf_rows.specs.Held.{clients_of}
 use Rattle.drf_rows.specs.declared.rows.LimitRow.{LimitRow}
 use Rattle.drf_rows.specs.declared.rows.Rows.{Rows}
-use Rattle.drf_gates.specs.Quota.{Allowance, Usage, used_at, used_where}
+use Rattle.drf_gates.specs.Quota.{Usage, used_at}
 use Rattle.drf_show.specs.declared.limits.LimitLine.{LimitLine}
 
 -- the rows are consistent, and few, so that sums fit
@@ -17,11 +17,6 @@ pub record IsFit (rows : Rows) : Type 0 where
   pub agents : length rows.agents ≤ 4096
   pub next_offer : rows.next_offer < 2 ^ 64
   pub clients : length (clients_of rows) < 2 ^ 64
-
--- the roles that pass a test consume so much more of a scalar
-abbrev pub AreRaisedBy : Allowance → Allowance → ((Path → Bool) → Text → ℕ) → Type 0
-AreRaisedBy old new more =
-    (test : Path → Bool) (label : Text) → used_where test new.used label ≡ used_where test old.used label + more test label
 
 -- what a role consumes of each scalar that a limit names, by what is counted
 abbrev pub used_of : List Usage → Path → List Entry → List Entry

@@ -4,116 +4,119 @@ ghost use Rattle.drf_role.specs.Text.{Text};
 ghost use Rattle.drf_role.specs.Path.{Path};
 ghost use Rattle.drf_rows.specs.Holdings.{of_offer, of_task};
 ghost use Rattle.drf_rows.specs.Quota.{consumption_where, held_unreserved, reserved_for};
-ghost use Rattle.drf_gates.specs.Quota.{used_where};
-ghost use Rattle.drf_show.specs.Consuming.{AreRaisedBy, limit_line_by, used_of};
+ghost use Rattle.drf_gates.specs.Quota.{IsConsumptionOf, IsRaisedBy, used_where};
+ghost use Rattle.drf_show.specs.Consuming.{limit_line_by, used_of};
 ghost use Rattle.drf_show.specs.Shown.{limit_lines};
 
 use crate::limits::LimitLine;
 use drf_bundle::Quantities;
-use drf_gates::Quota;
+use drf_gates::{Consumption, QuotaLimits};
 use drf_role::Role;
 use drf_rows::{AgentRow, LimitRow, OfferRow, Rows, TaskRow};
 use std::alloc::{AllocError, Global};
 
-/// A quota with the limits of roles, by which it keeps what these consume.
-fn quota_under(alloc: Global, limits: &[LimitRow]) -> Result<Quota, AllocError>
-    ensures { IfOk result (λ quota. quota.used ≡ []) }
+/// Nothing is consumed yet. Totals of the roles that have a limit will be kept.
+fn none_under(alloc: Global, limits: &[LimitRow]) -> Result<Consumption, AllocError>
+    ensures { IfOk result (λ consumption. consumption ≡ []) }
 {
-    let mut quota = Quota::new(alloc);
-    for limit in limits {
-        quota.set_limit(limit.role.copy()?, limit.limit.copy()?)?;
+    let mut kept = QuotaLimits::new(alloc);
+    for row in limits {
+        kept.set(&row.role, row.limit.copy()?)?;
     }
-    Ok(quota)
+    Ok(Consumption::new(alloc, &kept))
 }
 
 /// What clients consume by offers.
-fn consume_offers(quota: &mut Quota, offers: &[OfferRow]) -> Result<(), AllocError>
+fn consume_offers(consumption: &mut Consumption, offers: &[OfferRow]) -> Result<(), AllocError>
     requires { (test : Path → Bool) (label : Text)
-        → used_where test quota.old.used label + held_unreserved test (map of_offer offers.now) label < 2 ^ 64 }
-    ensures { OnOk result (AreRaisedBy quota.old quota.new (λ test label. held_unreserved test (map of_offer offers.now) label)) }
+        → used_where test consumption.old label + held_unreserved test (map of_offer offers.now) label < 2 ^ 64 }
+    ensures { OnOk result (IsRaisedBy consumption.old consumption.new (λ test label. held_unreserved test (map of_offer offers.now) label)) }
 {
     for offer in offers {
-        quota.consume_unreserved(&offer.role, &offer.bundle)?;
+        consumption.consume_unreserved(&offer.role, &offer.bundle)?;
     }
     Ok(())
 }
 
 /// What clients consume by tasks.
-fn consume_tasks(quota: &mut Quota, tasks: &[TaskRow]) -> Result<(), AllocError>
+fn consume_tasks(consumption: &mut Consumption, tasks: &[TaskRow]) -> Result<(), AllocError>
     requires { (test : Path → Bool) (label : Text)
-        → used_where test quota.old.used label + held_unreserved test (map of_task tasks.now) label < 2 ^ 64 }
-    ensures { OnOk result (AreRaisedBy quota.old quota.new (λ test label. held_unreserved test (map of_task tasks.now) label)) }
+        → used_where test consumption.old label + held_unreserved test (map of_task tasks.now) label < 2 ^ 64 }
+    ensures { OnOk result (IsRaisedBy consumption.old consumption.new (λ test label. held_unreserved test (map of_task tasks.now) label)) }
 {
     for task in tasks {
-        quota.consume_unreserved(&task.role, &task.bundle)?;
+        consumption.consume_unreserved(&task.role, &task.bundle)?;
     }
     Ok(())
 }
 
 /// What is consumed by what agents have reserved.
-fn consume_agents(quota: &mut Quota, agents: &[AgentRow]) -> Result<(), AllocError>
+fn consume_agents(consumption: &mut Consumption, agents: &[AgentRow]) -> Result<(), AllocError>
     requires { (test : Path → Bool) (label : Text)
-        → used_where test quota.old.used label + reserved_for test agents.now label < 2 ^ 64 }
-    ensures { OnOk result (AreRaisedBy quota.old quota.new (λ test label. reserved_for test agents.now label)) }
+        → used_where test consumption.old label + reserved_for test agents.now label < 2 ^ 64 }
+    ensures { OnOk result (IsRaisedBy consumption.old consumption.new (λ test label. reserved_for test agents.now label)) }
 {
     for agent in agents {
-        quota.consume_reserved(&agent.total)?;
+        consumption.consume_reserved(&agent.total)?;
     }
     Ok(())
 }
 
 /// What roles consume by the rows.
-fn quota_of(alloc: Global, rows: &Rows) -> Result<Quota, AllocError>
+fn consumption_of(alloc: Global, rows: &Rows) -> Result<Consumption, AllocError>
     requires { (test : Path → Bool) (label : Text) → consumption_where test rows.now label < 2 ^ 64 }
-    ensures { IfOk result (λ quota. (test : Path → Bool) (label : Text)
-        → used_where test quota.used label ≡ consumption_where test rows.now label) }
+    ensures { IfOk result (IsConsumptionOf rows.now) }
 {
-    let mut quota = quota_under(alloc, rows.limits.as_slice())?;
-    consume_offers(&mut quota, rows.offers.as_slice())?;
-    consume_tasks(&mut quota, rows.tasks.as_slice())?;
-    consume_agents(&mut quota, rows.agents.as_slice())?;
-    Ok(quota)
+    let mut consumption = none_under(alloc, rows.limits.as_slice())?;
+    consume_offers(&mut consumption, rows.offers.as_slice())?;
+    consume_tasks(&mut consumption, rows.tasks.as_slice())?;
+    consume_agents(&mut consumption, rows.agents.as_slice())?;
+    Ok(consumption)
 }
 
 /// What a role consumes of the scalars that its limit names.
 fn consumed(
     alloc: Global,
-    quota: &Quota,
+    consumption: &Consumption,
     role: &Role,
     limit: &Quantities,
 ) -> Result<Quantities, AllocError>
-    ensures { IfOk result (λ amounts. amounts ≡ used_of quota.now.used role.now limit.now) }
+    ensures { IfOk result (λ amounts. amounts ≡ used_of consumption.now role.now limit.now) }
 {
     let mut amounts = Quantities::empty(alloc);
     let entries = limit.entries();
     for entry in entries {
-        let amount = quota.consumption(role, entry.label.text());
+        let amount = consumption.amount(role, entry.label.text());
         amounts.set(entry.label.copy()?, amount)?;
     }
     Ok(amounts)
 }
 
-fn limit_line(alloc: Global, quota: &Quota, row: &LimitRow) -> Result<LimitLine, AllocError>
-    ensures { IfOk result (λ line. line ≡ limit_line_by quota.now.used row.now) }
+fn limit_line(
+    alloc: Global,
+    consumption: &Consumption,
+    row: &LimitRow,
+) -> Result<LimitLine, AllocError>
+    ensures { IfOk result (λ line. line ≡ limit_line_by consumption.now row.now) }
 {
     Ok(LimitLine {
         role: row.role.copy()?,
         limit: row.limit.copy()?,
-        consumed: consumed(alloc, quota, &row.role, &row.limit)?,
+        consumed: consumed(alloc, consumption, &row.role, &row.limit)?,
     })
 }
 
-/// The lines of limits, by what a quota counts.
+/// The lines of limits, by what is consumed.
 fn lines_under(
     alloc: Global,
-    quota: &Quota,
+    consumption: &Consumption,
     limits: &[LimitRow],
 ) -> Result<Vec<LimitLine>, AllocError>
-    ensures { IfOk result (λ lines. lines.items ≡ map (limit_line_by quota.now.used) limits.now) }
+    ensures { IfOk result (λ lines. lines.items ≡ map (limit_line_by consumption.now) limits.now) }
 {
     let mut lines = Vec::with_capacity(alloc, limits.len())?;
     for row in limits {
-        lines.push(limit_line(alloc, quota, row)?)?;
+        lines.push(limit_line(alloc, consumption, row)?)?;
     }
     Ok(lines)
 }
@@ -123,6 +126,6 @@ pub(crate) fn limit_lines(alloc: Global, rows: &Rows) -> Result<Vec<LimitLine>, 
     requires { (test : Path → Bool) (label : Text) → consumption_where test rows.now label < 2 ^ 64 }
     ensures { IfOk result (λ lines. lines.items ≡ limit_lines rows.now) }
 {
-    let quota = quota_of(alloc, rows)?;
-    lines_under(alloc, &quota, rows.limits.as_slice())
+    let consumption = consumption_of(alloc, rows)?;
+    lines_under(alloc, &consumption, rows.limits.as_slice())
 }

@@ -1,7 +1,7 @@
 //! Rows that have a line.
-ghost use Rattle.std.specs.Prelude.{◌≡◌, ◌++◌, OnOk};
+ghost use Rattle.std.specs.Prelude.{OnOk};
 ghost use Rattle.drf_lines.specs.StateLine.{row_line};
-ghost use Rattle.drf_lines.specs.Written.{KeepsFront};
+ghost use Rattle.drf_lines.specs.Written.{AppendsText};
 ghost use Rattle.drf_saved.specs.declared.saved.SavedRow.TheVariants.{Agent, Filter, Framework, Limit, Offer, Task, Weight};
 ghost use Rattle.drf_state.specs.Read.{IsRead};
 
@@ -20,8 +20,7 @@ pub(crate) trait Lined {
 
     /// Adds its line, without a line feed.
     fn push(&self, text: &mut Vec<u8>) -> Result<(), AllocError>
-        ensures ok { OnOk result (text.new.items ≡ text.old.items ++ row_line (saved self.now)) }
-        ensures front { KeepsFront text.old.items text.new.items }
+        ensures appends { AppendsText result text.old.items text.new.items (row_line (saved self.now)) }
         ensures read { OnOk result (IsRead (saved self.now)) };
 }
 

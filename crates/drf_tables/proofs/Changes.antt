@@ -31,7 +31,7 @@ use Rattle.drf_tables.proofs.Known.{rows-with_active, known-with_active}
 -- the rows with other agents, frameworks and filters
 abbrev pub rows_but : Inside → List (Text × Agent) → List (Text × Vec ClientRow) → List FilterRow → Rows
 rows_but t agents frameworks filters =
-    rows_of agents frameworks t.holdings filters t.weights.entries t.quota.limits t.clock t.next_offer t.events
+    rows_of agents frameworks t.holdings filters t.weights.entries t.limits t.clock t.next_offer t.events
 
 module _ (t : Inside) (kept : AreDerived (rows_in t) t.agents.entries t.total t.clients) where
   -- the names of agents are distinct, and those of frameworks

@@ -13,9 +13,8 @@ use Rattle.drf_rows.specs.declared.rows.FrameworkRow.{FrameworkRow}
 use Rattle.drf_role.specs.Path.{Path}
 use Rattle.drf_rows.specs.declared.rows.FilterRow.{FilterRow}
 use Rattle.drf_rows.specs.declared.rows.LimitRow.{LimitRow}
-use Rattle.drf_gates.specs.Quota.{Allowance, IsAllowanceOf, IsSame}
 use Rattle.drf_holdings.specs.Stored.{OffersAndTasks}
-use Rattle.drf_tables.specs.Inside.{CountsIf, agent_row, framework_row, framework_rows, rows_in, rows_of, weight_rows}
+use Rattle.drf_tables.specs.Inside.{agent_row, framework_row, framework_rows, rows_in, rows_of, weight_rows}
 use Rattle.drf_rows.specs.declared.rows.Rows.{Rows}
 use Rattle.drf_tables.specs.declared.tables.Agent.{Agent}
 use Rattle.drf_tables.specs.declared.tables.Tables.TheInside.{Inside}
@@ -87,7 +86,7 @@ framework_copied whole copied new rest name clients copy distinct split same put
 pub rows-copied : (t : Inside) (agents : List (Text × Agent)) (frameworks : List (Text × Vec ClientRow)) (holdings : OffersAndTasks)
     (filters : List FilterRow) (weights : List (Path × ℕ)) (limits : List LimitRow)
     → agents ≡ t.agents.entries → framework_rows frameworks ≡ framework_rows t.frameworks.entries → holdings ≡ t.holdings
-    → filters ≡ t.filters → weights ≡ t.weights.entries → limits ≡ t.quota.limits
+    → filters ≡ t.filters → weights ≡ t.weights.entries → limits ≡ t.limits
     → rows_of agents frameworks holdings filters weights limits t.clock t.next_offer t.events ≡ rows_in t
 unfolding rows_of
 rows-copied t agents frameworks holdings filters weights limits agents_are frameworks_are held filters_are weights_are limits_are =
@@ -103,13 +102,3 @@ rows-copied t agents frameworks holdings filters weights limits agents_are frame
       next_offer = t.next_offer;
       events = t.events;
     }
-
--- and a copied quota counts what they say
-pub counts-copied : (counted : Bool) (old new : Rows) (quota copy : Allowance) → new ≡ old → IsSame quota copy
-    → CountsIf counted old quota → CountsIf counted new copy
-counts-copied counted old new quota copy rows same counts is =
-    let before = counts is in
-    subst (λ (r : Rows). IsAllowanceOf r copy) (sym rows) (record {
-      limits = same.limits ∙ before.limits;
-      used = λ test label. same.used test label ∙ before.used test label;
-    })

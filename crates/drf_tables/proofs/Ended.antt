@@ -45,7 +45,7 @@ pub record IsWithoutOne (old new : Rows) (ending : Ending) (h : Holding) : Type 
 
 -- the rows with other holdings
 abbrev pub rows_with : Inside → OffersAndTasks → Rows
-rows_with t held = rows_of t.agents.entries t.frameworks.entries held t.filters t.weights.entries t.quota.limits t.clock t.next_offer t.events
+rows_with t held = rows_of t.agents.entries t.frameworks.entries held t.filters t.weights.entries t.limits t.clock t.next_offer t.events
 
 module _ (t : Inside) (held : OffersAndTasks) (ending : Ending) (taken : Taken) (consistent : IsConsistent (rows_in t)) where
   lost_offer : IsOfferOut ending t.holdings held (holding_of taken) → IsWithoutOne (rows_in t) (rows_with t held) ending (holding_of taken)
@@ -163,7 +163,7 @@ module _ (t : Inside) (entries : List (Text × Agent)) (held : OffersAndTasks) (
     (added : filters ≡ t.filters ++ option_map_or (λ f. f ∷ []) refused []) where
   -- the rows with all that changed
   abbrev pub rows_accepted : Rows
-  rows_accepted = rows_of entries t.frameworks.entries held filters t.weights.entries t.quota.limits t.clock t.next_offer t.events
+  rows_accepted = rows_of entries t.frameworks.entries held filters t.weights.entries t.limits t.clock t.next_offer t.events
 
   pub same_offer : x ≡ o
   unfolding rows_of
@@ -221,7 +221,7 @@ module _ (t : Inside) (entries : List (Text × Agent)) (held : OffersAndTasks) (
     (lost : IsOfferOut ending t.holdings held (holding_of taken) ⊎ IsTaskOut ending t.holdings held (holding_of taken)) where
   -- the rows without it
   abbrev pub rows_ended : Rows
-  rows_ended = rows_of entries t.frameworks.entries held t.filters t.weights.entries t.quota.limits t.clock t.next_offer t.events
+  rows_ended = rows_of entries t.frameworks.entries held t.filters t.weights.entries t.limits t.clock t.next_offer t.events
 
   same_rows : rows_with t held ≡ rows_ended
   unfolding rows_of

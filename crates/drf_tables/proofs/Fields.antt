@@ -1,11 +1,10 @@
 -- The rows that the fields of tables stand for, before and after each change.
-use Rattle.std.specs.Prelude.{◌≡◌, ℕ, ◌+◌, ◌*◌, ◌<◌, ◌≤◌, ◌^◌, Bool, true, false, if◌then◌else◌, find, List, [], ◌∷◌, ◌++◌, length, map, fold, slice_get, Option, Some, None, is_some, IfSome}
+use Rattle.std.specs.Prelude.{◌≡◌, ℕ, ◌+◌, ◌*◌, ◌<◌, ◌≤◌, ◌^◌, Bool, true, false, List, [], ◌∷◌, ◌++◌, length, map, fold, slice_get, Some, is_some}
 use Rattle.std.specs.List.{AllByRecursion}
-use Rattle.std.specs.Option.{option_map}
 use Rattle.std.specs.Global.{Vec}
+use Rattle.std.specs.Option.{option_map}
 use Rattle.std.specs.Map.{lookup, values_of}
-use Rattle.std.proofs.Common.{refl, sym, ap, ◌∙◌, zero, suc, inl, inr, arith}
-use Rattle.std.proofs.lemmas.Bool.{cases_Bool}
+use Rattle.std.proofs.Common.{refl, sym, ap, ◌∙◌, zero, suc, arith}
 use Rattle.std.proofs.lemmas.List.{map-append}
 use Rattle.indexmap.specs.IndexMap.{insert_entry}
 use Rattle.drf_role.specs.Text.{Text, same_text}
@@ -17,9 +16,8 @@ use Rattle.drf_bundle.specs.declared.quantities.Entry.{Entry}
 use Rattle.drf_rows.specs.Held.{cluster_total}
 use Rattle.drf_rows.specs.Cycle.{free_of}
 use Rattle.drf_rows.specs.Members.{has_agent, has_framework}
-use Rattle.drf_rows.specs.Consistent.{IsAgent}
-use Rattle.drf_row_laws.specs.ConsistentLaws.{same_text-swap}
 use Rattle.drf_rows.specs.Totals.{agent_at as found_agent}
+use Rattle.drf_rows.specs.Consistent.{IsAgent}
 use Rattle.drf_row_laws.specs.RegistrationLaws.{agent_added, framework_added}
 use Rattle.drf_rows.specs.declared.limits.TheConstants.{LARGEST_AMOUNT}
 use Rattle.drf_rows.specs.declared.rows.AgentRow.{AgentRow}
@@ -30,14 +28,13 @@ use Rattle.drf_tables.specs.Drafts.{with_offers}
 use Rattle.drf_tables.specs.DraftLaws.{offers_added, with_offers-added}
 use Rattle.drf_tables.specs.Counting.{counting_all}
 use Rattle.drf_tables.specs.Inside.{agent_row, framework_row, framework_rows, rows_of, rows_in, IsKnown}
-use Rattle.drf_tables.specs.Registered.{first_place}
 use Rattle.drf_rows.specs.Holdings.{holdings_of}
 use Rattle.drf_bundle.specs.ListLaws.{each_at}
 use Rattle.drf_bundle.specs.declared.resource.Resource.{Resource}
 use Rattle.drf_holdings.specs.Stored.{OffersAndTasks}
 use Rattle.drf_tables.specs.declared.tables.Agent.{Agent}
 use Rattle.drf_tables.specs.declared.tables.Tables.TheInside.{Inside}
-use Rattle.drf_tables.proofs.Entries.{known-lookup, insert_entry-new}
+use Rattle.drf_tables.proofs.Entries.{known-lookup, found-lookup, insert_entry-new}
 
 -- ---- an agent by its place
 
@@ -50,15 +47,6 @@ active_at (e ∷ agents) zero v a value row =
     (λ i. (sym same i).active) ∙ (λ i. (read i).active)
 active_at (e ∷ agents) (suc i) v a value row = active_at agents i v a value row
 
-pub total_at : (agents : List (Text × Agent)) (i : ℕ) (v : Agent) (a : AgentRow)
-    → slice_get (values_of agents) i ≡ Some v → slice_get (map agent_row agents) i ≡ Some a → v.total ≡ a.total
-total_at [] i v a value row = cc
-total_at (e ∷ agents) zero v a value row =
-    let same : e.1 ≡ v = cc in
-    let read : agent_row e ≡ a = cc in
-    (λ i. (sym same i).total) ∙ (λ i. (read i).total)
-total_at (e ∷ agents) (suc i) v a value row = total_at agents i v a value row
-
 pub name_at : (agents : List (Text × Agent)) (i : ℕ) (e : Text × Agent) (a : AgentRow)
     → slice_get agents i ≡ Some e → slice_get (map agent_row agents) i ≡ Some a → e.0 ≡ a.name
 name_at [] i e a at row = cc
@@ -67,39 +55,6 @@ name_at (f ∷ agents) zero e a at row =
     let read : agent_row f ≡ a = cc in
     (λ i. (sym same i).0) ∙ (λ i. (read i).name)
 name_at (f ∷ agents) (suc i) e a at row = name_at agents i e a at row
-
--- the row at the place of a name is the agent's
-place_row : (name : Text) (agents : List (Text × Agent)) (i : ℕ) → first_place name agents ≡ Some i
-    → slice_get (map agent_row agents) i ≡ find (λ a. same_text a.name name) (map agent_row agents)
-place_row name [] i is = cc
-place_row name (e ∷ agents) i is = elim (cases_Bool (same_text name e.0)) [
-  | inl here ↦
-      let first : ◌≡◌ {A = Option ℕ} (Some zero) (Some i) =
-      sym (ap (λ (b : Bool). if b then Some zero else option_map (λ j. suc j) (first_place name agents)) here) ∙ is in
-      let none : zero ≡ i = cc in
-      rw (same_text-swap e.0 name ∙ here) (ap (λ (n : ℕ). slice_get (map agent_row (e ∷ agents)) n) (sym none))
-  | inr past ↦
-      let later : option_map (λ j. suc j) (first_place name agents) ≡ Some i =
-      sym (ap (λ (b : Bool). if b then Some zero else option_map (λ j. suc j) (first_place name agents)) past) ∙ is in
-      rw (same_text-swap e.0 name ∙ past) (next (λ j at. place_row name agents j at) (first_place name agents) refl i later)
-]
-  where
-    next : ((j : ℕ) → first_place name agents ≡ Some j → slice_get (map agent_row agents) j ≡ find (λ a. same_text a.name name) (map agent_row agents))
-        → (o : Option ℕ) → first_place name agents ≡ o → (i : ℕ) → option_map (λ j. suc j) o ≡ Some i
-        → slice_get (map agent_row (e ∷ agents)) i ≡ find (λ a. same_text a.name name) (map agent_row agents)
-    next row None at i is = cc
-    next row (Some j) at i is =
-        let same : suc j ≡ i = cc in
-        ap (λ (n : ℕ). slice_get (map agent_row (e ∷ agents)) n) (sym same) ∙ row j at
-
-pub row_at_place : (rows : Rows) (name : Text) (agents : List (Text × Agent)) (place : Option ℕ) → rows.agents ≡ map agent_row agents
-    → place ≡ first_place name agents
-    → IfSome place (λ i. slice_get rows.agents i ≡ found_agent rows name)
-row_at_place rows name agents None same is = tt
-row_at_place rows name agents (Some i) same is =
-    ap (λ (rs : List AgentRow). slice_get rs i) same
-    ∙ place_row name agents i (sym is)
-    ∙ ap (find (λ (a : AgentRow). same_text a.name name)) (sym same)
 
 pub agent_at : (agents : List (Text × Agent)) (i : ℕ) (v : Agent) (a : AgentRow)
     → slice_get (values_of agents) i ≡ Some v → slice_get (map agent_row agents) i ≡ Some a
@@ -130,6 +85,11 @@ module _ (t : Inside) where
   unfolding rows_of
   has_agent-rows_in name = known-lookup (λ a. a.name) agent_row name t.agents.entries (λ e. refl)
 
+  pub agent_at-rows_in : (name : Text)
+      → found_agent (rows_in t) name ≡ option_map (λ a. agent_row (name, a)) (lookup (same_text name) t.agents.entries)
+  unfolding rows_of
+  agent_at-rows_in name = found-lookup agent_row (λ a. a.name) name t.agents.entries (λ e. refl)
+
   pub has_framework-rows_in : (name : Text)
       → has_framework (rows_in t) name ≡ is_some (lookup (same_text name) t.frameworks.entries)
   unfolding rows_of
@@ -138,7 +98,7 @@ module _ (t : Inside) where
   -- an agent that is added comes last
   module _ (entries : List (Text × Agent)) (name : Text) (a : Agent) (last_agent : entries ≡ t.agents.entries ++ (name, a) ∷ []) where
     pub rows_of-agent : a.active ≡ true
-        → rows_of entries t.frameworks.entries t.holdings t.filters t.weights.entries t.quota.limits t.clock t.next_offer t.events
+        → rows_of entries t.frameworks.entries t.holdings t.filters t.weights.entries t.limits t.clock t.next_offer t.events
         ≡ agent_added (rows_in t) name a.total
     unfolding rows_of
     rows_of-agent active =
@@ -152,7 +112,7 @@ module _ (t : Inside) where
   -- and so does a framework
   pub rows_of-framework : (entries : List (Text × Vec ClientRow)) (name : Text) (v : Vec ClientRow)
       → has_framework (rows_in t) name ≡ false → entries ≡ insert_entry same_text t.frameworks.entries name v
-      → rows_of t.agents.entries entries t.holdings t.filters t.weights.entries t.quota.limits t.clock t.next_offer t.events
+      → rows_of t.agents.entries entries t.holdings t.filters t.weights.entries t.limits t.clock t.next_offer t.events
       ≡ framework_added (rows_in t) (framework_row (name, v))
   unfolding rows_of
   rows_of-framework entries name v new inserted =
@@ -166,7 +126,7 @@ module _ (t : Inside) where
       → map agent_row entries ≡ map agent_row t.agents.entries
       → framework_rows counted ≡ counting_all (framework_rows t.frameworks.entries) made
       → held.offers ≡ t.holdings.offers ++ made → held.tasks ≡ t.holdings.tasks
-      → rows_of entries counted held t.filters t.weights.entries t.quota.limits t.clock (t.next_offer + length made) t.events
+      → rows_of entries counted held t.filters t.weights.entries t.limits t.clock (t.next_offer + length made) t.events
       ≡ with_offers (rows_in t) made
   unfolding rows_of
   rows_of-offers entries counted held made agents frameworks offers tasks =

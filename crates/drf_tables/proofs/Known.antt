@@ -2,12 +2,12 @@
 use Rattle.std.specs.Prelude.{◌≡◌, ℕ, ◌+◌, Bool, true, false, List, [], ◌∷◌, map, length, slice_get, slice_set, Option, Some, None, is_some, if◌then◌else◌}
 use Rattle.std.specs.List.{list_any, AllByRecursion}
 use Rattle.std.specs.Map.{lookup, keys_of, values_of}
-use Rattle.std.proofs.Common.{refl, sym, ap, ◌∙◌, zero, suc, add-one, arith}
-use Rattle.std.proofs.lemmas.Bool.{and_parts, and_from}
+use Rattle.std.proofs.Common.{refl, sym, ap, subst, ◌∙◌, zero, suc, inl, inr, add-one, arith}
+use Rattle.std.proofs.lemmas.Bool.{cases_Bool, and_parts, and_from}
 use Rattle.std.proofs.lemmas.List.{map-id}
 use Rattle.indexmap.specs.IndexMap.{set_value_at}
 use Rattle.drf_role.specs.Text.{Text, same_text}
-use Rattle.drf_role.specs.TextLaws.{same_itself}
+use Rattle.drf_role.specs.TextLaws.{same_from_test, same_itself}
 use Rattle.drf_bundle.specs.Taken.{rest_of_all}
 use Rattle.drf_bundle.specs.declared.resource.Resource.{Resource}
 use Rattle.drf_rows.specs.Consistent.{are_distinct}
@@ -18,12 +18,14 @@ use Rattle.drf_bundle.specs.ListLaws.{each_from, each_map}
 use Rattle.drf_rows.specs.Members.{active_at}
 use Rattle.drf_rows.specs.declared.rows.AgentRow.{AgentRow}
 use Rattle.drf_rows.specs.declared.rows.Rows.{Rows}
+use Rattle.drf_holdings.specs.Stored.{holdings_in}
 use Rattle.drf_tables.specs.Changing.{changed, with_active, are_settled}
 use Rattle.drf_tables.specs.Drafts.{frees_after}
-use Rattle.drf_tables.specs.Inside.{agent_row, frees_in, known_after, is_settled, IsKnown}
+use Rattle.drf_tables.specs.Inside.{agent_row, frees_in, known_after, is_settled, rows_in, rows_of, IsKnown}
 use Rattle.drf_tables.specs.Registered.{with_free_at}
 use Rattle.drf_tables.specs.declared.tables.Agent.{Agent}
 use Rattle.drf_tables.specs.declared.tables.Left.{Left}
+use Rattle.drf_tables.specs.declared.tables.Tables.TheInside.{Inside}
 use Rattle.drf_tables.proofs.Entries.{known-lookup, names-keys, changed_at, unknown_stay}
 
 -- ---- the entry of one name changes
@@ -95,20 +97,67 @@ known-with_active hs name active es known =
 
 -- ---- what is known of all
 
--- where all is known, it is what is free
-pub frees-settled : (rows : Rows) (es : List (Text × Agent)) → is_settled es ≡ true → AllByRecursion (IsKnown (holdings_of rows)) es
-    → frees_in es ≡ map (λ f. Some f) (map (free_of rows) (map agent_row es))
+-- what is known is what is free
+free-settled : (rows : Rows) (e : Text × Agent) → is_some e.1.free ≡ true → IsKnown (holdings_of rows) e
+    → e.1.free ≡ Some (free_of rows (agent_row e))
 unfolding free_of
-frees-settled rows [] all known = refl
-frees-settled rows (e ∷ es) all known =
-    let parts = and_parts (is_some e.1.free) (is_settled es) all in
-    let head : e.1.free ≡ Some (free_of rows (agent_row e)) = by e.1.free known.0 parts.0 in
-    λ i. head i ∷ frees-settled rows es parts.1 known.1 i
+free-settled rows e some known = by e.1.free known some
   where
     by : (free : Option (List Resource)) → ((x : List Resource) → free ≡ Some x → x ≡ free_of rows (agent_row e))
         → is_some free ≡ true → free ≡ Some (free_of rows (agent_row e))
     by (Some x) is some = λ i. Some (is x refl i)
     by None is some = cc
+
+-- where all is known
+pub frees-settled : (rows : Rows) (es : List (Text × Agent)) → is_settled es ≡ true → AllByRecursion (IsKnown (holdings_of rows)) es
+    → frees_in es ≡ map (λ f. Some f) (map (free_of rows) (map agent_row es))
+frees-settled rows [] all known = refl
+frees-settled rows (e ∷ es) all known =
+    let parts = and_parts (is_some e.1.free) (is_settled es) all in
+    let head = free-settled rows e parts.0 known.0 in
+    λ i. head i ∷ frees-settled rows es parts.1 known.1 i
+
+-- of the one that is found
+pub known_found : (hs : List Holding) (name : Text) (es : List (Text × Agent)) (a : Agent)
+    → AllByRecursion (IsKnown hs) es → lookup (same_text name) es ≡ Some a → IsKnown hs (name, a)
+known_found hs name [] a known found = cc
+known_found hs name (e ∷ es) a known found =
+    let tested : Bool → Option Agent = λ b. if b then Some e.1 else lookup (same_text name) es in
+    elim (cases_Bool (same_text name e.0)) [
+      | inl same ↦
+          let first : ◌≡◌ {A = Option Agent} (Some e.1) (Some a) = sym (ap tested same) ∙ found in
+          let its : e.1 ≡ a = cc in
+          subst (λ (f : Text × Agent). IsKnown hs f) (λ i. (sym (same_from_test name e.0 same) i, its i)) known.0
+      | inr other ↦ known_found hs name es a known.1 (sym (ap tested other) ∙ found)
+    ]
+
+module _ (t : Inside) (name : Text) (a : Agent) where
+  pub known_in : AllByRecursion (IsKnown (holdings_of (rows_in t))) t.agents.entries → lookup (same_text name) t.agents.entries ≡ Some a
+      → IsKnown (holdings_in t.holdings) (name, a)
+  unfolding rows_of
+  known_in known found = known_found (holdings_in t.holdings) name t.agents.entries a known found
+
+  -- what is left of its total is free
+  pub left_free : rest_of_all a.total (parts_on name (holdings_in t.holdings)) ≡ free_of (rows_in t) (agent_row (name, a))
+  unfolding free_of rows_of
+  left_free = refl
+
+-- and what is free there, where all is known
+pub free_found : (rows : Rows) (name : Text) (es : List (Text × Agent)) (a : Agent) → is_settled es ≡ true
+    → AllByRecursion (IsKnown (holdings_of rows)) es → lookup (same_text name) es ≡ Some a
+    → a.free ≡ Some (free_of rows (agent_row (name, a)))
+free_found rows name [] a all known found = cc
+free_found rows name (e ∷ es) a all known found =
+    let parts = and_parts (is_some e.1.free) (is_settled es) all in
+    let tested : Bool → Option Agent = λ b. if b then Some e.1 else lookup (same_text name) es in
+    elim (cases_Bool (same_text name e.0)) [
+      | inl same ↦
+          let first : ◌≡◌ {A = Option Agent} (Some e.1) (Some a) = sym (ap tested same) ∙ found in
+          let its : e.1 ≡ a = cc in
+          subst (λ (f : Text × Agent). f.1.free ≡ Some (free_of rows (agent_row f)))
+          (λ i. (sym (same_from_test name e.0 same) i, its i)) (free-settled rows e parts.0 known.0)
+      | inr other ↦ free_found rows name es a parts.1 known.1 (sym (ap tested other) ∙ found)
+    ]
 
 -- where the free parts are known, all are
 pub settled-frees : (es : List (Text × Agent)) (frees : List (List Resource)) → frees_in es ≡ map (λ f. Some f) frees

@@ -32,12 +32,13 @@ use Rattle.drf_rows.specs.Totals.{CanExchange, total_at, with_total, with_other_
 use Rattle.drf_row_laws.specs.TotalsLaws.{if_named, can_in_total, IsConsistent-exchanged, free_of-exchanged, cluster_total-exchanged, cluster_total-other_total}
 use Rattle.drf_rows.specs.declared.rows.AgentRow.{AgentRow}
 use Rattle.drf_rows.specs.declared.rows.Rows.{Rows}
-use Rattle.drf_gates.specs.Quota.{Allowance, IsAllowanceOf, IsRaisedBy, used_where}
+use Rattle.drf_gates.specs.Quota.{IsConsumptionOf, IsRaisedBy, Usage, used_where}
 use Rattle.drf_tables.specs.Changing.{CanExchangeOn, CanHaveTotal, CanExchangeAt, HasOther, changed, other_free, with_exchanged, with_other}
 use Rattle.drf_tables.specs.Inside.{agent_row, rows_of, rows_in, IsKnown, AreDerived, IsWhole}
 use Rattle.drf_tables.specs.declared.tables.Agent.{Agent}
 use Rattle.drf_tables.specs.declared.tables.Tables.TheInside.{Inside}
 use Rattle.drf_tables.proofs.Changes.{rows_but}
+use Rattle.drf_tables.proofs.Counts.{counts-same}
 use Rattle.drf_tables.proofs.Fields.{total_fits}
 use Rattle.drf_tables.proofs.Kept.{AreDerived-same}
 use Rattle.drf_tables.proofs.Known.{rows-each}
@@ -49,26 +50,14 @@ each_entry P (e ∷ es) all = (all.0, each_entry P es all.1)
 
 -- ---- a limit is set
 
-module _ (t : Inside) (whole : IsWhole t) (role : Path) (limit : List Entry) (other : is_default role ≡ false) (valid : IsRole role) where
-  abbrev quota_set : Allowance
-  quota_set = record t.quota { limits = limits_with t.quota.limits role limit }
-
-  abbrev rows_set : Rows
-  rows_set = record (rows_in t) { limits = limits_with (rows_in t).limits role limit }
-
-  whole_set : IsWhole (record t { quota = quota_set })
-  unfolding rows_of
-  whole_set = record {
-    kept = AreDerived-same (rows_in t) rows_set t.agents.entries t.total t.clients whole.kept
-        (IsConsistent-limit_set (rows_in t) role limit other valid whole.kept.consistent) refl refl refl;
-    consumed = λ is. record { limits = refl; used = (whole.consumed is).used };
-  }
-
-  -- whether it was, or memory was wanting
-  pub limit-set : {T E : Type 0} (result : Result T E) (new : Allowance) → OnOk result (new ≡ quota_set) → OnErr result (new ≡ t.quota)
-      → IsWhole (record t { quota = new })
-  limit-set (Ok x) new set same = subst (λ (q : Allowance). IsWhole (record t { quota = q })) (sym set) whole_set
-  limit-set (Err e) new set same = subst (λ (q : Allowance). IsWhole (record t { quota = q })) (sym same) whole
+pub limit-set : (t : Inside) → IsWhole t → (role : Path) (limit : List Entry) → is_default role ≡ false → IsRole role
+    → IsWhole (record t { limits = limits_with t.limits role limit })
+unfolding rows_of
+limit-set t whole role limit other valid = record {
+  kept = AreDerived-same (rows_in t) (record (rows_in t) { limits = limits_with (rows_in t).limits role limit }) t.agents.entries t.total t.clients
+      whole.kept (IsConsistent-limit_set (rows_in t) role limit other valid whole.kept.consistent) refl refl refl;
+  consumed = counts-same (rows_in t) _ t.consumption whole.consumed refl (λ test label. refl);
+}
 
 -- ---- a part is exchanged
 
@@ -275,21 +264,18 @@ module _ (t : Inside) (kept : AreDerived (rows_in t) t.agents.entries t.total t.
 
 -- counted from nothing, one part after another
 pub counted-all : (t : Inside) (kept : AreDerived (rows_in t) t.agents.entries t.total t.clients)
-    (none one two three : Allowance)
-    → none ≡ record t.quota { used = [] }
+    (none one two three : List Usage)
+    → none ≡ []
     → IsRaisedBy none one (λ test label. held_unreserved test (map of_offer t.holdings.offers) label)
     → IsRaisedBy one two (λ test label. held_unreserved test (map of_task t.holdings.tasks) label)
     → IsRaisedBy two three (λ test label. reserved_for test (map agent_row t.agents.entries) label)
-    → IsAllowanceOf (rows_in t) three
-unfolding rows_of
-counted-all t kept none one two three forgot first second third = record {
-  limits = third.limits ∙ second.limits ∙ first.limits ∙ ap (λ (a : Allowance). a.limits) forgot;
-  used = λ test label. omega (
-    arith,
-    third.used test label,
-    second.used test label,
-    first.used test label,
-    ap (λ (a : Allowance). used_where test a.used label) forgot,
-    all_consumed t kept test label,
-  );
-}
+    → IsConsumptionOf (rows_in t) three
+counted-all t kept none one two three forgot first second third = λ test label.
+    omega (
+      arith,
+      third test label,
+      second test label,
+      first test label,
+      ap (λ (us : List Usage). used_where test us label) forgot,
+      all_consumed t kept test label,
+    )

@@ -1,12 +1,12 @@
 -- The tables once an offer or a task is put back.
-use Rattle.std.specs.Prelude.{◌≡◌, Bool, true, false, not, List, [], ◌∷◌, ◌++◌, find, map, Option, Some, None}
+use Rattle.std.specs.Prelude.{◌≡◌, Bool, true, false, not, List, [], ◌∷◌, ◌++◌, map, Option, Some, None}
 use Rattle.std.specs.List.{list_all, list_any}
 use Rattle.std.specs.Option.{option_map, option_map_or}
 use Rattle.std.proofs.Common.{refl, sym, ap, subst, ◌∙◌}
-use Rattle.std.proofs.lemmas.Bool.{and_parts, not-true, or_from, or_parts}
+use Rattle.std.proofs.lemmas.Bool.{and_parts, not-true, or_from}
 use Rattle.std.proofs.lemmas.List.Folds.{list_all-append}
 use Rattle.drf_role.specs.Path.{Path}
-use Rattle.drf_role.specs.Text.{Text, same_text}
+use Rattle.drf_role.specs.Text.{Text}
 use Rattle.drf_bundle.specs.Bundle.{covers, part_for, rest}
 use Rattle.drf_bundle.specs.declared.resource.Resource.{Resource}
 use Rattle.drf_rows.specs.Consistent.{are_distinct_tasks, IsConsistent, IsHeld}
@@ -15,7 +15,6 @@ use Rattle.drf_rows.specs.Endings.{is_task}
 use Rattle.drf_rows.specs.Holdings.{Holding, holdings_of, of_offer, of_task}
 use Rattle.drf_rows.specs.Members.{has_agent}
 use Rattle.drf_row_laws.specs.EndingLaws.{IsOneLess, is_task-swap, one-one_less}
-use Rattle.drf_row_laws.specs.ReservationLaws.{found_known}
 use Rattle.drf_rows.specs.Totals.{agent_at}
 use Rattle.drf_rows.specs.declared.rows.AgentRow.{AgentRow}
 use Rattle.drf_saved.specs.Saved.{is_usable}
@@ -61,25 +60,17 @@ new_task (t ∷ ts) x apart =
 
 -- ---- what is usable
 
-module _ (rows : Rows) (name : Text) (role : Path) (bundle : List Resource) where
-  abbrev tested : Option AgentRow → Bool
-  tested found = option_map_or (λ a. covers (part_for role (free_of rows a)) bundle) found false
-
-  pub usable-unknown : has_agent rows name ≡ false → false ≡ is_usable rows name role bundle
-  usable-unknown absent = sym (ap tested (not_there rows.agents absent))
-    where
-      not_there : (agents : List AgentRow) → list_any (λ a. same_text a.name name) agents ≡ false → find (λ a. same_text a.name name) agents ≡ None
-      not_there [] none = refl
-      not_there (a ∷ agents) none =
-          let parts = or_parts (same_text a.name name) (list_any (λ a. same_text a.name name) agents) none in
-          rw parts.0 (not_there agents parts.1)
-
-  pub usable-known : (free : List Resource) → has_agent rows name ≡ true
-      → ((a : AgentRow) → agent_at rows name ≡ Some a → free ≡ free_of rows a)
-      → covers (part_for role free) bundle ≡ is_usable rows name role bundle
-  usable-known free known is_free =
-      let at = found_known rows name known in
-      ap (λ (f : List Resource). covers (part_for role f) bundle) (is_free at.0 at.1) ∙ sym (ap tested at.1)
+-- that is asked of what is free on the agent, if it is there
+pub usable_free : (rows : Rows) (name : Text) (role : Path) (bundle : List Resource) (free : Option (List Resource))
+    → free ≡ option_map (free_of rows) (agent_at rows name)
+    → option_map_or (λ f. covers (part_for role f) bundle) free false ≡ is_usable rows name role bundle
+usable_free rows name role bundle free is =
+    ap (λ (o : Option (List Resource)). option_map_or (λ f. covers (part_for role f) bundle) o false) is ∙ by (agent_at rows name)
+  where
+    by : (found : Option AgentRow) → option_map_or (λ f. covers (part_for role f) bundle) (option_map (free_of rows) found) false
+        ≡ option_map_or (λ a. covers (part_for role (free_of rows a)) bundle) found false
+    by (Some a) = refl
+    by None = refl
 
 -- ---- what is left
 
@@ -91,7 +82,7 @@ left_held a part left is = λ i. record a { free = sym is i }
 module _ (t : Inside) (kept : AreDerived (rows_in t) t.agents.entries t.total t.clients) (entries : List (Text × Agent)) (held : OffersAndTasks) where
   -- the rows with other agents and holdings
   abbrev rows_now : Rows
-  rows_now = rows_of entries t.frameworks.entries held t.filters t.weights.entries t.quota.limits t.clock t.next_offer t.events
+  rows_now = rows_of entries t.frameworks.entries held t.filters t.weights.entries t.limits t.clock t.next_offer t.events
 
   module _ (o : OfferRow) (told : entries ≡ map (changed o.agent (with_held o.bundle)) t.agents.entries)
       (offers : held.offers ≡ t.holdings.offers ++ o ∷ []) (tasks : held.tasks ≡ t.holdings.tasks) where

@@ -1,11 +1,10 @@
 -- What roles consume, kept through each change of the rows.
-use Rattle.std.specs.Prelude.{◌≡◌, ℕ, ◌+◌, ◌<◌, ◌≤◌, ◌^◌, Bool, true, false, List, [], ◌∷◌, ◌++◌, map, Option, Some, Result, Ok, Err, OnOk, OnErr, length}
+use Rattle.std.specs.Prelude.{◌≡◌, ℕ, ◌+◌, ◌<◌, ◌≤◌, ◌^◌, Bool, true, false, List, [], ◌∷◌, ◌++◌, map, Option, Some, None, IfSome, length}
 use Rattle.std.specs.List.{AllByRecursion}
 use Rattle.std.specs.Map.{remove_entry}
 use Rattle.std.specs.Option.{option_map_or}
-use Rattle.std.specs.Result.{is_ok}
 use Rattle.std.proofs.Common.{refl, sym, ap, subst, ◌∙◌, cond, inl, inr, arith}
-use Rattle.std.proofs.lemmas.Bool.{cases_Bool, false≢true}
+use Rattle.std.proofs.lemmas.Bool.{cases_Bool}
 use Rattle.std.proofs.lemmas.List.Sums.{sum_by-append, sum_by-cons}
 use Rattle.drf_role.specs.Text.{Text, same_text}
 use Rattle.drf_role.specs.Path.{Path, same_path}
@@ -38,8 +37,8 @@ use Rattle.drf_rows.specs.declared.rows.AgentRow.{AgentRow}
 use Rattle.drf_rows.specs.declared.rows.FilterRow.{FilterRow}
 use Rattle.drf_rows.specs.declared.rows.OfferRow.{OfferRow}
 use Rattle.drf_rows.specs.declared.rows.Rows.{Rows}
-use Rattle.drf_gates.specs.Quota.{Allowance, IsAllowanceOf, IsRaisedBy, IsSame, used_by, used_where}
-use Rattle.drf_tables.specs.Inside.{agent_row, CountsIf}
+use Rattle.drf_gates.specs.Quota.{IsConsumptionOf, Usage, used_by, used_where}
+use Rattle.drf_tables.specs.Inside.{agent_row}
 use Rattle.drf_tables.specs.Recounting.{Amounts, CountsAll, IsRaisedIf, reserved_at}
 use Rattle.drf_tables.specs.declared.tables.Agent.{Agent}
 use Rattle.drf_tables.proofs.Fields.{sums_fit}
@@ -51,102 +50,109 @@ held_by test label h = cond (test h.client.role) (unreserved_in label h.bundle) 
 abbrev reserved_by : (Path → Bool) → Text → AgentRow → ℕ
 reserved_by test label a = reserved_in test label a.total
 
--- ---- a quota that counts
+-- ---- consumption that is counted
 
-module _ (counts : Bool) (old : Rows) (before : Allowance) (counted : CountsIf counts old before) where
-  -- what is consumed by the rows can be released
-  pub releases_fit : counts ≡ true → (test : Path → Bool) (label : Text) (less : ℕ)
-      → less ≤ consumption_where test old label → less ≤ used_where test before.used label
-  releases_fit is test label less fits = omega (arith, (counted is).used test label, fits)
+-- what holds of all that roles may consume by the rows holds of what is counted
+pub counted_so : (rows : Rows) (before : Option (List Usage)) → CountsAll rows before → (P : List Usage → Type 0)
+    → ((used : List Usage) → IsConsumptionOf rows used → P used) → IfSome before P
+counted_so rows None counted P so = tt
+counted_so rows (Some used) counted P so = so used counted.each
 
+-- more was counted, and something released
+pub counts-moved : (old : Rows) (before : Option (List Usage)) → CountsAll old before → (new : Rows) (mid after : Option (List Usage)) (more less : Amounts)
+    → IsRaisedIf before mid more → IsRaisedIf after mid less
+    → ((test : Path → Bool) (label : Text)
+    → consumption_where test new label + less test label ≡ consumption_where test old label + more test label)
+    → CountsAll new after
+counts-moved old before counted new mid None more less raised released moved = record { each = tt }
+counts-moved old before counted new None (Some a) more less raised released moved = absurd released
+counts-moved old None counted new (Some m) (Some a) more less raised released moved = absurd raised
+counts-moved old (Some b) counted new (Some m) (Some a) more less raised released moved =
+    record { each = λ test label. omega (arith, counted.each test label, raised test label, released test label, moved test label) }
+
+-- something was released, and more counted, if there was memory
+pub counts-replaced : (old : Rows) (before : Option (List Usage)) → CountsAll old before → (new : Rows) (mid after : Option (List Usage)) (less more : Amounts)
+    → IsRaisedIf mid before less → IfSome after (λ used. IsRaisedIf mid (Some used) more)
+    → ((test : Path → Bool) (label : Text)
+    → consumption_where test new label + less test label ≡ consumption_where test old label + more test label)
+    → CountsAll new after
+counts-replaced old before counted new mid None less more released raised moved = record { each = tt }
+counts-replaced old before counted new None (Some a) less more released raised moved = absurd raised
+counts-replaced old None counted new (Some m) (Some a) less more released raised moved = absurd released
+counts-replaced old (Some b) counted new (Some m) (Some a) less more released raised moved =
+    record { each = λ test label. omega (arith, counted.each test label, released test label, raised test label, moved test label) }
+
+-- nothing is consumed, or released
+pub raised_nothing : (consumption : Option (List Usage)) → IsRaisedIf consumption consumption (λ test label. 0)
+raised_nothing None = tt
+raised_nothing (Some used) = λ test label. omega arith
+
+module _ (old : Rows) (before : Option (List Usage)) (counted : CountsAll old before) where
   -- less is consumed, and as much was released
-  pub counts-released : (new : Rows) (after : Allowance) (less : Amounts)
-      → IsRaisedIf counts after before less → old.limits ≡ new.limits
+  pub counts-released : (new : Rows) (after : Option (List Usage)) (less : Amounts) → IsRaisedIf after before less
       → ((test : Path → Bool) (label : Text) → consumption_where test old label ≡ consumption_where test new label + less test label)
-      → CountsIf counts new after
-  counts-released new after less raised limits fewer is = record {
-    limits = sym raised.limits ∙ (counted is).limits ∙ limits;
-    used = λ test label. omega (arith, (counted is).used test label, raised.used is test label, fewer test label);
-  }
+      → CountsAll new after
+  counts-released new after less raised fewer =
+      counts-moved old before counted new before after (λ test label. 0) less (raised_nothing before) raised
+      (λ test label. omega (arith, fewer test label))
 
   -- more is consumed, and was counted
-  pub counts-consumed : (new : Rows) (after : Allowance) (more : Amounts)
-      → IsRaisedIf counts before after more → old.limits ≡ new.limits
+  pub counts-consumed : (new : Rows) (after : Option (List Usage)) (more : Amounts) → IsRaisedIf before after more
       → ((test : Path → Bool) (label : Text) → consumption_where test new label ≡ consumption_where test old label + more test label)
-      → CountsIf counts new after
-  counts-consumed new after more raised limits more_is is = record {
-    limits = raised.limits ∙ (counted is).limits ∙ limits;
-    used = λ test label. omega (arith, (counted is).used test label, raised.used is test label, more_is test label);
-  }
+      → CountsAll new after
+  counts-consumed new after more raised more_is =
+      by after raised
+    where
+      by : (a : Option (List Usage)) → IsRaisedIf before a more → CountsAll new a
+      by None raised' = record { each = tt }
+      by (Some a) raised' =
+          counts-replaced old before counted new before (Some a) (λ test label. 0) more (raised_nothing before) raised'
+          (λ test label. omega (arith, more_is test label))
 
   -- as much is consumed
-  pub counts-still : (after : Allowance) → IsSame before after → CountsIf counts old after
-  counts-still after same is = record {
-    limits = same.limits ∙ (counted is).limits;
-    used = λ test label. same.used test label ∙ (counted is).used test label;
-  }
+  pub counts-still : (after : Option (List Usage)) → IsRaisedIf before after (λ test label. 0) → CountsAll old after
+  counts-still after same = counts-consumed old after (λ test label. 0) same (λ test label. omega arith)
 
-  -- more was counted, and something released
-  pub counts-moved : (new : Rows) (mid after : Allowance) (more less : Amounts)
-      → IsRaisedIf counts before mid more → IsRaisedIf counts after mid less → old.limits ≡ new.limits
-      → ((test : Path → Bool) (label : Text)
-      → consumption_where test new label + less test label ≡ consumption_where test old label + more test label)
-      → CountsIf counts new after
-  counts-moved new mid after more less raised released limits moved is = record {
-    limits = sym released.limits ∙ raised.limits ∙ (counted is).limits ∙ limits;
-    used = λ test label. omega (arith, (counted is).used test label, raised.used is test label, released.used is test label, moved test label);
-  }
+  -- more was counted, and released again
+  pub counts-back : (mid after : Option (List Usage)) (more : Amounts) → IsRaisedIf before mid more → IsRaisedIf after mid more → CountsAll old after
+  counts-back mid after more raised released =
+      counts-moved old before counted old mid after more more raised released (λ test label. refl)
 
-  -- something was released, and more counted, if there was memory
-  pub counts-replaced : (new : Rows) (still : Bool) (mid after : Allowance) (less more : Amounts)
-      → IsRaisedIf counts mid before less → (still ≡ true → counts ≡ true) → IsRaisedIf still mid after more → old.limits ≡ new.limits
-      → ((test : Path → Bool) (label : Text)
-      → consumption_where test new label + less test label ≡ consumption_where test old label + more test label)
-      → CountsIf still new after
-  counts-replaced new still mid after less more released first raised limits moved is = record {
-    limits = raised.limits ∙ sym released.limits ∙ (counted (first is)).limits ∙ limits;
-    used = λ test label.
-        omega (
-          arith,
-          (counted (first is)).used test label,
-          released.used (first is) test label,
-          raised.used is test label,
-          moved test label,
-        );
-  }
-
-  -- and it could be counted
-  pub replaces_fit : (new : Rows) (mid : Allowance) (less more : Amounts) → IsRaisedIf counts mid before less → counts ≡ true
+  -- what is released is replaced
+  pub replaces_fit : (new : Rows) (mid : Option (List Usage)) (less more : Amounts) → IsRaisedIf mid before less
       → ((test : Path → Bool) (label : Text)
       → consumption_where test new label + less test label ≡ consumption_where test old label + more test label)
       → ((test : Path → Bool) (label : Text) → consumption_where test new label < 2 ^ 64)
-      → (test : Path → Bool) (label : Text) → used_where test mid.used label + more test label < 2 ^ 64
-  replaces_fit new mid less more released is moved fits test label =
-      omega (arith, (counted is).used test label, released.used is test label, moved test label, fits test label)
-
-  -- more was counted, and released again
-  pub counts-back : (mid after : Allowance) (more : Amounts) → IsRaisedIf counts before mid more → IsRaisedIf counts after mid more
-      → CountsIf counts old after
-  counts-back mid after more raised released is = record {
-    limits = sym released.limits ∙ raised.limits ∙ (counted is).limits;
-    used = λ test label. omega (arith, (counted is).used test label, raised.used is test label, released.used is test label);
-  }
+      → IfSome mid (λ used. (test : Path → Bool) (label : Text) → used_where test used label + more test label < 2 ^ 64)
+  replaces_fit new mid less more released moved fits = by before counted mid released
+    where
+      by : (b : Option (List Usage)) → CountsAll old b → (m : Option (List Usage)) → IsRaisedIf m b less
+          → IfSome m (λ used. (test : Path → Bool) (label : Text) → used_where test used label + more test label < 2 ^ 64)
+      by b counted' None released' = tt
+      by None counted' (Some m) released' = absurd released'
+      by (Some b) counted' (Some m) released' =
+          λ test label. omega (arith, counted'.each test label, released' test label, moved test label, fits test label)
 
   -- so much more can be counted
-  pub adds_counted : counts ≡ true → (test : Path → Bool) (label : Text) (more : ℕ)
-      → IsConsistent old → length old.agents ≤ 4096 → more ≤ LARGEST_AMOUNT → used_where test before.used label + more < 2 ^ 64
-  adds_counted is test label more consistent few small =
+  pub adds_counted : (more : Amounts) → IsConsistent old → length old.agents ≤ 4096
+      → ((test : Path → Bool) (label : Text) → more test label ≤ LARGEST_AMOUNT)
+      → IfSome before (λ used. (test : Path → Bool) (label : Text) → used_where test used label + more test label < 2 ^ 64)
+  adds_counted more consistent few small =
+      counted_so old before counted (λ used. (test : Path → Bool) (label : Text) → used_where test used label + more test label < 2 ^ 64)
+      (λ used its test label.
       omega (
         arith,
-        (counted is).used test label,
+        its test label,
         consumption_is_part_of_total test old label consistent,
-        sums_fit old.agents label more consistent.agents.each few small,
-      )
+        sums_fit old.agents label (more test label) consistent.agents.each few (small test label),
+      ))
 
 -- what was counted can be released
-pub raised_fits : (counts : Bool) (before mid : Allowance) (more : Amounts) → IsRaisedIf counts before mid more → counts ≡ true
-    → (test : Path → Bool) (label : Text) → more test label ≤ used_where test mid.used label
-raised_fits counts before mid more raised is test label = omega (arith, raised.used is test label)
+pub raised_fits : (before mid : Option (List Usage)) (more : Amounts) → IsRaisedIf before mid more
+    → IfSome mid (λ used. (role : Path) (label : Text) → more (same_path role) label ≤ used_by used role label)
+raised_fits before None more raised = tt
+raised_fits None (Some m) more raised = absurd raised
+raised_fits (Some b) (Some m) more raised = λ role label. omega (arith, raised (same_path role) label)
 
 -- ---- a holding ends
 
@@ -163,22 +169,23 @@ consumption-one_less old new h less same test label =
       ap (λ (agents : List AgentRow). reserved_for test agents label) same,
     )
 
-module _ (counts : Bool) (old new : Rows) (before : Allowance) (h : Holding) (counted : CountsIf counts old before)
+module _ (old new : Rows) (before : Option (List Usage)) (h : Holding) (counted : CountsAll old before)
     (less : IsOneLess (holdings_of old) (holdings_of new) h) (same : old.agents ≡ new.agents) where
-  pub ending_fits : counts ≡ true → (label : Text) → unreserved_in label h.bundle ≤ used_by before.used h.client.role label
-  ending_fits is label =
+  pub ending_fits : IfSome before (λ used. (label : Text) → unreserved_in label h.bundle ≤ used_by used h.client.role label)
+  ending_fits =
       let role = h.client.role in
-      releases_fit counts old before counted is (same_path role) label (unreserved_in label h.bundle)
-      (omega (
+      counted_so old before counted (λ used. (label : Text) → unreserved_in label h.bundle ≤ used_by used role label) (λ used its label.
+      omega (
         arith,
+        its (same_path role) label,
         consumption-one_less old new h less same (same_path role) label,
         ap (λ b. cond b (unreserved_in label h.bundle) 0) (same_path_itself role),
       ))
 
-  pub counts-ended : (after : Allowance) → IsRaisedIf counts after before (λ test label. cond (test h.client.role) (unreserved_in label h.bundle) 0)
-      → old.limits ≡ new.limits → CountsIf counts new after
-  counts-ended after raised limits =
-      counts-released counts old before counted new after (λ test label. cond (test h.client.role) (unreserved_in label h.bundle) 0) raised limits
+  pub counts-ended : (after : Option (List Usage)) → IsRaisedIf after before (λ test label. cond (test h.client.role) (unreserved_in label h.bundle) 0)
+      → CountsAll new after
+  counts-ended after raised =
+      counts-released old before counted new after (λ test label. cond (test h.client.role) (unreserved_in label h.bundle) 0) raised
       (consumption-one_less old new h less same)
 
 -- ---- parts of an offer are tasks
@@ -232,7 +239,7 @@ module _ (rows : Rows) (number : ℕ) (o : OfferRow) (starts : List Start) (filt
       plus false n m = refl
 
 -- what they leave of it is released
-module _ (counts : Bool) (rows : Rows) (before : Allowance) (counted : CountsIf counts rows before)
+module _ (rows : Rows) (before : Option (List Usage)) (counted : CountsAll rows before)
     (number : ℕ) (o x : OfferRow) (starts : List Start) (left : List Resource)
     (consistent : IsConsistent rows) (found : offer_at rows number ≡ Some o)
     (bundles : AllByRecursion IsBundle (uses starts)) (can : CanStart rows o starts)
@@ -244,21 +251,22 @@ module _ (counts : Bool) (rows : Rows) (before : Allowance) (counted : CountsIf 
       → less_held test label ≡ cond (test o.role) (unreserved_in label (rest_of_all o.bundle (uses starts))) 0
   told_as test label = λ i. cond (test (same i).role) (unreserved_in label (rest_is i)) 0
 
-  pub accept_fits : counts ≡ true → (label : Text) → unreserved_in label left ≤ used_by before.used x.role label
-  accept_fits is label =
+  pub accept_fits : IfSome before (λ used. (label : Text) → unreserved_in label left ≤ used_by used x.role label)
+  accept_fits =
       let test : Path → Bool = same_path x.role in
-      releases_fit counts rows before counted is test label (unreserved_in label left)
-      (omega (
+      counted_so rows before counted (λ used. (label : Text) → unreserved_in label left ≤ used_by used x.role label) (λ used its label.
+      omega (
         arith,
+        its test label,
         consumption-accepted rows number o starts [] consistent found bundles can test label,
         told_as test label,
         ap (λ b. cond b (unreserved_in label left) 0) (same_path_itself x.role),
       ))
 
-  pub counts-accepted : (filters : List FilterRow) (after : Allowance) → IsRaisedIf counts after before less_held
-      → CountsIf counts (accepted_in rows o starts filters) after
+  pub counts-accepted : (filters : List FilterRow) (after : Option (List Usage)) → IsRaisedIf after before less_held
+      → CountsAll (accepted_in rows o starts filters) after
   counts-accepted filters after raised =
-      counts-released counts rows before counted (accepted_in rows o starts filters) after less_held raised refl
+      counts-released rows before counted (accepted_in rows o starts filters) after less_held raised
       (λ test label. omega (arith, consumption-accepted rows number o starts filters consistent found bundles can test label, told_as test label))
 
 -- ---- agents come and go
@@ -352,30 +360,7 @@ module _ (whole old new : List Resource) (can : CanExchange whole old new) (test
         small,
       )
 
--- ---- changes of a quota that counts or not
-
-pub raised_if : (counts : Bool) (old new : Allowance) (more : Amounts) → IsRaisedBy old new more → IsRaisedIf counts old new more
-raised_if counts old new more raised = record { limits = raised.limits; used = λ is. raised.used }
-
-pub raised_not : (counts : Bool) (a : Allowance) (more : Amounts) → counts ≡ false → IsRaisedIf counts a a more
-raised_not counts a more none = record { limits = refl; used = λ is. absurd (false≢true (sym none ∙ is)) }
-
--- counted, if there was memory
-pub raised_ok : {T E : Type 0} (r : Result T E) (old new : Allowance) (more : Amounts)
-    → OnOk r (IsRaisedBy old new more) → OnErr r (IsSame old new) → IsRaisedIf (is_ok r) old new more
-raised_ok (Ok x) old new more raised same = raised_if true old new more raised
-raised_ok (Err e) old new more raised same = record { limits = same.limits; used = λ is. absurd (false≢true is) }
-
 -- what is reserved of a bundle is at most what it has of the scalar
 pub reserved_le : (total : List Resource) (test : Path → Bool) (label : Text) (most : ℕ) → amount_of (quantities_of total) label ≤ most
     → reserved_in test label total ≤ most
 reserved_le total test label most small = omega (arith, parts_le test label total, amount-quantities_of total label, small)
-
-pub raised_on : {T E : Type 0} (r : Result T E) (counts : Bool) (old new : Allowance) (more : Amounts)
-    → OnOk r (IsRaisedBy old new more) → OnOk r (IsRaisedIf counts old new more)
-raised_on (Ok x) counts old new more raised = raised_if counts old new more raised
-raised_on (Err e) counts old new more raised = tt
-
--- a quota that is taken over
-pub counts-taken : (rows : Rows) (other : Option Allowance) (q : Allowance) → other ≡ Some q → CountsAll rows other → IsAllowanceOf rows q
-counts-taken rows other q is all = subst (CountsAll rows) is all

@@ -13,7 +13,7 @@ use Rattle.drf_role.specs.Text.{Text, same_text}
 use Rattle.drf_role.specs.TextLaws.{same_from_test}
 use Rattle.drf_row_laws.specs.ConsistentLaws.{same_text-swap}
 use Rattle.drf_rows.specs.Consistent.{are_distinct}
-use Rattle.drf_tables.specs.Registered.{slot_of, first_place, ranks_of, with_free_at, IsRanked, IsRegistry}
+use Rattle.drf_tables.specs.Registered.{slot_of, ranks_of, with_free_at, IsRanked, IsRegistry}
 use Rattle.drf_tables.specs.declared.tables.Agent.{Agent}
 
 abbrev pub Entry : Type 0
@@ -128,53 +128,12 @@ slot_new name slots new = by (slot_of name slots) (slot-known name slots ∙ new
     by None is = refl
     by (Some i) is = cc
 
--- ---- the place of a slot among the agents
-
-pub place-rank : (name : Text) (slots : Slots) → first_place name (filled slots) ≡ option_map (λ i. length (filled (take i slots))) (slot_of name slots)
-place-rank name [] = refl
-place-rank name (None ∷ slots) = place-rank name slots ∙ by (slot_of name slots)
-  where
-    by : (o : Option ℕ) → option_map (λ i. length (filled (take i slots))) o
-        ≡ option_map (λ i. length (filled (take i (None ∷ slots)))) (option_map (λ j. suc j) o)
-    by None = refl
-    by (Some i) = refl
-place-rank name (Some e ∷ slots) = elim (cases_Bool (same_text name e.0)) [
-  | inl same ↦ rw same refl
-  | inr other ↦ rw other (ap (option_map (λ j. suc j)) (place-rank name slots) ∙ by (slot_of name slots))
-]
-  where
-    by : (o : Option ℕ) → option_map (λ j. suc j) (option_map (λ i. length (filled (take i slots))) o)
-        ≡ option_map (λ i. length (filled (take i (Some e ∷ slots)))) (option_map (λ j. suc j) o)
-    by None = refl
-    by (Some i) = refl
-
-pub place-below : (name : Text) (es : List Entry) (i : ℕ) → first_place name es ≡ Some i → i < length es
-place-below name [] i is = cc
-place-below name (e ∷ es) zero is = omega arith
-place-below name (e ∷ es) (suc i) is = elim (cases_Bool (same_text name e.0)) [
-  | inl same ↦
-      let wrong : ◌≡◌ {A = Option ℕ} (Some zero) (Some (suc i)) = sym (taken (same_text name e.0) (Some zero) (option_map (λ j. suc j) (first_place name es)) same) ∙ is in
-      let no : zero ≡ suc i = cc in
-      absurd (omega (arith, no))
-  | inr other ↦
-      let later = sym (passed (same_text name e.0) (Some zero) (option_map (λ j. suc j) (first_place name es)) other) ∙ is in
-      omega (arith, place-below name es i (next-some (first_place name es) i later))
-]
-
 -- ---- no gaps
 
 pub filled-short : (slots : Slots) → length (filled slots) ≤ length slots
 filled-short [] = omega arith
 filled-short (None ∷ slots) = omega (arith, filled-short slots)
 filled-short (Some e ∷ slots) = omega (arith, filled-short slots)
-
-pub rank-full : (slots : Slots) (i : ℕ) → length (filled slots) ≡ length slots → i ≤ length slots → length (filled (take i slots)) ≡ i
-rank-full slots zero full within = refl
-rank-full [] (suc i) full within = absurd (omega (arith, within))
-rank-full (None ∷ slots) (suc i) full within = absurd (omega (arith, full, filled-short slots))
-rank-full (Some e ∷ slots) (suc i) full within =
-    let later : length (filled (take i slots)) ≡ i = rank-full slots i (omega (arith, full)) (omega (arith, within)) in
-    omega (arith, later)
 
 pub ranked-full : (slots : Slots) (i : ℕ) → length (filled slots) ≡ length slots → i < length slots → IsRanked slots i i
 ranked-full [] i full within = absurd (omega (arith, within))
@@ -224,17 +183,6 @@ pub ranked_here : (slots : Slots) (i : ℕ) (slot : Option Entry) (number : ℕ)
 ranked_here slots i None number below read is before = cc
 ranked_here slots i (Some e) number below read is before =
     record { entry = e; there = get_or_default slots i None (Some e) below ∙ sym read; before = before }
-
--- of so many slots no more are filled
-pub counted-upto : (slots : Slots) (i : ℕ) → length (filled (take i slots)) ≤ i
-counted-upto slots zero = omega arith
-counted-upto [] (suc i) = omega arith
-counted-upto (None ∷ slots) (suc i) =
-    let later = counted-upto slots i in
-    omega (arith, later)
-counted-upto (Some e ∷ slots) (suc i) =
-    let later = counted-upto slots i in
-    omega (arith, later)
 
 pub filled-all : (es : List Entry) → filled (map Some es) ≡ es
 filled-all [] = refl

@@ -53,7 +53,7 @@ weight_set rows role weight = record rows { weights = weights_with rows.weights 
 
 pub rows_of-weight : (t : Inside) (entries : List (Path × ℕ)) (role : Path) (weight : ℕ)
     → entries ≡ insert_entry same_path t.weights.entries role weight
-    → rows_of t.agents.entries t.frameworks.entries t.holdings t.filters entries t.quota.limits t.clock t.next_offer t.events
+    → rows_of t.agents.entries t.frameworks.entries t.holdings t.filters entries t.limits t.clock t.next_offer t.events
     ≡ weight_set (rows_in t) role weight
 unfolding rows_of
 rows_of-weight t entries role weight inserted =

@@ -13,12 +13,12 @@ use Rattle.drf_rows.specs.declared.rows.ClientRow.{ClientRow}
 use Rattle.drf_rows.specs.declared.rows.FrameworkRow.{FrameworkRow}
 use Rattle.drf_rows.specs.declared.rows.WeightRow.{WeightRow}
 use Rattle.drf_rows.specs.declared.rows.LimitRow.{LimitRow}
-use Rattle.drf_gates.specs.Quota.{Allowance, IsAllowanceOf}
 use Rattle.drf_rows.specs.declared.rows.Rows.{Rows}
 use Rattle.drf_bundle.specs.Taken.{rest_of_all}
 use Rattle.drf_rows.specs.Holdings.{Holding, holdings_of, parts_on}
 use Rattle.drf_rows.specs.declared.rows.FilterRow.{FilterRow}
 use Rattle.drf_holdings.specs.Stored.{OffersAndTasks}
+use Rattle.drf_tables.specs.Recounting.{CountsAll}
 use Rattle.drf_tables.specs.declared.tables.Left.{Left}
 use Rattle.drf_tables.specs.declared.tables.Agent.{Agent}
 use Rattle.drf_tables.specs.declared.tables.Tables.TheInside.{Inside}
@@ -77,7 +77,7 @@ rows_of agents frameworks holdings filters weights limits clock next_offer event
 -- the rows that the fields stand for
 abbrev pub rows_in : Inside → Rows
 rows_in t =
-    rows_of t.agents.entries t.frameworks.entries t.holdings t.filters t.weights.entries t.quota.limits t.clock t.next_offer t.events
+    rows_of t.agents.entries t.frameworks.entries t.holdings t.filters t.weights.entries t.limits t.clock t.next_offer t.events
 
 -- what is kept of an agent as its free part is left of its total when all that is held there is taken from it
 abbrev pub IsKnown : List Holding → Text × Agent → Type 0
@@ -92,11 +92,7 @@ pub record AreDerived (rows : Rows) (agents : List (Text × Agent)) (sum : List 
   -- so few that all they have of a scalar is below 2^64
   pub few : length rows.agents ≤ 4096
 
--- a quota counts what roles consume, if it is said to
-abbrev pub CountsIf : Bool → Rows → Allowance → Type 0
-CountsIf counted rows quota = counted ≡ true → IsAllowanceOf rows quota
-
--- what is kept beside the rows, and what the quota counts
+-- what is kept beside the rows, and what roles consume, if that is counted
 pub record IsWhole (t : Inside) : Type 0 where
   pub kept : AreDerived (rows_in t) t.agents.entries t.total t.clients
-  pub consumed : CountsIf t.is_counted (rows_in t) t.quota
+  pub consumed : CountsAll (rows_in t) t.consumption

@@ -28,11 +28,6 @@ slot_of name [] = None
 slot_of name (None ∷ slots) = option_map (λ i. suc i) (slot_of name slots)
 slot_of name (Some e ∷ slots) = if same_text name e.0 then Some zero else option_map (λ i. suc i) (slot_of name slots)
 
--- its place among the agents
-abbrev pub first_place : Text → List (Text × Agent) → Option ℕ
-first_place name [] = None
-first_place name (e ∷ es) = if same_text name e.0 then Some zero else option_map (λ i. suc i) (first_place name es)
-
 -- of each slot, how many before it are no gaps, from a number on
 abbrev pub ranks_of : ℕ → List (Option (Text × Agent)) → List ℕ
 ranks_of before [] = []

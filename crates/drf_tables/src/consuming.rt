@@ -11,7 +11,7 @@ ghost use Rattle.drf_tables.specs.Inside.{agent_row};
 
 use crate::registry::Registry;
 use crate::tables::Agent;
-use drf_gates::Quota;
+use drf_gates::Consumption;
 use drf_holdings::{InOrder, Task};
 use drf_role::Name;
 use drf_rows::OfferRow;
@@ -19,55 +19,60 @@ use std::alloc::AllocError;
 
 /// What clients consume by offers.
 pub(crate) fn consume_offers(
-    quota: &mut Quota,
+    consumption: &mut Consumption,
     offers: InOrder<'_, OfferRow>,
 ) -> Result<(), AllocError>
     requires { (test : Path → Bool) (label : Text)
-        → used_where test quota.old.used label + held_unreserved test (map of_offer offers) label < 2 ^ 64 }
-    ensures ok { OnOk result (IsRaisedBy quota.old quota.new (λ test label. held_unreserved test (map of_offer offers.entry) label)) }
-    ensures limits { quota.new.limits ≡ quota.old.limits }
+        → used_where test consumption.old label + held_unreserved test (map of_offer offers) label < 2 ^ 64 }
+    ensures { OnOk result (IsRaisedBy consumption.old consumption.new (λ test label. held_unreserved test (map of_offer offers.entry) label)) }
 {
     for offer in offers {
-        quota.consume_unreserved(&offer.role, &offer.bundle)?;
+        consumption.consume_unreserved(&offer.role, &offer.bundle)?;
     }
     Ok(())
 }
 
 /// What clients consume by tasks.
-pub(crate) fn consume_tasks(quota: &mut Quota, tasks: InOrder<'_, Task>) -> Result<(), AllocError>
+pub(crate) fn consume_tasks(
+    consumption: &mut Consumption,
+    tasks: InOrder<'_, Task>,
+) -> Result<(), AllocError>
     requires { (test : Path → Bool) (label : Text)
-        → used_where test quota.old.used label + held_unreserved test (map of_task (map task_row tasks)) label < 2 ^ 64 }
-    ensures ok { OnOk result (IsRaisedBy quota.old quota.new (λ test label. held_unreserved test (map of_task (map task_row tasks.entry)) label)) }
-    ensures limits { quota.new.limits ≡ quota.old.limits }
+        → used_where test consumption.old label + held_unreserved test (map of_task (map task_row tasks)) label < 2 ^ 64 }
+    ensures { OnOk result (IsRaisedBy consumption.old consumption.new (λ test label. held_unreserved test (map of_task (map task_row tasks.entry)) label)) }
 {
     for task in tasks {
-        quota.consume_unreserved(&task.row.role, &task.row.bundle)?;
+        consumption.consume_unreserved(&task.row.role, &task.row.bundle)?;
     }
     Ok(())
 }
 
 /// What is consumed by what an agent has reserved, if there is one.
-fn consume_slot(quota: &mut Quota, slot: &Option<(Name, Agent)>) -> Result<(), AllocError>
+fn consume_slot(
+    consumption: &mut Consumption,
+    slot: &Option<(Name, Agent)>,
+) -> Result<(), AllocError>
     requires { (test : Path → Bool) (label : Text)
-        → used_where test quota.old.used label + reserved_for test (map agent_row (filled (slot.now ∷ []))) label < 2 ^ 64 }
-    ensures ok { OnOk result (IsRaisedBy quota.old quota.new (λ test label. reserved_for test (map agent_row (filled (slot.now ∷ []))) label)) }
-    ensures limits { quota.new.limits ≡ quota.old.limits }
+        → used_where test consumption.old label + reserved_for test (map agent_row (filled (slot.now ∷ []))) label < 2 ^ 64 }
+    ensures { OnOk result (IsRaisedBy consumption.old consumption.new (λ test label. reserved_for test (map agent_row (filled (slot.now ∷ []))) label)) }
 {
     match slot {
-        Some(entry) => quota.consume_reserved(&entry.1.total),
+        Some(entry) => consumption.consume_reserved(&entry.1.total),
         None => Ok(()),
     }
 }
 
 /// What is consumed by what agents have reserved.
-pub(crate) fn consume_totals(quota: &mut Quota, agents: &Registry) -> Result<(), AllocError>
+pub(crate) fn consume_totals(
+    consumption: &mut Consumption,
+    agents: &Registry,
+) -> Result<(), AllocError>
     requires { (test : Path → Bool) (label : Text)
-        → used_where test quota.old.used label + reserved_for test (map agent_row agents.now.entries) label < 2 ^ 64 }
-    ensures ok { OnOk result (IsRaisedBy quota.old quota.new (λ test label. reserved_for test (map agent_row agents.now.entries) label)) }
-    ensures limits { quota.new.limits ≡ quota.old.limits }
+        → used_where test consumption.old label + reserved_for test (map agent_row agents.now.entries) label < 2 ^ 64 }
+    ensures { OnOk result (IsRaisedBy consumption.old consumption.new (λ test label. reserved_for test (map agent_row agents.now.entries) label)) }
 {
     for slot in agents.slots() {
-        consume_slot(quota, slot)?;
+        consume_slot(consumption, slot)?;
     }
     Ok(())
 }

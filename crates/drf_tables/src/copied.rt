@@ -4,9 +4,9 @@ ghost use Rattle.std.specs.Map.{lookup};
 ghost use Rattle.indexmap.specs.IndexMap.{insert_entry};
 ghost use Rattle.drf_role.specs.Path.{same_path};
 ghost use Rattle.drf_role.specs.Text.{Text, same_text};
-ghost use Rattle.drf_gates.specs.Quota.{IsSame};
 ghost use Rattle.drf_gates.specs.Slots.{filled};
 ghost use Rattle.drf_tables.specs.Inside.{framework_rows};
+ghost use Rattle.drf_tables.specs.Recounting.{IsRaisedIf};
 ghost use Rattle.drf_tables.specs.declared.tables.Agent.{Agent};
 
 use crate::free_part::FreePart;
@@ -14,7 +14,7 @@ use crate::registry::Registry;
 use crate::tables::{Agent, Tables};
 use drf_amount::Algebra;
 use drf_bundle::Quantities;
-use drf_gates::{FilterTable, Quota};
+use drf_gates::{Consumption, FilterTable, QuotaLimits};
 use drf_holdings::Holdings;
 use drf_role::{Name, Role};
 use drf_rows::{ClientRow, copy_all};
@@ -143,20 +143,40 @@ fn copy_held(
     Ok((holdings, filters))
 }
 
-/// Weights, the total and the quota, copied.
+/// Weights and the total, copied.
 fn copy_amounts(
     weights: &IndexMap<Role, u64>,
     total: &Quantities,
-    quota: &Quota,
-) -> Result<(IndexMap<Role, u64>, Quantities, Quota), AllocError>
+) -> Result<(IndexMap<Role, u64>, Quantities), AllocError>
     ensures weights { IfOk result (λ copy. copy.0.entries ≡ weights.now.entries) }
     ensures total { IfOk result (λ copy. copy.1 ≡ total.now) }
-    ensures quota { IfOk result (λ copy. IsSame quota.now copy.2) }
 {
     let weights = copy_weights(weights)?;
     let total = total.copy()?;
-    let quota = quota.copy()?;
-    Ok((weights, total, quota))
+    Ok((weights, total))
+}
+
+/// What roles consume, copied where it is counted.
+fn copy_consumption(consumption: &Option<Consumption>) -> Result<Option<Consumption>, AllocError>
+    ensures { IfOk result (λ copy. IsRaisedIf consumption.now copy (λ _ _. 0)) }
+{
+    match consumption {
+        Some(counted) => Ok(Some(counted.copy()?)),
+        None => Ok(None),
+    }
+}
+
+/// Limits and what roles consume, copied.
+fn copy_quota(
+    limits: &QuotaLimits,
+    consumption: &Option<Consumption>,
+) -> Result<(QuotaLimits, Option<Consumption>), AllocError>
+    ensures limits { IfOk result (λ copy. copy.0 ≡ limits.now) }
+    ensures consumption { IfOk result (λ copy. IsRaisedIf consumption.now copy.1 (λ _ _. 0)) }
+{
+    let limits = limits.copy()?;
+    let consumption = copy_consumption(consumption)?;
+    Ok((limits, consumption))
 }
 
 impl Tables {
@@ -166,10 +186,12 @@ impl Tables {
     {
         let members = copy_members(&self.agents, &self.frameworks)?;
         let held = copy_held(&self.holdings, &self.filters)?;
-        let amounts = copy_amounts(&self.weights, &self.total, &self.quota)?;
+        let amounts = copy_amounts(&self.weights, &self.total)?;
+        let quota = copy_quota(&self.limits, &self.consumption)?;
         let (agents, frameworks) = members;
         let (holdings, filters) = held;
-        let (weights, total, quota) = amounts;
+        let (weights, total) = amounts;
+        let (limits, consumption) = quota;
         Ok(Tables {
             agents,
             frameworks,
@@ -181,8 +203,8 @@ impl Tables {
             events: self.events,
             total,
             clients: self.clients,
-            quota,
-            is_counted: self.is_counted,
+            limits,
+            consumption,
             sweep: self.sweep,
         })
     }

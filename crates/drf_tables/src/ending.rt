@@ -70,7 +70,7 @@ impl Tables {
     {
         let taken = self.holdings.take(ending)?;
         self.agents.give_back(&taken.agent, &taken.bundle);
-        release_held(&mut self.quota, self.is_counted, &taken.role, &taken.bundle);
+        release_held(&mut self.consumption, &taken.role, &taken.bundle);
         Some(taken)
     }
 
@@ -100,7 +100,7 @@ impl Tables {
         match self.holdings.start(number, tasks) {
             Ok(offer) => {
                 self.agents.give_back(&offer.agent, &rest);
-                release_held(&mut self.quota, self.is_counted, &offer.role, &rest);
+                release_held(&mut self.consumption, &offer.role, &rest);
                 self.clock = moment;
                 Ok(Taken {
                     agent: offer.agent,

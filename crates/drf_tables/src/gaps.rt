@@ -1,5 +1,5 @@
 //! Agents in slots, some of which are gaps: which of them stands where, and how the gaps are closed.
-ghost use Rattle.std.specs.Prelude.{◌≡◌, ◌<◌, ◌≤◌, get_or, length, map, take, Some, IfOk};
+ghost use Rattle.std.specs.Prelude.{◌≡◌, ◌<◌, get_or, length, map, Some, IfOk};
 ghost use Rattle.drf_gates.specs.Slots.{filled};
 ghost use Rattle.drf_tables.specs.Registered.{ranks_of, IsRanked, IsRegistry};
 
@@ -7,32 +7,6 @@ use crate::tables::Agent;
 use drf_role::Name;
 use indexmap::IndexMap;
 use std::alloc::{AllocError, Global};
-
-/// How many before a slot are no gaps, where there may be some.
-fn count_before(slots: &[Option<(Name, Agent)>], place: usize) -> usize
-    requires { place ≤ length slots.now }
-    ensures { result ≡ length (filled (take place slots.now)) }
-{
-    let mut count = 0;
-    for at in 0..place {
-        if slots[at].is_some() {
-            count += 1;
-        }
-    }
-    count
-}
-
-/// How many before a slot are no gaps. The slots are looked at only where there are gaps.
-pub(crate) fn rank(slots: &[Option<(Name, Agent)>], live: usize, place: usize) -> usize
-    requires live { live ≡ length (filled slots.now) }
-    requires within { place ≤ length slots.now }
-    ensures { result ≡ length (filled (take place slots.now)) }
-{
-    if live == slots.len() {
-        return place;
-    }
-    count_before(slots, place)
-}
 
 /// The slot of an agent, by registration, where there may be gaps.
 #[inline(never)]

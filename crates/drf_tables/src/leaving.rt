@@ -80,7 +80,7 @@ impl Tables {
         ensures rows { self.new.rows ≡ agent_removed self.old.rows agent.now }
         ensures counted { self.new.counted ≡ self.old.counted }
     {
-        release_agent(&mut self.quota, self.is_counted, &self.agents, agent);
+        release_agent(&mut self.consumption, &self.agents, agent);
         self.agents.remove(agent);
         self.filters.drop_agent(agent);
         self.total = total;

@@ -1,60 +1,66 @@
 //! Limits of roles, what roles consume, and agents whose totals change.
 #![tactic(auto, unfolding(crate::specs::Inside::rows_of))]
 
-ghost use Rattle.std.specs.Prelude.{◌≡◌, ◌≢◌, ◌↔◌, ◌≤◌, [], IsTrue, true, false, length, filter, not, IfOk, OnOk, OnErr};
+ghost use Rattle.std.specs.Prelude.{◌≡◌, ◌≢◌, ◌↔◌, ◌≤◌, [], IsTrue, true, false, length, filter, not, is_some, option_copied, OnOk, OnErr};
 ghost use Rattle.drf_role.specs.Text.{same_text};
 ghost use Rattle.drf_bundle.specs.Bundle.{is_default, quantities_of};
 ghost use Rattle.drf_bundle.specs.Quantities.{plus};
 ghost use Rattle.drf_rows.specs.Held.{cluster_total};
-ghost use Rattle.drf_rows.specs.Quota.{has_limit, limits_with};
+ghost use Rattle.drf_rows.specs.Quota.{admits, has_limit, limits_with};
 ghost use Rattle.drf_rows.specs.Totals.{with_total, with_other_total, exchanged};
-ghost use Rattle.drf_gates.specs.Quota.{IsAllowanceOf};
+ghost use Rattle.drf_gates.specs.Quota.{quota_under};
 ghost use Rattle.drf_tables.specs.Changing.{CanExchangeOn, CanHaveTotal};
+ghost use Rattle.drf_tables.specs.Recounting.{CountsAll};
 
 use crate::consuming::{consume_offers, consume_tasks, consume_totals};
-use crate::recounting::{consume_total, recount_total, release_agent, release_total};
+use crate::recounting::{consume_total, follow_limit, recount_total, release_agent, release_total};
 use crate::tables::Tables;
 use drf_bundle::{Bundle, Quantities};
-use drf_gates::Quota;
+use drf_gates::{Consumption, Quota};
 use drf_role::{Name, Role};
 use std::alloc::AllocError;
-use std::mem::replace;
 
 impl Tables {
     /// Whether any role has a limit.
     pub fn has_limits(&self) -> bool
         ensures { IsTrue result ↔ (self.now.rows.limits ≢ []) }
     {
-        self.quota.has_limits()
+        !self.limits.is_empty()
     }
 
     /// Whether the role has a limit.
     pub fn has_limit(&self, role: &Role) -> bool
         ensures { result ≡ has_limit self.now.rows role.now }
     {
-        self.quota.limit(role).is_some()
+        self.limits.get(role).is_some()
     }
 
     /// How many roles have a limit.
     pub fn limit_count(&self) -> usize
         ensures { result ≡ length self.now.rows.limits }
     {
-        self.quota.limit_count()
+        self.limits.len()
     }
 
-    /// Whether what roles consume is counted.
-    pub fn is_counted(&self) -> bool
-        ensures { result ≡ self.now.counted }
+    /// The limits beside what roles consume, if that is counted: here, or by whom it was lent to.
+    pub fn quota_under<'a>(&'a self, consumption: Option<&'a Consumption>) -> Option<Quota<'a>>
+        ensures { result ≡ quota_under self.now.rows.limits (option_copied consumption.entry) }
     {
-        self.is_counted
+        match consumption {
+            Some(consumption) => Some(Quota::new(&self.limits, consumption)),
+            None => None,
+        }
     }
 
-    /// What roles consume under their limits.
-    pub fn quota(&self) -> &Quota
-        requires { self.now.counted ≡ true }
-        ensures { IsAllowanceOf self.now.rows result.now }
+    /// Whether a role may consume so much more: neither its limit nor that of a role above it would be exceeded.
+    pub fn admits(&self, role: &Role, amounts: &Quantities) -> bool
+        requires { self.now.rows.limits ≢ [] → self.now.counted ≡ true }
+        ensures { result ≡ admits self.now.rows role.now amounts.now }
     {
-        &self.quota
+        match self.quota_under(self.consumption.as_ref()) {
+            Some(quota) => quota.admits(role, amounts),
+            None => true,
+        }
     }
 
     /// Gives a role a limit in the place of the one that it has, if any. A limit that names nothing takes the role's limit away. An
@@ -67,42 +73,38 @@ impl Tables {
         ensures counted { self.new.counted ≡ self.old.counted }
     {
         role.recall();
-        self.quota.set_limit(role, limit)
+        self.limits.set(&role, limit)?;
+        follow_limit(&mut self.consumption, &self.limits, &role);
+        Ok(())
     }
 
-    /// Counts what roles consume, if any role has a limit. An `Err` changes no row.
+    /// Counts what roles consume, if any role has a limit. An `Err` changes nothing.
     pub fn count_consumption(&mut self) -> Result<(), AllocError>
         requires { length self.old.rows.agents ≤ 4096 }
         ensures counted { OnOk result (self.new.rows.limits ≢ [] → self.new.counted ≡ true) }
         ensures same { self.new.rows ≡ self.old.rows }
         ensures settled { self.new.settled ≡ self.old.settled }
     {
-        if self.is_counted {
+        if self.consumption.is_some() || self.limits.is_empty() {
             return Ok(());
         }
-        if !self.quota.has_limits() {
-            return Ok(());
-        }
-        self.quota.forget();
-        consume_offers(&mut self.quota, self.holdings.offers())?;
-        consume_tasks(&mut self.quota, self.holdings.tasks())?;
-        consume_totals(&mut self.quota, &self.agents)?;
-        self.is_counted = true;
+        let mut consumption = Consumption::new(*self.agents.allocator(), &self.limits);
+        consume_offers(&mut consumption, self.holdings.offers())?;
+        consume_tasks(&mut consumption, self.holdings.tasks())?;
+        consume_totals(&mut consumption, &self.agents)?;
+        self.consumption = Some(consumption);
         Ok(())
     }
 
-    /// Lends the quota to a cycle, which counts in it what it offers. Until it comes back with the offers the tables keep the limits
-    /// alone; so what roles consume is not copied, and if it does not come back, that is counted anew. An `Err` changes nothing.
-    pub fn lend_quota(&mut self) -> Result<Quota, AllocError>
-        requires counted { self.old.counted ≡ true }
-        ensures quota { IfOk result (IsAllowanceOf self.old.rows) }
+    /// Lends what roles consume to a cycle, which counts in it what it offers. It is not copied: if it does not come back with the
+    /// offers, it is counted anew.
+    pub fn lend_consumption(&mut self) -> Option<Consumption>
+        ensures value { CountsAll self.old.rows result }
+        ensures counted { is_some result ≡ self.old.counted }
         ensures same { self.new.rows ≡ self.old.rows }
         ensures settled { self.new.settled ≡ self.old.settled }
-        ensures err { OnErr result (self.new ≡ self.old) }
     {
-        let alone = self.quota.limits_alone()?;
-        self.is_counted = false;
-        Ok(replace(&mut self.quota, alone))
+        self.consumption.take()
     }
 
     /// Exchanges a part that is free on an agent for another. An `Err` changes no row.
@@ -112,14 +114,14 @@ impl Tables {
         ensures err { OnErr result (self.new.rows ≡ self.old.rows) }
         ensures counted { self.new.counted ≡ self.old.counted }
     {
-        consume_total(&mut self.quota, self.is_counted, new)?;
+        consume_total(&mut self.consumption, new)?;
         match self.agents.exchange(agent, old, new) {
             Ok(()) => {
-                release_total(&mut self.quota, self.is_counted, old);
+                release_total(&mut self.consumption, old);
                 Ok(())
             }
             Err(error) => {
-                release_total(&mut self.quota, self.is_counted, new);
+                release_total(&mut self.consumption, new);
                 Err(error)
             }
         }
@@ -132,8 +134,8 @@ impl Tables {
         requires sum { sum ≡ plus (cluster_total (filter (λ a. not (same_text a.name agent.now)) self.old.rows.agents)) (quantities_of total) }
         ensures { self.new.rows ≡ record self.old.rows { agents = with_other_total self.old.rows agent.now total } }
     {
-        release_agent(&mut self.quota, self.is_counted, &self.agents, agent);
-        self.is_counted = recount_total(&mut self.quota, self.is_counted, &total);
+        release_agent(&mut self.consumption, &self.agents, agent);
+        recount_total(&mut self.consumption, &total);
         self.agents.set_total(agent, total);
         self.total = sum;
     }

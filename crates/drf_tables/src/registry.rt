@@ -1,14 +1,14 @@
 //! The registered agents. Who leaves leaves a gap, so that nobody behind it has to move.
-ghost use Rattle.std.specs.Prelude.{◌≡◌, ◌+◌, ◌<◌, ◌≤◌, true, false, [], ◌∷◌, ◌++◌, get_or, is_some, length, map, slice_get, take, None, Some, IfOk, IfSome, OnOk};
+ghost use Rattle.std.specs.Prelude.{◌≡◌, ◌+◌, ◌<◌, ◌≤◌, true, false, [], ◌∷◌, ◌++◌, is_some, length, slice_get, None, Some, OnOk};
 ghost use Rattle.std.specs.Map.{lookup, keys_of, remove_entry};
 ghost use Rattle.std.specs.Option.{option_copied, option_map};
 ghost use Rattle.drf_gates.specs.Slots.{filled};
 ghost use Rattle.drf_role.specs.Text.{same_text};
 ghost use Rattle.drf_rows.specs.Consistent.{are_distinct};
-ghost use Rattle.drf_tables.specs.Registered.{first_place, ranks_of, with_free_at, IsRanked, IsRegistry};
+ghost use Rattle.drf_tables.specs.Registered.{with_free_at, IsRegistry};
 
 use crate::free_part::FreePart;
-use crate::gaps::{close_gaps, rank, ranked};
+use crate::gaps::{close_gaps, ranked};
 use crate::tables::Agent;
 use drf_role::Name;
 use indexmap::IndexMap;
@@ -100,18 +100,6 @@ impl Registry {
             return None;
         };
         Some(&entry.1)
-    }
-
-    /// The place of the agent of a name, by registration.
-    pub(crate) fn place_of(&self, name: &Name) -> Option<usize>
-        ensures index { result ≡ first_place name.now self.now.entries }
-        ensures found { is_some result ≡ is_some (lookup (same_text name.now) self.now.entries) }
-        ensures within { IfSome result (λ place. place < length self.now.entries) }
-    {
-        let Some(place) = self.places.get(name) else {
-            return None;
-        };
-        Some(rank(&self.slots, self.live, *place))
     }
 
     /// The agent at a place, by registration, with its name.

@@ -99,10 +99,11 @@ impl Tables {
         requires { self.now.settled ≡ true }
         ensures { IfOk result (λ usable. usable ≡ is_usable self.now.rows agent.now role.now bundle.now) }
     {
-        let Some(place) = self.place_of(agent) else {
+        let Some(found) = self.agents.get(agent) else {
             return Ok(false);
         };
-        let part = self.free(place).part_for(role)?;
+        let free = found.free.as_ref().unwrap().bundle();
+        let part = free.part_for(role)?;
         Ok(part.covers(bundle))
     }
 

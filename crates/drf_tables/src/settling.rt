@@ -1,14 +1,35 @@
 //! What is free on agents, computed where it is not known.
-ghost use Rattle.std.specs.Prelude.{◌≡◌, ◌+◌, ◌<◌, map, length, true, OnOk};
+ghost use Rattle.std.specs.Prelude.{◌≡◌, ◌+◌, ◌<◌, map, length, true, IfOk, OnOk};
 ghost use Rattle.std.specs.List.{AllByRecursion};
+ghost use Rattle.drf_bundle.specs.Taken.{rest_of_all};
+ghost use Rattle.drf_rows.specs.Holdings.{parts_on};
 ghost use Rattle.drf_holdings.specs.Stored.{holdings_in};
 ghost use Rattle.drf_tables.specs.Inside.{agent_row, is_settled, IsKnown};
 ghost use Rattle.drf_tables.specs.Changing.{are_settled};
 
 use crate::free_part::FreePart;
 use crate::registry::Registry;
+use crate::tables::Agent;
+use drf_amount::Algebra;
+use drf_bundle::Bundle;
 use drf_holdings::Holdings;
+use drf_role::Name;
 use std::alloc::AllocError;
+
+/// What is free on an agent: as it is known, else computed.
+pub(crate) fn free_left(
+    name: &Name,
+    agent: &Agent,
+    holdings: &Holdings,
+) -> Result<Bundle, AllocError>
+    requires { IsKnown (holdings_in holdings.now) (name.now, agent.now) }
+    ensures { IfOk result (λ free. free ≡ rest_of_all agent.now.total (parts_on name.now (holdings_in holdings.now))) }
+{
+    match &agent.free {
+        Some(known) => known.bundle().copy(),
+        None => holdings.left_on(name, &agent.total),
+    }
+}
 
 /// Computes what is free on the agent at a place, if it is not known.
 fn settle_at(agents: &mut Registry, place: usize, holdings: &Holdings) -> Result<(), AllocError>

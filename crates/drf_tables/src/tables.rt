@@ -1,11 +1,12 @@
 #![tactic(auto, unfolding(crate::specs::Inside::rows_of))]
 
-ghost use Rattle.std.specs.Prelude.{◌≡◌, ◌+◌, ◌<◌, ◌≤◌, ◌^◌, [], ◌∷◌, ◌++◌, true, false, length, map, slice_get, Some, is_some, All, IfOk, IfSome, OnOk, OnErr};
+ghost use Rattle.std.specs.Prelude.{◌≡◌, ◌+◌, ◌<◌, ◌≤◌, ◌^◌, [], ◌∷◌, ◌++◌, true, false, length, map, slice_get, Some, is_some, All, IfOk, OnOk, OnErr};
 ghost use Rattle.std.specs.List.{AllByRecursion};
+ghost use Rattle.std.specs.Option.{option_map};
 ghost use Rattle.drf_role.specs.Role.{IsRole};
 ghost use Rattle.drf_role.specs.Text.{Text};
 ghost use Rattle.drf_bundle.specs.Quantities.{amount_of};
-ghost use Rattle.drf_bundle.specs.Bundle.{quantities_of};
+ghost use Rattle.drf_bundle.specs.Bundle.{quantities_of, rest};
 ghost use Rattle.drf_rows.specs.Held.{clients_of, cluster_total};
 ghost use Rattle.drf_rows.specs.Cycle.{free_of, is_allocatable};
 ghost use Rattle.drf_rows.specs.Step.{opening, live_rows};
@@ -21,12 +22,13 @@ ghost use Rattle.drf_tables.specs.Recounting.{CountsAll};
 use crate::free_part::FreePart;
 use crate::listing::{agent_rows, framework_rows, weight_rows};
 use crate::offers::{count_offers, first_number, put_lefts};
-use crate::recounting::{consume_total, take_over};
+use crate::recounting::consume_total;
 use crate::registry::Registry;
+use crate::settling::free_left;
 use crate::sweep::Sweep;
 use drf_amount::Algebra;
 use drf_bundle::{Bundle, Quantities};
-use drf_gates::{FilterTable, Quota};
+use drf_gates::{Consumption, FilterTable, QuotaLimits};
 use drf_holdings::Holdings;
 use drf_role::{Name, Role};
 use drf_rows::{ClientRow, OfferRow, Rows, Table};
@@ -64,9 +66,9 @@ pub struct Tables {
     pub(crate) total: Quantities,
     // How many clients the frameworks have together.
     pub(crate) clients: usize,
-    pub(crate) quota: Quota,
-    // Whether the quota counts what roles consume. Where it does not, that is computed again when it is asked for.
-    pub(crate) is_counted: bool,
+    pub(crate) limits: QuotaLimits,
+    // What roles consume, where that is counted. Where it is not, that is done when it is asked for.
+    pub(crate) consumption: Option<Consumption>,
     pub(crate) sweep: Sweep,
 }
 
@@ -84,8 +86,8 @@ impl Drop for Tables {
             events: _events,
             total: _total,
             clients: _clients,
-            quota: _quota,
-            is_counted: _is_counted,
+            limits: _limits,
+            consumption: _consumption,
             sweep: _sweep,
         } = self;
     }
@@ -98,10 +100,11 @@ impl Model for Tables {
 
     ghost coded = { stored_code };
 
+    ghost use Rattle.std.specs.Prelude.{is_some};
     ghost use Rattle.indexmap.specs.IndexMap.{spare};
     ghost use Rattle.drf_tables.specs.Inside.{rows_in, is_settled, IsWhole};
 
-    ghost view = { λ t. record { rows = rows_in t; room = spare t.frameworks; weight_room = spare t.weights; settled = is_settled t.agents.entries; counted = t.is_counted } };
+    ghost view = { λ t. record { rows = rows_in t; room = spare t.frameworks; weight_room = spare t.weights; settled = is_settled t.agents.entries; counted = is_some t.consumption } };
 
     ghost invariant = { IsWhole };
 }
@@ -133,10 +136,17 @@ impl Tables {
             events: 0,
             total: Quantities::empty(alloc),
             clients: 0,
-            quota: Quota::new(alloc),
-            is_counted: false,
+            limits: QuotaLimits::new(alloc),
+            consumption: None,
             sweep: Sweep::first(),
         }
+    }
+
+    /// Tells a proof that the rows are consistent. It does nothing.
+    pub fn recall(&self)
+        ensures { IsConsistent self.now.rows }
+    {
+        let _ = &self.clock;
     }
 
     /// The greatest moment of all accepted cycles, accepts and declines, in milliseconds.
@@ -211,29 +221,12 @@ impl Tables {
         &self.total
     }
 
-    /// The place of the agent of a name, by registration.
-    pub fn place_of(&self, name: &Name) -> Option<usize>
-        ensures known { is_some result ≡ has_agent self.now.rows name.now }
-        ensures within { IfSome result (λ place. place < length self.now.rows.agents) }
-        ensures row { IfSome result (λ place. slice_get self.now.rows.agents place ≡ agent_at self.now.rows name.now) }
-    {
-        self.agents.place_of(name)
-    }
-
     /// The name of the agent at a place, by registration.
     pub fn agent_name(&self, place: usize) -> &Name
         requires { place < length self.now.rows.agents }
         ensures { (a : AgentRow) → slice_get self.now.rows.agents place ≡ Some a → result.now ≡ a.name }
     {
         &self.agents.at(place).0
-    }
-
-    /// What the agent at a place has in all.
-    pub fn agent_total(&self, place: usize) -> &Bundle
-        requires { place < length self.now.rows.agents }
-        ensures { (a : AgentRow) → slice_get self.now.rows.agents place ≡ Some a → result.now ≡ a.total }
-    {
-        &self.agents.at(place).1.total
     }
 
     /// Whether the agent at a place is active.
@@ -251,6 +244,27 @@ impl Tables {
         ensures { (a : AgentRow) → slice_get self.now.rows.agents place ≡ Some a → result.now ≡ free_of self.now.rows a }
     {
         self.agents.at(place).1.free.as_ref().unwrap().bundle()
+    }
+
+    /// What is free on the agent of a name, if it is registered.
+    pub fn free_on(&self, agent: &Name) -> Result<Option<Bundle>, AllocError>
+        ensures { IfOk result (λ free. free ≡ option_map (free_of self.now.rows) (agent_at self.now.rows agent.now)) }
+    {
+        match self.agents.get(agent) {
+            Some(found) => Ok(Some(free_left(agent, found, &self.holdings)?)),
+            None => Ok(None),
+        }
+    }
+
+    /// What is held on the agent of a name, offered or in tasks.
+    pub fn held_on(&self, agent: &Name) -> Result<Bundle, AllocError>
+        requires { has_agent self.now.rows agent.now ≡ true }
+        ensures { IfOk result (λ held. (a : AgentRow) → agent_at self.now.rows agent.now ≡ Some a → held ≡ rest a.total (free_of self.now.rows a)) }
+    {
+        let found = self.agents.get(agent).unwrap();
+        let free = free_left(agent, found, &self.holdings)?;
+        let held = found.total.rest(&free)?;
+        Ok(held)
     }
 
     /// Whether what is free on the agent at a place is worth an offer.
@@ -292,7 +306,7 @@ impl Tables {
         let free = total.copy()?;
         let key = name.copy()?;
         self.agents.reserve()?;
-        consume_total(&mut self.quota, self.is_counted, &total)?;
+        consume_total(&mut self.consumption, &total)?;
         let agent = Agent {
             total,
             active: true,
@@ -354,24 +368,24 @@ impl Tables {
     }
 
     /// Takes the offers of a whole cycle over: they stand last, each is counted at its client, and on the agents is free
-    /// what they left. A quota that counts them is taken over too; where there is none, what roles consume is counted no
-    /// longer. An `Err` changes no row and no offer.
+    /// what they left. What roles consume with them is taken over too; where it is not told, it is counted no longer. An `Err`
+    /// changes no row and no offer.
     pub fn commit(
         &mut self,
         offers: &mut Vec<OfferRow>,
         lefts: Vec<Left>,
-        quota: Option<Quota>,
+        consumption: Option<Consumption>,
     ) -> Result<(), AllocError>
         requires settled { self.old.settled ≡ true }
         requires consistent { IsConsistent (with_offers self.old.rows offers.old.items) }
         requires left { frees_after (frees_of self.old.rows) lefts.items ≡ frees_of (with_offers self.old.rows offers.old.items) }
         requires places { All (λ left. left.agent < length self.old.rows.agents) lefts.items }
         requires fits { (with_offers self.old.rows offers.old.items).next_offer < 2 ^ 64 }
-        requires quota { CountsAll (with_offers self.old.rows offers.old.items) quota }
+        requires consumption { CountsAll (with_offers self.old.rows offers.old.items) consumption }
         ensures ok { OnOk result (self.new.rows ≡ with_offers self.old.rows offers.old.items) }
         ensures settled { OnOk result (self.new.settled ≡ true) }
         ensures moved { OnOk result (offers.new.items ≡ []) }
-        ensures counted { OnOk result (self.new.counted ≡ is_some quota) }
+        ensures counted { OnOk result (self.new.counted ≡ is_some consumption) }
         ensures err { OnErr result ((self.new.rows ≡ self.old.rows) × (offers.new.items ≡ offers.old.items)) }
     {
         let made = offers.len();
@@ -380,7 +394,7 @@ impl Tables {
         count_offers(&mut self.frameworks, self.holdings.offers_from(first));
         put_lefts(&mut self.agents, lefts);
         self.next_offer += made as u64;
-        self.is_counted = take_over(&mut self.quota, quota);
+        self.consumption = consumption;
         Ok(())
     }
 
@@ -395,7 +409,7 @@ impl Tables {
             offers: self.holdings.copy_offers(alloc)?,
             tasks: self.holdings.copy_tasks(alloc)?,
             weights: weight_rows(alloc, &self.weights)?,
-            limits: self.quota.rows()?,
+            limits: self.limits.rows()?,
             filters: self.filters.copy_in_force(self.clock)?,
             clock: self.clock,
             next_offer: self.next_offer,

@@ -1,6 +1,6 @@
 -- Which clients may have nothing, where it is known that those of a role may have nothing.
-use Rattle.std.proofs.Common.{◌≡◌, ℕ, ◌+◌, ◌<◌, ◌≤◌, zero, suc, false, ◌||◌, List, [], ◌∷◌, ◌++◌, Option, Some, None, length, take, drop, refl, sym, ap, subst, ◌∙◌, inl, inr, arith}
-use Rattle.std.specs.Prelude.{slice_get, cond, codes, is_none, is_some, MatchOption}
+use Rattle.std.proofs.Common.{◌≡◌, ℕ, ◌+◌, ◌<◌, ◌≤◌, zero, suc, false, List, [], ◌∷◌, ◌++◌, Option, Some, None, length, take, drop, refl, sym, ap, subst, ◌∙◌, inl, inr, arith}
+use Rattle.std.specs.Prelude.{slice_get, codes}
 use Rattle.std.specs.List.{list_any, AllByRecursion}
 use Rattle.std.specs.Option.{option_map_or}
 use Rattle.std.proofs.lemmas.Bool.{cases_lt}
@@ -15,13 +15,13 @@ use Rattle.drf_gates.specs.Quota.{Allowance}
 use Rattle.drf_rows.specs.Cycle.{free_of, new_offer, with_offer}
 use Rattle.drf_rows.specs.declared.rows.AgentRow.{AgentRow}
 use Rattle.drf_rows.specs.declared.rows.Rows.{Rows}
-use Rattle.drf_sorter.specs.Passed.{IsPassedFront}
-use Rattle.drf_core.specs.Drafting.{IsFreeAt, IsTried}
-use Rattle.drf_core.specs.Entitling.{IsBarred, IsKnown, IsOffered, IsPassedOver, IsQuotaOf, barred_front, has_at_least, is_reserved_for, is_reserved_near}
-use Rattle.drf_core.specs.declared.free.Free.{Free}
+use Rattle.drf_core.specs.Drafting.{IsFreeAt, IsRegisteredPath, IsTried}
+use Rattle.drf_core.specs.Entitling.{IsBarred, IsKnownOf, IsOffered, IsPassedOver, IsQuotaOf, has_at_least, is_reserved_for, is_reserved_near, known_role}
+use Rattle.drf_core.specs.declared.free.Known.{Known}
+use Rattle.drf_core.specs.declared.free.Known.TheVariants.{Nothing, Part, Barred}
 use Rattle.drf_core.proofs.drafting.Granted.{nothing_granted, spent}
 use Rattle.drf_core.proofs.drafting.Near.{none_near, shorter}
-use Rattle.drf_core.proofs.drafting.Turn.{AreWaiting, waiting-passed}
+use Rattle.drf_core.proofs.drafting.Turn.{AreWaiting, all_dropped, queue_begins, waiting-passed}
 
 -- ---- paths that begin alike
 
@@ -50,18 +50,22 @@ same_role (x ∷ xs) (y ∷ ys) f g p q alike =
 -- the clients of a role that may have nothing
 pub barred-role : (quota : Option Allowance) (free : List Resource) (role : Path) (front : ℕ) → IsRole role → front ≡ length role + 1
     → IsOffered quota free role None → IsBarred quota free role front
-barred-role quota free role front right is offered rows client framework counted its alike =
+barred-role quota free role front right is offered =
     let size : front ≡ suc (length role) = omega (arith, is) in
-    offered rows client counted
-    (same_role client.role role client.framework framework (no_dots-role client.role its) (no_dots-role role right)
-    (subst (λ (n : ℕ). take n (client_path client.role client.framework) ≡ take n (client_path role framework)) size alike))
+    record {
+      offered = offered;
+      alike = λ rows client framework counted its alike.
+          offered rows client counted
+          (same_role client.role role client.framework framework (no_dots-role client.role its) (no_dots-role role right)
+          (subst (λ (n : ℕ). take n (client_path client.role client.framework) ≡ take n (client_path role framework)) size alike));
+    }
 
 -- less of a scalar is free for everyone, or left by limits to roles with these first parts, so many
 abbrev pub IsShort : Option Allowance → List Resource → Path → ℕ → Text → ℕ → Type 0
 IsShort quota free role len label least =
     (rows : Rows) (other : Path) → IsQuotaOf rows quota → take len other ≡ take len role → has_at_least rows free other label least ≡ false
 
-pub short-offered : (quota : Option Allowance) (free : List Resource) (role : Path) (cpus mem : ℕ) → IsBundle free → list_any (is_reserved_for role) free ≡ false
+short-offered : (quota : Option Allowance) (free : List Resource) (role : Path) (cpus mem : ℕ) → IsBundle free → list_any (is_reserved_for role) free ≡ false
     → IsShort quota free role cpus (codes "cpus") 10 → IsShort quota free role mem (codes "mem") 32000 → IsOffered quota free role None
 short-offered quota free role cpus mem bundle none short little =
     spent quota free role bundle none (λ now its. short now role its refl) (λ now its. little now role its refl)
@@ -74,12 +78,15 @@ pub barred-front : (quota : Option Allowance) (free : List Resource) (role : Pat
 barred-front quota free role cpus mem front bundle right above near few_cpus few_mem few short little = elim (cases_lt (length role) front) [
   | inl whole ↦
       barred-role quota free role front right (omega arith) (short-offered quota free role cpus mem bundle above short little)
-  | inr below ↦ λ rows client framework counted its alike.
-      let same = roles_alike front client.role role client.framework framework (no_dots-role client.role its) (no_dots-role role right) (omega arith) alike in
-      spent quota free client.role bundle (none_near role client.role front same free above near)
-      (λ now its'. short now client.role its' (shorter cpus front client.role role few_cpus same))
-      (λ now its'. little now client.role its' (shorter mem front client.role role few_mem same))
-      rows client counted refl
+  | inr below ↦ record {
+    offered = short-offered quota free role cpus mem bundle above short little;
+    alike = λ rows client framework counted its alike.
+        let same = roles_alike front client.role role client.framework framework (no_dots-role client.role its) (no_dots-role role right) (omega arith) alike in
+        spent quota free client.role bundle (none_near role client.role front same free above near)
+        (λ now its'. short now client.role its' (shorter cpus front client.role role few_cpus same))
+        (λ now its'. little now client.role its' (shorter mem front client.role role few_mem same))
+        rows client counted refl;
+  }
 ]
 
 -- ---- those that are passed by
@@ -92,17 +99,17 @@ back_all : {X : Type 0} (P : X → Type 0) (xs ys : List X) → AllByRecursion P
 back_all P [] ys all = all
 back_all P (x ∷ xs) ys all = back_all P xs ys all.1
 
--- those that are left are paths of clients too
-pub right_left : (free : Free) (queue left : List Path) → IsPassedOver free queue left → AllByRecursion IsClientPath queue → AllByRecursion IsClientPath left
-right_left free queue left over rights = by (barred_front free) over
-  where
-    dropped : (paths : List Path) → AllByRecursion IsClientPath paths → AllByRecursion IsClientPath (drop 1 paths)
-    dropped [] all = tt
-    dropped (p ∷ paths) all = all.1
+pub passed_alone : (known : Known) (queue left : List Path) → ((role : Path) (front : ℕ) → known ≡ Barred role front → ⊥) → left ≡ drop 1 queue
+    → IsPassedOver known queue left
+passed_alone Nothing queue left alone is = is
+passed_alone (Part role part) queue left alone is = is
+passed_alone (Barred role front) queue left alone is = absurd (alone role front refl)
 
-    by : (front : Option ℕ) → MatchOption front (left ≡ drop 1 queue) (λ n. IsPassedFront n queue left) → AllByRecursion IsClientPath left
-    by None is = subst (AllByRecursion IsClientPath) (sym is) (dropped queue rights)
-    by (Some front) past = back_all IsClientPath past.passed left (subst (AllByRecursion IsClientPath) past.split rights)
+-- what holds of those that wait holds of those that are left
+pub all_left : (P : Path → Type 0) (known : Known) (queue left : List Path) → IsPassedOver known queue left → AllByRecursion P queue → AllByRecursion P left
+all_left P Nothing queue left over all = subst (AllByRecursion P) (sym over) (all_dropped P queue all)
+all_left P (Part role part) queue left over all = subst (AllByRecursion P) (sym over) (all_dropped P queue all)
+all_left P (Barred role front) queue left over all = back_all P over.passed left (subst (AllByRecursion P) over.split all)
 
 module _ (rows : Rows) (place : ℕ) (start now : Rows) (agents : now.agents ≡ rows.agents) where
   -- clients that are granted nothing need not wait
@@ -113,62 +120,49 @@ module _ (rows : Rows) (place : ℕ) (start now : Rows) (agents : now.agents ≡
       past_idle others left idle.1
       (waiting-passed rows place start now ((p ∷ others) ++ left) waiting now (others ++ left) p agents refl idle.0 refl)
 
-  module _ (quota : Option Allowance) (free : Free) (counted : IsQuotaOf now quota) (there : IsFreeAt now place free.bundle) where
+  module _ (quota : Option Allowance) (free : List Resource) (counted : IsQuotaOf now quota) (there : IsFreeAt now place free) (role : Path) (front : ℕ)
+      (barred : IsBarred quota free role front) (first : Path) (its : IsClientPath first) (role_is : role ≡ role_part first) where
     -- a client is granted nothing that shares its first parts with one of a role of which that is known
-    idle_at : (role : Path) (first : Path) → IsBarred quota free.bundle role free.front → IsClientPath first → role ≡ role_part first
-        → (path : Path) → IsClientPath path → take free.front path ≡ take free.front first → IsTried now now place path
-    idle_at role first barred its is path right alike agent client at joined =
+    idle_at : (path : Path) → IsRegisteredPath rows path → take front path ≡ take front first → IsTried now now place path
+    idle_at path known alike agent client at joined =
         let here : there.agent ≡ agent = let e : Some there.agent ≡ Some agent = sym there.at ∙ at in cc in
-        let role_is : role ≡ its.role = is ∙ ap role_part its.joined ∙ role_part-client_path its.role its.framework in
+        let role_its : role ≡ its.role = role_is ∙ ap role_part its.joined ∙ role_part-client_path its.role its.framework in
+        let right = known.right in
         let its_role : right.role ≡ client.role =
         sym (role_part-client_path right.role right.framework) ∙ ap role_part (sym right.joined ∙ joined) ∙ role_part-client_path client.role client.framework in
-        let nothing = barred now client its.framework counted (subst IsRole its_role right.right_role)
-        (ap (λ (p : Path). take free.front p) (sym joined) ∙ alike
-        ∙ ap (λ (p : Path). take free.front p) (its.joined ∙ ap (λ (r : Path). client_path r its.framework) (sym role_is))) in
-        let granted = nothing_granted now agent client free.bundle (there.free ∙ ap (λ (a : AgentRow). free_of now a) here) nothing in
+        let nothing = barred.alike now client its.framework counted (subst IsRole its_role right.right_role)
+        (ap (λ (p : Path). take front p) (sym joined) ∙ alike
+        ∙ ap (λ (p : Path). take front p) (its.joined ∙ ap (λ (r : Path). client_path r its.framework) (sym role_its))) in
+        let granted = nothing_granted now agent client free (there.free ∙ ap (λ (a : AgentRow). free_of now a) here) nothing in
         ap (λ g. option_map_or (λ b. with_offer now (new_offer now agent client b)) g now) granted
 
-    all_idle : (role : Path) (first : Path) → IsBarred quota free.bundle role free.front → IsClientPath first → role ≡ role_part first
-        → (paths : List Path) → AllByRecursion IsClientPath paths → AllByRecursion (λ p. take free.front p ≡ take free.front first) paths
+    all_idle : (paths : List Path) → AllByRecursion (IsRegisteredPath rows) paths → AllByRecursion (λ p. take front p ≡ take front first) paths
         → AllByRecursion (λ p. IsTried now now place p) paths
-    all_idle role first barred its is [] right alike = tt
-    all_idle role first barred its is (path ∷ paths) right alike =
-        (idle_at role first barred its is path right.0 alike.0, all_idle role first barred its is paths right.1 alike.1)
+    all_idle [] known alike = tt
+    all_idle (path ∷ paths) known alike = (idle_at path known.0 alike.0, all_idle paths known.1 alike.1)
 
-    -- those that wait still when the client that was tried is passed by, and others with it
-    pub waiting-left : (known : IsKnown quota free) (queue left : List Path) (first : Path) → AllByRecursion IsClientPath queue → slice_get queue 0 ≡ Some first
-        → ((role path : Path) → free.role ≡ Some role → slice_get queue 0 ≡ Some path → role ≡ role_part path)
-        → IsPassedOver free queue left → AreWaiting rows place start now (drop 1 queue) → AreWaiting rows place start now left
-    waiting-left known queue left first rights at is over waiting = by free.role free.part refl refl over
-      where
-        passed : (role : Path) → free.role ≡ Some role → free.part ≡ None → (by' : IsPassedFront free.front queue left) → AreWaiting rows place start now left
-        passed role told none by' = from by'.passed by'.split (front_all IsClientPath by'.passed left (subst (AllByRecursion IsClientPath) by'.split rights)) (by'.alike first at) (by'.some first at)
-          where
-            from : (paths : List Path) → queue ≡ paths ++ left → AllByRecursion IsClientPath paths
-                → AllByRecursion (λ p. take free.front p ≡ take free.front first) paths → 0 < length paths → AreWaiting rows place start now left
-            from [] split right alike some = absurd (omega (arith, some))
-            from (path ∷ paths) split right alike some =
-                let here : Some first ≡ Some path = sym at ∙ ap (λ ps. slice_get ps 0) split in
-                let same : path ≡ first = cc in
-                past_idle paths left
-                (all_idle role first (known.front role told none) (subst IsClientPath same right.0) (is role first told at) paths right.1 alike.1)
-                (subst (λ ps. AreWaiting rows place start now ps) (ap (λ ps. drop 1 ps) split) waiting)
-
-        by : (role : Option Path) (part : Option (List Resource)) → free.role ≡ role → free.part ≡ part
-            → MatchOption (cond (is_none role || is_some part) None (Some free.front)) (left ≡ drop 1 queue) (λ front. IsPassedFront front queue left)
-            → AreWaiting rows place start now left
-        by None part told has over' = subst (λ ps. AreWaiting rows place start now ps) (sym over') waiting
-        by (Some role) (Some bundle) told has over' = subst (λ ps. AreWaiting rows place start now ps) (sym over') waiting
-        by (Some role) None told has over' = passed role told has over'
+  -- those that wait still when the client that was tried is passed by, and others with it
+  pub waiting-left : (quota : Option Allowance) (free : List Resource) → IsQuotaOf now quota → IsFreeAt now place free
+      → (known : Known) → IsKnownOf quota free known → (queue left : List Path) (first : Path) → AllByRecursion (IsRegisteredPath rows) queue → slice_get queue 0 ≡ Some first
+      → ((role path : Path) → known_role known ≡ Some role → slice_get queue 0 ≡ Some path → role ≡ role_part path)
+      → IsPassedOver known queue left → AreWaiting rows place start now (drop 1 queue) → AreWaiting rows place start now left
+  waiting-left quota free counted there Nothing right queue left first clients at is over waiting = subst (λ ps. AreWaiting rows place start now ps) (sym over) waiting
+  waiting-left quota free counted there (Part role part) right queue left first clients at is over waiting = subst (λ ps. AreWaiting rows place start now ps) (sym over) waiting
+  waiting-left quota free counted there (Barred role front) barred queue left first clients at is over waiting =
+      from over.passed over.split (front_all (IsRegisteredPath rows) over.passed left (subst (AllByRecursion (IsRegisteredPath rows)) over.split clients)) (over.alike first at) (over.some first at)
+    where
+      from : (paths : List Path) → queue ≡ paths ++ left → AllByRecursion (IsRegisteredPath rows) paths
+          → AllByRecursion (λ p. take front p ≡ take front first) paths → 0 < length paths → AreWaiting rows place start now left
+      from [] split known alike some = absurd (omega (arith, some))
+      from (path ∷ paths) split known alike some =
+          let here : Some first ≡ Some path = sym at ∙ ap (λ ps. slice_get ps 0) split in
+          let same : path ≡ first = cc in
+          past_idle paths left
+          (all_idle quota free counted there role front barred first (subst IsClientPath same known.0.right) (is role first refl at) paths known.1 alike.1)
+          (subst (λ ps. AreWaiting rows place start now ps) (ap (λ ps. drop 1 ps) split) waiting)
 
 -- fewer are left
-pub passed_falls : (free : Free) (queue left : List Path) (first : Path) → slice_get queue 0 ≡ Some first → IsPassedOver free queue left → length left < length queue
-passed_falls free queue left first at over = by (barred_front free) over
-  where
-    dropped : (paths : List Path) → slice_get paths 0 ≡ Some first → left ≡ drop 1 paths → length left < length paths
-    dropped [] at' is = absurd cc
-    dropped (p ∷ paths) at' is = omega (arith, ap (λ (ps : List Path). length ps) is)
-
-    by : (front : Option ℕ) → MatchOption front (left ≡ drop 1 queue) (λ n. IsPassedFront n queue left) → length left < length queue
-    by None is = dropped queue at is
-    by (Some front) past = omega (arith, past.some first at, ap (λ (ps : List Path). length ps) past.split, length-append past.passed left)
+pub passed_falls : (known : Known) (queue left : List Path) (first : Path) → slice_get queue 0 ≡ Some first → IsPassedOver known queue left → length left < length queue
+passed_falls Nothing queue left first at over = omega (arith, ap length (queue_begins queue first at), ap length over)
+passed_falls (Part role part) queue left first at over = omega (arith, ap length (queue_begins queue first at), ap length over)
+passed_falls (Barred role front) queue left first at over = omega (arith, over.some first at, ap length over.split, length-append over.passed left)

@@ -2,6 +2,7 @@
 use Rattle.std.proofs.Common.{◌≡◌, ℕ, zero, suc, ◌+◌, ◌*◌, ◌<◌, ◌≤◌, List, [], ◌∷◌, Option, Some, None, true, false, Bool, refl, sym, ap, ◌∙◌, length, cond, arith, drop, add-one}
 use Rattle.std.specs.Prelude.{◌^◌, ◌≢◌, is_some, max, slice_get, filter}
 use Rattle.std.specs.Option.{option_map_or}
+use Rattle.std.proofs.lemmas.Bool.{false≢true}
 use Rattle.std.proofs.Math.Seq.{drop-append_seam}
 use Rattle.drf_rows.specs.Cycle.{turn, turns, cycle}
 use Rattle.drf_rows.specs.LimitNumbers.{LimitNumbers}
@@ -9,14 +10,17 @@ use Rattle.drf_rows.specs.Step.{new_offers, effect}
 use Rattle.drf_rows.specs.declared.limits.TheConstants.{LATEST_MOMENT}
 use Rattle.drf_rows.specs.declared.event.Event.TheVariants.{Cycle}
 use Rattle.drf_rows.specs.declared.rows.AgentRow.{AgentRow}
+use Rattle.drf_rows.specs.declared.rows.LimitRow.{LimitRow}
 use Rattle.drf_rows.specs.declared.rows.OfferRow.{OfferRow}
 use Rattle.drf_rows.specs.declared.rows.Rows.{Rows}
 use Rattle.drf_tables.specs.Drafts.{with_offers}
+use Rattle.drf_tables.specs.Stored.{Stored}
+use Rattle.drf_core.specs.declared.cycle.Drafts.{Drafts}
 use Rattle.drf_sorter.specs.Content.{Content}
 use Rattle.drf_content.specs.Content.{content_of}
 use Rattle.drf_laws.specs.Kept.{IsKept}
-use Rattle.drf_core.specs.Drafting.{IsDrafting, turn_at, turns_of}
-use Rattle.drf_gates.specs.Quota.{Allowance}
+use Rattle.drf_core.specs.Drafting.{IsCycleAt, IsDrafting, turn_at, turns_of}
+use Rattle.drf_gates.specs.Quota.{Usage, quota_under}
 use Rattle.drf_core.specs.Entitling.{IsQuotaOf}
 use Rattle.drf_tables.specs.DraftLaws.{offers-with_offers}
 use Rattle.drf_tables.specs.Recounting.{CountsAll}
@@ -89,6 +93,15 @@ drafting-begins content limits rows tables clock offers sorted kept moment same 
       low_number = omega (arith, numbered, events);
     })
 
+pub cycle-begins : (content : Content) (tables : Stored) (rows : Rows) (drafts : Drafts) → tables.rows ≡ rows → IsDrafting content rows drafts.offers.items
+    → tables.settled ≡ true → drafts.offers.items ≡ [] → drafts.lefts.items ≡ [] → IsQuotaOf rows (quota_under rows.limits drafts.consumption) → IsCycleAt content tables drafts 0
+cycle-begins content tables rows drafts same drafting settled none nothing counted = record {
+  drafting = rw same drafting;
+  settled = settled;
+  left = rw (none, nothing) (record { frees = refl; past = tt });
+  quota = rw (same, none) counted;
+}
+
 -- the turns are the cycle
 pub turns_of-cycle : (rows tables : Rows) (at clock : ℕ) → clock ≡ max rows.clock at → tables ≡ record rows { clock = clock } → turns_of tables ≡ effect rows (Cycle at)
 unfolding effect cycle
@@ -97,13 +110,25 @@ turns_of-cycle rows tables at clock moment same = ap turns_of same ∙ ap (λ n.
 pub new_offers-cycle : (rows tables : Rows) (clock : ℕ) (after : Rows) → tables ≡ record rows { clock = clock } → new_offers tables after ≡ new_offers rows after
 new_offers-cycle rows tables clock after same = ap (λ (r : Rows). new_offers r after) same
 
--- ---- what the drafts' quota counts
+-- ---- what roles consume with the drafts
 
-pub counts_all : (rows : Rows) (quota : Option Allowance) → IsQuotaOf rows quota → CountsAll rows quota
-counts_all rows None none = tt
-counts_all rows (Some a) is = is
+pub counts_all : (rows : Rows) (limits : List LimitRow) (consumption : Option (List Usage)) → IsQuotaOf rows (quota_under limits consumption)
+    → CountsAll rows consumption
+counts_all rows limits None none = record { each = tt }
+counts_all rows limits (Some used) is = record { each = is.used }
 
--- where any role has a limit, there is a quota
-pub is_counting : (rows : Rows) (quota : Option Allowance) → IsQuotaOf rows quota → rows.limits ≢ [] → is_some quota ≡ true
-is_counting rows None none some = absurd (some none)
-is_counting rows (Some a) is some = refl
+-- where any role has a limit, it is counted
+pub is_counting : (rows : Rows) (limits : List LimitRow) (consumption : Option (List Usage)) → IsQuotaOf rows (quota_under limits consumption)
+    → rows.limits ≢ [] → is_some consumption ≡ true
+is_counting rows limits None none some = absurd (some none)
+is_counting rows limits (Some used) is some = refl
+
+-- what is lent counts: where nothing is, no role has a limit
+pub quota-lent : (rows : Rows) (consumption : Option (List Usage)) (counted : Bool) → CountsAll rows consumption → is_some consumption ≡ counted
+    → (rows.limits ≢ [] → counted ≡ true) → IsQuotaOf rows (quota_under rows.limits consumption)
+quota-lent rows (Some used) counted counts is told = record { limits = refl; used = counts.each }
+quota-lent rows None counted counts is told = unlimited rows.limits told
+  where
+    unlimited : (limits : List LimitRow) → (limits ≢ [] → counted ≡ true) → limits ≡ []
+    unlimited [] so = refl
+    unlimited (l ∷ ls) so = absurd (false≢true (is ∙ so (λ (same : l ∷ ls ≡ []). cc)))

@@ -1,6 +1,6 @@
 -- What a role may have, what is granted of it, and what a quota counts, by what the code reads.
 use Rattle.std.proofs.Common.{◌≡◌, ◌≢◌, ℕ, ◌<◌, ◌≤◌, Bool, true, false, true≢false, ◌&&◌, nat_lt, nat_le, List, [], ◌∷◌, Option, Some, None, length, refl, sym, ap, subst, ◌∙◌, cond, arith}
-use Rattle.std.specs.Prelude.{not, ◌||◌, min, codes, IsTrue, ◌↔◌}
+use Rattle.std.specs.Prelude.{not, ◌||◌, min, codes, IsTrue, ◌↔◌, MatchOption}
 use Rattle.std.specs.List.{list_all, list_any}
 use Rattle.std.specs.Option.{option_map_or}
 use Rattle.std.proofs.lemmas.Bool.{and_parts, and_from, or_parts}
@@ -17,7 +17,7 @@ use Rattle.drf_bundle.specs.laws.KeyLaws.{unit_of, where-cons}
 use Rattle.drf_bundle.specs.laws.SumLaws.{amount-quantities_of, of_name}
 use Rattle.drf_bundle.specs.declared.quantities.Entry.{Entry}
 use Rattle.drf_bundle.specs.declared.resource.Resource.{Resource}
-use Rattle.drf_gates.specs.Quota.{Allowance, IsAllowanceOf, IsRaisedBy}
+use Rattle.drf_gates.specs.Quota.{Allowance, IsAllowanceOf, IsRaisedBy, Usage, quota_under}
 use Rattle.drf_rows.specs.Client.{Client, path_of}
 use Rattle.drf_rows.specs.Consistent.{IsConsistent}
 use Rattle.drf_rows.specs.Cycle.{free_of, grant, is_allocatable, with_offer}
@@ -33,7 +33,10 @@ use Rattle.drf_rows.specs.declared.rows.LimitRow.{LimitRow}
 use Rattle.drf_rows.specs.declared.rows.OfferRow.{OfferRow}
 use Rattle.drf_rows.specs.declared.rows.Rows.{Rows}
 use Rattle.drf_core.specs.Drafting.{CanCount}
-use Rattle.drf_core.specs.Entitling.{IsEntitlement, IsOffered, IsQuotaOf, has_at_least, if_allocatable, is_of_worth, is_reserved, is_reserved_for}
+use Rattle.drf_core.specs.Entitling.{IsEntitlement, IsKnown, IsKnownOf, IsOffered, IsQuotaOf, has_at_least, if_allocatable, is_of_worth, is_reserved, is_reserved_for, known_part, known_role}
+use Rattle.drf_core.specs.declared.free.Free.{Free}
+use Rattle.drf_core.specs.declared.free.Known.{Known}
+use Rattle.drf_core.specs.declared.free.Known.TheVariants.{Nothing, Part, Barred}
 
 -- ---- what a role may have
 
@@ -58,9 +61,28 @@ pub entitled-cut : (a : Allowance) (free : List Resource) (role : Path) (room : 
 entitled-cut a free role room part bundle left found cut rows client counted same =
     cut ∙ (λ i. clip (left rows counted i) (found i)) ∙ ap (λ (r : Path). clip (headroom rows r) (part_for r free)) (sym same)
 
-pub offered-is : (quota : Option Allowance) (free : List Resource) (role : Path) (part : List Resource) (offered : Option (List Resource))
-    → IsEntitlement quota free role part → offered ≡ if_allocatable part → IsOffered quota free role offered
-offered-is quota free role part offered entitled made rows client counted same = made ∙ ap if_allocatable (entitled rows client counted same)
+pub offered-is : (quota : Option Allowance) (free : List Resource) (role : Path) (part : List Resource) (worth : Bool)
+    → IsEntitlement quota free role part → worth ≡ is_allocatable part → IsOffered quota free role (cond worth (Some part) None)
+offered-is quota free role part worth entitled told rows client counted same =
+    ap (λ b. cond b (Some part) None) told ∙ ap if_allocatable (entitled rows client counted same)
+
+-- as it is known
+pub offered-known : (quota : Option Allowance) (free : List Resource) (known : Known) (role : Path) → IsKnownOf quota free known → known_role known ≡ Some role
+    → IsOffered quota free role (known_part known)
+offered-known quota free Nothing role right named = absurd cc
+offered-known quota free (Part of part) role right named = let same : of ≡ role = cc in subst (λ r. IsOffered quota free r (Some part)) same right
+offered-known quota free (Barred of front) role right named = let same : of ≡ role = cc in subst (λ r. IsOffered quota free r None) same right.offered
+
+pub no_part : (known : Known) → ((role : Path) (part : List Resource) → known ≡ Part role part → ⊥) → known_part known ≡ None
+no_part Nothing none = refl
+no_part (Part role part) none = absurd (none role part refl)
+no_part (Barred role front) none = refl
+
+-- what is known whatever is counted later is known in each case
+pub known_each : (granted : Option (List Resource)) (quota : Option Allowance) (free : Free) → ((later : Option Allowance) → IsKnown later free)
+    → MatchOption granted (IsKnown quota free) (λ _. (later : Option Allowance) → IsKnown later free)
+known_each None quota free known = known quota
+known_each (Some bundle) quota free known = known
 
 -- of what is for everyone each role may have all
 for_all : (role : Path) (free : List Resource) → is_unreserved free ≡ true → free ≡ part_for role free
@@ -75,9 +97,9 @@ for_all role (r ∷ rs) all =
 pub offered-whole : (quota : Option Allowance) (free : List Resource) → IsBundle free → is_unreserved free ≡ true → is_allocatable free ≡ true
     → ((rows : Rows) → IsQuotaOf rows quota → rows.limits ≡ []) → (role : Path) → IsOffered quota free role (Some free)
 offered-whole quota free right all worth unlimited role =
-    offered-is quota free role free (Some free)
+    offered-is quota free role free true
     (entitled-whole quota free role free right (λ rows counted. room-unlimited role rows (unlimited rows counted)) (for_all role free all))
-    (sym (ap (λ (b : Bool). cond b (Some free) None) worth))
+    (sym worth)
 
 -- ---- limits that leave too little
 
@@ -244,25 +266,27 @@ no_limits (l ∷ ls) some told none =
     absurd cc
 
 -- one more offer is counted
-pub allowance-counted : (rows : Rows) (offer : OfferRow) (old new : Allowance) → IsAllowanceOf rows old
-    → IsRaisedBy old new (λ test label. cond (test offer.role) (unreserved_in label offer.bundle) 0) → IsAllowanceOf (with_offer rows offer) new
+pub offer-counted : (rows : Rows) (offer : OfferRow) (limits : List LimitRow) (old new : List Usage)
+    → IsQuotaOf rows (quota_under limits (Some old))
+    → IsRaisedBy old new (λ test label. cond (test offer.role) (unreserved_in label offer.bundle) 0)
+    → IsQuotaOf (with_offer rows offer) (quota_under limits (Some new))
 unfolding with_offer
-allowance-counted rows offer old new counted raised = record {
-  limits = raised.limits ∙ counted.limits;
-  used = λ test label. omega (arith, raised.used test label, counted.used test label, consumption-with_offer test rows offer label);
+offer-counted rows offer limits old new counted raised = record {
+  limits = counted.limits;
+  used = λ test label. omega (arith, raised test label, counted.used test label, consumption-with_offer test rows offer label);
 }
 
-pub unlimited-counted : (rows : Rows) (offer : OfferRow) (quota : Option Allowance) → quota ≡ None → IsQuotaOf rows quota
-    → IsQuotaOf (with_offer rows offer) quota
+pub unlimited-counted : (rows : Rows) (offer : OfferRow) (limits : List LimitRow) (consumption : Option (List Usage)) → consumption ≡ None
+    → IsQuotaOf rows (quota_under limits consumption) → IsQuotaOf (with_offer rows offer) (quota_under limits consumption)
 unfolding with_offer
-unlimited-counted rows offer None none counted = counted
-unlimited-counted rows offer (Some a) none counted = cc
+unlimited-counted rows offer limits None none counted = counted
+unlimited-counted rows offer limits (Some used) none counted = cc
 
 -- there is room for it, since with it there is no more than in the cluster
-pub can_count : (rows : Rows) (offer : OfferRow) (quota : Option Allowance) → IsQuotaOf rows quota
-    → IsConsistent (with_offer rows offer) → length (with_offer rows offer).agents ≤ 4096 → CanCount quota offer
-can_count rows offer None counted right few = tt
-can_count rows offer (Some a) counted right few = λ test label. omega (
+pub can_count : (rows : Rows) (offer : OfferRow) (limits : List LimitRow) (consumption : Option (List Usage)) → IsQuotaOf rows (quota_under limits consumption)
+    → IsConsistent (with_offer rows offer) → length (with_offer rows offer).agents ≤ 4096 → CanCount consumption offer
+can_count rows offer limits None counted right few = tt
+can_count rows offer limits (Some used) counted right few = λ test label. omega (
   arith,
   counted.used test label,
   consumption-with_offer test rows offer label,

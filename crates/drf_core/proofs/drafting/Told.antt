@@ -1,7 +1,6 @@
 -- What is told of a cycle, client by client and agent by agent.
 use Rattle.std.proofs.Common.{◌≡◌, ℕ, ◌+◌, ◌<◌, ◌≤◌, suc, Bool, true, false, ◌&&◌, List, [], ◌∷◌, ◌++◌, Option, Some, None, length, map, drop, refl, sym, ap, subst, ◌∙◌, cond, arith, append_assoc, append-nil}
-use Rattle.std.specs.Prelude.{slice_get, is_some, filter, max}
-use Rattle.std.specs.List.{AllByRecursion}
+use Rattle.std.specs.Prelude.{slice_get, is_some, filter}
 use Rattle.std.specs.Option.{option_map_or}
 use Rattle.std.proofs.lemmas.Bool.{lt-ltb}
 use Rattle.std.proofs.lemmas.List.{drop_all, length-map}
@@ -15,7 +14,6 @@ use Rattle.drf_rows.specs.Client.{Client, path_of}
 use Rattle.drf_rows.specs.Cycle.{free_of, is_allocatable, with_offer, tried, all_tried, turn, turn_order, at_moment}
 use Rattle.drf_row_laws.specs.CycleLaws.{all_tried_none}
 use Rattle.drf_rows.specs.Filters.{is_in_force, holds_back}
-use Rattle.drf_rows.specs.Held.{is_registered}
 use Rattle.drf_rows.specs.Offers.{is_empty}
 use Rattle.drf_rows.specs.Quota.{entitlement}
 use Rattle.drf_rows.specs.Step.{live_rows}
@@ -31,15 +29,14 @@ use Rattle.drf_explain.specs.declared.finding.Finding.{Finding}
 use Rattle.drf_explain.specs.declared.finding.Finding.TheVariants.{Inactive, NothingFree, Tried, Left}
 use Rattle.drf_explain.specs.declared.finding.Outcome.{Outcome}
 use Rattle.drf_explain.specs.declared.gates.Gates.{Gates}
-use Rattle.drf_sorter.specs.Content.{Content, IsOrderOf}
 use Rattle.drf_tables.specs.Drafts.{with_offers}
-use Rattle.drf_tables.specs.declared.tables.Left as tables_word
 use Rattle.drf_tables.specs.DraftLaws.{agents-with_offers}
-use Rattle.drf_core.specs.Drafting.{IsDrafting, IsTried, is_open_at, turn_at}
+use Rattle.drf_laws.specs.laws.Clients.{path_of-injective}
+use Rattle.drf_core.specs.Drafting.{IsRegisteredPath, IsTried, is_open_at, turn_at}
 use Rattle.drf_core.specs.Entitling.{IsEntitlement, IsQuotaOf}
-use Rattle.drf_core.specs.Explaining.{IsOutcomeOf, IsTelling, left_to_tell, left_told, told_at, told_by, told_on, untouched_at}
+use Rattle.drf_core.specs.Explaining.{IsOutcomeOf, left_to_tell, left_told, told_at, told_by, told_on, untouched_at}
 use Rattle.drf_core.proofs.drafting.Cycle.{begins_at}
-use Rattle.drf_core.proofs.drafting.Turn.{AreWaiting, element_at, ordered_from, turn_at-closed}
+use Rattle.drf_core.proofs.drafting.Turn.{element_at, queue_begins, turn_at-closed}
 
 -- ---- what decides stays while offers are drafts
 
@@ -131,78 +128,45 @@ module _ (rows : Rows) (agent : AgentRow) (queue : List Path) (free : List Resou
 
 -- ---- clients that wait
 
--- the clients that are still to be tried: to try them and to tell of them gives what trying and telling of all gives
-pub record AreTold (each : Bool) (rows : Rows) (place : ℕ) (start now : Rows) (queue : List Path) (before findings : List Finding) : Type 0 where
-  pub clients : List Client
-  pub queued : queue ≡ map path_of clients
-  pub known : AllByRecursion (λ c. is_registered rows.frameworks c ≡ true) clients
-  pub same : (agent : AgentRow) → slice_get rows.agents place ≡ Some agent → all_tried now agent clients ≡ all_tried start agent (turn_order start)
-  pub told : (agent : AgentRow) → slice_get rows.agents place ≡ Some agent
-      → findings ++ told_by each now agent clients ≡ before ++ told_by each start agent (turn_order start)
+-- to tell of the clients that are still to be tried gives what telling of all gives
+abbrev pub AreTold : Bool → Rows → ℕ → Rows → Rows → List Path → List Finding → List Finding → Type 0
+AreTold each rows place start now queue before findings = (agent : AgentRow) (clients : List Client) → slice_get rows.agents place ≡ Some agent
+    → queue ≡ map path_of clients → findings ++ told_by each now agent clients ≡ before ++ told_by each start agent (turn_order start)
 
-pub waiting_of : (each : Bool) (rows : Rows) (place : ℕ) (start now : Rows) (queue : List Path) (before findings : List Finding)
-    → AreTold each rows place start now queue before findings → AreWaiting rows place start now queue
-waiting_of each rows place start now queue before findings are =
-    record { clients = are.clients; queued = are.queued; known = are.known; same = are.same }
+same_clients : (cs ds : List Client) → map path_of cs ≡ map path_of ds → cs ≡ ds
+same_clients [] [] same = refl
+same_clients [] (d ∷ ds) same = absurd cc
+same_clients (c ∷ cs) [] same = absurd cc
+same_clients (c ∷ cs) (d ∷ ds) same =
+    let first : path_of c ≡ path_of d = cc in
+    let head = path_of-injective c d first in
+    let others : map path_of cs ≡ map path_of ds = cc in
+    let tail = same_clients cs ds others in
+    λ i. head i ∷ tail i
 
-module _ (content : Content) (rows : Rows) (offers : List OfferRow) (drafting : IsDrafting content rows offers) where
-  pub told-begins : (each : Bool) (place : ℕ) (queue : List Path) (findings : List Finding) → IsOrderOf content queue
-      → AreTold each rows place (with_offers rows offers) (with_offers rows offers) queue findings findings
-  told-begins each place queue findings order =
-      let ordered = ordered_from content rows offers drafting queue order in
-      record { clients = turn_order (with_offers rows offers); queued = ordered.same; known = ordered.known; same = λ agent at. refl; told = λ agent at. refl }
+pub told-begins : (each : Bool) (rows : Rows) (place : ℕ) (start : Rows) (queue : List Path) (findings : List Finding) → queue ≡ map path_of (turn_order start)
+    → AreTold each rows place start start queue findings findings
+told-begins each rows place start queue findings order agent clients at queued =
+    ap (λ cs. findings ++ told_by each start agent cs) (same_clients clients (turn_order start) (sym queued ∙ order))
 
-  -- the order has as many clients whoever asks
-  pub as_many : (paths queue : List Path) → IsOrderOf content paths → IsOrderOf content queue → length paths ≡ length queue
-  as_many paths queue first second =
-      ap length ((ordered_from content rows offers drafting paths first).same ∙ sym (ordered_from content rows offers drafting queue second).same)
-
-module _ (each : Bool) (rows : Rows) (place : ℕ) (start now : Rows) (queue : List Path) (before findings : List Finding)
-    (are : AreTold each rows place start now queue before findings) where
-  -- when one was tried and told of, the others wait
-  pub told-passed : (after : Rows) (left : List Path) (next : List Finding) (path : Path) → now.agents ≡ rows.agents → slice_get queue 0 ≡ Some path
-      → IsTried now after place path → left ≡ drop 1 queue
-      → ((agent : AgentRow) → slice_get rows.agents place ≡ Some agent → is_allocatable (free_of now agent) ≡ true)
-      → ((agent : AgentRow) → slice_get rows.agents place ≡ Some agent
-      → (finding : Finding) × IsOutcomeOf now agent path finding × (next ≡ findings ++ finding ∷ []))
-      → AreTold each rows place start after left before next
-  told-passed after left next path agents first tried_is left_is worth said = by are.clients are.queued are.known are.same are.told
-    where
-      by : (clients : List Client) → queue ≡ map path_of clients → AllByRecursion (λ c. is_registered rows.frameworks c ≡ true) clients
-          → ((agent : AgentRow) → slice_get rows.agents place ≡ Some agent → all_tried now agent clients ≡ all_tried start agent (turn_order start))
-          → ((agent : AgentRow) → slice_get rows.agents place ≡ Some agent
-          → findings ++ told_by each now agent clients ≡ before ++ told_by each start agent (turn_order start))
-          → AreTold each rows place start after left before next
-      by [] queued known same told = let nothing : Some path ≡ None = sym first ∙ ap (λ ps. slice_get ps 0) queued in absurd cc
-      by (c ∷ cs) queued known same told =
-          let here : Some path ≡ Some (path_of c) = sym first ∙ ap (λ ps. slice_get ps 0) queued in
-          let joined : path ≡ path_of c = cc in
-          record {
-            clients = cs;
-            queued = left_is ∙ ap (λ ps. drop 1 ps) queued;
-            known = known.1;
-            same = λ agent at.
-                ap (λ (r : Rows). all_tried r agent cs) (tried_is agent c (ap (λ as'. slice_get as' place) agents ∙ at) joined) ∙ same agent at;
-            told = λ agent at.
-                let f = said agent at in
-                let next_rows : after ≡ tried now agent c = tried_is agent c (ap (λ as'. slice_get as' place) agents ∙ at) joined in
-                ap (λ fs. fs ++ told_by each after agent cs) f.2
-                ∙ append_assoc findings (f.0 ∷ []) (told_by each after agent cs)
-                ∙ (λ i. findings ++ f.1 c joined i ∷ told_by each (next_rows i) agent cs)
-                ∙ ap (λ fs. findings ++ fs) (sym (told_by-first each now agent c cs (worth agent at)))
-                ∙ told agent at;
-          }
-
-  -- when those who wait are told of too, all that is to be told was told
-  pub told-over : (next : List Finding) (agent : AgentRow) → slice_get rows.agents place ≡ Some agent
-      → ((clients : List Client) → queue ≡ map path_of clients → next ≡ findings ++ told_by each now agent clients)
-      → next ≡ before ++ told_by each start agent (turn_order start)
-  told-over next agent at said = said are.clients are.queued ∙ are.told agent at
-
--- the first passed by, one fewer waits
-pub one_fewer : (queue : List Path) (worth : Bool) → (is_some (slice_get queue 0) && worth) ≡ true → length queue ≡ length (drop 1 queue) + 1
-one_fewer [] worth some = cc
-one_fewer (path ∷ queue) worth some = omega arith
+-- when one was tried and told of, the others wait
+pub told-passed : (each : Bool) (rows : Rows) (place : ℕ) (start now after : Rows) (queue left : List Path) (before findings next : List Finding) (path : Path)
+    → AreTold each rows place start now queue before findings → now.agents ≡ rows.agents → IsRegisteredPath rows path → slice_get queue 0 ≡ Some path
+    → IsTried now after place path → left ≡ drop 1 queue
+    → ((agent : AgentRow) → slice_get rows.agents place ≡ Some agent → is_allocatable (free_of now agent) ≡ true)
+    → ((agent : AgentRow) → slice_get rows.agents place ≡ Some agent
+    → (finding : Finding) × IsOutcomeOf now agent path finding × (next ≡ findings ++ finding ∷ []))
+    → AreTold each rows place start after left before next
+told-passed each rows place start now after queue left before findings next path told agents known first tried_is left_is worth said agent clients at queued =
+    let c = known.client in
+    let f = said agent at in
+    let next_rows : after ≡ tried now agent c = tried_is agent c (ap (λ as'. slice_get as' place) agents ∙ at) known.joined in
+    let tail : drop 1 queue ≡ map path_of clients = sym left_is ∙ queued in
+    ap (λ fs. fs ++ told_by each after agent clients) f.2
+    ∙ append_assoc findings (f.0 ∷ []) (told_by each after agent clients)
+    ∙ (λ i. findings ++ f.1 c known.joined i ∷ told_by each (next_rows i) agent clients)
+    ∙ ap (λ fs. findings ++ fs) (sym (told_by-first each now agent c clients (worth agent at)))
+    ∙ told agent (c ∷ clients) at (queue_begins queue path first ∙ (λ i. known.joined i ∷ tail i))
 
 -- ---- clients behind
 
@@ -214,10 +178,6 @@ WaitBehind rows agent clients queue before findings =
 pub some_first : (queue : List Path) → is_some (slice_get queue 0) ≡ true → (path : Path) × (slice_get queue 0 ≡ Some path)
 some_first [] some = absurd cc
 some_first (path ∷ queue) some = (path, refl)
-
-pub fewer_wait : (queue : List Path) → is_some (slice_get queue 0) ≡ true → length queue ≡ length (drop 1 queue) + 1
-fewer_wait [] some = cc
-fewer_wait (path ∷ queue) some = omega arith
 
 pub next_behind : (rows : Rows) (agent : AgentRow) (clients : List Client) (queue left : List Path) (before findings next : List Finding) (path : Path)
     → slice_get queue 0 ≡ Some path → (finding : Finding) × IsOutcomeOf rows agent path finding × (next ≡ findings ++ finding ∷ [])
@@ -387,30 +347,15 @@ untouched-next rows before i told turn turns within same said is =
 
 -- ---- the cycle
 
-pub telling-stands : (content : Content) (rows live : Rows) (settled : Bool) (offers : List OfferRow) (lefts : List tables_word.Left) (quota : Option Allowance)
-    → live ≡ live_rows rows → IsDrafting content rows offers → settled ≡ true → offers ≡ [] → lefts ≡ [] → IsQuotaOf rows quota
-    → IsTelling content rows settled live offers lefts quota 0
-telling-stands content rows live settled offers lefts quota current drafting is_settled none nothing counted = record {
-  current = current;
-  drafting = drafting;
-  is_settled = is_settled;
-  left_free = rw (none, nothing) (record { frees = refl; past = tt });
-  counted = subst (λ (os : List OfferRow). IsQuotaOf (with_offers rows os) quota) (sym none) counted;
-}
-
 -- a telling begins with all agents
-pub telling-begins : (rows tables : Rows) (at moment : ℕ) → moment ≡ max rows.clock at → tables ≡ record rows { clock = moment }
-    → turns_on_all tables tables.agents ≡ turns_by_agent rows at
+pub telling-begins : (rows tables : Rows) (at : ℕ) → tables ≡ at_moment rows at → turns_on_all tables tables.agents ≡ turns_by_agent rows at
 unfolding turns_by_agent
-telling-begins rows tables at moment late same =
-    ap (λ (r : Rows). turns_on_all r r.agents) (same ∙ ap (λ n. record rows { clock = n }) late)
+telling-begins rows tables at moved = ap (λ (r : Rows). turns_on_all r r.agents) moved
 
-pub explained-is : (rows tables live : Rows) (at moment : ℕ) (first findings : List Finding) → moment ≡ max rows.clock at
-    → tables ≡ record rows { clock = moment } → live ≡ live_rows tables → first ≡ suppressed_of live
-    → findings ≡ first ++ told_of_agents tables tables.agents → findings ≡ explained rows at
+pub explained-is : (rows tables live : Rows) (at : ℕ) (first findings : List Finding) → tables ≡ at_moment rows at → live ≡ live_rows tables
+    → first ≡ suppressed_of live → findings ≡ first ++ told_of_agents tables tables.agents → findings ≡ explained rows at
 unfolding explained
-explained-is rows tables live at moment first findings late same is begins told =
-    let moved : tables ≡ at_moment rows at = same ∙ ap (λ n. record rows { clock = n }) late in
+explained-is rows tables live at first findings moved is begins told =
     told
     ∙ ap (λ fs. fs ++ told_of_agents tables tables.agents) (begins ∙ ap suppressed_of (is ∙ ap live_rows moved))
     ∙ ap (λ (r : Rows). suppressed_of rows ++ told_of_agents r r.agents) moved

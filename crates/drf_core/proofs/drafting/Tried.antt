@@ -1,5 +1,5 @@
 -- A client is tried: one more draft, or none.
-use Rattle.std.proofs.Common.{refl, ◌≡◌, ℕ, ◌+◌, ◌<◌, ◌≤◌, ◌^◌, true, List, [], ◌∷◌, ◌++◌, Option, Some, None, length, sym, ap, subst, ◌∙◌, arith}
+use Rattle.std.proofs.Common.{refl, ◌≡◌, ℕ, ◌+◌, ◌<◌, ◌≤◌, ◌^◌, true, List, [], ◌∷◌, ◌++◌, Option, Some, None, length, map, sym, ap, subst, ◌∙◌, arith}
 use Rattle.std.specs.Prelude.{slice_get}
 use Rattle.std.specs.List.{AllByRecursion}
 use Rattle.std.specs.Option.{option_map_or}
@@ -9,23 +9,26 @@ use Rattle.drf_role.specs.Path.{Path, role_part, framework_part}
 use Rattle.drf_role.specs.PathLaws.{role_part-client_path, framework_part-client_path}
 use Rattle.drf_bundle.specs.Bundle.{rest, quantities_of}
 use Rattle.drf_bundle.specs.declared.resource.Resource.{Resource}
-use Rattle.drf_gates.specs.Quota.{Allowance}
+use Rattle.drf_gates.specs.Quota.{Allowance, Usage, quota_under}
 use Rattle.drf_bundle.specs.ListLaws.{each_at}
 use Rattle.drf_rows.specs.Client.{Client, path_of}
 use Rattle.drf_rows.specs.Holdings.{of_offer}
 use Rattle.drf_rows.specs.Cycle.{free_of, grant, new_offer, with_offer, tried}
 use Rattle.drf_row_laws.specs.CycleLaws.{free_of-with_offer}
-use Rattle.drf_rows.specs.Consistent.{IsAgent, IsConsistent}
+use Rattle.drf_rows.specs.Consistent.{IsAgent, IsConsistent, are_distinct}
 use Rattle.drf_rows.specs.Held.{is_registered}
 use Rattle.drf_rows.specs.declared.rows.AgentRow.{AgentRow}
+use Rattle.drf_rows.specs.declared.rows.LimitRow.{LimitRow}
 use Rattle.drf_rows.specs.declared.rows.OfferRow.{OfferRow}
 use Rattle.drf_rows.specs.declared.rows.Rows.{Rows}
 use Rattle.drf_sorter.specs.Content.{Content, with_change, charged, has_client, IsSound}
 use Rattle.drf_tables.specs.Drafts.{with_offers}
+use Rattle.drf_tables.specs.declared.tables.Left.{Left}
 use Rattle.drf_content.specs.Content.{content_of}
-use Rattle.drf_core.specs.Drafting.{IsDrafting, CanCount, IsRegisteredPath, IsFreeAt, IsTried}
+use Rattle.drf_core.specs.Drafting.{IsDrafting, CanCount, HasLeft, IsRegisteredPath, IsFreeAt, IsTried}
 use Rattle.drf_core.specs.Entitling.{IsQuotaOf}
 use Rattle.drf_core.proofs.drafting.Granted.{can_count}
+use Rattle.drf_core.proofs.drafting.Turn.{left-tried}
 use Rattle.drf_tables.specs.DraftLaws.{agents-with_offers, next-with_offers}
 use Rattle.drf_core.proofs.drafting.Drafts.{with_offers-push, is_registered-with_offers}
 use Rattle.drf_content.specs.laws.Offer.{content_of-with_offer}
@@ -72,9 +75,10 @@ module _ (content : Content) (rows : Rows) (offers : List OfferRow) (drafting : 
   unfolding with_offer
   early_after = omega (arith, next-with_offers rows offers, fits)
 
-  pub can_count_after : (quota : Option Allowance) → IsQuotaOf (with_offers rows offers) quota → CanCount quota (next_draft rows offers agent client bundle)
-  can_count_after quota counted =
-      can_count (with_offers rows offers) (next_draft rows offers agent client bundle) quota counted consistent_after few_after
+  pub can_count_after : (limits : List LimitRow) (consumption : Option (List Usage)) → IsQuotaOf (with_offers rows offers) (quota_under limits consumption)
+      → CanCount consumption (next_draft rows offers agent client bundle)
+  can_count_after limits consumption counted =
+      can_count (with_offers rows offers) (next_draft rows offers agent client bundle) limits consumption counted consistent_after few_after
 
   pub has_client-now : has_client content (path_of client) ≡ true
   has_client-now =
@@ -133,7 +137,9 @@ IsGrantedBy tables name quota free path granted = (rows : Rows) (agent : AgentRo
 
 -- ---- what the code makes is the next draft
 
-pub record IsNext (rows : Rows) (offers : List OfferRow) (place : ℕ) (path : Path) (free bundle : List Resource) (row : OfferRow) : Type 0 where
+pub record IsNext (content : Content) (rows : Rows) (offers : List OfferRow) (place : ℕ) (path : Path) (free bundle : List Resource) (row : OfferRow) : Type 0 where
+  pub drafting : IsDrafting content rows offers
+  pub fits : rows.next_offer + length offers + 1 < 2 ^ 64
   pub agent : AgentRow
   pub at : slice_get rows.agents place ≡ Some agent
   pub client : Client
@@ -143,7 +149,9 @@ pub record IsNext (rows : Rows) (offers : List OfferRow) (place : ℕ) (path : P
   pub granted : grant (with_offers rows offers) agent client ≡ Some bundle
   pub made : row ≡ next_draft rows offers agent client bundle
 
-pub next_from : (rows : Rows) (offers : List OfferRow) (place : ℕ) (path : Path) (quota : Option Allowance) (free bundle : List Resource) (row : OfferRow) (number : ℕ) (name : Text)
+pub next_from : (content : Content) (rows : Rows) (offers : List OfferRow) (place : ℕ) (path : Path) (quota : Option Allowance) (free bundle : List Resource) (row : OfferRow) (number : ℕ) (name : Text)
+    → IsDrafting content rows offers
+    → rows.next_offer + length offers + 1 < 2 ^ 64
     → IsFreeAt (with_offers rows offers) place free
     → IsQuotaOf (with_offers rows offers) quota
     → IsRegisteredPath rows path
@@ -151,8 +159,8 @@ pub next_from : (rows : Rows) (offers : List OfferRow) (place : ℕ) (path : Pat
     → ((a : AgentRow) → slice_get rows.agents place ≡ Some a → name ≡ a.name)
     → number ≡ rows.next_offer + length offers
     → row ≡ record { number = number; agent = name; framework = framework_part path; role = role_part path; bundle = bundle }
-    → IsNext rows offers place path free bundle row
-next_from rows offers place path quota free bundle row number name is_free counted registered granted named numbered row_is =
+    → IsNext content rows offers place path free bundle row
+next_from content rows offers place path quota free bundle row number name drafting fits is_free counted registered granted named numbered row_is =
     let agent : AgentRow = is_free.agent in
     let client : Client = registered.client in
     let at : slice_get rows.agents place ≡ Some agent =
@@ -161,6 +169,8 @@ next_from rows offers place path quota free bundle row number name is_free count
     let framework : framework_part path ≡ client.framework = ap framework_part registered.joined ∙ framework_part-client_path client.role client.framework in
     let next : number ≡ (with_offers rows offers).next_offer = numbered ∙ sym (next-with_offers rows offers) in
     record {
+      drafting = drafting;
+      fits = fits;
       agent = agent;
       at = at;
       client = client;
@@ -173,24 +183,25 @@ next_from rows offers place path quota free bundle row number name is_free count
     }
 
 -- another agent at the place, and another client of the path, are those
-module _ (content : Content) (rows : Rows) (offers : List OfferRow) (drafting : IsDrafting content rows offers) (place : ℕ) (path : Path) (free bundle : List Resource) (row : OfferRow)
-    (next : IsNext rows offers place path free bundle row) (fits : rows.next_offer + length offers + 1 < 2 ^ 64) where
+module _ {content : Content} {rows : Rows} {offers : List OfferRow} {place : ℕ} {path : Path} {free bundle : List Resource} {row : OfferRow}
+    (next : IsNext content rows offers place path free bundle row) where
   pub known_next : has_client content path ≡ true
-  known_next = rw next.joined (has_client-now content rows offers drafting place next.agent next.at next.client next.known bundle next.granted fits)
+  known_next = rw next.joined (has_client-now content rows offers next.drafting place next.agent next.at next.client next.known bundle next.granted next.fits)
 
   pub sound_next : IsSound (with_change content path (charged (quantities_of bundle) 1))
-  sound_next = rw next.joined (sound_after content rows offers drafting place next.agent next.at next.client next.known bundle next.granted fits)
+  sound_next = rw next.joined (sound_after content rows offers next.drafting place next.agent next.at next.client next.known bundle next.granted next.fits)
 
   pub drafting_next : (after : Content) → after ≡ with_change content path (charged (quantities_of bundle) 1) → IsDrafting after rows (offers ++ row ∷ [])
   drafting_next after charge =
       rw next.made
-      (drafting_after content rows offers drafting place next.agent next.at next.client next.known bundle next.granted fits after
+      (drafting_after content rows offers next.drafting place next.agent next.at next.client next.known bundle next.granted next.fits after
       (charge ∙ ap (λ (p : Path). with_change content p (charged (quantities_of bundle) 1)) next.joined))
 
-  pub can_count_next : (quota : Option Allowance) → IsQuotaOf (with_offers rows offers) quota → CanCount quota row
-  can_count_next quota counted =
+  pub can_count_next : (limits : List LimitRow) (consumption : Option (List Usage)) → IsQuotaOf (with_offers rows offers) (quota_under limits consumption)
+      → CanCount consumption row
+  can_count_next limits consumption counted =
       rw next.made
-      (can_count_after content rows offers drafting place next.agent next.at next.client next.known bundle next.granted fits quota counted)
+      (can_count_after content rows offers next.drafting place next.agent next.at next.client next.known bundle next.granted next.fits limits consumption counted)
 
   pub tried_next : IsTried (with_offers rows offers) (with_offers rows (offers ++ row ∷ [])) place path
   tried_next agent client at joined =
@@ -199,7 +210,7 @@ module _ (content : Content) (rows : Rows) (offers : List OfferRow) (drafting : 
       let same_agent : next.agent ≡ agent = let e : Some next.agent ≡ Some agent = sym here ∙ at in cc in
       let same_client : next.client ≡ client = path_of-injective next.client client (sym next.joined ∙ joined) in
       ap (λ (o : OfferRow). with_offers rows (offers ++ o ∷ [])) next.made
-      ∙ tried_after content rows offers drafting place next.agent next.at next.client next.known bundle next.granted fits
+      ∙ tried_after content rows offers next.drafting place next.agent next.at next.client next.known bundle next.granted next.fits
       ∙ (λ i. tried (with_offers rows offers) (same_agent i) (same_client i))
 
   pub free_next : (left : List Resource) → left ≡ rest free bundle → IsFreeAt (with_offers rows (offers ++ row ∷ [])) place left
@@ -210,9 +221,18 @@ module _ (content : Content) (rows : Rows) (offers : List OfferRow) (drafting : 
         at = ap (λ (as' : List AgentRow). slice_get as' place) (agents-with_offers rows (offers ++ row ∷ [])) ∙ next.at;
         free = left_is
             ∙ ap (λ (f : List Resource). rest f bundle) next.is_free
-            ∙ sym (free_after content rows offers drafting place next.agent next.at next.client next.known bundle next.granted fits)
+            ∙ sym (free_after content rows offers next.drafting place next.agent next.at next.client next.known bundle next.granted next.fits)
             ∙ ap (λ (o : OfferRow). free_of (with_offers rows (offers ++ o ∷ [])) next.agent) (sym next.made);
       }
+
+  pub left_next : (lefts : List Left) (left : List Resource) → left ≡ rest free bundle
+      → HasLeft rows offers (lefts ++ record { agent = place; free = free } ∷ []) (place + 1)
+      → HasLeft rows (offers ++ row ∷ []) (lefts ++ record { agent = place; free = left } ∷ []) (place + 1)
+  left_next lefts left left_is before =
+      left-tried rows offers (offers ++ row ∷ []) lefts place next.agent next.client free left
+      (ap (λ as'. are_distinct (map (λ a. a.name) as')) (sym (agents-with_offers rows offers)) ∙ next.drafting.consistent.agents.names) before next.at
+      (tried_next next.agent next.client (ap (λ (as' : List AgentRow). slice_get as' place) (agents-with_offers rows offers) ∙ next.at) next.joined)
+      (free_next left left_is)
 
 -- where nothing is granted
 pub tried_nothing : (rows : Rows) (offers : List OfferRow) (place : ℕ) (path : Path) (quota : Option Allowance) (free : List Resource) (name : Text)

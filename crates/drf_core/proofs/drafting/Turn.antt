@@ -7,7 +7,7 @@ use Rattle.std.proofs.lemmas.Bool.{and_parts, not-true}
 use Rattle.std.proofs.lemmas.Option.{slice_get-map}
 use Rattle.std.proofs.lemmas.Grind.{fold-append}
 use Rattle.drf_role.specs.Text.{Text, same_text}
-use Rattle.drf_role.specs.Path.{Path}
+use Rattle.drf_role.specs.Path.{Path, IsClientPath}
 use Rattle.drf_bundle.specs.declared.resource.Resource.{Resource}
 use Rattle.drf_rows.specs.Client.{Client, path_of}
 use Rattle.drf_rows.specs.Cycle.{free_of, is_allocatable, tried, all_tried, turn, turn_order}
@@ -20,8 +20,11 @@ use Rattle.drf_rows.specs.declared.rows.AgentRow.{AgentRow}
 use Rattle.drf_rows.specs.declared.rows.OfferRow.{OfferRow}
 use Rattle.drf_rows.specs.declared.rows.Rows.{Rows}
 use Rattle.drf_tables.specs.Drafts.{with_offers, frees_of, frees_after}
+use Rattle.drf_tables.specs.Stored.{Stored}
 use Rattle.drf_tables.specs.declared.tables.Left.{Left}
-use Rattle.drf_core.specs.Drafting.{IsDrafting, IsFreeAt, IsRegisteredPath, IsTried, HasLeft, is_open_at, turn_at}
+use Rattle.drf_core.specs.declared.cycle.Drafts.{Drafts}
+use Rattle.drf_core.specs.declared.free.Free.{Free}
+use Rattle.drf_core.specs.Drafting.{IsCycleAt, IsDrafting, IsFreeAt, IsRegisteredPath, IsTried, IsTurn, HasLeft, is_open_at, turn_at}
 use Rattle.drf_sorter.specs.Content.{Content, IsSound, IsOrderOf}
 use Rattle.drf_tables.specs.DraftLaws.{agents-with_offers, next-with_offers}
 use Rattle.drf_core.proofs.drafting.Drafts.{is_registered-with_offers}
@@ -76,6 +79,16 @@ slice_get-set_other (y ∷ ys) zero (suc j) x below = refl
 slice_get-set_other (y ∷ ys) (suc i) zero x below = absurd (omega arith)
 slice_get-set_other (y ∷ ys) (suc i) (suc j) x below = slice_get-set_other ys i j x (omega arith)
 
+slice_set-again : {X : Type 0} (xs : List X) (i : ℕ) (x y : X) → slice_set (slice_set xs i x) i y ≡ slice_set xs i y
+slice_set-again [] i x y = refl
+slice_set-again (z ∷ xs) zero x y = refl
+slice_set-again (z ∷ xs) (suc i) x y = ap (λ ys. z ∷ ys) (slice_set-again xs i x y)
+
+slice_set-itself : {X : Type 0} (xs : List X) (i : ℕ) (x : X) → slice_get xs i ≡ Some x → slice_set xs i x ≡ xs
+slice_set-itself [] i x at = refl
+slice_set-itself (y ∷ xs) zero x at = let same : x ≡ y = cc in ap (λ z. z ∷ xs) same
+slice_set-itself (y ∷ xs) (suc i) x at = ap (λ ys. y ∷ ys) (slice_set-itself xs i x at)
+
 frees_after-later : (frees : List (List Resource)) (lefts : List Left) (place : ℕ) → AllByRecursion (λ l. l.agent < place) lefts
     → slice_get (frees_after frees lefts) place ≡ slice_get frees place
 frees_after-later frees [] place past = refl
@@ -96,6 +109,13 @@ free-before rows offers lefts place agent left at =
     sym after ∙ ap (λ fs. slice_get fs place) (sym left.frees) ∙ frees_after-later (frees_of rows) lefts place left.past ∙ before in
     cc
 
+pub free_here : (rows : Rows) (offers : List OfferRow) (place : ℕ) (free : List Resource) (agent : AgentRow) → IsFreeAt (with_offers rows offers) place free
+    → slice_get rows.agents place ≡ Some agent → free ≡ free_of (with_offers rows offers) agent
+free_here rows offers place free agent is at =
+    let there : Some is.agent ≡ Some agent = sym is.at ∙ ap (λ (as' : List AgentRow). slice_get as' place) (agents-with_offers rows offers) ∙ at in
+    let same : is.agent ≡ agent = cc in
+    is.free ∙ ap (free_of (with_offers rows offers)) same
+
 past-more : (lefts : List Left) (place : ℕ) → AllByRecursion (λ l. l.agent < place) lefts → AllByRecursion (λ l. l.agent < place + 1) lefts
 past-more [] place past = tt
 past-more (l ∷ lefts) place past = (omega (arith, past.0), past-more lefts place past.1)
@@ -105,31 +125,59 @@ past-push : (lefts : List Left) (place : ℕ) (left : Left) → AllByRecursion (
 past-push [] place left past here = (omega (arith, here), tt)
 past-push (l ∷ lefts) place left past here = (omega (arith, past.0), past-push lefts place left past.1 here)
 
-pub HasLeft-closed : (rows : Rows) (offers : List OfferRow) (lefts : List Left) (place : ℕ) → HasLeft rows offers lefts place → HasLeft rows offers lefts (place + 1)
-HasLeft-closed rows offers lefts place left = record { frees = left.frees; past = past-more lefts place left.past }
+past-other : (lefts : List Left) (place : ℕ) (old new : Left) → new.agent ≡ old.agent → AllByRecursion (λ l. l.agent < place) (lefts ++ old ∷ [])
+    → AllByRecursion (λ l. l.agent < place) (lefts ++ new ∷ [])
+past-other [] place old new same past = (omega (arith, past.0, same), tt)
+past-other (l ∷ lefts) place old new same past = (past.0, past-other lefts place old new same past.1)
 
-pub HasLeft-turn : (rows : Rows) (offers drafts : List OfferRow) (lefts : List Left) (place : ℕ) (agent : AgentRow) (clients : List Client) (free : List Resource)
+pub cycle-on : (content after : Content) (tables : Stored) (drafts : Drafts) (place : ℕ) → IsCycleAt content tables drafts place → after ≡ content
+    → IsCycleAt after tables drafts place
+cycle-on content after tables drafts place at same = subst (λ (k : Content). IsCycleAt k tables drafts place) (sym same) at
+
+pub cycle-closed : (content : Content) (tables : Stored) (drafts : Drafts) (place : ℕ) → IsCycleAt content tables drafts place → IsCycleAt content tables drafts (place + 1)
+cycle-closed content tables drafts place at =
+    record {
+      drafting = at.drafting;
+      settled = at.settled;
+      left = record { frees = at.left.frees; past = past-more drafts.lefts.items place at.left.past };
+      quota = at.quota;
+    }
+
+-- an agent whose turn begins has what it had
+pub left-begins : (rows : Rows) (offers : List OfferRow) (lefts : List Left) (place : ℕ) (agent : AgentRow) (free : List Resource) → HasLeft rows offers lefts place
+    → slice_get rows.agents place ≡ Some agent → free ≡ free_of rows agent → HasLeft rows offers (lefts ++ record { agent = place; free = free } ∷ []) (place + 1)
+left-begins rows offers lefts place agent free left at is_free =
+    let there : slice_get (frees_after (frees_of rows) lefts) place ≡ Some free =
+    frees_after-later (frees_of rows) lefts place left.past
+    ∙ slice_get-map (free_of rows) rows.agents place ∙ ap (option_map (free_of rows)) at ∙ ap Some (sym is_free) in
+    record {
+      frees = fold-append (λ frees l. slice_set frees l.agent l.free) (frees_of rows) lefts (record { agent = place; free = free } ∷ [])
+          ∙ slice_set-itself (frees_after (frees_of rows) lefts) place free there ∙ left.frees;
+      past = past-push lefts place (record { agent = place; free = free }) left.past refl;
+    }
+
+-- and what is left when a client was tried
+pub left-tried : (rows : Rows) (offers drafts : List OfferRow) (lefts : List Left) (place : ℕ) (agent : AgentRow) (client : Client) (old new : List Resource)
     → are_distinct (map (λ a. a.name) rows.agents) ≡ true
-    → HasLeft rows offers lefts place
+    → HasLeft rows offers (lefts ++ record { agent = place; free = old } ∷ []) (place + 1)
     → slice_get rows.agents place ≡ Some agent
-    → with_offers rows drafts ≡ all_tried (with_offers rows offers) agent clients
-    → IsFreeAt (with_offers rows drafts) place free
-    → HasLeft rows drafts (lefts ++ record { agent = place; free = free } ∷ []) (place + 1)
-HasLeft-turn rows offers drafts lefts place agent clients free apart left at turned is_free =
-    let mine : slice_get (with_offers rows drafts).agents place ≡ Some agent =
-    ap (λ (as' : List AgentRow). slice_get as' place) (agents-with_offers rows drafts) ∙ at in
-    let same : is_free.agent ≡ agent = let e : Some is_free.agent ≡ Some agent = sym is_free.at ∙ mine in cc in
+    → with_offers rows drafts ≡ tried (with_offers rows offers) agent client
+    → IsFreeAt (with_offers rows drafts) place new
+    → HasLeft rows drafts (lefts ++ record { agent = place; free = new } ∷ []) (place + 1)
+left-tried rows offers drafts lefts place agent client old new apart left at tried_is is_free =
     let others : (b : AgentRow) → same_text agent.name b.name ≡ false → free_of (with_offers rows offers) b ≡ free_of (with_offers rows drafts) b =
-    λ b other. sym (free_of-all_tried_other (with_offers rows offers) agent clients b other) ∙ ap (λ (r : Rows). free_of r b) (sym turned) in
+    λ b other. sym (free_of-all_tried_other (with_offers rows offers) agent (client ∷ []) b other) ∙ ap (λ (r : Rows). free_of r b) (sym tried_is) in
     let set = slice_set-map (λ (a : AgentRow). a.name) (free_of (with_offers rows offers)) (free_of (with_offers rows drafts)) rows.agents place agent apart at others in
+    let ended = fold-append (λ (frees : List (List Resource)) (l : Left). slice_set frees l.agent l.free) (frees_of rows) lefts in
     record {
       frees =
-          fold-append (λ frees l. slice_set frees l.agent l.free) (frees_of rows) lefts (record { agent = place; free = free } ∷ [])
-          ∙ (λ i. slice_set (left.frees i) place ((is_free.free ∙ ap (free_of (with_offers rows drafts)) same) i))
-          ∙ (λ i. slice_set (map (free_of (with_offers rows offers)) (agents-with_offers rows offers i)) place (free_of (with_offers rows drafts) agent))
+          ended (record { agent = place; free = new } ∷ [])
+          ∙ sym (slice_set-again (frees_after (frees_of rows) lefts) place old new)
+          ∙ ap (λ frees. slice_set frees place new) (sym (ended (record { agent = place; free = old } ∷ [])) ∙ left.frees)
+          ∙ (λ i. slice_set (map (free_of (with_offers rows offers)) (agents-with_offers rows offers i)) place (free_here rows drafts place new agent is_free at i))
           ∙ set
           ∙ (λ i. map (free_of (with_offers rows drafts)) (sym (agents-with_offers rows drafts) i));
-      past = past-push lefts place (record { agent = place; free = free }) left.past refl;
+      past = past-other lefts (place + 1) (record { agent = place; free = old }) (record { agent = place; free = new }) refl left.past;
     }
 
 -- ---- the turn
@@ -202,49 +250,39 @@ module _ (content : Content) (rows : Rows) (offers : List OfferRow) (drafting : 
             (λ c known. sym (is_registered-with_offers rows offers c) ∙ known) (turn_order-registered (with_offers rows offers));
       }
 
+pub registered_all : (rows : Rows) (clients : List Client) (paths : List Path) → paths ≡ map path_of clients
+    → AllByRecursion (λ c. is_registered rows.frameworks c ≡ true) clients → AllByRecursion IsClientPath paths → AllByRecursion (IsRegisteredPath rows) paths
+registered_all rows clients [] are known right = tt
+registered_all rows [] (p ∷ paths) are known right = absurd cc
+registered_all rows (c ∷ cs) (p ∷ paths) are known right =
+    let joined : p ≡ path_of c = cc in
+    let others : paths ≡ map path_of cs = cc in
+    (record { client = c; joined = joined; registered = known.0; right = right.0 }, registered_all rows cs paths others known.1 right.1)
+
 -- ---- clients that wait
 
 -- the clients that are still to be tried: to try them gives what trying all gives
 pub record AreWaiting (rows : Rows) (place : ℕ) (start now : Rows) (queue : List Path) : Type 0 where
   pub clients : List Client
   pub queued : queue ≡ map path_of clients
-  pub known : AllByRecursion (λ c. is_registered rows.frameworks c ≡ true) clients
   pub same : (agent : AgentRow) → slice_get rows.agents place ≡ Some agent → all_tried now agent clients ≡ all_tried start agent (turn_order start)
 
--- at first these are all
-pub waiting-begins : (content : Content) (rows : Rows) (offers : List OfferRow) → IsDrafting content rows offers → (place : ℕ) (queue : List Path) → IsOrderOf content queue
-    → AreWaiting rows place (with_offers rows offers) (with_offers rows offers) queue
-waiting-begins content rows offers drafting place queue order =
-    let ordered = ordered_from content rows offers drafting queue order in
-    record { clients = turn_order (with_offers rows offers); queued = ordered.same; known = ordered.known; same = λ agent at. refl }
-
 module _ (rows : Rows) (place : ℕ) (start now : Rows) (queue : List Path) (waiting : AreWaiting rows place start now queue) where
-  -- the next one is registered
-  pub waiting-first : (path : Path) → slice_get queue 0 ≡ Some path → IsRegisteredPath rows path
-  waiting-first path first = by waiting.clients waiting.queued waiting.known
-    where
-      by : (clients : List Client) → queue ≡ map path_of clients → AllByRecursion (λ c. is_registered rows.frameworks c ≡ true) clients → IsRegisteredPath rows path
-      by [] queued known = let nothing : Some path ≡ None = sym first ∙ ap (λ ps. slice_get ps 0) queued in absurd cc
-      by (c ∷ cs) queued known =
-          let here : Some path ≡ Some (path_of c) = sym first ∙ ap (λ ps. slice_get ps 0) queued in
-          record { client = c; joined = cc; registered = known.0 }
-
-  -- when it was tried, the others wait
+  -- when the next one was tried, the others wait
   pub waiting-passed : (after : Rows) (left : List Path) (path : Path) → now.agents ≡ rows.agents → slice_get queue 0 ≡ Some path
       → IsTried now after place path → left ≡ drop 1 queue → AreWaiting rows place start after left
-  waiting-passed after left path agents first tried left_is = by waiting.clients waiting.queued waiting.known waiting.same
+  waiting-passed after left path agents first tried left_is = by waiting.clients waiting.queued waiting.same
     where
-      by : (clients : List Client) → queue ≡ map path_of clients → AllByRecursion (λ c. is_registered rows.frameworks c ≡ true) clients
+      by : (clients : List Client) → queue ≡ map path_of clients
           → ((agent : AgentRow) → slice_get rows.agents place ≡ Some agent → all_tried now agent clients ≡ all_tried start agent (turn_order start))
           → AreWaiting rows place start after left
-      by [] queued known same = let nothing : Some path ≡ None = sym first ∙ ap (λ ps. slice_get ps 0) queued in absurd cc
-      by (c ∷ cs) queued known same =
+      by [] queued same = let nothing : Some path ≡ None = sym first ∙ ap (λ ps. slice_get ps 0) queued in absurd cc
+      by (c ∷ cs) queued same =
           let here : Some path ≡ Some (path_of c) = sym first ∙ ap (λ ps. slice_get ps 0) queued in
           let joined : path ≡ path_of c = cc in
           record {
             clients = cs;
             queued = left_is ∙ ap (λ ps. drop 1 ps) queued;
-            known = known.1;
             same = λ agent at.
                 ap (λ (r : Rows). all_tried r agent cs) (tried agent c (ap (λ as'. slice_get as' place) agents ∙ at) joined) ∙ same agent at;
           }
@@ -266,6 +304,24 @@ pub first_of_queue : (queue : List Path) (worth : Bool) → (is_some (slice_get 
 first_of_queue [] worth some = cc
 first_of_queue (path ∷ queue) worth some = (path, refl)
 
-pub queue_falls : (queue : List Path) (worth : Bool) → (is_some (slice_get queue 0) && worth) ≡ true → length (drop 1 queue) < length queue
-queue_falls [] worth some = cc
-queue_falls (path ∷ queue) worth some = omega arith
+pub queue_begins : (queue : List Path) (path : Path) → slice_get queue 0 ≡ Some path → queue ≡ path ∷ drop 1 queue
+queue_begins [] path first = absurd cc
+queue_begins (p ∷ queue) path first = let same : p ≡ path = cc in ap (λ p'. p' ∷ queue) same
+
+-- others wait, in the same turn
+pub turn-on : (content after : Content) (tables : Stored) (drafts : Drafts) (place : ℕ) (free : Free) (queue left : List Path) → IsTurn content tables drafts place free queue
+    → after ≡ content → AllByRecursion (IsRegisteredPath tables.rows) left → IsTurn after tables drafts place free left
+turn-on content after tables drafts place free queue left turn same clients = record {
+  drafting = subst (λ (k : Content). IsDrafting k tables.rows drafts.offers.items) (sym same) turn.drafting;
+  settled = turn.settled;
+  left = turn.left;
+  quota = turn.quota;
+  inside = turn.inside;
+  is_free = turn.is_free;
+  known = turn.known;
+  clients = clients;
+}
+
+pub all_dropped : {X : Type 0} (P : X → Type 0) (xs : List X) → AllByRecursion P xs → AllByRecursion P (drop 1 xs)
+all_dropped P [] all = tt
+all_dropped P (x ∷ xs) all = all.1

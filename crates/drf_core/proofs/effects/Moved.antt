@@ -20,7 +20,7 @@ use Rattle.drf_rows.specs.Totals.{CanExchange, agent_at, exchanged, with_total, 
 use Rattle.drf_row_laws.specs.TotalsLaws.{cluster_total-exchanged, cluster_total-other_total}
 use Rattle.drf_rows.specs.declared.limits.TheConstants.{LARGEST_AMOUNT}
 use Rattle.drf_rows.specs.declared.event.Event.{Event}
-use Rattle.drf_rows.specs.declared.event.Event.TheVariants.{AddAgent, RemoveAgent, ActivateAgent, DeactivateAgent, SetAgent, AddFramework, RemoveFramework, Accept, Decline, Rescind, Finish, Suppress, Revive, Reserve, Unreserve, SetWeight, SetLimit, Cycle, Report}
+use Rattle.drf_rows.specs.declared.event.Event.TheVariants.{SetAgent, Reserve, Unreserve, SetLimit}
 use Rattle.drf_rows.specs.declared.rows.AgentRow.{AgentRow}
 use Rattle.drf_rows.specs.declared.rows.LimitRow.{LimitRow}
 use Rattle.drf_rows.specs.declared.rows.Rows.{Rows}
@@ -32,25 +32,8 @@ use Rattle.drf_laws.specs.laws.Welcome.{no_case_of, small_amounts}
 
 -- the cases that are told whatever the memory come first
 pub early_and_late : (limits : LimitNumbers) (rows : Rows) (event : Event) → cases_of limits rows event ≡ early_cases_of limits rows event ++ late_cases_of limits rows event
-early_and_late limits rows (AddAgent agent total) = refl
-early_and_late limits rows (RemoveAgent agent) = refl
-early_and_late limits rows (ActivateAgent agent) = refl
-early_and_late limits rows (DeactivateAgent agent) = refl
 early_and_late limits rows (SetAgent agent total) = refl
-early_and_late limits rows (AddFramework framework roles) = refl
-early_and_late limits rows (RemoveFramework framework) = refl
-early_and_late limits rows (Accept a) = refl
-early_and_late limits rows (Decline d) = refl
-early_and_late limits rows (Rescind offer) = refl
-early_and_late limits rows (Finish framework task) = refl
-early_and_late limits rows (Suppress framework role) = refl
-early_and_late limits rows (Revive framework role) = refl
-early_and_late limits rows (Reserve agent role resources) = refl
-early_and_late limits rows (Unreserve agent role resources) = refl
-early_and_late limits rows (SetWeight role weight) = refl
-early_and_late limits rows (SetLimit role limit) = refl
-early_and_late limits rows (Cycle at) = refl
-early_and_late limits rows Report = refl
+early_and_late limits rows event = refl
 
 pub content_of-limits : (rows : Rows) (limits : List LimitRow) → content_of (record rows { limits = limits }) ≡ content_of rows
 unfolding content_of

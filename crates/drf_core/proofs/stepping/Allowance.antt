@@ -4,7 +4,7 @@ use Rattle.std.specs.Option.{option_map_or}
 use Rattle.drf_rows.specs.LimitNumbers.{LimitNumbers}
 use Rattle.drf_rows.specs.Step.{live_rows, refusal_of, effect, rows_after, rows_after_all, new_offers}
 use Rattle.drf_rows.specs.declared.event.Event.{Event}
-use Rattle.drf_rows.specs.declared.event.Event.TheVariants.{AddAgent, RemoveAgent, ActivateAgent, DeactivateAgent, SetAgent, AddFramework, RemoveFramework, Accept, Decline, Rescind, Finish, Suppress, Revive, Reserve, Unreserve, SetWeight, SetLimit, Cycle, Report}
+use Rattle.drf_rows.specs.declared.event.Event.TheVariants.{AddAgent, RemoveAgent, SetAgent, SetWeight, Cycle}
 use Rattle.drf_rows.specs.declared.reply.Refusal.{Refusal}
 use Rattle.drf_rows.specs.declared.rows.OfferRow.{OfferRow}
 use Rattle.drf_rows.specs.declared.rows.Rows.{Rows}
@@ -32,23 +32,10 @@ module _ (rows old : Rows) (live : live_rows rows ≡ live_rows old) where
   allowed-same : (event : Event) → new_offers rows (effect rows event) ≡ new_offers old (effect old event) → allowed rows event ≡ allowed old event
   allowed-same (AddAgent agent total) new = nodes-same
   allowed-same (RemoveAgent agent) new = λ i. touched-same (RemoveAgent agent) i + nodes-same i
-  allowed-same (ActivateAgent agent) new = refl
-  allowed-same (DeactivateAgent agent) new = touched-same (DeactivateAgent agent)
   allowed-same (SetAgent agent total) new = nodes-same
-  allowed-same (AddFramework framework roles) new = refl
-  allowed-same (RemoveFramework framework) new = touched-same (RemoveFramework framework)
-  allowed-same (Accept a) new = touched-same (Accept a)
-  allowed-same (Decline d) new = touched-same (Decline d)
-  allowed-same (Rescind offer) new = touched-same (Rescind offer)
-  allowed-same (Finish framework task) new = touched-same (Finish framework task)
-  allowed-same (Suppress framework role) new = refl
-  allowed-same (Revive framework role) new = refl
-  allowed-same (Reserve agent role resources) new = refl
-  allowed-same (Unreserve agent role resources) new = refl
   allowed-same (SetWeight role weight) new = refl
-  allowed-same (SetLimit role limit) new = refl
   allowed-same (Cycle at) new = ap (λ (os : List OfferRow). nodes_of (offered_to os)) new
-  allowed-same Report new = refl
+  allowed-same event new = touched-same event
 
 pub allowance-accepted : (limits : LimitNumbers) (rows old : Rows) (event : Event) → live_rows rows ≡ live_rows old → refusal_of limits rows event ≡ None
     → allowed rows event ≡ allowance limits old event

@@ -17,7 +17,7 @@ use Rattle.drf_row_laws.specs.OthersLaws.{cycle_only_offers}
 use Rattle.drf_rows.specs.declared.event.Accept as accepting
 use Rattle.drf_rows.specs.declared.event.Decline as declining
 use Rattle.drf_rows.specs.declared.event.Event.{Event}
-use Rattle.drf_rows.specs.declared.event.Event.TheVariants.{AddAgent, RemoveAgent, ActivateAgent, DeactivateAgent, SetAgent, AddFramework, RemoveFramework, Accept, Decline, Rescind, Finish, Suppress, Revive, Reserve, Unreserve, SetWeight, SetLimit, Cycle, Report}
+use Rattle.drf_rows.specs.declared.event.Event.TheVariants.{RemoveAgent, RemoveFramework, Accept, Decline, Revive, Cycle}
 use Rattle.drf_rows.specs.declared.rows.FilterRow.{FilterRow}
 use Rattle.drf_rows.specs.declared.rows.OfferRow.{OfferRow}
 use Rattle.drf_rows.specs.declared.rows.Rows.{Rows}
@@ -65,22 +65,10 @@ filters-declined rows d (Some o) = one_more (at_moment rows d.at) (filters_all d
 -- an event adds one at most
 pub one_filter_more : (rows : Rows) (event : Event) → length (effect rows event).filters ≤ length rows.filters + 1
 unfolding effect
-one_filter_more rows (AddAgent agent total) = no_more (length rows.filters)
 one_filter_more rows (RemoveAgent agent) = left rows (λ f. not (is_on_agent agent f))
-one_filter_more rows (ActivateAgent agent) = no_more (length rows.filters)
-one_filter_more rows (DeactivateAgent agent) = no_more (length rows.filters)
-one_filter_more rows (SetAgent agent total) = no_more (length rows.filters)
-one_filter_more rows (AddFramework framework roles) = no_more (length rows.filters)
 one_filter_more rows (RemoveFramework framework) = left rows (λ f. not (same_text f.framework framework))
 one_filter_more rows (Accept a) = filters-accepted rows a (offer_at rows a.offer)
 one_filter_more rows (Decline d) = filters-declined rows d (offer_at rows d.offer)
-one_filter_more rows (Rescind offer) = no_more (length rows.filters)
-one_filter_more rows (Finish framework task) = no_more (length rows.filters)
-one_filter_more rows (Suppress framework role) = no_more (length rows.filters)
 one_filter_more rows (Revive framework role) = left rows (λ f. not (is_of_client (record { role = role; framework = framework }) f))
-one_filter_more rows (Reserve agent role resources) = no_more (length rows.filters)
-one_filter_more rows (Unreserve agent role resources) = no_more (length rows.filters)
-one_filter_more rows (SetWeight role weight) = no_more (length rows.filters)
-one_filter_more rows (SetLimit role limit) = no_more (length rows.filters)
 one_filter_more rows (Cycle at) = omega (arith, ap (λ (r : Rows). length r.filters) (cycle_only_offers rows at).nothing_else)
-one_filter_more rows Report = no_more (length rows.filters)
+one_filter_more rows event = no_more (length rows.filters)

@@ -9,13 +9,13 @@ use Rattle.drf_row_laws.specs.StepLaws.{rows_after-accepted}
 use Rattle.drf_row_laws.specs.RunLaws.{rows_after_all-append, replies_to-append}
 use Rattle.drf_row_laws.specs.LiveLaws.{reply_to-same_live, rows_after-same_live}
 use Rattle.drf_rows.specs.declared.event.Event.{Event}
-use Rattle.drf_rows.specs.declared.event.Event.TheVariants.{AddAgent, RemoveAgent, ActivateAgent, DeactivateAgent, SetAgent, AddFramework, RemoveFramework, Accept, Decline, Rescind, Finish, Suppress, Revive, Reserve, Unreserve, SetWeight, SetLimit, Cycle, Report}
+use Rattle.drf_rows.specs.declared.event.Event.TheVariants.{Accept, Decline}
 use Rattle.drf_rows.specs.declared.reply.Refusal.{Refusal}
 use Rattle.drf_rows.specs.declared.reply.Reply.{Reply}
 use Rattle.drf_rows.specs.declared.rows.Rows.{Rows}
 use Rattle.drf_core.specs.Machine.{Engine, IsSame, IsAfter, IsAfterAll, HasStopped}
 use Rattle.drf_laws.specs.Kept.{AreFew, IsKept, IsCountable}
-use Rattle.drf_core.specs.Refusing.{cases_of_agent, cases_of_move, early_refusal_of}
+use Rattle.drf_core.specs.Refusing.{early_cases_of, early_refusal_of}
 use Rattle.drf_laws.specs.laws.Kept.{countable_after}
 use Rattle.drf_core.proofs.refusing.Tests.{told_early}
 use Rattle.drf_laws.specs.laws.SameLive.{welcome_from}
@@ -37,25 +37,9 @@ take_one_more (y ∷ xs) (suc i) x at = rw (add-one (suc i)) (ap (λ zs. y ∷ z
 pub early_from : (limits : LimitNumbers) (rows old : Rows) (event : Event) → live_rows rows ≡ live_rows old
     → early_refusal_of limits rows event ≡ None → early_refusal_of limits old event ≡ None
 unfolding early_refusal_of refusal_of
-early_from limits rows old (AddAgent agent total) live none = welcome_from limits rows old (AddAgent agent total) live none
-early_from limits rows old (RemoveAgent agent) live none = welcome_from limits rows old (RemoveAgent agent) live none
-early_from limits rows old (ActivateAgent agent) live none = welcome_from limits rows old (ActivateAgent agent) live none
-early_from limits rows old (DeactivateAgent agent) live none = welcome_from limits rows old (DeactivateAgent agent) live none
-early_from limits rows old (SetAgent agent total) live none = subst (λ (r : Rows). first_case (cases_of_agent limits r agent) ≡ None) live none
-early_from limits rows old (AddFramework framework roles) live none = welcome_from limits rows old (AddFramework framework roles) live none
-early_from limits rows old (RemoveFramework framework) live none = welcome_from limits rows old (RemoveFramework framework) live none
 early_from limits rows old (Accept a) live none = welcome_from limits rows old (Accept a) live none
 early_from limits rows old (Decline d) live none = welcome_from limits rows old (Decline d) live none
-early_from limits rows old (Rescind offer) live none = welcome_from limits rows old (Rescind offer) live none
-early_from limits rows old (Finish framework task) live none = welcome_from limits rows old (Finish framework task) live none
-early_from limits rows old (Suppress framework role) live none = welcome_from limits rows old (Suppress framework role) live none
-early_from limits rows old (Revive framework role) live none = welcome_from limits rows old (Revive framework role) live none
-early_from limits rows old (Reserve agent role resources) live none = subst (λ (r : Rows). first_case (cases_of_move limits r agent role resources) ≡ None) live none
-early_from limits rows old (Unreserve agent role resources) live none = subst (λ (r : Rows). first_case (cases_of_move limits r agent role resources) ≡ None) live none
-early_from limits rows old (SetWeight role weight) live none = welcome_from limits rows old (SetWeight role weight) live none
-early_from limits rows old (SetLimit role limit) live none = welcome_from limits rows old (SetLimit role limit) live none
-early_from limits rows old (Cycle at) live none = welcome_from limits rows old (Cycle at) live none
-early_from limits rows old Report live none = welcome_from limits rows old Report live none
+early_from limits rows old event live none = subst (λ (r : Rows). first_case (early_cases_of limits r event) ≡ None) live none
 
 -- nor of an event that is not refused
 pub early_none : (limits : LimitNumbers) (rows : Rows) (event : Event) → refusal_of limits rows event ≡ None → early_refusal_of limits rows event ≡ None

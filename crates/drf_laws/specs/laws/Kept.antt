@@ -1,8 +1,7 @@
 -- What is kept after an event that is not refused: no table grows past its limit, and numbers of offers stay below what the events allow.
-use Rattle.std.proofs.Common.{◌≡◌, ℕ, ◌+◌, ◌*◌, ◌<◌, ◌≤◌, ◌^◌, Bool, true, false, List, [], ◌∷◌, Option, None, Some, length, map, refl, sym, ◌∙◌, inl, inr, arith, nat_lt}
+use Rattle.std.proofs.Common.{◌≡◌, ℕ, ◌+◌, ◌*◌, ◌<◌, ◌≤◌, ◌^◌, Bool, true, false, List, [], ◌∷◌, None, length, map, refl, sym, ap, ◌∙◌, inl, inr, arith, nat_lt}
 use Rattle.std.specs.Prelude.{◌||◌, filter, not}
 use Rattle.std.specs.List.{AllByRecursion}
-use Rattle.std.specs.Option.{option_map_or}
 use Rattle.std.proofs.Math.Nat.{mul-le-mul_right}
 use Rattle.std.proofs.lemmas.Bool.{cases_Bool, or_parts, ltb-false}
 use Rattle.std.proofs.lemmas.List.{length-append, length-map}
@@ -14,29 +13,24 @@ use Rattle.drf_rows.specs.Client.{Client}
 use Rattle.drf_rows.specs.Held.{client_of, clients_in, clients_of, cluster_total}
 use Rattle.drf_rows.specs.Cycle.{at_moment, cycle}
 use Rattle.drf_rows.specs.Step.{live_rows, refusal_of, effect, opening}
-use Rattle.drf_rows.specs.Members.{active_at, suppressed_at, suppressed_in, with_activity, with_agent, with_framework, with_suppression, new_client, distinct, agent_deactivated, revived, agent_removed, framework_removed}
-use Rattle.drf_rows.specs.Offers.{offer_at, offer_accepted, offer_declined}
-use Rattle.drf_rows.specs.Endings.{without_ended, one_offer, one_task}
-use Rattle.drf_rows.specs.Totals.{total_at, with_total, exchanged, with_reserved, with_unreserved, with_other_total}
-use Rattle.drf_rows.specs.Quota.{limits_with}
+use Rattle.drf_rows.specs.Members.{active_at, suppressed_at, suppressed_in, with_agent, with_framework, with_suppression, new_client, distinct}
+use Rattle.drf_rows.specs.Totals.{total_at, exchanged}
 use Rattle.drf_bundle.specs.Bundle.{relabel}
-use Rattle.drf_rows.specs.declared.rows.LimitRow.{LimitRow}
-use Rattle.drf_rows.specs.Weights.{weights_with}
-use Rattle.drf_row_laws.specs.RegistrationLaws.{framework_added, length-clients_of-framework_added, IsConsistent-opening}
+use Rattle.drf_row_laws.specs.FrameLaws.{only_changed}
+use Rattle.drf_row_laws.specs.RegistrationLaws.{length-clients_of-framework_added, IsConsistent-opening}
 use Rattle.drf_rows.specs.Consistent.{IsConsistent, IsFilter, IsNumberedByEvents, IsAgent}
 use Rattle.drf_row_laws.specs.ConsistentLaws.{numbers_within}
 use Rattle.drf_rows.specs.declared.event.Event.{Event}
-use Rattle.drf_rows.specs.declared.event.Event.TheVariants.{AddAgent, RemoveAgent, ActivateAgent, DeactivateAgent, SetAgent, AddFramework, RemoveFramework, Accept, Decline, Rescind, Finish, Suppress, Revive, Reserve, Unreserve, SetWeight, SetLimit, Cycle, Report}
+use Rattle.drf_rows.specs.declared.event.Event.TheVariants.{AddAgent, RemoveAgent, ActivateAgent, DeactivateAgent, SetAgent, AddFramework, RemoveFramework, Suppress, Revive, Reserve, Unreserve, SetWeight, Cycle}
 use Rattle.drf_rows.specs.declared.rows.AgentRow.{AgentRow}
 use Rattle.drf_rows.specs.Filters.{is_in_force}
 use Rattle.drf_bundle.specs.ListLaws.{each_from, each_filter, length-filter_le}
 use Rattle.drf_row_laws.specs.MemberLaws.{IsConsistent-filters_kept}
 use Rattle.drf_rows.specs.declared.rows.FilterRow.{FilterRow}
 use Rattle.drf_rows.specs.declared.rows.FrameworkRow.{FrameworkRow}
-use Rattle.drf_rows.specs.declared.rows.OfferRow.{OfferRow}
 use Rattle.drf_rows.specs.declared.rows.Rows.{Rows}
 use Rattle.drf_laws.specs.Kept.{AreFew, IsKept, IsCountable}
-use Rattle.drf_laws.specs.laws.Turns.{turns-clients, turns-tables, turns-next_offer, weights-turns}
+use Rattle.drf_laws.specs.laws.Turns.{turns-clients, turns-next_offer}
 use Rattle.drf_laws.specs.laws.Bounds.{few_weights}
 use Rattle.drf_laws.specs.laws.Welcome.{room_for, welcome_agent, welcome_framework, welcome_weight}
 use Rattle.drf_rows.specs.declared.limits.TheConstants.{LATEST_MOMENT}
@@ -79,272 +73,95 @@ length-clients-suppressed client suppressed (f ∷ fs) =
       length-clients-suppressed client suppressed fs,
     )
 
--- rows of which no table has grown
-record IsNoMore (old new : Rows) : Type 0 where
-  pub agents : length new.agents ≤ length old.agents
-  pub frameworks : length new.frameworks ≤ length old.frameworks
-  pub clients : length (clients_of new) ≤ length (clients_of old)
-  pub weights : length new.weights ≤ length old.weights
-  pub next_offer : new.next_offer ≡ old.next_offer
-  pub events : new.events ≡ old.events
-
--- other offers, tasks and filters are no more
-no_more-others : (rows new : Rows) → new ≡ record rows { offers = new.offers; tasks = new.tasks; filters = new.filters; clock = new.clock }
-    → IsNoMore rows new
-no_more-others rows new same = rw same (record {
-  agents = omega arith;
-  frameworks = omega arith;
-  clients = omega arith;
-  weights = omega arith;
-  next_offer = refl;
-  events = refl;
-})
-
-no_more-suppression : (rows : Rows) (client : Client) (suppressed : Bool)
-    → IsNoMore rows (record rows { frameworks = with_suppression rows client suppressed })
-no_more-suppression rows client suppressed = record {
-  agents = omega arith;
-  frameworks = omega (arith, length-map rows.frameworks (suppressed_in client suppressed));
-  clients = omega (arith, length-clients-suppressed client suppressed rows.frameworks);
-  weights = omega arith;
-  next_offer = refl;
-  events = refl;
-}
-
-no_more-activity : (rows : Rows) (name : Text) (active : Bool) → IsNoMore rows (record rows { agents = with_activity rows name active })
-no_more-activity rows name active = record {
-  agents = omega (arith, length-map rows.agents (active_at name active));
-  frameworks = omega arith;
-  clients = omega arith;
-  weights = omega arith;
-  next_offer = refl;
-  events = refl;
-}
-
-no_more-total : (rows : Rows) (name : Text) (made : List Resource → List Resource) → IsNoMore rows (record rows { agents = with_total rows name made })
-no_more-total rows name made = record {
-  agents = omega (arith, length-map rows.agents (total_at name made));
-  frameworks = omega arith;
-  clients = omega arith;
-  weights = omega arith;
-  next_offer = refl;
-  events = refl;
-}
-
-no_more-limits : (rows : Rows) (limits : List LimitRow) → IsNoMore rows (record rows { limits = limits })
-no_more-limits rows limits = record {
-  agents = omega arith;
-  frameworks = omega arith;
-  clients = omega arith;
-  weights = omega arith;
-  next_offer = refl;
-  events = refl;
-}
-
-no_more-agent_removed : (rows : Rows) (name : Text) → IsNoMore rows (agent_removed rows name)
-no_more-agent_removed rows name = record {
-  agents = length-filter_le (λ a. not (same_text a.name name)) rows.agents;
-  frameworks = omega arith;
-  clients = omega arith;
-  weights = omega arith;
-  next_offer = refl;
-  events = refl;
-}
-
-no_more-framework_removed : (rows : Rows) (name : Text) → IsNoMore rows (framework_removed rows name)
-no_more-framework_removed rows name = record {
-  agents = omega arith;
-  frameworks = length-filter_le (λ f. not (same_text f.name name)) rows.frameworks;
-  clients = length-clients-filter (λ f. not (same_text f.name name)) rows.frameworks;
-  weights = omega arith;
-  next_offer = refl;
-  events = refl;
-}
-
--- what becomes of an offer, if it stands
-no_more-at_offer : (rows : Rows) (f : OfferRow → Rows) (found : Option OfferRow)
-    → ((o : OfferRow) → IsNoMore rows (f o)) → IsNoMore rows (option_map_or f found rows)
-no_more-at_offer rows f None each = no_more-others rows rows refl
-no_more-at_offer rows f (Some o) each = each o
-
 -- ---- after the event
 
 module _ (limits : LimitNumbers) (rows : Rows) (few : AreFew limits rows) (numbered : IsNumberedByEvents rows) where
-  before : rows.next_offer ≤ 1 + rows.events * 2 ^ 24
-  before = numbered
+  agents_after : (event : Event) → refusal_of limits rows event ≡ None → length (effect rows event).agents ≤ limits.agents
+  unfolding effect
+  agents_after (AddAgent agent total) none =
+      ltb-false limits.agents (length (with_agent rows agent total))
+      (or_parts (nat_lt limits.agents (length (with_agent rows agent total))) _ (welcome_agent limits rows agent total none).few).0
+  agents_after (RemoveAgent agent) none = omega (arith, few.agents, length-filter_le (λ a. not (same_text a.name agent)) rows.agents)
+  agents_after (ActivateAgent agent) none = omega (arith, few.agents, length-map rows.agents (active_at agent true))
+  agents_after (DeactivateAgent agent) none = omega (arith, few.agents, length-map rows.agents (active_at agent false))
+  agents_after (SetAgent agent total) none = omega (arith, few.agents, length-map rows.agents (total_at agent (λ old. total)))
+  agents_after (Reserve agent role resources) none =
+      omega (arith, few.agents, length-map rows.agents (total_at agent (exchanged resources (relabel role resources))))
+  agents_after (Unreserve agent role resources) none =
+      omega (arith, few.agents, length-map rows.agents (total_at agent (exchanged (relabel role resources) resources)))
+  agents_after event none = omega (arith, few.agents, ap (λ (r : Rows). length r.agents) (only_changed rows event))
 
-  countable : (new : Rows) (event : Event) → refusal_of limits rows event ≡ None → IsNoMore rows new → IsCountable limits rows new
-  countable new event none less =
-      let room = room_for limits rows event none in
-      let so_far = before in
-      record {
-        few = record {
-          ceilings = few.ceilings;
-          agents = omega (arith, less.agents, few.agents);
-          frameworks = omega (arith, less.frameworks, few.frameworks);
-          clients = omega (arith, less.clients, few.clients);
-          weights = omega (arith, less.weights, few.weights);
-          events = omega (arith, room);
-        };
-        numbered = omega (arith, so_far, less.next_offer);
-        events = less.events;
-      }
+  -- frameworks and their clients
+  abbrev AreFewFrameworks : List FrameworkRow → Type 0
+  AreFewFrameworks frameworks = (length frameworks ≤ limits.frameworks) × (length (clients_in frameworks) ≤ limits.clients)
 
-  countable-agent : (agent : Text) (total : List Resource) → refusal_of limits rows (AddAgent agent total) ≡ None
-      → IsCountable limits rows (record rows { agents = with_agent rows agent total })
-  countable-agent agent total none =
-      let length_after = length (with_agent rows agent total) in
-      let names = length (cluster_total (with_agent rows agent total)) in
-      let many = or_parts (nat_lt limits.agents length_after) (nat_lt limits.scalar_names names) (welcome_agent limits rows agent total none).few in
-      let long : length (with_agent rows agent total) ≤ limits.agents = ltb-false limits.agents (length (with_agent rows agent total)) many.0 in
-      let room = room_for limits rows (AddAgent agent total) none in
-      let so_far = before in
-      record {
-        few = record {
-          ceilings = few.ceilings;
-          agents = long;
-          frameworks = few.frameworks;
-          clients = few.clients;
-          weights = few.weights;
-          events = omega (arith, room);
-        };
-        numbered = omega (arith, so_far);
-        events = refl;
-      }
-
-  countable-framework : (framework : Text) (roles : List Path) → refusal_of limits rows (AddFramework framework roles) ≡ None
-      → IsCountable limits rows (record rows { frameworks = with_framework rows framework roles })
-  countable-framework framework roles none =
+  framework_fits : (framework : Text) (roles : List Path) → refusal_of limits rows (AddFramework framework roles) ≡ None
+      → AreFewFrameworks (with_framework rows framework roles)
+  framework_fits framework roles none =
+      let f : FrameworkRow = record { name = framework; clients = map new_client (distinct roles) } in
       let many_roles = nat_lt limits.roles (length (distinct roles)) in
       let over_clients = nat_lt limits.clients (length (clients_of rows) + length (distinct roles)) in
       let many = or_parts (nat_lt limits.frameworks (length rows.frameworks + 1)) (many_roles || over_clients) (welcome_framework limits rows framework roles none).few in
-      let rest = or_parts many_roles over_clients many.1 in
-      let room = room_for limits rows (AddFramework framework roles) none in
-      let f : FrameworkRow = record { name = framework; clients = map new_client (distinct roles) } in
-      let one_more : length rows.frameworks + 1 ≤ limits.frameworks = ltb-false limits.frameworks (length rows.frameworks + 1) many.0 in
-      let frameworks : length (with_framework rows framework roles) ≤ limits.frameworks = omega (arith, one_more, length-append rows.frameworks (f ∷ [])) in
-      let many_clients : length (clients_of rows) + length (distinct roles) ≤ limits.clients = ltb-false limits.clients (length (clients_of rows) + length (distinct roles)) rest.1 in
-      let clients : length (clients_of (framework_added rows f)) ≤ limits.clients
-      = omega (arith, many_clients, length-clients_of-framework_added rows f, length-map (distinct roles) new_client) in
-      let so_far = before in
-      record {
-        few = record {
-          ceilings = few.ceilings;
-          agents = few.agents;
-          frameworks = frameworks;
-          clients = clients;
-          weights = few.weights;
-          events = omega (arith, room);
-        };
-        numbered = omega (arith, so_far);
-        events = refl;
-      }
+      let room = ltb-false limits.clients (length (clients_of rows) + length (distinct roles)) (or_parts many_roles over_clients many.1).1 in (
+        omega (arith, ltb-false limits.frameworks (length rows.frameworks + 1) many.0, length-append rows.frameworks (f ∷ [])),
+        omega (arith, room, length-clients_of-framework_added rows f, length-map (distinct roles) new_client),
+      )
 
-  countable-weight : (role : Path) (weight : ℕ) → refusal_of limits rows (SetWeight role weight) ≡ None
-      → IsCountable limits rows (record rows { weights = weights_with rows.weights role weight })
-  countable-weight role weight none =
-      let room = room_for limits rows (SetWeight role weight) none in
-      let weights = few_weights limits rows role weight few.weights (welcome_weight limits rows role weight none).few in
-      let so_far = before in
-      record {
-        few = record {
-          ceilings = few.ceilings;
-          agents = few.agents;
-          frameworks = few.frameworks;
-          clients = few.clients;
-          weights = weights;
-          events = omega (arith, room);
-        };
-        numbered = omega (arith, so_far);
-        events = refl;
-      }
+  suppressed_fit : (client : Client) (suppressed : Bool) → AreFewFrameworks (with_suppression rows client suppressed)
+  suppressed_fit client suppressed = (
+    omega (arith, few.frameworks, length-map rows.frameworks (suppressed_in client suppressed)),
+    omega (arith, few.clients, length-clients-suppressed client suppressed rows.frameworks),
+  )
 
-  countable-cycle : (at : ℕ) → refusal_of limits rows (Cycle at) ≡ None → IsCountable limits rows (cycle rows at)
-  unfolding cycle
-  countable-cycle at none =
-      let room = room_for limits rows (Cycle at) none in
-      let start : Rows = at_moment rows at in
+  frameworks_after : (event : Event) → refusal_of limits rows event ≡ None → AreFewFrameworks (effect rows event).frameworks
+  unfolding effect cycle
+  frameworks_after (AddFramework framework roles) none = framework_fits framework roles none
+  frameworks_after (RemoveFramework framework) none = (
+    omega (arith, few.frameworks, length-filter_le (λ f. not (same_text f.name framework)) rows.frameworks),
+    omega (arith, few.clients, length-clients-filter (λ f. not (same_text f.name framework)) rows.frameworks),
+  )
+  frameworks_after (Suppress framework role) none = suppressed_fit (record { role = role; framework = framework }) true
+  frameworks_after (Revive framework role) none = suppressed_fit (record { role = role; framework = framework }) false
+  frameworks_after (Cycle at) none =
+      let same = turns-clients (at_moment rows at) (filter (λ a. a.active) rows.agents) in
+      (omega (arith, few.frameworks, same.1), omega (arith, few.clients, ap length same.0))
+  frameworks_after event none = (
+    omega (arith, few.frameworks, ap (λ (r : Rows). length r.frameworks) (only_changed rows event)),
+    omega (arith, few.clients, ap (λ (r : Rows). length (clients_of r)) (only_changed rows event)),
+  )
+
+  weights_after : (event : Event) → refusal_of limits rows event ≡ None → length (effect rows event).weights ≤ limits.weights
+  unfolding effect
+  weights_after (SetWeight role weight) none = few_weights limits rows role weight few.weights (welcome_weight limits rows role weight none).few
+  weights_after event none = omega (arith, few.weights, ap (λ (r : Rows). length r.weights) (only_changed rows event))
+
+  before : rows.next_offer ≤ 1 + rows.events * 2 ^ 24
+  before = numbered
+
+  numbered_after : (event : Event) → (effect rows event).next_offer ≤ 1 + (rows.events + 1) * 2 ^ 24
+  unfolding effect cycle
+  numbered_after (Cycle at) =
       let agents : List AgentRow = filter (λ a. a.active) rows.agents in
-      let kept = turns-tables start agents in
-      let made = turns-next_offer start agents in
-      let so_far = before in
+      let made = turns-next_offer (at_moment rows at) agents in
       let few_agents : length agents ≤ 4096 = omega (arith, length-filter_le (λ (a : AgentRow). a.active) rows.agents, few.agents, few.ceilings.agents.1) in
       let few_clients : length (clients_of rows) ≤ 4096 = omega (arith, few.clients, few.ceilings.clients.1) in
       let first : length agents * length (clients_of rows) ≤ 4096 * length (clients_of rows) = mul-le-mul_right (length (clients_of rows)) few_agents in
-      record {
-        few = record {
-          ceilings = few.ceilings;
-          agents = rw kept.0 few.agents;
-          frameworks = rw kept.1 few.frameworks;
-          clients = rw (turns-clients start agents) few.clients;
-          weights = rw (weights-turns start agents) few.weights;
-          events = omega (arith, room);
-        };
-        numbered = omega (arith, made, so_far, first, few_clients);
-        events = kept.2;
-      }
+      omega (arith, made, before, first, few_clients)
+  numbered_after event = omega (arith, before, ap (λ (r : Rows). r.next_offer) (only_changed rows event))
 
   pub countable_after : (event : Event) → refusal_of limits rows event ≡ None → IsCountable limits rows (effect rows event)
-  unfolding effect
-  countable_after (AddAgent agent total) none = countable-agent agent total none
-  countable_after (RemoveAgent agent) none =
-      countable (agent_removed rows agent) (RemoveAgent agent) none (no_more-agent_removed rows agent)
-  countable_after (ActivateAgent agent) none =
-      countable (record rows { agents = with_activity rows agent true }) (ActivateAgent agent) none (no_more-activity rows agent true)
-  countable_after (DeactivateAgent agent) none =
-      let less = no_more-activity rows agent false in
-      countable (agent_deactivated rows agent) (DeactivateAgent agent) none (record {
-        agents = less.agents;
-        frameworks = less.frameworks;
-        clients = less.clients;
-        weights = less.weights;
-        next_offer = refl;
-        events = refl;
-      })
-  countable_after (SetAgent agent total) none =
-      countable (record rows { agents = with_other_total rows agent total }) (SetAgent agent total) none (no_more-total rows agent (λ old. total))
-  countable_after (AddFramework framework roles) none = countable-framework framework roles none
-  countable_after (RemoveFramework framework) none =
-      countable (framework_removed rows framework) (RemoveFramework framework) none (no_more-framework_removed rows framework)
-  countable_after (Accept a) none =
-      let become : OfferRow → Rows = λ o. offer_accepted (at_moment rows a.at) o a.tasks a.refuse_ms in
-      countable (option_map_or become (offer_at rows a.offer) rows) (Accept a) none
-      (no_more-at_offer rows become (offer_at rows a.offer) (λ o. no_more-others rows (become o) refl))
-  countable_after (Decline d) none =
-      let become : OfferRow → Rows = λ o. offer_declined (at_moment rows d.at) o d.refuse_ms in
-      countable (option_map_or become (offer_at rows d.offer) rows) (Decline d) none
-      (no_more-at_offer rows become (offer_at rows d.offer) (λ o. no_more-others rows (become o) refl))
-  countable_after (Rescind offer) none =
-      let new : Rows = without_ended rows (one_offer offer) in
-      countable new (Rescind offer) none (no_more-others rows new refl)
-  countable_after (Finish framework task) none =
-      let new : Rows = without_ended rows (one_task framework task) in
-      countable new (Finish framework task) none (no_more-others rows new refl)
-  countable_after (Suppress framework role) none =
-      let client : Client = record { role = role; framework = framework } in
-      countable (record rows { frameworks = with_suppression rows client true }) (Suppress framework role) none (no_more-suppression rows client true)
-  countable_after (Revive framework role) none =
-      let client : Client = record { role = role; framework = framework } in
-      let less = no_more-suppression rows client false in
-      countable (revived rows client) (Revive framework role) none (record {
-        agents = less.agents;
-        frameworks = less.frameworks;
-        clients = less.clients;
-        weights = less.weights;
-        next_offer = refl;
-        events = refl;
-      })
-  countable_after (Reserve agent role resources) none =
-      countable (record rows { agents = with_reserved rows agent role resources }) (Reserve agent role resources) none
-      (no_more-total rows agent (exchanged resources (relabel role resources)))
-  countable_after (Unreserve agent role resources) none =
-      countable (record rows { agents = with_unreserved rows agent role resources }) (Unreserve agent role resources) none
-      (no_more-total rows agent (exchanged (relabel role resources) resources))
-  countable_after (SetWeight role weight) none = countable-weight role weight none
-  countable_after (SetLimit role limit) none =
-      countable (record rows { limits = limits_with rows.limits role limit }) (SetLimit role limit) none (no_more-limits rows (limits_with rows.limits role limit))
-  countable_after (Cycle at) none = countable-cycle at none
-  countable_after Report none = countable rows Report none (no_more-others rows rows refl)
+  countable_after event none = record {
+    few = record {
+      ceilings = few.ceilings;
+      agents = agents_after event none;
+      frameworks = (frameworks_after event none).0;
+      clients = (frameworks_after event none).1;
+      weights = weights_after event none;
+      events = omega (arith, room_for limits rows event none);
+    };
+    numbered = numbered_after event;
+    events = ap (λ (r : Rows). r.events) (only_changed rows event);
+  }
 
 -- ---- at all times
 

@@ -1,15 +1,18 @@
 -- Rows that are consistent are so after each event, and after each run; so runs keep the limits of roles.
 use Rattle.std.proofs.Common.{◌≡◌, ℕ, ◌+◌, List, [], ◌∷◌, Option, Some, None, refl, sym, subst}
 use Rattle.drf_rows.specs.LimitNumbers.{LimitNumbers}
+use Rattle.std.specs.List.{AllByRecursion}
 use Rattle.drf_rows.specs.Consistent.{IsConsistent}
+use Rattle.drf_rows.specs.Holdings.{holdings_of}
 use Rattle.drf_rows.specs.Step.{opening, live_rows, refusal_of, effect, rows_after, rows_after_all}
 use Rattle.drf_row_laws.specs.ConsistentLaws.{conserved-consistent}
+use Rattle.drf_laws.specs.HeldForLaws.{IsForItsRole, reserved_is_held_by_its_role}
 use Rattle.drf_laws.specs.KeptLimitLaws.{StayConsistent, IsGivenBundles, runs_keep_limits}
 use Rattle.drf_row_laws.specs.LiveLaws.{rows_after-live}
 use Rattle.drf_row_laws.specs.RegistrationLaws.{IsConsistent-opening}
 use Rattle.drf_row_laws.specs.StepLaws.{rows_after-refused, rows_after-accepted}
 use Rattle.drf_rows.specs.declared.event.Event.{Event}
-use Rattle.drf_rows.specs.declared.event.Event.TheVariants.{AddAgent, RemoveAgent, ActivateAgent, DeactivateAgent, SetAgent, AddFramework, RemoveFramework, Accept, Decline, Rescind, Finish, Suppress, Revive, Reserve, Unreserve, SetWeight, SetLimit, Cycle, Report}
+use Rattle.drf_rows.specs.declared.event.Event.TheVariants.{AddAgent, SetAgent, AddFramework, SetWeight, SetLimit}
 use Rattle.drf_rows.specs.declared.reply.Refusal.{Refusal}
 use Rattle.drf_rows.specs.declared.rows.Rows.{Rows}
 use Rattle.drf_laws.specs.RunLaws.{IsGiven, AreGiven, StepsStayConsistent, RunsStayConsistent, AllRowsStayConsistent, RunsFromOpeningAreConsistent, NothingIsGrantedTwice, RunsFromOpeningKeepLimits, ConsistentRunsKeepLimits}
@@ -69,26 +72,13 @@ nothing_is_granted_twice limits events given =
 
 -- ---- limits of roles
 
-given_bundles : (event : Event) → IsGiven event → IsGivenBundles event
+pub given_bundles : (event : Event) → IsGiven event → IsGivenBundles event
 given_bundles (AddAgent agent total) given = tt
-given_bundles (RemoveAgent agent) given = given
-given_bundles (ActivateAgent agent) given = given
-given_bundles (DeactivateAgent agent) given = given
 given_bundles (SetAgent agent total) given = tt
 given_bundles (AddFramework framework roles) given = tt
-given_bundles (RemoveFramework framework) given = given
-given_bundles (Accept a) given = given
-given_bundles (Decline d) given = given
-given_bundles (Rescind offer) given = given
-given_bundles (Finish framework task) given = given
-given_bundles (Suppress framework role) given = given
-given_bundles (Revive framework role) given = given
-given_bundles (Reserve agent role resources) given = given
-given_bundles (Unreserve agent role resources) given = given
 given_bundles (SetWeight role weight) given = tt
 given_bundles (SetLimit role limit) given = tt
-given_bundles (Cycle at) given = given
-given_bundles Report given = given
+given_bundles event given = given
 
 stay_consistent : (limits : LimitNumbers) (rows : Rows) (events : List Event) → IsConsistent (live_rows rows) → AreGiven events
     → StayConsistent limits rows events
@@ -107,3 +97,26 @@ pub runs_from_opening_keep_limits : RunsFromOpeningKeepLimits
 runs_from_opening_keep_limits limits earlier events label place l before given =
     consistent_runs_keep_limits limits (rows_after_all limits opening earlier) events label place l
     (runs_stay_consistent limits opening earlier (consistent-live opening IsConsistent-opening) before) given
+
+-- ---- what is reserved
+
+-- nobody comes to hold what is reserved for others
+abbrev AreOwn : Rows → Type 0
+AreOwn rows = AllByRecursion IsForItsRole (holdings_of rows)
+
+own_after : (limits : LimitNumbers) (rows : Rows) (event : Event) → IsConsistent rows → IsGiven event → AreOwn rows
+    → AreOwn (rows_after limits rows event)
+own_after limits rows event consistent given own = by (refusal_of limits rows event) refl
+  where
+    by : (found : Option Refusal) → refusal_of limits rows event ≡ found → AreOwn (rows_after limits rows event)
+    by None accepted =
+        subst AreOwn (sym (rows_after-accepted limits rows event accepted))
+        (reserved_is_held_by_its_role limits rows event consistent (given_bundles event given) accepted own)
+    by (Some refusal) refused = subst AreOwn (sym (rows_after-refused limits rows event refusal refused)) own
+
+pub own_after_all : (limits : LimitNumbers) (rows : Rows) (events : List Event) → IsConsistent rows → AreGiven events → AreOwn rows
+    → AreOwn (rows_after_all limits rows events)
+own_after_all limits rows [] consistent given own = own
+own_after_all limits rows (event ∷ events) consistent given own =
+    own_after_all limits (rows_after limits rows event) events (IsConsistent-after limits rows event consistent given.0) given.1
+    (own_after limits rows event consistent given.0 own)

@@ -5,7 +5,7 @@ use Rattle.drf_rows.specs.Step.{live_rows, refusal_of, effect, answer, rows_afte
 use Rattle.drf_row_laws.specs.StepLaws.{reply_to-refused, reply_to-accepted, rows_after-refused, rows_after-accepted}
 use Rattle.drf_row_laws.specs.LiveLaws.{reply_to-same_live, rows_after-same_live}
 use Rattle.drf_rows.specs.declared.event.Event.{Event}
-use Rattle.drf_rows.specs.declared.event.Event.TheVariants.{AddAgent, RemoveAgent, ActivateAgent, DeactivateAgent, SetAgent, AddFramework, RemoveFramework, Accept, Decline, Rescind, Finish, Suppress, Revive, Reserve, Unreserve, SetWeight, SetLimit, Cycle, Report}
+use Rattle.drf_rows.specs.declared.event.Event.TheVariants.{Cycle}
 use Rattle.drf_rows.specs.declared.reply.Refusal.{Refusal}
 use Rattle.drf_rows.specs.declared.reply.Reply.TheVariants.{Refused}
 use Rattle.drf_rows.specs.declared.rows.Rows.{Rows}
@@ -13,25 +13,8 @@ use Rattle.std.specs.Prelude.{drop}
 
 -- what is answered to an event that is not refused is no refusal
 answer_told : (before after : Rows) (event : Event) (refusal : Refusal) → answer before after event ≡ Refused refusal → Some refusal ≡ None
-answer_told before after (AddAgent agent total) refusal told = cc
-answer_told before after (RemoveAgent agent) refusal told = cc
-answer_told before after (ActivateAgent agent) refusal told = cc
-answer_told before after (DeactivateAgent agent) refusal told = cc
-answer_told before after (SetAgent agent total) refusal told = cc
-answer_told before after (AddFramework framework roles) refusal told = cc
-answer_told before after (RemoveFramework framework) refusal told = cc
-answer_told before after (Accept a) refusal told = cc
-answer_told before after (Decline d) refusal told = cc
-answer_told before after (Rescind offer) refusal told = cc
-answer_told before after (Finish framework task) refusal told = cc
-answer_told before after (Suppress framework role) refusal told = cc
-answer_told before after (Revive framework role) refusal told = cc
-answer_told before after (Reserve agent role resources) refusal told = cc
-answer_told before after (Unreserve agent role resources) refusal told = cc
-answer_told before after (SetWeight role weight) refusal told = cc
-answer_told before after (SetLimit role limit) refusal told = cc
 answer_told before after (Cycle at) refusal told = cc
-answer_told before after Report refusal told = cc
+answer_told before after event refusal told = cc
 
 -- from rows that have the same live rows
 module _ (limits : LimitNumbers) (rows old : Rows) (event : Event) (live : live_rows rows ≡ live_rows old) where

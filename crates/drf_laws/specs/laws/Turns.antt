@@ -14,17 +14,19 @@ use Rattle.drf_rows.specs.Client.{Client}
 use Rattle.drf_rows.specs.Held.{client_of, clients_of, active_clients, is_registered}
 use Rattle.drf_rows.specs.Share.{Standing}
 use Rattle.drf_rows.specs.Cycle.{first_of, without, serving_order, turn_order, free_of, grant, is_grantable, new_offer, with_offer, tried, count_offer, all_tried, turn, turns, cycle, at_moment}
+use Rattle.drf_rows.specs.Holdings.{of_offer}
 use Rattle.drf_row_laws.specs.ConsistentLaws.{has_its_role}
+use Rattle.drf_row_laws.specs.FrameLaws.{its_part, Any, all_tried_keeps, any_all_tried, any_turns}
 use Rattle.drf_laws.specs.OfferedLaws.{each_served}
-use Rattle.drf_bundle.specs.ListLaws.{each_append, each_from, each_map, each_filter, each_found}
+use Rattle.drf_bundle.specs.ListLaws.{each_append, each_from, each_map, each_filter, each_found, each_true}
 use Rattle.drf_rows.specs.declared.rows.ClientRow.{ClientRow}
 use Rattle.drf_rows.specs.declared.rows.FrameworkRow.{FrameworkRow}
+use Rattle.drf_rows.specs.declared.rows.OfferRow.{OfferRow}
 use Rattle.drf_rows.specs.declared.rows.Rows.{Rows}
 use Rattle.drf_rows.specs.Held as rows_word
 use Rattle.drf_bundle.specs.Bundle.{IsBundle}
 use Rattle.drf_bundle.specs.declared.resource.Resource.{Resource}
 use Rattle.drf_row_laws.specs.CycleLaws.{bundle-free_of, bundle-entitlement, units-entitlement, clients_of-with_offer, free_of-with_offer_other}
-use Rattle.drf_rows.specs.Quota.{entitlement}
 use Rattle.drf_rows.specs.declared.rows.AgentRow.{AgentRow}
 use Rattle.drf_laws.specs.TurnLaws.{IsPart, CyclesMakeFewOffers}
 
@@ -98,23 +100,21 @@ length-turn_order rows =
 
 -- ---- what is granted
 
+pub entitled_part : (rows : Rows) (agent : AgentRow) (client : Client) → IsBundle agent.total
+    → IsPart (its_part rows agent client) (free_of rows agent)
+entitled_part rows agent client total = record {
+  bundle_is = bundle-entitlement rows (free_of rows agent) client (bundle-free_of rows agent total);
+  small = λ key p. units-entitlement rows (free_of rows agent) client key p;
+}
+
 pub grant-part : (rows : Rows) (agent : AgentRow) (client : Client) (bundle : List Resource) → IsBundle agent.total
     → grant rows agent client ≡ Some bundle → IsPart bundle (free_of rows agent)
-grant-part rows agent client bundle total granted = by (is_grantable rows agent client part) granted
+grant-part rows agent client bundle total granted = by (is_grantable rows agent client (its_part rows agent client)) granted
   where
-    free : List Resource
-    free = free_of rows agent
-
-    part : List Resource
-    part = entitlement rows free client
-
-    by : (b : Bool) → cond b (Some part) None ≡ Some bundle → IsPart bundle free
+    by : (b : Bool) → cond b (Some (its_part rows agent client)) None ≡ Some bundle → IsPart bundle (free_of rows agent)
     by true e =
-        let same : part ≡ bundle = cc in
-        subst (λ (b : List Resource). IsPart b free) same (record {
-          bundle_is = bundle-entitlement rows free client (bundle-free_of rows agent total);
-          small = λ key p. units-entitlement rows free client key p;
-        })
+        let same : its_part rows agent client ≡ bundle = cc in
+        subst (λ (b : List Resource). IsPart b (free_of rows agent)) same (entitled_part rows agent client total)
     by false e = cc
 
 -- ---- how many offers a cycle makes at most
@@ -130,45 +130,21 @@ all_tried-next rows agent [] = omega arith
 all_tried-next rows agent (client ∷ clients) =
     omega (arith, all_tried-next (tried rows agent client) agent clients, tried-next rows agent client (grant rows agent client))
 
-tried-clients : (rows : Rows) (agent : AgentRow) (client : Client) (granted : Option (List Resource))
-    → clients_of (option_map_or (λ b. with_offer rows (new_offer rows agent client b)) granted rows) ≡ clients_of rows
-tried-clients rows agent client None = refl
-tried-clients rows agent client (Some bundle) = clients_of-with_offer rows (new_offer rows agent client bundle)
+-- the clients, and how many frameworks there are
+abbrev SameClients : Rows → Rows → Type 0
+SameClients start rows = (clients_of rows ≡ clients_of start) × (length rows.frameworks ≡ length start.frameworks)
 
-all_tried-clients : (rows : Rows) (agent : AgentRow) (clients : List Client) → clients_of (all_tried rows agent clients) ≡ clients_of rows
-all_tried-clients rows agent [] = refl
-all_tried-clients rows agent (client ∷ clients) =
-    all_tried-clients (tried rows agent client) agent clients ∙ tried-clients rows agent client (grant rows agent client)
-
-pub turns-clients : (rows : Rows) (agents : List AgentRow) → clients_of (turns rows agents) ≡ clients_of rows
-unfolding turn
-turns-clients rows [] = refl
-turns-clients rows (agent ∷ agents) = turns-clients (turn rows agent) agents ∙ all_tried-clients rows agent (turn_order rows)
-
--- the agents stay, and as many frameworks
-tried-tables : (rows : Rows) (agent : AgentRow) (client : Client) (granted : Option (List Resource))
-    → let after : Rows = option_map_or (λ b. with_offer rows (new_offer rows agent client b)) granted rows in
-    (after.agents ≡ rows.agents) × (length after.frameworks ≡ length rows.frameworks) × (after.events ≡ rows.events)
+same_clients : (start rows : Rows) (offer : OfferRow) → SameClients start rows → SameClients start (with_offer rows offer)
 unfolding with_offer
-tried-tables rows agent client None = (refl, refl, refl)
-tried-tables rows agent client (Some bundle) = (refl, length-map rows.frameworks (count_offer client), refl)
+same_clients start rows offer same =
+    (clients_of-with_offer rows offer ∙ same.0, length-map rows.frameworks (count_offer (of_offer offer).client) ∙ same.1)
 
-all_tried-tables : (rows : Rows) (agent : AgentRow) (clients : List Client)
-    → ((all_tried rows agent clients).agents ≡ rows.agents) × (length (all_tried rows agent clients).frameworks ≡ length rows.frameworks) × ((all_tried rows agent clients).events ≡ rows.events)
-all_tried-tables rows agent [] = (refl, refl, refl)
-all_tried-tables rows agent (client ∷ clients) =
-    let later = all_tried-tables (tried rows agent client) agent clients in
-    let first = tried-tables rows agent client (grant rows agent client) in
-    (later.0 ∙ first.0, later.1 ∙ first.1, later.2 ∙ first.2)
-
-pub turns-tables : (rows : Rows) (agents : List AgentRow)
-    → ((turns rows agents).agents ≡ rows.agents) × (length (turns rows agents).frameworks ≡ length rows.frameworks) × ((turns rows agents).events ≡ rows.events)
+turn-clients : (rows : Rows) (agent : AgentRow) → SameClients rows (turn rows agent)
 unfolding turn
-turns-tables rows [] = (refl, refl, refl)
-turns-tables rows (agent ∷ agents) =
-    let later = turns-tables (turn rows agent) agents in
-    let first = all_tried-tables rows agent (turn_order rows) in
-    (later.0 ∙ first.0, later.1 ∙ first.1, later.2 ∙ first.2)
+turn-clients rows agent = any_all_tried (SameClients rows) (same_clients rows) rows agent (turn_order rows) (refl, refl)
+
+pub turns-clients : (rows : Rows) (agents : List AgentRow) → SameClients rows (turns rows agents)
+turns-clients rows agents = any_turns (SameClients rows) (same_clients rows) rows agents (refl, refl)
 
 pub turns-next_offer : (rows : Rows) (agents : List AgentRow) → (turns rows agents).next_offer ≤ rows.next_offer + length agents * length (clients_of rows)
 unfolding turn
@@ -177,7 +153,7 @@ turns-next_offer rows (agent ∷ agents) =
     let later = turns-next_offer (turn rows agent) agents in
     let first = all_tried-next rows agent (turn_order rows) in
     let order = length-turn_order rows in
-    let same : length (clients_of (turn rows agent)) ≡ length (clients_of rows) = ap length (all_tried-clients rows agent (turn_order rows)) in
+    let same : length (clients_of (turn rows agent)) ≡ length (clients_of rows) = ap length (turn-clients rows agent).0 in
     let rest : (turns (turn rows agent) agents).next_offer ≤ (turn rows agent).next_offer + length agents * length (clients_of rows) =
     subst (λ n. (turns (turn rows agent) agents).next_offer ≤ (turn rows agent).next_offer + length agents * n) same later in
     omega (arith, rest, first, order)
@@ -187,37 +163,12 @@ pub cycles_make_few_offers : CyclesMakeFewOffers
 unfolding cycle
 cycles_make_few_offers rows at = turns-next_offer (at_moment rows at) (filter (λ a. a.active) rows.agents)
 
--- ---- weights stay
-
-weights-tried : (rows : Rows) (agent : AgentRow) (client : Client) (granted : Option (List Resource))
-    → (option_map_or (λ b. with_offer rows (new_offer rows agent client b)) granted rows).weights ≡ rows.weights
-unfolding with_offer
-weights-tried rows agent client None = refl
-weights-tried rows agent client (Some bundle) = refl
-
-weights-all_tried : (rows : Rows) (agent : AgentRow) (clients : List Client)
-    → (all_tried rows agent clients).weights ≡ rows.weights
-weights-all_tried rows agent [] = refl
-weights-all_tried rows agent (client ∷ clients) =
-    weights-all_tried (tried rows agent client) agent clients ∙ weights-tried rows agent client (grant rows agent client)
-
-pub weights-turns : (rows : Rows) (agents : List AgentRow) → (turns rows agents).weights ≡ rows.weights
-unfolding turn
-weights-turns rows [] = refl
-weights-turns rows (agent ∷ agents) =
-    weights-turns (turn rows agent) agents ∙ weights-all_tried rows agent (turn_order rows)
-
 -- ---- other agents
 
 -- trying clients on one agent leaves what is free on another
-free_of-tried_other : (rows : Rows) (agent : AgentRow) (client : Client) (other : AgentRow) → same_text agent.name other.name ≡ false
-    → (granted : Option (List Resource))
-    → free_of (option_map_or (λ b. with_offer rows (new_offer rows agent client b)) granted rows) other ≡ free_of rows other
-free_of-tried_other rows agent client other apart None = refl
-free_of-tried_other rows agent client other apart (Some bundle) = free_of-with_offer_other rows (new_offer rows agent client bundle) other apart
-
 pub free_of-all_tried_other : (rows : Rows) (agent : AgentRow) (clients : List Client) (other : AgentRow) → same_text agent.name other.name ≡ false
     → free_of (all_tried rows agent clients) other ≡ free_of rows other
-free_of-all_tried_other rows agent [] other apart = refl
-free_of-all_tried_other rows agent (client ∷ clients) other apart =
-    free_of-all_tried_other (tried rows agent client) agent clients other apart ∙ free_of-tried_other rows agent client other apart (grant rows agent client)
+free_of-all_tried_other rows agent clients other apart =
+    all_tried_keeps (λ r. free_of r other ≡ free_of rows other) (λ a. same_text a.name other.name ≡ false) Any (λ r same. each_true (turn_order r))
+    (λ r a client past known is same. free_of-with_offer_other r (new_offer r a client (its_part r a client)) other past ∙ same)
+    rows agent clients apart (each_true clients) refl

@@ -1,6 +1,6 @@
 -- Events that are not refused: no case of refusal holds.
-use Rattle.std.proofs.Common.{◌≡◌, ℕ, ◌<◌, ◌≤◌, Bool, true, false, List, [], ◌∷◌, None, refl, inl, inr, arith, nat_lt}
-use Rattle.std.specs.List.{list_any, AllByRecursion}
+use Rattle.std.proofs.Common.{◌≡◌, ℕ, ◌<◌, ◌≤◌, true, false, List, [], ◌∷◌, None, inl, inr, arith, nat_lt}
+use Rattle.std.specs.List.{list_any}
 use Rattle.std.proofs.lemmas.Bool.{cases_Bool, or_parts, not-false, ltb-false, leb-false}
 use Rattle.drf_role.specs.Text.{Text, same_text}
 use Rattle.drf_role.specs.Path.{Path}
@@ -9,7 +9,8 @@ use Rattle.drf_bundle.specs.Bundle.{quantities_of}
 use Rattle.drf_bundle.specs.declared.quantities.Entry.{Entry}
 use Rattle.drf_bundle.specs.declared.resource.Resource.{Resource}
 use Rattle.drf_rows.specs.LimitNumbers.{LimitNumbers}
-use Rattle.drf_rows.specs.Step.{is_full, is_in_role, too_many_agents, too_many_frameworks, first_case, cases_of, refusal_of}
+use Rattle.drf_rows.specs.Step.{is_in_role, too_many_agents, too_many_frameworks, refusal_of}
+pub use Rattle.drf_row_laws.specs.StepLaws.{no_case, no_case_of}
 use Rattle.drf_rows.specs.Members.{has_agent, has_framework, with_agent}
 use Rattle.drf_rows.specs.Offers.{has_offer}
 use Rattle.drf_rows.specs.Weights.{is_weight, too_many_weights}
@@ -17,45 +18,12 @@ use Rattle.drf_rows.specs.declared.limits.TheConstants.{LARGEST_AMOUNT, LATEST_M
 use Rattle.drf_rows.specs.declared.event.Accept as accepting
 use Rattle.drf_rows.specs.declared.event.Decline as declining
 use Rattle.drf_rows.specs.declared.event.Event.{Event}
-use Rattle.drf_rows.specs.declared.event.Event.TheVariants.{AddAgent, RemoveAgent, ActivateAgent, DeactivateAgent, SetAgent, AddFramework, RemoveFramework, Accept, Decline, Rescind, Finish, Suppress, Revive, Reserve, Unreserve, SetWeight, SetLimit, Cycle, Report}
-use Rattle.drf_rows.specs.declared.reply.Refusal.{Refusal}
+use Rattle.drf_rows.specs.declared.event.Event.TheVariants.{AddAgent, RemoveFramework, AddFramework, Accept, Decline, Suppress, Revive, SetWeight, Cycle}
 use Rattle.drf_rows.specs.declared.rows.Rows.{Rows}
-
-pub no_case : (cases : List (Bool × Refusal)) → first_case cases ≡ None → AllByRecursion (λ c. c.0 ≡ false) cases
-no_case [] none = tt
-no_case ((true, r) ∷ cases) none = cc
-no_case ((false, r) ∷ cases) none = (refl, no_case cases none)
-
--- no case of the event holds
-pub no_case_of : (limits : LimitNumbers) (rows : Rows) (event : Event) → refusal_of limits rows event ≡ None
-    → AllByRecursion (λ c. c.0 ≡ false) (cases_of limits rows event)
-unfolding refusal_of
-no_case_of limits rows event none = no_case (cases_of limits rows event) none
-
-not_full : (limits : LimitNumbers) (rows : Rows) (event : Event) → refusal_of limits rows event ≡ None → is_full limits rows ≡ false
-not_full limits rows (AddAgent agent total) none = (no_case_of limits rows (AddAgent agent total) none).0
-not_full limits rows (RemoveAgent agent) none = (no_case_of limits rows (RemoveAgent agent) none).0
-not_full limits rows (ActivateAgent agent) none = (no_case_of limits rows (ActivateAgent agent) none).0
-not_full limits rows (DeactivateAgent agent) none = (no_case_of limits rows (DeactivateAgent agent) none).0
-not_full limits rows (SetAgent agent total) none = (no_case_of limits rows (SetAgent agent total) none).0
-not_full limits rows (AddFramework framework roles) none = (no_case_of limits rows (AddFramework framework roles) none).0
-not_full limits rows (RemoveFramework framework) none = (no_case_of limits rows (RemoveFramework framework) none).0
-not_full limits rows (Accept a) none = (no_case_of limits rows (Accept a) none).0
-not_full limits rows (Decline d) none = (no_case_of limits rows (Decline d) none).0
-not_full limits rows (Rescind offer) none = (no_case_of limits rows (Rescind offer) none).0
-not_full limits rows (Finish framework task) none = (no_case_of limits rows (Finish framework task) none).0
-not_full limits rows (Suppress framework role) none = (no_case_of limits rows (Suppress framework role) none).0
-not_full limits rows (Revive framework role) none = (no_case_of limits rows (Revive framework role) none).0
-not_full limits rows (Reserve agent role resources) none = (no_case_of limits rows (Reserve agent role resources) none).0
-not_full limits rows (Unreserve agent role resources) none = (no_case_of limits rows (Unreserve agent role resources) none).0
-not_full limits rows (SetWeight role weight) none = (no_case_of limits rows (SetWeight role weight) none).0
-not_full limits rows (SetLimit role limit) none = (no_case_of limits rows (SetLimit role limit) none).0
-not_full limits rows (Cycle at) none = (no_case_of limits rows (Cycle at) none).0
-not_full limits rows Report none = (no_case_of limits rows Report none).0
 
 -- there is room for the event
 pub room_for : (limits : LimitNumbers) (rows : Rows) (event : Event) → refusal_of limits rows event ≡ None → rows.events < limits.events
-room_for limits rows event none = leb-false limits.events rows.events (not_full limits rows event none)
+room_for limits rows event none = leb-false limits.events rows.events (no_case_of limits rows event none).0
 
 -- ---- what is not the case
 

@@ -1,16 +1,14 @@
 -- The tables stay within the limits of an allocator, over each event and each run.
-use Rattle.std.proofs.Common.{◌≡◌, ℕ, ◌+◌, ◌≤◌, Bool, true, false, not, ◌&&◌, List, [], ◌∷◌, ◌++◌, Option, Some, None, length, map, refl, sym, ap, subst, arith, nat_lt}
-use Rattle.std.specs.Prelude.{max}
+use Rattle.std.proofs.Common.{◌≡◌, ℕ, ◌+◌, ◌≤◌, Bool, true, false, not, ◌&&◌, List, [], ◌∷◌, Option, Some, None, length, map, refl, sym, ap, subst, arith, nat_lt}
+use Rattle.std.specs.Prelude.{max, filter}
 use Rattle.std.specs.List.{AllByRecursion}
 use Rattle.std.specs.Option.{option_map_or}
 use Rattle.std.proofs.lemmas.Bool.{or_parts, ltb-false, not-false}
 use Rattle.std.proofs.lemmas.List.{length-map}
-use Rattle.drf_role.specs.Text.{Text, same_text}
-use Rattle.drf_role.specs.Path.{Path}
+use Rattle.drf_role.specs.Text.{same_text}
 use Rattle.drf_bundle.specs.Bundle.{relabel}
 use Rattle.drf_bundle.specs.declared.quantities.Entry.{Entry}
 use Rattle.drf_bundle.specs.declared.resource.Resource.{Resource}
-use Rattle.drf_rows.specs.Client.{Client}
 use Rattle.drf_rows.specs.LimitNumbers.{LimitNumbers}
 use Rattle.drf_rows.specs.Consistent.{IsConsistent, IsNumberedByEvents}
 use Rattle.drf_rows.specs.Cycle.{at_moment, cycle}
@@ -22,6 +20,7 @@ use Rattle.drf_rows.specs.Quota.{has_limit}
 use Rattle.drf_rows.specs.Step.{opening, new_offers, refusal_of, effect, rows_after, rows_after_all, too_many_names}
 use Rattle.drf_bundle.specs.ListLaws.{each_append, each_filter}
 use Rattle.drf_row_laws.specs.MemberLaws.{cluster_total-with_activity}
+use Rattle.drf_row_laws.specs.FrameLaws.{cycle_only, only_changed}
 use Rattle.drf_row_laws.specs.OthersLaws.{cycle_only_offers}
 use Rattle.drf_row_laws.specs.ReservationLaws.{found_known, can_move-reserve, can_move-unreserve, can_exchange-reserve, can_exchange-unreserve}
 use Rattle.drf_row_laws.specs.StepLaws.{rows_after-refused, rows_after-accepted}
@@ -29,10 +28,11 @@ use Rattle.drf_row_laws.specs.TotalsLaws.{cluster_total-exchanged}
 use Rattle.drf_rows.specs.declared.event.Accept as accepting
 use Rattle.drf_rows.specs.declared.event.Decline as declining
 use Rattle.drf_rows.specs.declared.event.Event.{Event}
-use Rattle.drf_rows.specs.declared.event.Event.TheVariants.{AddAgent, RemoveAgent, ActivateAgent, DeactivateAgent, SetAgent, AddFramework, RemoveFramework, Accept, Decline, Rescind, Finish, Suppress, Revive, Reserve, Unreserve, SetWeight, SetLimit, Cycle, Report}
+use Rattle.drf_rows.specs.declared.event.Event.TheVariants.{AddAgent, RemoveAgent, ActivateAgent, DeactivateAgent, SetAgent, AddFramework, RemoveFramework, Accept, Decline, Suppress, Revive, Reserve, Unreserve, SetLimit, Cycle}
 use Rattle.drf_rows.specs.declared.reply.Refusal.{Refusal}
-use Rattle.drf_rows.specs.declared.rows.AgentRow.{AgentRow}
+use Rattle.drf_rows.specs.declared.rows.FilterRow.{FilterRow}
 use Rattle.drf_rows.specs.declared.rows.FrameworkRow.{FrameworkRow}
+use Rattle.drf_rows.specs.declared.rows.LimitRow.{LimitRow}
 use Rattle.drf_rows.specs.declared.rows.OfferRow.{OfferRow}
 use Rattle.drf_rows.specs.declared.rows.Rows.{Rows}
 use Rattle.drf_laws.specs.Kept.{AreFew, IsKept}
@@ -52,39 +52,29 @@ pub record AreBounded (most : LimitNumbers) (rows : Rows) : Type 0 where
   pub names_of_each : AllByRecursion (λ l. length l.limit ≤ most.scalar_names) rows.limits
 
 module _ (most : LimitNumbers) (rows : Rows) (bounded : AreBounded most rows) where
-  -- ---- tables that change alone
+  -- ---- the roles of a framework
 
-  with_agents : (agents : List AgentRow) → length (cluster_total agents) ≤ most.scalar_names → AreBounded most (record rows { agents = agents })
-  with_agents agents few = record {
-    roles = bounded.roles;
-    filters = bounded.filters;
-    limits = bounded.limits;
-    names = few;
-    names_of_each = bounded.names_of_each;
-  }
+  abbrev FewRoles : FrameworkRow → Type 0
+  FewRoles f = length f.clients ≤ most.roles
 
-  with_frameworks : (frameworks : List FrameworkRow) → AllByRecursion (λ f. length f.clients ≤ most.roles) frameworks
-      → AreBounded most (record rows { frameworks = frameworks })
-  with_frameworks frameworks few = record {
-    roles = few;
-    filters = bounded.filters;
-    limits = bounded.limits;
-    names = bounded.names;
-    names_of_each = bounded.names_of_each;
-  }
+  roles_after : (event : Event) → refusal_of most rows event ≡ None → AllByRecursion FewRoles (effect rows event).frameworks
+  unfolding effect
+  roles_after (AddFramework framework roles) accepted =
+      let many = or_parts (nat_lt most.frameworks (length rows.frameworks + 1)) _ (welcome_framework most rows framework roles accepted).few in
+      let few = ltb-false most.roles (length (distinct roles)) (or_parts (nat_lt most.roles (length (distinct roles))) _ many.1).0 in
+      each_append FewRoles rows.frameworks (record { name = framework; clients = map new_client (distinct roles) } ∷ []) bounded.roles
+      (omega (arith, few, length-map (distinct roles) new_client), tt)
+  roles_after (RemoveFramework framework) accepted = each_filter FewRoles (λ f. not (same_text f.name framework)) rows.frameworks bounded.roles
+  roles_after (Suppress framework role) accepted =
+      roles-suppressed most.roles (record { role = role; framework = framework }) true rows.frameworks bounded.roles
+  roles_after (Revive framework role) accepted =
+      roles-suppressed most.roles (record { role = role; framework = framework }) false rows.frameworks bounded.roles
+  roles_after (Cycle at) accepted =
+      subst (AllByRecursion FewRoles) (sym (cycle_only_offers rows at).counts)
+      (roles-counted most.roles (new_offers rows (cycle rows at)) rows.frameworks bounded.roles)
+  roles_after event accepted = subst (λ (r : Rows). AllByRecursion FewRoles r.frameworks) (sym (only_changed rows event)) bounded.roles
 
-  -- the filters, and the clock
-  with_filters : (new : Rows) → new.agents ≡ rows.agents → new.frameworks ≡ rows.frameworks → new.limits ≡ rows.limits
-      → number_in_force new.clock new.filters ≤ most.filters → AreBounded most new
-  with_filters new agents frameworks limits few = record {
-    roles = subst (AllByRecursion (λ f. length f.clients ≤ most.roles)) (sym frameworks) bounded.roles;
-    filters = few;
-    limits = omega (arith, ap length limits, bounded.limits);
-    names = omega (arith, ap (λ (as' : List AgentRow). length (cluster_total as')) agents, bounded.names);
-    names_of_each = subst (AllByRecursion (λ l. length l.limit ≤ most.scalar_names)) (sym limits) bounded.names_of_each;
-  }
-
-  -- ---- an offer that is accepted or declined
+  -- ---- filters
 
   filters_then : (at : ℕ) (refused : Bool) (o : OfferRow) (bundle : List Resource) (refuse_ms : ℕ)
       → (refused && are_many_filters most rows at) ≡ false
@@ -94,144 +84,81 @@ module _ (most : LimitNumbers) (rows : Rows) (bounded : AreBounded most rows) wh
   filters_then at false o bundle refuse_ms few =
       omega (arith, in_force_later rows.clock (max rows.clock at) rows.filters (omega arith), bounded.filters)
 
-  bounded-accepted : (a : accepting.Accept) (found : Option OfferRow)
+  abbrev FewFilters : Rows → Type 0
+  FewFilters r = number_in_force r.clock r.filters ≤ most.filters
+
+  filters-accepted : (a : accepting.Accept) (found : Option OfferRow)
       → (option_map_or (λ o. filters_rest o a.tasks a.refuse_ms) found false && are_many_filters most rows a.at) ≡ false
-      → AreBounded most (option_map_or (λ o. offer_accepted (at_moment rows a.at) o a.tasks a.refuse_ms) found rows)
-  bounded-accepted a None few = bounded
-  bounded-accepted a (Some o) few =
-      with_filters (offer_accepted (at_moment rows a.at) o a.tasks a.refuse_ms) refl refl refl
-      (filters_then a.at (filters_rest o a.tasks a.refuse_ms) o (left_of_offer o a.tasks) a.refuse_ms few)
+      → FewFilters (option_map_or (λ o. offer_accepted (at_moment rows a.at) o a.tasks a.refuse_ms) found rows)
+  filters-accepted a None few = bounded.filters
+  filters-accepted a (Some o) few = filters_then a.at (filters_rest o a.tasks a.refuse_ms) o (left_of_offer o a.tasks) a.refuse_ms few
 
-  bounded-declined : (d : declining.Decline) (found : Option OfferRow) → (filters_all d.refuse_ms && are_many_filters most rows d.at) ≡ false
-      → AreBounded most (option_map_or (λ o. offer_declined (at_moment rows d.at) o d.refuse_ms) found rows)
-  bounded-declined d None few = bounded
-  bounded-declined d (Some o) few =
-      with_filters (offer_declined (at_moment rows d.at) o d.refuse_ms) refl refl refl
-      (filters_then d.at (filters_all d.refuse_ms) o o.bundle d.refuse_ms few)
+  filters-declined : (d : declining.Decline) (found : Option OfferRow) → (filters_all d.refuse_ms && are_many_filters most rows d.at) ≡ false
+      → FewFilters (option_map_or (λ o. offer_declined (at_moment rows d.at) o d.refuse_ms) found rows)
+  filters-declined d None few = bounded.filters
+  filters-declined d (Some o) few = filters_then d.at (filters_all d.refuse_ms) o o.bundle d.refuse_ms few
 
-  -- ---- agents and frameworks
+  fewer_filters : (stays : FilterRow → Bool) → number_in_force rows.clock (filter stays rows.filters) ≤ most.filters
+  fewer_filters stays = omega (arith, fewer_in_force rows.clock stays rows.filters, bounded.filters)
 
-  bounded-agent_removed : IsConsistent rows → (agent : Text) → refusal_of most rows (RemoveAgent agent) ≡ None
-      → AreBounded most (effect rows (RemoveAgent agent))
+  filters_after : (event : Event) → refusal_of most rows event ≡ None → FewFilters (effect rows event)
   unfolding effect
-  bounded-agent_removed consistent agent accepted =
-      let row = found_known rows agent (not-false (has_agent rows agent) (no_case_of most rows (RemoveAgent agent) accepted).1.0) in
-      record {
-        roles = bounded.roles;
-        filters = omega (arith, fewer_in_force rows.clock (λ f. not (is_on_agent agent f)) rows.filters, bounded.filters);
-        limits = bounded.limits;
-        names = omega (arith, names-without_agent rows agent row.0 consistent row.1, bounded.names);
-        names_of_each = bounded.names_of_each;
-      }
-
-  bounded-framework_added : (framework : Text) (roles : List Path) → refusal_of most rows (AddFramework framework roles) ≡ None
-      → AreBounded most (effect rows (AddFramework framework roles))
-  unfolding effect
-  bounded-framework_added framework roles accepted =
-      let many = or_parts (nat_lt most.frameworks (length rows.frameworks + 1)) _ (welcome_framework most rows framework roles accepted).few in
-      let few = ltb-false most.roles (length (distinct roles)) (or_parts (nat_lt most.roles (length (distinct roles))) _ many.1).0 in
-      let f : FrameworkRow = record { name = framework; clients = map new_client (distinct roles) } in
-      with_frameworks (rows.frameworks ++ f ∷ [])
-      (each_append (λ f. length f.clients ≤ most.roles) rows.frameworks (f ∷ []) bounded.roles
-      (omega (arith, few, length-map (distinct roles) new_client), tt))
-
-  bounded-framework_removed : (framework : Text) → AreBounded most (effect rows (RemoveFramework framework))
-  unfolding effect
-  bounded-framework_removed framework = record {
-    roles = each_filter (λ f. length f.clients ≤ most.roles) (λ f. not (same_text f.name framework)) rows.frameworks bounded.roles;
-    filters = omega (arith, fewer_in_force rows.clock (λ f. not (same_text f.framework framework)) rows.filters, bounded.filters);
-    limits = bounded.limits;
-    names = bounded.names;
-    names_of_each = bounded.names_of_each;
-  }
-
-  bounded-revived : (client : Client) → AreBounded most (effect rows (Revive client.framework client.role))
-  unfolding effect
-  bounded-revived client = record {
-    roles = roles-suppressed most.roles client false rows.frameworks bounded.roles;
-    filters = omega (arith, fewer_in_force rows.clock (λ f. not (is_of_client client f)) rows.filters, bounded.filters);
-    limits = bounded.limits;
-    names = bounded.names;
-    names_of_each = bounded.names_of_each;
-  }
+  filters_after (RemoveAgent agent) accepted = fewer_filters (λ f. not (is_on_agent agent f))
+  filters_after (RemoveFramework framework) accepted = fewer_filters (λ f. not (same_text f.framework framework))
+  filters_after (Accept a) accepted = filters-accepted a (offer_at rows a.offer) (no_case_of most rows (Accept a) accepted).1.1.1.1.1.1.1.1.0
+  filters_after (Decline d) accepted = filters-declined d (offer_at rows d.offer) (no_case_of most rows (Decline d) accepted).1.1.1.1.1.0
+  filters_after (Revive framework role) accepted = fewer_filters (λ f. not (is_of_client (record { role = role; framework = framework }) f))
+  filters_after (Cycle at) accepted =
+      subst FewFilters (sym (cycle_only rows at))
+      (omega (arith, in_force_later rows.clock (max rows.clock at) rows.filters (omega arith), bounded.filters))
+  filters_after event accepted = subst FewFilters (sym (only_changed rows event)) bounded.filters
 
   -- ---- limits of roles
 
-  bounded-limit : (role : Path) (limit : List Entry) → refusal_of most rows (SetLimit role limit) ≡ None
-      → AreBounded most (effect rows (SetLimit role limit))
+  abbrev AreFewLimits : List LimitRow → Type 0
+  AreFewLimits limits = (length limits ≤ most.limits) × AllByRecursion (λ l. length l.limit ≤ most.scalar_names) limits
+
+  limits_after : (event : Event) → refusal_of most rows event ≡ None → AreFewLimits (effect rows event).limits
   unfolding effect
-  bounded-limit role limit accepted =
+  limits_after (SetLimit role limit) accepted =
       let many = or_parts (not (is_empty limit) && (not (has_limit rows role) && nat_lt most.limits (length rows.limits + 1)))
-      (nat_lt most.scalar_names (length limit)) (no_case_of most rows (SetLimit role limit) accepted).1.1.0 in
-      record {
-        roles = bounded.roles;
-        filters = bounded.filters;
-        limits = length-with role most.limits limit rows.limits bounded.limits many.0;
-        names = bounded.names;
-        names_of_each = names-with role most.scalar_names limit rows.limits (ltb-false most.scalar_names (length limit) many.1) bounded.names_of_each;
-      }
+      (nat_lt most.scalar_names (length limit)) (no_case_of most rows (SetLimit role limit) accepted).1.1.0 in (
+        length-with role most.limits limit rows.limits bounded.limits many.0,
+        names-with role most.scalar_names limit rows.limits (ltb-false most.scalar_names (length limit) many.1) bounded.names_of_each,
+      )
+  limits_after event accepted =
+      subst (λ (r : Rows). AreFewLimits r.limits) (sym (only_changed rows event)) (bounded.limits, bounded.names_of_each)
 
-  -- ---- a cycle
+  -- ---- the scalars of the cluster
 
-  bounded-cycle : (at : ℕ) → AreBounded most (cycle rows at)
-  bounded-cycle at =
-      let only = cycle_only_offers rows at in
-      let after : Rows = cycle rows at in
-      let roles = subst (AllByRecursion (λ f. length f.clients ≤ most.roles)) (sym only.counts) (roles-counted most.roles (new_offers rows after) rows.frameworks bounded.roles) in
-      let later = in_force_later rows.clock (max rows.clock at) rows.filters (omega arith) in
-      subst (AreBounded most) (sym only.nothing_else) (record {
-        roles = roles;
-        filters = omega (arith, later, bounded.filters);
-        limits = bounded.limits;
-        names = bounded.names;
-        names_of_each = bounded.names_of_each;
-      })
+  names_as_before : (total : List Entry) → total ≡ cluster_total rows.agents → length total ≤ most.scalar_names
+  names_as_before total same = omega (arith, ap length same, bounded.names)
 
-  -- ---- each event
-
-  bounded_after : IsConsistent rows → (event : Event) → IsGiven event → refusal_of most rows event ≡ None → AreBounded most (effect rows event)
+  names_after : IsConsistent rows → (event : Event) → IsGiven event → refusal_of most rows event ≡ None
+      → length (cluster_total (effect rows event).agents) ≤ most.scalar_names
   unfolding effect
-  bounded_after consistent (AddAgent agent total) given accepted =
+  names_after consistent (AddAgent agent total) given accepted =
       let many = or_parts (nat_lt most.agents (length (with_agent rows agent total))) (too_many_names most (with_agent rows agent total))
       (welcome_agent most rows agent total accepted).few in
-      with_agents (with_agent rows agent total) (ltb-false most.scalar_names (length (cluster_total (with_agent rows agent total))) many.1)
-  bounded_after consistent (RemoveAgent agent) given accepted = bounded-agent_removed consistent agent accepted
-  bounded_after consistent (ActivateAgent agent) given accepted =
-      with_agents _ (omega (arith, ap length (cluster_total-with_activity rows agent true), bounded.names))
-  bounded_after consistent (DeactivateAgent agent) given accepted = record {
-    roles = bounded.roles;
-    filters = bounded.filters;
-    limits = bounded.limits;
-    names = omega (arith, ap length (cluster_total-with_activity rows agent false), bounded.names);
-    names_of_each = bounded.names_of_each;
-  }
-  bounded_after consistent (SetAgent agent total) given accepted =
-      with_agents _ (ltb-false most.scalar_names _ (no_case_of most rows (SetAgent agent total) accepted).1.1.1.1.0)
-  bounded_after consistent (AddFramework framework roles) given accepted = bounded-framework_added framework roles accepted
-  bounded_after consistent (RemoveFramework framework) given accepted = bounded-framework_removed framework
-  bounded_after consistent (Accept a) given accepted =
-      bounded-accepted a (offer_at rows a.offer) (no_case_of most rows (Accept a) accepted).1.1.1.1.1.1.1.1.0
-  bounded_after consistent (Decline d) given accepted =
-      bounded-declined d (offer_at rows d.offer) (no_case_of most rows (Decline d) accepted).1.1.1.1.1.0
-  bounded_after consistent (Rescind offer) given accepted = with_filters _ refl refl refl bounded.filters
-  bounded_after consistent (Finish framework task) given accepted = with_filters _ refl refl refl bounded.filters
-  bounded_after consistent (Suppress framework role) given accepted =
-      with_frameworks _ (roles-suppressed most.roles (record { role = role; framework = framework }) true rows.frameworks bounded.roles)
-  bounded_after consistent (Revive framework role) given accepted = bounded-revived (record { role = role; framework = framework })
-  bounded_after consistent (Reserve agent role resources) given accepted =
+      ltb-false most.scalar_names (length (cluster_total (with_agent rows agent total))) many.1
+  names_after consistent (RemoveAgent agent) given accepted =
+      let row = found_known rows agent (not-false (has_agent rows agent) (no_case_of most rows (RemoveAgent agent) accepted).1.0) in
+      omega (arith, names-without_agent rows agent row.0 consistent row.1, bounded.names)
+  names_after consistent (ActivateAgent agent) given accepted = names_as_before _ (cluster_total-with_activity rows agent true)
+  names_after consistent (DeactivateAgent agent) given accepted = names_as_before _ (cluster_total-with_activity rows agent false)
+  names_after consistent (SetAgent agent total) given accepted =
+      ltb-false most.scalar_names _ (no_case_of most rows (SetAgent agent total) accepted).1.1.1.1.0
+  names_after consistent (Reserve agent role resources) given accepted =
       let can = (can_move-reserve most rows agent role resources accepted).0 in
-      let same = cluster_total-exchanged rows agent can.row consistent can.found resources (relabel role resources)
-      (can_exchange-reserve rows agent role resources consistent given can) in
-      with_agents _ (omega (arith, ap length same, bounded.names))
-  bounded_after consistent (Unreserve agent role resources) given accepted =
+      names_as_before _
+      (cluster_total-exchanged rows agent can.row consistent can.found resources (relabel role resources)
+      (can_exchange-reserve rows agent role resources consistent given can))
+  names_after consistent (Unreserve agent role resources) given accepted =
       let can = can_move-unreserve most rows agent role resources accepted in
-      let same = cluster_total-exchanged rows agent can.row consistent can.found (relabel role resources) resources
-      (can_exchange-unreserve rows agent role resources consistent given can) in
-      with_agents _ (omega (arith, ap length same, bounded.names))
-  bounded_after consistent (SetWeight role weight) given accepted = with_filters _ refl refl refl bounded.filters
-  bounded_after consistent (SetLimit role limit) given accepted = bounded-limit role limit accepted
-  bounded_after consistent (Cycle at) given accepted = bounded-cycle at
-  bounded_after consistent Report given accepted = bounded
+      names_as_before _
+      (cluster_total-exchanged rows agent can.row consistent can.found (relabel role resources) resources
+      (can_exchange-unreserve rows agent role resources consistent given can))
+  names_after consistent event given accepted = names_as_before _ (ap (λ (r : Rows). cluster_total r.agents) (only_changed rows event))
 
 -- ---- a step, and a run
 
@@ -247,7 +174,7 @@ stands_after limits rows event given stands = by (refusal_of limits rows event) 
         let is = sym (rows_after-accepted limits rows event accepted) in
         let kept = stands.kept in
         let counted = countable_after limits rows kept.few kept.numbered event accepted in
-        let bounded = bounded_after limits rows stands.bounded kept.consistent event given accepted in
+        let limits_of_roles = limits_after limits rows stands.bounded event accepted in
         record {
           kept = record {
             consistent = IsConsistent-after limits rows event kept.consistent given;
@@ -255,11 +182,11 @@ stands_after limits rows event given stands = by (refusal_of limits rows event) 
             numbered = subst IsNumberedByEvents is counted.numbered;
           };
           bounded = subst (AreBounded limits) is (record {
-            roles = bounded.roles;
-            filters = bounded.filters;
-            limits = bounded.limits;
-            names = bounded.names;
-            names_of_each = bounded.names_of_each;
+            roles = roles_after limits rows stands.bounded event accepted;
+            filters = filters_after limits rows stands.bounded event accepted;
+            limits = limits_of_roles.0;
+            names = names_after limits rows stands.bounded kept.consistent event given accepted;
+            names_of_each = limits_of_roles.1;
           });
         }
     by (Some refusal) refused = subst (Stands limits) (sym (rows_after-refused limits rows event refusal refused)) stands

@@ -14,7 +14,7 @@ use Rattle.drf_rows.specs.Client.{Client, path_of}
 use Rattle.drf_rows.specs.Consistent.{IsAgent, IsConsistent}
 use Rattle.drf_rows.specs.Cycle.{free_of, new_offer, with_offer, turn, turns, turn_order, at_moment, cycle}
 use Rattle.drf_rows.specs.Filters.{in_force}
-use Rattle.drf_rows.specs.Held.{active_clients, held_by, cluster_total, weight_of}
+use Rattle.drf_rows.specs.Held.{held_by, cluster_total, weight_of}
 use Rattle.drf_rows.specs.Held as rows_word
 use Rattle.drf_rows.specs.Holdings.{of_offer, of_task, held_where, is_under}
 use Rattle.drf_rows.specs.Share.{Fraction, is_less}
@@ -31,7 +31,8 @@ use Rattle.drf_promises.specs.Apart.{share_of_bundle, largest_agent, weighted_sh
 use Rattle.drf_promises.specs.Siblings.{child, AtMost, AtMostSum}
 use Rattle.drf_promises.specs.Cycles.{active_agents, IsOpen}
 use Rattle.drf_promises.specs.Runs.{Has}
-use Rattle.drf_promises.specs.laws.Cycles.{IsMidway, itself_midway, midway-turn, total_of, begin, all_at}
+use Rattle.drf_laws.specs.laws.Cycles.{IsMidway, itself_midway, midway-turn, total_of}
+use Rattle.drf_promises.specs.laws.Cycles.{begin, all_at}
 use Rattle.drf_rows.specs.declared.limits.TheConstants.{LATEST_MOMENT}
 use Rattle.std.proofs.Math.Nat.{one-le-mul}
 use Rattle.drf_promises.specs.laws.First.{first_is_ahead}

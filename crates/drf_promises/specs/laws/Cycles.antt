@@ -1,5 +1,5 @@
 -- A cycle leaves nothing to anybody, so that a second one makes no offer, and each offer goes to the first who may have something.
-use Rattle.std.specs.Prelude.{◌≡◌, ℕ, suc, ◌≤◌, max, true, List, [], ◌∷◌, length, map, filter, drop, slice_get, Option, Some, None}
+use Rattle.std.specs.Prelude.{◌≡◌, ℕ, ◌≤◌, max, List, [], ◌∷◌, length, map, filter, drop, Option}
 use Rattle.std.specs.List.{AllByRecursion}
 use Rattle.std.specs.Option.{option_map_or}
 use Rattle.std.proofs.Common.{refl, sym, ap, subst, ◌∙◌, arith, append-nil}
@@ -9,83 +9,26 @@ use Rattle.std.proofs.lemmas.List.Sorted.{All-permutation, IsPermutation-sym}
 use Rattle.drf_bundle.specs.Bundle.{IsBundle}
 use Rattle.drf_bundle.specs.declared.resource.Resource.{Resource}
 use Rattle.drf_rows.specs.Client.{Client}
-use Rattle.drf_rows.specs.Consistent.{IsAgent, IsFilter, IsConsistent}
-use Rattle.drf_rows.specs.Held.{active_clients, is_registered}
+use Rattle.drf_rows.specs.Consistent.{IsFilter, IsConsistent}
+use Rattle.drf_rows.specs.Held.{active_clients}
 use Rattle.drf_rows.specs.Held as rows_word
-use Rattle.drf_rows.specs.Cycle.{grant, new_offer, with_offer, tried, all_tried, turn_order, turn, turns, at_moment, cycle}
+use Rattle.drf_rows.specs.Cycle.{new_offer, with_offer, all_tried, turn_order, turn, turns, at_moment, cycle}
 use Rattle.drf_rows.specs.Step.{new_offers}
-use Rattle.drf_row_laws.specs.ConsistentLaws.{IsConsistent-with_offer, is_registered-counted, bundles-consistent}
-use Rattle.drf_row_laws.specs.CycleLaws.{active_clients-with_offer}
-use Rattle.drf_bundle.specs.ListLaws.{each_at, each_from, each_filter}
+use Rattle.drf_row_laws.specs.ConsistentLaws.{bundles-consistent}
+use Rattle.drf_bundle.specs.ListLaws.{each_from, each_filter}
 use Rattle.drf_row_laws.specs.LiveLaws.{kept-turns}
 use Rattle.drf_laws.specs.OfferedLaws.{each_served}
 use Rattle.drf_rows.specs.declared.limits.TheConstants.{LATEST_MOMENT}
 use Rattle.drf_rows.specs.declared.rows.AgentRow.{AgentRow}
 use Rattle.drf_rows.specs.declared.rows.Rows.{Rows}
-use Rattle.drf_laws.specs.laws.Turns.{turn_order-registered, grant-part}
 use Rattle.drf_laws.specs.laws.Kept.{consistent-clock}
 use Rattle.drf_sorter.proofs.TurnLemmas.{each_has_its_turn}
 use Rattle.drf_explain.specs.ExplainedLaws.{offered, grants_are_offers}
 use Rattle.drf_promises.specs.Cycles.{active_agents, GetsNothing, NothingIsLeft, CyclesLeaveNothing, SecondCyclesAreIdle, NothingIsExplained, NobodyIsPassed}
+use Rattle.drf_laws.specs.laws.Cycles.{IsMidway, total_of, midway-turn, midway-turns, each_is_at}
 use Rattle.drf_promises.specs.Runs.{Has}
 use Rattle.drf_promises.specs.laws.Less.{LeavesLess, less_than_itself, less_and_less, nothing_stays}
 use Rattle.drf_promises.specs.laws.Left.{all_tried_less, all_get_nothing}
-
--- ---- rows in the middle of a cycle
-
-pub each_is_at : {X : Type 0} (xs : List X) → AllByRecursion (Has xs) xs
-each_is_at [] = tt
-each_is_at (x ∷ xs) = ((0, refl), each_from (Has xs) (Has (x ∷ xs)) xs (λ y at. (suc at.0, at.1)) (each_is_at xs))
-
--- they are consistent, with the same agents and clients
-pub record IsMidway (start rows : Rows) : Type 0 where
-  pub consistent : IsConsistent rows
-  pub agents : rows.agents ≡ start.agents
-  pub clients : (client : Client) → is_registered rows.frameworks client ≡ is_registered start.frameworks client
-  pub active : active_clients rows ≡ active_clients start
-
-pub itself_midway : (rows : Rows) → IsConsistent rows → IsMidway rows rows
-itself_midway rows consistent = record { consistent = consistent; agents = refl; clients = λ client. refl; active = refl }
-
-module _ (start : Rows) where
-  pub total_of : (rows : Rows) (agent : AgentRow) → Has start.agents agent → IsMidway start rows → IsBundle agent.total
-  total_of rows agent at mid =
-      (each_at IsAgent start.agents at.0 agent (subst (AllByRecursion IsAgent) mid.agents mid.consistent.agents.each) at.1).total
-
-  pub midway-tried : (rows : Rows) (agent : AgentRow) (client : Client) → Has start.agents agent → is_registered start.frameworks client ≡ true
-      → IsMidway start rows → IsMidway start (tried rows agent client)
-  unfolding with_offer
-  midway-tried rows agent client at known mid = by (grant rows agent client) refl
-    where
-      by : (granted : Option (List Resource)) → grant rows agent client ≡ granted
-          → IsMidway start (option_map_or (λ bundle. with_offer rows (new_offer rows agent client bundle)) granted rows)
-      by None none = mid
-      by (Some bundle) some =
-          let there : slice_get rows.agents at.0 ≡ Some agent = ap (λ (as' : List AgentRow). slice_get as' at.0) mid.agents ∙ at.1 in
-          let part = grant-part rows agent client bundle (total_of rows agent at mid) some in
-          record {
-            consistent = IsConsistent-with_offer rows agent at.0 client bundle mid.consistent there (mid.clients client ∙ known) part.bundle_is part.small;
-            agents = mid.agents;
-            clients = λ other. is_registered-counted client other rows.frameworks ∙ mid.clients other;
-            active = active_clients-with_offer rows (new_offer rows agent client bundle) ∙ mid.active;
-          }
-
-  midway-all_tried : (rows : Rows) (agent : AgentRow) (clients : List Client) → Has start.agents agent
-      → AllByRecursion (λ c. is_registered start.frameworks c ≡ true) clients → IsMidway start rows → IsMidway start (all_tried rows agent clients)
-  midway-all_tried rows agent [] at known mid = mid
-  midway-all_tried rows agent (client ∷ clients) at known mid =
-      midway-all_tried (tried rows agent client) agent clients at known.1 (midway-tried rows agent client at known.0 mid)
-
-  pub midway-turn : (rows : Rows) (agent : AgentRow) → Has start.agents agent → IsMidway start rows → IsMidway start (turn rows agent)
-  unfolding turn
-  midway-turn rows agent at mid =
-      midway-all_tried rows agent (turn_order rows) at
-      (each_from (λ c. is_registered rows.frameworks c ≡ true) (λ c. is_registered start.frameworks c ≡ true) (turn_order rows)
-      (λ c here. sym (mid.clients c) ∙ here) (turn_order-registered rows)) mid
-
-  midway-turns : (rows : Rows) (agents : List AgentRow) → AllByRecursion (Has start.agents) agents → IsMidway start rows → IsMidway start (turns rows agents)
-  midway-turns rows [] at mid = mid
-  midway-turns rows (agent ∷ agents) at mid = midway-turns (turn rows agent) agents at.1 (midway-turn rows agent at.0 mid)
 
 -- ---- turn by turn
 

@@ -22,7 +22,7 @@ use Rattle.drf_rows.specs.declared.rows.Rows.{Rows}
 use Rattle.drf_promises.specs.Cycles.{active_agents}
 use Rattle.drf_promises.specs.Runs.{Has}
 use Rattle.drf_promises.specs.Waiting.{made_in, round, EverybodyIsOffered, IsOffered}
-use Rattle.drf_promises.specs.laws.Cycles.{each_is_at}
+use Rattle.drf_laws.specs.laws.Cycles.{each_is_at}
 use Rattle.drf_promises.specs.laws.Rounds.{is_held, next, OutOrLasts, Waits}
 use Rattle.drf_promises.specs.laws.Unfiltered.{ran_out, unheld}
 

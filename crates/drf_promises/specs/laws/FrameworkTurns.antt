@@ -24,7 +24,8 @@ use Rattle.drf_laws.specs.laws.Turns.{turn_order-registered}
 use Rattle.drf_promises.specs.Cycles.{active_agents, GetsNothing}
 use Rattle.drf_promises.specs.Frameworks.{has_part, StandAlike}
 use Rattle.drf_promises.specs.Runs.{Has}
-use Rattle.drf_promises.specs.laws.Cycles.{IsMidway, itself_midway, midway-tried, midway-turn, total_of, each_is_at, everybody, turn_leaves_nothing, nobody_is_passed, begin, all_at}
+use Rattle.drf_laws.specs.laws.Cycles.{IsMidway, itself_midway, midway-tried, midway-turn, total_of, each_is_at}
+use Rattle.drf_promises.specs.laws.Cycles.{everybody, turn_leaves_nothing, nobody_is_passed, begin, all_at}
 use Rattle.drf_promises.specs.laws.First.{some_of}
 use Rattle.drf_promises.specs.laws.Frameworks.{grant-alike, stands-alike, offer-alike, roles_of}
 use Rattle.drf_promises.specs.laws.Order.{Before, InOrder, served_in_order, before_later}

@@ -6,10 +6,9 @@ use Rattle.std.proofs.Common.{refl, sym, ap, subst, ◌∙◌, arith}
 use Rattle.drf_role.specs.Path.{Path}
 use Rattle.drf_role.specs.Text.{Text}
 use Rattle.drf_bundle.specs.Bundle.{IsBundle}
-use Rattle.drf_bundle.specs.declared.resource.Resource.{Resource}
-use Rattle.drf_rows.specs.Client.{Client, path_of}
+use Rattle.drf_rows.specs.Client.{path_of}
 use Rattle.drf_rows.specs.Consistent.{IsConsistent}
-use Rattle.drf_rows.specs.Cycle.{at_moment, grant, new_offer, with_offer, tried, all_tried, turn_order, turn, turns, cycle}
+use Rattle.drf_rows.specs.Cycle.{at_moment, with_offer, cycle}
 use Rattle.drf_rows.specs.Held.{cluster_total, count_of, held_by, weight_of}
 use Rattle.drf_rows.specs.Held as rows_word
 use Rattle.drf_rows.specs.Holdings.{is_under}
@@ -17,6 +16,7 @@ use Rattle.drf_rows.specs.LimitNumbers.{LimitNumbers}
 use Rattle.drf_rows.specs.Offers.{offer_accepted, offer_at}
 use Rattle.drf_rows.specs.Step.{refusal_of, effect, rows_after, rows_after_all}
 use Rattle.drf_rows.specs.Tasks.{uses}
+use Rattle.drf_row_laws.specs.FrameLaws.{any_turns}
 use Rattle.drf_row_laws.specs.HoldingsLaws.{held_where-with_offer}
 use Rattle.drf_row_laws.specs.MemberLaws.{cluster_total-with_activity}
 use Rattle.drf_row_laws.specs.StepLaws.{rows_after-accepted, rows_after-refused}
@@ -25,7 +25,6 @@ use Rattle.drf_rows.specs.declared.event.Accept as accepting
 use Rattle.drf_rows.specs.declared.event.Event.{Event}
 use Rattle.drf_rows.specs.declared.event.Event.TheVariants.{ActivateAgent, Accept, Cycle, Report}
 use Rattle.drf_rows.specs.declared.reply.Refusal.{Refusal}
-use Rattle.drf_rows.specs.declared.rows.AgentRow.{AgentRow}
 use Rattle.drf_rows.specs.declared.rows.OfferRow.{OfferRow}
 use Rattle.drf_rows.specs.declared.rows.Rows.{Rows}
 use Rattle.drf_rows.specs.declared.rows.WeightRow.{WeightRow}
@@ -67,28 +66,11 @@ grows-offer rows offer = record {
   weights = refl;
 }
 
-grows-tried : (rows : Rows) (agent : AgentRow) (c : Client) → Grows rows (tried rows agent c)
-grows-tried rows agent c = by (grant rows agent c)
-  where
-    by : (found : Option (List Resource)) → Grows rows (option_map_or (λ bundle. with_offer rows (new_offer rows agent c bundle)) found rows)
-    by None = grows_by_nothing rows
-    by (Some bundle) = grows-offer rows (new_offer rows agent c bundle)
-
-grows-all_tried : (rows : Rows) (agent : AgentRow) (cs : List Client) → Grows rows (all_tried rows agent cs)
-grows-all_tried rows agent [] = grows_by_nothing rows
-grows-all_tried rows agent (c ∷ cs) =
-    grows_on rows (tried rows agent c) (all_tried (tried rows agent c) agent cs) (grows-tried rows agent c) (grows-all_tried (tried rows agent c) agent cs)
-
-grows-turns : (rows : Rows) (agents : List AgentRow) → Grows rows (turns rows agents)
-unfolding turn
-grows-turns rows [] = grows_by_nothing rows
-grows-turns rows (agent ∷ agents) =
-    grows_on rows (turn rows agent) (turns (turn rows agent) agents) (grows-all_tried rows agent (turn_order rows)) (grows-turns (turn rows agent) agents)
-
 grows-cycle : (rows : Rows) (at : ℕ) → Grows rows (cycle rows at)
 unfolding cycle
 grows-cycle rows at =
-    let all = grows-turns (at_moment rows at) (active_agents rows) in
+    let start : Rows = at_moment rows at in
+    let all = any_turns (Grows start) (λ r offer so. grows_on start r (with_offer r offer) so (grows-offer r offer)) start (active_agents rows) (grows_by_nothing start) in
     record { held = all.held; count = all.count; total = all.total; weights = all.weights }
 
 -- ---- an event

@@ -11,15 +11,14 @@ use Rattle.drf_rows.specs.Consistent.{IsConsistent}
 use Rattle.drf_rows.specs.Cycle.{at_moment, turn, turns, turn_order, cycle}
 use Rattle.drf_rows.specs.Held.{count_of}
 use Rattle.drf_rows.specs.LimitNumbers.{LimitNumbers}
-use Rattle.drf_rows.specs.Offers.{offer_accepted, offer_declined, offer_at}
 use Rattle.drf_rows.specs.Step.{refusal_of, effect, rows_after, rows_after_all}
+use Rattle.drf_row_laws.specs.FrameLaws.{only_changed}
 use Rattle.drf_row_laws.specs.StepLaws.{rows_after-accepted, rows_after-refused}
 use Rattle.drf_rows.specs.declared.event.Event.{Event}
-use Rattle.drf_rows.specs.declared.event.Event.TheVariants.{AddFramework, RemoveFramework, Accept, Decline, Suppress, Revive, Cycle}
+use Rattle.drf_rows.specs.declared.event.Event.TheVariants.{AddFramework, RemoveFramework, Suppress, Revive, Cycle}
 use Rattle.drf_rows.specs.declared.reply.Refusal.{Refusal}
 use Rattle.drf_rows.specs.declared.rows.AgentRow.{AgentRow}
 use Rattle.drf_rows.specs.declared.rows.FrameworkRow.{FrameworkRow}
-use Rattle.drf_rows.specs.declared.rows.OfferRow.{OfferRow}
 use Rattle.drf_rows.specs.declared.rows.Rows.{Rows}
 use Rattle.drf_laws.specs.RunLaws.{AreGiven}
 use Rattle.drf_laws.specs.laws.Runs.{IsConsistent-after}
@@ -29,7 +28,8 @@ use Rattle.drf_promises.specs.Cycles.{active_agents}
 use Rattle.drf_promises.specs.Passes.{is_passed, lead_of, passes_at, passes_in_turns, KeepsFrameworks, PassesAreFew}
 use Rattle.drf_promises.specs.Siblings.{child}
 use Rattle.drf_promises.specs.Runs.{Has}
-use Rattle.drf_promises.specs.laws.Cycles.{IsMidway, midway-turn, all_at, begin, end}
+use Rattle.drf_laws.specs.laws.Cycles.{IsMidway, midway-turn}
+use Rattle.drf_promises.specs.laws.Cycles.{all_at, begin, end}
 use Rattle.drf_promises.specs.laws.Passes.{count-all_tried, turn_keeps, turn_passes}
 
 -- ---- a cycle
@@ -64,11 +64,6 @@ module _ (start : Rows) (parent : Path) (one : Text) (others : List Text) where
       ]
 
 -- ---- an event
-
-offer_frameworks : (rows : Rows) (to : OfferRow → Rows) → ((o : OfferRow) → (to o).frameworks ≡ rows.frameworks) → (found : Option OfferRow)
-    → (option_map_or to found rows).frameworks ≡ rows.frameworks
-offer_frameworks rows to same None = refl
-offer_frameworks rows to same (Some o) = same o
 
 module _ (limits : LimitNumbers) (rows : Rows) (consistent : IsConsistent rows) (parent : Path) (one : Text) (others : List Text) where
   abbrev its : Path
@@ -113,13 +108,7 @@ module _ (limits : LimitNumbers) (rows : Rows) (consistent : IsConsistent rows) 
   goes_effect (RemoveFramework framework) keeps accepted = absurd keeps
   goes_effect (Suppress framework role) keeps accepted = absurd keeps
   goes_effect (Revive framework role) keeps accepted = absurd keeps
-  goes_effect (Accept a) keeps accepted =
-      goes_on (Accept a) (effect rows (Accept a))
-      (offer_frameworks rows (λ o. offer_accepted (at_moment rows a.at) o a.tasks a.refuse_ms) (λ o. refl) (offer_at rows a.offer))
-  goes_effect (Decline d) keeps accepted =
-      goes_on (Decline d) (effect rows (Decline d))
-      (offer_frameworks rows (λ o. offer_declined (at_moment rows d.at) o d.refuse_ms) (λ o. refl) (offer_at rows d.offer))
-  goes_effect other keeps accepted = goes_on other (effect rows other) refl
+  goes_effect other keeps accepted = goes_on other (effect rows other) (ap (λ (r : Rows). r.frameworks) (only_changed rows other))
 
   none_refused : (event : Event) (refusal : Refusal) → refusal_of limits rows event ≡ Some refusal → passes_at limits its rows event ≡ 0
   none_refused (Cycle at) refusal refused =

@@ -25,7 +25,8 @@ use Rattle.drf_promises.specs.Apart.{AreClientsOf}
 use Rattle.drf_promises.specs.Sharing.{share_at}
 use Rattle.drf_promises.specs.Passes.{lead_of, is_passed}
 use Rattle.drf_promises.specs.Runs.{Has}
-use Rattle.drf_promises.specs.laws.Cycles.{each_is_at, everybody}
+use Rattle.drf_laws.specs.laws.Cycles.{each_is_at}
+use Rattle.drf_promises.specs.laws.Cycles.{everybody}
 use Rattle.drf_promises.specs.laws.First.{decided, some_of, through}
 use Rattle.drf_promises.specs.laws.Order.{Before, InOrder, served_in_order}
 use Rattle.drf_promises.specs.Siblings.{child}

@@ -43,7 +43,8 @@ use Rattle.drf_laws.specs.laws.SetFilters.{declined_is_held_back}
 use Rattle.drf_promises.specs.Cycles.{active_agents}
 use Rattle.drf_promises.specs.Runs.{Has}
 use Rattle.drf_promises.specs.Waiting.{made_at, all_declined, round}
-use Rattle.drf_promises.specs.laws.Cycles.{each_is_at, everybody, end}
+use Rattle.drf_laws.specs.laws.Cycles.{each_is_at}
+use Rattle.drf_promises.specs.laws.Cycles.{everybody, end}
 use Rattle.drf_promises.specs.laws.Waiting.{GoesTo, goes_to}
 
 -- ---- an offer that is declined

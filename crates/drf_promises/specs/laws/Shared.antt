@@ -36,7 +36,8 @@ use Rattle.drf_promises.specs.Cycles.{active_agents, GetsNothing, IsOpen}
 use Rattle.drf_promises.specs.Siblings.{child, AtMost}
 use Rattle.drf_promises.specs.Runs.{Has}
 use Rattle.drf_promises.specs.laws.Apart.{cycle_apart, nothing_held_is_apart, stays_open}
-use Rattle.drf_promises.specs.laws.Cycles.{IsMidway, all_at, begin, end, midway-turn, total_of, turn_leaves_nothing}
+use Rattle.drf_laws.specs.laws.Cycles.{IsMidway, midway-turn, total_of}
+use Rattle.drf_promises.specs.laws.Cycles.{all_at, begin, end, turn_leaves_nothing}
 use Rattle.drf_promises.specs.laws.First.{some_of}
 use Rattle.drf_promises.specs.laws.Incentive.{mix_less, sharing_incentive}
 use Rattle.drf_promises.specs.laws.Open.{OffersAll, all_or_nothing, grants_all}

@@ -1,31 +1,23 @@
 -- What stands stays until an event that ends it, and what is reserved is held by its role and those below it.
-use Rattle.std.specs.Prelude.{◌≡◌, zero, suc, Bool, true, false, List, [], ◌∷◌, ◌++◌, ◌+◌, map, filter, Option, Some, None}
-use Rattle.std.specs.List.{AllByRecursion}
+use Rattle.std.specs.Prelude.{◌≡◌, zero, suc, Bool, true, false, List, [], ◌∷◌, ◌++◌, map, filter, Option, Some, None}
 use Rattle.std.specs.Option.{option_map_or}
 use Rattle.std.proofs.Common.{refl, sym, ap, subst, ◌∙◌, inl, inr, cond}
 use Rattle.std.proofs.lemmas.Bool.{cases_Bool}
-use Rattle.drf_rows.specs.LimitNumbers.{LimitNumbers}
-use Rattle.drf_rows.specs.Consistent.{IsConsistent}
 use Rattle.drf_rows.specs.Cycle.{at_moment}
-use Rattle.drf_rows.specs.Holdings.{holdings_of}
 use Rattle.drf_rows.specs.Offers.{offer_at, offer_accepted}
-use Rattle.drf_rows.specs.Step.{opening, refusal_of, effect, rows_after, rows_after_all}
+use Rattle.drf_rows.specs.Step.{opening, effect, rows_after}
 use Rattle.drf_laws.specs.EndedLaws.{accepted_starts_tasks}
-use Rattle.drf_laws.specs.HeldForLaws.{IsForItsRole, reserved_is_held_by_its_role}
-use Rattle.drf_laws.specs.KeptLimitLaws.{IsGivenBundles}
+use Rattle.drf_row_laws.specs.FrameLaws.{step_keeps}
 use Rattle.drf_row_laws.specs.LifeLaws.{other_offers, other_tasks, task_started}
 use Rattle.drf_row_laws.specs.OthersLaws.{cycle_only_offers, ended_is_gone}
 use Rattle.drf_row_laws.specs.RegistrationLaws.{IsConsistent-opening}
-use Rattle.drf_row_laws.specs.StepLaws.{rows_after-accepted, rows_after-refused}
 use Rattle.drf_rows.specs.declared.event.Accept as accepting
 use Rattle.drf_rows.specs.declared.event.Event.{Event}
-use Rattle.drf_rows.specs.declared.event.Event.TheVariants.{AddAgent, RemoveAgent, DeactivateAgent, SetAgent, AddFramework, RemoveFramework, Accept, Decline, Rescind, Finish, SetWeight, SetLimit, Cycle}
-use Rattle.drf_rows.specs.declared.reply.Refusal.{Refusal}
+use Rattle.drf_rows.specs.declared.event.Event.TheVariants.{RemoveAgent, DeactivateAgent, RemoveFramework, Accept, Decline, Rescind, Finish, Cycle}
 use Rattle.drf_rows.specs.declared.rows.OfferRow.{OfferRow}
 use Rattle.drf_rows.specs.declared.rows.TaskRow.{TaskRow}
 use Rattle.drf_rows.specs.declared.rows.Rows.{Rows}
-use Rattle.drf_laws.specs.RunLaws.{AreGiven, IsGiven}
-use Rattle.drf_laws.specs.laws.Runs.{IsConsistent-after}
+use Rattle.drf_laws.specs.laws.Runs.{own_after_all}
 use Rattle.drf_promises.specs.Runs.{Has, SparesOffer, SparesTask, OffersStand, TasksStand, ReservedIsItsRoles}
 
 -- ---- who is in a list
@@ -55,18 +47,6 @@ has_spared {X} p xs x has spared = has_passed p xs x has (by (p x) spared)
     by true kept = refl
     by false gone = cc
 
--- ---- an event
-
--- what holds of the rows before it and of its effect holds of the rows after it
-step_by : (P : Rows → Type 0) (limits : LimitNumbers) (rows : Rows) (event : Event) → P rows → P (record (effect rows event) { events = rows.events + 1 })
-    → P (rows_after limits rows event)
-unfolding rows_after
-step_by P limits rows event old new = by (refusal_of limits rows event)
-  where
-    by : (refusal : Option Refusal) → P (option_map_or (λ refusal. rows) refusal (record (effect rows event) { events = rows.events + 1 }))
-    by None = new
-    by (Some refusal) = old
-
 -- ---- offers
 
 abbrev HasOffer : OfferRow → Rows → Type 0
@@ -91,7 +71,7 @@ pub offers_stand : OffersStand
 offers_stand limits rows [] o has spared = has
 offers_stand limits rows (event ∷ events) o has spared =
     offers_stand limits (rows_after limits rows event) events o
-    (step_by (HasOffer o) limits rows event has (offer_stays rows event o has spared.0)) spared.1
+    (step_keeps (HasOffer o) limits rows event has (offer_stays rows event o has spared.0)) spared.1
 
 -- ---- tasks
 
@@ -122,31 +102,9 @@ pub tasks_stand : TasksStand
 tasks_stand limits rows [] t has spared = has
 tasks_stand limits rows (event ∷ events) t has spared =
     tasks_stand limits (rows_after limits rows event) events t
-    (step_by (HasTask t) limits rows event has (task_stays rows event t has spared.0)) spared.1
+    (step_keeps (HasTask t) limits rows event has (task_stays rows event t has spared.0)) spared.1
 
 -- ---- what is reserved
 
-asked : (event : Event) → IsGiven event → IsGivenBundles event
-asked (AddAgent agent total) given = tt
-asked (SetAgent agent total) given = tt
-asked (AddFramework framework roles) given = tt
-asked (SetWeight role weight) given = tt
-asked (SetLimit role limit) given = tt
-asked event given = given
-
-reserved_stays : (limits : LimitNumbers) (rows : Rows) (events : List Event) → IsConsistent rows → AreGiven events
-    → AllByRecursion IsForItsRole (holdings_of rows) → AllByRecursion IsForItsRole (holdings_of (rows_after_all limits rows events))
-reserved_stays limits rows [] consistent given own = own
-reserved_stays limits rows (event ∷ events) consistent given own =
-    reserved_stays limits (rows_after limits rows event) events (IsConsistent-after limits rows event consistent given.0) given.1
-    (by (refusal_of limits rows event) refl)
-  where
-    by : (found : Option Refusal) → refusal_of limits rows event ≡ found → AllByRecursion IsForItsRole (holdings_of (rows_after limits rows event))
-    by None accepted =
-        subst (λ (r : Rows). AllByRecursion IsForItsRole (holdings_of r)) (sym (rows_after-accepted limits rows event accepted))
-        (reserved_is_held_by_its_role limits rows event consistent (asked event given.0) accepted own)
-    by (Some refusal) refused =
-        subst (λ (r : Rows). AllByRecursion IsForItsRole (holdings_of r)) (sym (rows_after-refused limits rows event refusal refused)) own
-
 pub reserved_is_its_roles : ReservedIsItsRoles
-reserved_is_its_roles limits events given = reserved_stays limits opening events IsConsistent-opening given tt
+reserved_is_its_roles limits events given = own_after_all limits opening events IsConsistent-opening given tt

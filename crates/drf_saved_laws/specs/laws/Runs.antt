@@ -1,62 +1,22 @@
 -- Runs stay saveable, and go on from what they saved.
-use Rattle.std.specs.Prelude.{◌≡◌, List, [], ◌∷◌, ◌++◌, Option, Some, None}
-use Rattle.std.specs.List.{AllByRecursion}
-use Rattle.std.proofs.Common.{refl, sym, ap, subst, ◌∙◌, arith}
+use Rattle.std.specs.Prelude.{◌≡◌, List, ◌++◌}
+use Rattle.std.proofs.Common.{refl, sym, ap, ◌∙◌, arith}
 use Rattle.std.proofs.lemmas.Bool.{le-ltb}
-use Rattle.drf_rows.specs.Consistent.{IsConsistent}
 use Rattle.drf_rows.specs.Filters.{is_in_force}
-use Rattle.drf_rows.specs.Holdings.{holdings_of}
 use Rattle.drf_rows.specs.LimitNumbers.{LimitNumbers}
-use Rattle.drf_rows.specs.Step.{opening, live_rows, refusal_of, rows_after, rows_after_all, replies_to}
-use Rattle.drf_laws.specs.HeldForLaws.{IsForItsRole, reserved_is_held_by_its_role}
-use Rattle.drf_laws.specs.KeptLimitLaws.{IsGivenBundles}
+use Rattle.drf_rows.specs.Step.{opening, live_rows, rows_after_all, replies_to}
 use Rattle.drf_bundle.specs.ListLaws.{filter-again}
 use Rattle.drf_row_laws.specs.LiveLaws.{live_rows-twice, replies_to-same_live, rows_after_all-same_live}
 use Rattle.drf_row_laws.specs.RunLaws.{replies_to-append, rows_after_all-append}
-use Rattle.drf_row_laws.specs.StepLaws.{rows_after-accepted, rows_after-refused}
-use Rattle.drf_rows.specs.declared.event.Event.{Event}
-use Rattle.drf_rows.specs.declared.event.Event.TheVariants.{AddAgent, SetAgent, AddFramework, SetWeight, SetLimit}
-use Rattle.drf_rows.specs.declared.reply.Refusal.{Refusal}
 use Rattle.drf_rows.specs.declared.reply.Reply.{Reply}
 use Rattle.drf_rows.specs.declared.rows.Rows.{Rows}
-use Rattle.drf_laws.specs.RunLaws.{IsGiven, AreGiven}
-use Rattle.drf_laws.specs.laws.Runs.{IsConsistent-after}
+use Rattle.drf_laws.specs.laws.Runs.{own_after_all}
 use Rattle.drf_laws.specs.laws.Within.{Stands, run_stands}
 use Rattle.drf_saved.specs.Saved.{head_of, saved_rows}
 use Rattle.drf_saved_laws.specs.SavedLaws.{IsSaveable, LiveRowsAreSaved, RowsResume, RunsCanBeSaved, RunsGoOnFromSaved, RunsResume, SaveableRowsStaySo, SavedRowsGoOn}
 use Rattle.drf_saved_laws.specs.laws.Faults.{no_head_fault}
 use Rattle.drf_saved_laws.specs.laws.Saveable.{head_is_saveable}
 use Rattle.drf_saved_laws.specs.laws.Taken.{saved_is_restored}
-
--- ---- nobody comes to hold what is reserved for others
-
-given_bundles : (event : Event) → IsGiven event → IsGivenBundles event
-given_bundles (AddAgent agent total) given = tt
-given_bundles (SetAgent agent total) given = tt
-given_bundles (AddFramework framework roles) given = tt
-given_bundles (SetWeight role weight) given = tt
-given_bundles (SetLimit role limit) given = tt
-given_bundles other given = given
-
-abbrev AreOwn : Rows → Type 0
-AreOwn rows = AllByRecursion IsForItsRole (holdings_of rows)
-
-own_after : (limits : LimitNumbers) (rows : Rows) (event : Event) → IsConsistent rows → IsGiven event → AreOwn rows
-    → AreOwn (rows_after limits rows event)
-own_after limits rows event consistent given own = by (refusal_of limits rows event) refl
-  where
-    by : (found : Option Refusal) → refusal_of limits rows event ≡ found → AreOwn (rows_after limits rows event)
-    by None accepted =
-        subst AreOwn (sym (rows_after-accepted limits rows event accepted))
-        (reserved_is_held_by_its_role limits rows event consistent (given_bundles event given) accepted own)
-    by (Some refusal) refused = subst AreOwn (sym (rows_after-refused limits rows event refusal refused)) own
-
-own_after_all : (limits : LimitNumbers) (rows : Rows) (events : List Event) → IsConsistent rows → AreGiven events → AreOwn rows
-    → AreOwn (rows_after_all limits rows events)
-own_after_all limits rows [] consistent given own = own
-own_after_all limits rows (event ∷ events) consistent given own =
-    own_after_all limits (rows_after limits rows event) events (IsConsistent-after limits rows event consistent given.0) given.1
-    (own_after limits rows event consistent given.0 own)
 
 -- ---- rows stay saveable
 

@@ -3,60 +3,67 @@ use Rattle.drf_rows.specs.Step.{line_told, new_offers}
 use Rattle.drf_rows.specs.declared.reply.Reply.TheVariants.{Offers}
 use Rattle.drf_rows.specs.declared.rows.Rows.{Rows}
 use Rattle.drf_rows.specs.declared.rows.OfferRow.{OfferRow}
-use Rattle.drf_core.specs.Drafting.{turns_of}
+use Rattle.drf_core.specs.Drafting.{IsDrafting, turns_of}
 use Rattle.drf_core.specs.Working.{nodes_of, offered_to}
-use Rattle.drf_gates.specs.Quota.{Allowance}
+use Rattle.drf_gates.specs.Quota.{Usage, quota_under}
 use Rattle.drf_core.specs.Entitling.{IsQuotaOf}
 use Rattle.drf_tables.specs.DraftLaws.{next-with_offers, with_offers-added}
 use Rattle.drf_tables.specs.Drafts.{with_offers}
-use Rattle.drf_core.proofs.drafting.Cycle.{counts_all, is_counting, new_offers-drafts}
+use Rattle.drf_core.proofs.drafting.Cycle.{cycle-begins, counts_all, is_counting, new_offers-drafts}
 use Rattle.drf_content.specs.Content.{content_of}
 use Rattle.drf_core.proofs.drafting.Closed.{no_offers}
 use Rattle.drf_core.proofs.cycle.offer_all.Goals as goal
 
+pub turns-requires-clause-cycle : goal.turns-requires-clause-cycle
+turns-requires-clause-cycle g c =
+    let offers = c.args.drafts.now.offers.items in
+    let drafting : IsDrafting (g.S.Sorter.content c.is_idle.new.sorter) c.settle.new.self.rows offers = rw (c.is_idle.ensures.content, c.settle.ensures.same) c.requires.drafting in
+    cycle-begins _ _ c.settle.new.self.rows _ c.lend_consumption.ensures.same drafting (c.lend_consumption.ensures.settled ∙ c.in_ok-settle.ensures.settled)
+    c.requires.none c.requires.nothing_left c.in_ok-drafts.ensures.quota
+
 pub commit-requires-clause-fits : goal.commit-requires-clause-fits
 commit-requires-clause-fits g c =
-    let rows : Rows = c.quota_of.new.tables.rows in
+    let rows : Rows = c.lend_consumption.new.tables.rows in
     let offers = c.turns.new.drafts.offers in
     let low_number : c.args.tables.now.rows.next_offer ≤ 2 ^ 57 = c.requires.drafting.low_number in
-    let same : rows.next_offer ≡ c.args.tables.now.rows.next_offer = ap (λ (r : Rows). r.next_offer) (c.quota_of.ensures.same ∙ c.settle.ensures.same) in
+    let same : rows.next_offer ≡ c.args.tables.now.rows.next_offer = ap (λ (r : Rows). r.next_offer) (c.lend_consumption.ensures.same ∙ c.settle.ensures.same) in
     omega (arith, next-with_offers rows offers.items, low_number, same, offers.ok.0, offers.ok.1, offers.small)
 
-pub commit-requires-clause-quota : goal.commit-requires-clause-quota
-commit-requires-clause-quota g c =
-    let after : Rows = with_offers c.quota_of.new.tables.rows c.turns.new.drafts.offers.items in
-    counts_all after c.take-quota.result
-    (subst (λ (q : Option Allowance). IsQuotaOf after q) (sym c.take-quota.ensures.value) c.in_ok-turns.ensures.quota)
+pub commit-requires-clause-consumption : goal.commit-requires-clause-consumption
+commit-requires-clause-consumption g c =
+    let after : Rows = with_offers c.lend_consumption.new.tables.rows c.turns.new.drafts.offers.items in
+    counts_all after c.lend_consumption.new.tables.rows.limits c.take-consumption.result
+    (subst (λ (o : Option (List Usage)). IsQuotaOf after (quota_under c.lend_consumption.new.tables.rows.limits o)) (sym c.take-consumption.ensures.value) c.in_ok-turns.ensures.cycle.quota)
 
--- with limits there is a quota, which counts
+-- with limits it is counted what roles consume
 pub returns-clause-counted : goal.returns-clause-counted
 returns-clause-counted g c = λ some.
-    let rows : Rows = c.quota_of.new.tables.rows in
+    let rows : Rows = c.lend_consumption.new.tables.rows in
     let after : Rows = with_offers rows c.turns.new.drafts.offers.items in
     let limits : after.limits ≡ c.args.tables.now.rows.limits =
     ap (λ (r : Rows). r.limits) (with_offers-added rows c.turns.new.drafts.offers.items)
-    ∙ ap (λ (r : Rows). r.limits) (c.quota_of.ensures.same ∙ c.settle.ensures.same) in
+    ∙ ap (λ (r : Rows). r.limits) (c.lend_consumption.ensures.same ∙ c.settle.ensures.same) in
     c.in_ok-commit.ensures.counted
-    ∙ is_counting after c.take-quota.result
-    (subst (λ (q : Option Allowance). IsQuotaOf after q) (sym c.take-quota.ensures.value) c.in_ok-turns.ensures.quota)
+    ∙ is_counting after rows.limits c.take-consumption.result
+    (subst (λ (o : Option (List Usage)). IsQuotaOf after (quota_under c.lend_consumption.new.tables.rows.limits o)) (sym c.take-consumption.ensures.value) c.in_ok-turns.ensures.cycle.quota)
     (λ none. some (sym limits ∙ none))
 
 pub returns-clause-reply : goal.returns-clause-reply
 returns-clause-reply g c =
-    let same = c.quota_of.ensures.same ∙ c.settle.ensures.same in
+    let same = c.lend_consumption.ensures.same ∙ c.settle.ensures.same in
     c.in_ok-stepped-2.ensures.reply
     ∙ ap Offers (c.in_ok-from_vec.ensures.rows ∙ c.in_ok-lines.ensures
     ∙ ap (map line_told) (c.deref.ensures.value
-    ∙ sym (new_offers-drafts c.quota_of.new.tables.rows c.turns.new.drafts.offers.items c.in_ok-turns.ensures.turns)
+    ∙ sym (new_offers-drafts c.lend_consumption.new.tables.rows c.turns.new.drafts.offers.items c.in_ok-turns.ensures.turns)
     ∙ (λ i. new_offers (same i) (turns_of (same i)))))
 
 pub returns-clause-work : goal.returns-clause-work
 returns-clause-work g c = λ counted.
     let Nodes : List OfferRow → ℕ = λ os. nodes_of (offered_to os) in
     let drafts = c.turns.new.drafts.offers.items in
-    let same = c.quota_of.ensures.same ∙ c.settle.ensures.same in
+    let same = c.lend_consumption.ensures.same ∙ c.settle.ensures.same in
     let new : drafts ≡ new_offers c.args.tables.now.rows (turns_of c.args.tables.now.rows) =
-    sym (new_offers-drafts c.quota_of.new.tables.rows drafts c.in_ok-turns.ensures.turns)
+    sym (new_offers-drafts c.lend_consumption.new.tables.rows drafts c.in_ok-turns.ensures.turns)
     ∙ (λ i. new_offers (same i) (turns_of (same i))) in
     omega (arith, c.is_idle.ensures.work counted, c.in_ok-turns.ensures.work counted, ap Nodes c.requires.none, ap Nodes new)
 

@@ -6,12 +6,10 @@ use Rattle.drf_core.proofs.cycle.turns.Goals as goal
 
 pub loop-place-preserved : goal.loop-place-preserved
 loop-place-preserved g c = record {
-  drafting = c.in_ok-turn.ensures.drafting;
+  cycle = c.in_ok-turn.ensures.cycle;
   turned = turns-next c.args.tables.now.rows (with_offers c.args.tables.now.rows c.loop-place.drafts.offers.items)
       (with_offers c.args.tables.now.rows c.turn.new.drafts.offers.items) c.loop-place.place (omega (arith, c.loop-place-test.true, c.agent_count-place-end.ensures))
       (agents-with_offers c.args.tables.now.rows c.loop-place.drafts.offers.items) c.in_ok-turn.ensures.turn c.loop-place.invariant.turned;
-  quota = c.in_ok-turn.ensures.quota;
   work = λ counted. omega (arith, c.loop-place.invariant.work counted, c.in_ok-turn.ensures.work counted);
-  left = c.in_ok-turn.ensures.left;
   made = omega (arith, c.loop-place.invariant.made, c.turn.ensures.made);
 }

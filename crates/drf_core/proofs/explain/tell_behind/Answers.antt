@@ -1,13 +1,6 @@
-use Rattle.std.proofs.Common.{◌≡◌, true, ◌++◌, [], ◌∷◌, List, Some, None, length, map, drop, refl, sym, ap, ◌∙◌, arith, append_assoc, append-nil}
-use Rattle.std.specs.Prelude.{slice_get, is_some, ◌&&◌}
-use Rattle.drf_role.specs.Path.{Path}
-use Rattle.drf_rows.specs.Client.{Client, path_of}
-use Rattle.drf_rows.specs.declared.rows.AgentRow.{AgentRow}
-use Rattle.drf_rows.specs.declared.rows.Rows.{Rows}
-use Rattle.drf_explain.specs.Each.{told_here}
-use Rattle.drf_explain.specs.declared.finding.Finding.{Finding}
-use Rattle.drf_core.specs.Explaining.{IsOutcomeOf}
-use Rattle.drf_core.proofs.drafting.Told.{next_behind, none_behind, some_first, fewer_wait}
+use Rattle.std.proofs.Common.{length, refl, sym, ap, ◌∙◌, arith}
+use Rattle.drf_core.proofs.drafting.Told.{next_behind, none_behind, some_first}
+use Rattle.drf_core.proofs.drafting.Turn.{queue_begins}
 use Rattle.drf_core.proofs.explain.tell_behind.Goals as goal
 
 pub loop-sorter-init : goal.loop-sorter-init
@@ -19,14 +12,15 @@ loop-sorter-preserved g c = record {
   told = λ clients rows a queued gates counted is_free named.
       let first = some_first (g.S.Sorter.queue c.loop-sorter.sorter) (sym c.has_next.ensures ∙ c.loop-sorter-test.true) in
       next_behind rows a clients _ _ _ _ _ first.0 first.1
-      (c.in_ok-tell_first.ensures first.0 rows a first.1 gates (rw c.as_ref.ensures.value counted) is_free named) c.pass.ensures.queue
+      (c.in_ok-tell_first.ensures first.0 rows a first.1 gates counted is_free named) c.pass.ensures.queue
       (c.loop-sorter.invariant.told clients rows a queued gates counted is_free named);
 }
 
 pub loop-sorter-smaller : goal.loop-sorter-smaller
 loop-sorter-smaller g c =
     let queue = g.S.Sorter.queue c.loop-sorter.sorter in
-    omega (arith, fewer_wait queue (sym c.has_next.ensures ∙ c.loop-sorter-test.true), ap length c.pass.ensures.queue)
+    let first = some_first queue (sym c.has_next.ensures ∙ c.loop-sorter-test.true) in
+    omega (arith, ap length (queue_begins queue first.0 first.1), ap length c.pass.ensures.queue)
 
 pub returns-clause-told : goal.returns-clause-told
 returns-clause-told g c = λ clients rows a queued gates counted is_free named.

@@ -1,5 +1,6 @@
 use Rattle.std.proofs.Common.{◌≡◌, ◌++◌, List, length, map}
 use Rattle.std.specs.Prelude.{slice_get}
+use Rattle.std.specs.Option.{option_copied}
 use Rattle.drf_rows.specs.Client.{Client, path_of}
 use Rattle.drf_rows.specs.Cycle.{free_of}
 use Rattle.drf_rows.specs.declared.rows.AgentRow.{AgentRow}
@@ -14,7 +15,7 @@ abbrev pub invariant-loop-sorter : goal.invariant-loop-sorter
 invariant-loop-sorter g l = record {
   content : g.S.Sorter.content l.sorter ≡ g.S.Sorter.content l.initial.sorter;
   told : (clients : List Client) (rows : Rows) (a : AgentRow) → g.S.Sorter.queue l.initial.sorter ≡ map path_of clients → AreGatesOf rows a l.gates
-      → IsQuotaOf rows l.drafts.quota → l.free ≡ free_of rows a → l.agent ≡ a.name
+      → IsQuotaOf rows (option_copied l.quota) → l.free ≡ free_of rows a → l.agent ≡ a.name
       → (rest : List Client) × (g.S.Sorter.queue l.sorter ≡ map path_of rest)
       × (l.findings.items ++ map (told_here rows a) rest ≡ l.initial.findings.items ++ map (told_here rows a) clients);
 }

@@ -1,21 +1,19 @@
 use Rattle.std.proofs.Common.{◌≡◌, length}
 use Rattle.drf_tables.specs.Drafts.{with_offers}
-use Rattle.drf_core.specs.Drafting.{IsDrafting, IsFreeAt}
-use Rattle.drf_core.specs.Entitling.{IsKnown, IsQuotaOf}
+use Rattle.drf_core.specs.Drafting.{IsTurn}
 use Rattle.drf_core.proofs.drafting.Told.{AreTold}
+use Rattle.drf_core.proofs.drafting.Turn.{AreWaiting}
 use Rattle.drf_core.proofs.explain.tell_clients.Given as goal
 
 -- to try the clients that wait, and to tell of them, gives what trying and telling of all gives
 abbrev pub invariant-loop-sorter : goal.invariant-loop-sorter
 invariant-loop-sorter g l = record {
-  drafting : IsDrafting (g.S.Sorter.content l.sorter) l.tables.rows l.drafts.offers.items;
+  turn : IsTurn (g.S.Sorter.content l.sorter) l.tables l.drafts l.place l.free (g.S.Sorter.queue l.sorter);
+  waits : AreWaiting l.tables.rows l.place (with_offers l.tables.rows l.initial.drafts.offers.items)
+      (with_offers l.tables.rows l.drafts.offers.items) (g.S.Sorter.queue l.sorter);
   told : AreTold l.each l.tables.rows l.place (with_offers l.tables.rows l.initial.drafts.offers.items)
       (with_offers l.tables.rows l.drafts.offers.items) (g.S.Sorter.queue l.sorter) l.initial.findings.items l.findings.items;
-  free : IsFreeAt (with_offers l.tables.rows l.drafts.offers.items) l.place l.free.bundle;
-  quota : IsQuotaOf (with_offers l.tables.rows l.drafts.offers.items) l.drafts.quota;
-  known : IsKnown l.drafts.quota l.free;
   waiting : l.waiting ≡ length (g.S.Sorter.queue l.sorter);
-  lefts : l.drafts.lefts.items ≡ l.initial.drafts.lefts.items;
 }
 
 abbrev pub decreases-loop-sorter : goal.decreases-loop-sorter

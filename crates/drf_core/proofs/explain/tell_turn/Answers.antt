@@ -8,7 +8,7 @@ use Rattle.drf_explain.specs.declared.finding.Finding.TheVariants.{Inactive, Not
 use Rattle.drf_tables.specs.Drafts.{with_offers}
 use Rattle.drf_core.proofs.drafting.Told.{agent_in, gates-live, turn_at-idle, turn_at-full, turn_at-tried, told_at-idle, told_at-full, told_at-tried}
 use Rattle.drf_core.proofs.refusing.Tests.{no_length}
-use Rattle.drf_core.proofs.drafting.Turn.{HasLeft-closed, free-before}
+use Rattle.drf_core.proofs.drafting.Turn.{cycle-closed, free-before}
 use Rattle.drf_core.proofs.explain.tell_turn.Goals.{After-is_empty}
 use Rattle.drf_core.proofs.explain.tell_turn.Given as given
 use Rattle.drf_core.proofs.explain.tell_turn.Goals as goal
@@ -21,7 +21,7 @@ empty_at g c =
     let a = agent_in rows c.args.drafts.now.offers.items c.args.place c.requires.place in
     c.is_empty.ensures ∙ no_length c.entries.result.now
     ∙ ap (λ (rs : List Resource). is_empty rs) (c.entries.ensures.value ∙ c.free.ensures a.0 a.1
-    ∙ sym (free-before rows c.args.drafts.now.offers.items c.args.drafts.now.lefts.items c.args.place a.0 c.requires.left a.1))
+    ∙ sym (free-before rows c.args.drafts.now.offers.items c.args.drafts.now.lefts.items c.args.place a.0 c.requires.cycle.left a.1))
 
 pub returns-then-not-is_active-clause-turn : goal.returns-then-not-is_active-clause-turn
 returns-then-not-is_active-clause-turn g c =
@@ -36,9 +36,9 @@ returns-then-not-is_active-clause-told g c =
     ∙ ap (λ fs. c.args.findings.now.items ++ fs)
     (told_at-idle _ c.args.place a.0 a.2 c.args.each (sym (c.is_active.ensures a.0 a.1) ∙ c.if-not-is_active.true))
 
-pub returns-then-not-is_active-clause-left : goal.returns-then-not-is_active-clause-left
-returns-then-not-is_active-clause-left g c =
-    HasLeft-closed c.args.tables.now.rows c.args.drafts.now.offers.items c.args.drafts.now.lefts.items c.args.place c.requires.left
+pub returns-then-not-is_active-clause-cycle : goal.returns-then-not-is_active-clause-cycle
+returns-then-not-is_active-clause-cycle g c =
+    cycle-closed (g.S.Sorter.content c.args.sorter.now) c.args.tables.now c.args.drafts.now c.args.place c.requires.cycle
 
 pub returns-then-is_empty-clause-turn : goal.returns-then-is_empty-clause-turn
 returns-then-is_empty-clause-turn g c =
@@ -55,9 +55,9 @@ returns-then-is_empty-clause-told g c =
     ∙ ap (λ fs. c.args.findings.now.items ++ fs)
     (told_at-full _ c.args.place a.0 a.2 c.args.each (sym (c.is_active.ensures a.0 a.1) ∙ c.if-not-is_active.false) (sym (empty_at g b) ∙ c.if-is_empty.true))
 
-pub returns-then-is_empty-clause-left : goal.returns-then-is_empty-clause-left
-returns-then-is_empty-clause-left g c =
-    HasLeft-closed c.args.tables.now.rows c.args.drafts.now.offers.items c.args.drafts.now.lefts.items c.args.place c.requires.left
+pub returns-then-is_empty-clause-cycle : goal.returns-then-is_empty-clause-cycle
+returns-then-is_empty-clause-cycle g c =
+    cycle-closed (g.S.Sorter.content c.args.sorter.now) c.args.tables.now c.args.drafts.now c.args.place c.requires.cycle
 
 pub tell_clients-requires-clause-gates : goal.tell_clients-requires-clause-gates
 tell_clients-requires-clause-gates g c = λ agent at.

@@ -8,14 +8,12 @@ use Rattle.drf_core.proofs.explain.tell_turns.Goals as goal
 
 pub loop-place-preserved : goal.loop-place-preserved
 loop-place-preserved g c = record {
-  drafting = c.in_ok-tell_turn.ensures.drafting;
+  cycle = c.in_ok-tell_turn.ensures.cycle;
   told = told-next c.args.tables.now.rows (with_offers c.args.tables.now.rows c.loop-place.drafts.offers.items)
       (with_offers c.args.tables.now.rows c.tell_turn.new.drafts.offers.items) c.loop-place.place _ _ _
       (omega (arith, c.loop-place-test.true, c.agent_count-place-end.ensures))
       (agents-with_offers c.args.tables.now.rows c.loop-place.drafts.offers.items) c.in_ok-tell_turn.ensures.turn c.in_ok-tell_turn.ensures.told
       c.loop-place.invariant.told;
-  quota = c.in_ok-tell_turn.ensures.quota;
-  left = c.in_ok-tell_turn.ensures.left;
 }
 
 pub returns : goal.returns

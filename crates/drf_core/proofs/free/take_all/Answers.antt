@@ -1,4 +1,4 @@
-use Rattle.std.proofs.Common.{◌≡◌, Bool, Some, None, [], refl, sym, ap, subst, ◌∙◌, cond}
+use Rattle.std.proofs.Common.{◌≡◌, Bool, Some, None, [], sym, ap, ◌∙◌, cond}
 use Rattle.drf_role.specs.Path.{role_part, framework_part}
 use Rattle.drf_bundle.specs.Bundle.{is_unreserved, rest}
 use Rattle.drf_bundle.specs.laws.TakenLaws.{rest-itself}
@@ -22,7 +22,7 @@ returns-then-is_held_back-clause-taken c =
 
 pub returns-then-is_held_back-clause-known : goal.returns-then-is_held_back-clause-known
 returns-then-is_held_back-clause-known c = λ quota later known.
-    record { worth = known.worth; unreserved = known.unreserved; everyone = known.everyone; part = tt; front = λ role told none. cc }
+    record { worth = known.worth; unreserved = known.unreserved; everyone = known.everyone; right = tt }
 
 -- all is taken
 pub returns-clause-taken : goal.returns-clause-taken
@@ -42,4 +42,4 @@ returns-clause-left c =
 pub returns-clause-known : goal.returns-clause-known
 returns-clause-known c = λ quota later known.
     let none = nothing_at (goal.at.returns-clause-known c).After-replace in
-    record { worth = ap is_allocatable (sym none); unreserved = λ told. ap is_unreserved none; everyone = tt; part = tt; front = λ role told none. cc }
+    record { worth = ap is_allocatable (sym none); unreserved = λ told. ap is_unreserved none; everyone = tt; right = tt }

@@ -8,12 +8,6 @@ use Rattle.drf_rows.specs.declared.rows.Rows.{Rows}
 use Rattle.drf_core.specs.Refusing.{cases_of_reserved}
 use Rattle.drf_core.proofs.late.refuse_reserved.Goals as goal
 
-pub count_consumption-requires : goal.count_consumption-requires
-count_consumption-requires c = rw c.settle.ensures.same c.requires
-
-pub is_not_free-requires : goal.is_not_free-requires
-is_not_free-requires c = c.count_consumption.ensures.settled ∙ c.in_ok-settle.ensures.settled
-
 pub admits-requires : goal.admits-requires
 admits-requires c = c.in_ok-count_consumption.ensures.counted
 
@@ -24,6 +18,6 @@ returns-clause-value c =
     let resources = c.args.resources.now in
     let rows : Rows = c.count_consumption.new.self.rows in
     c.first_case.ensures
-    ∙ (λ i. first_case ((c.is_not_free.ensures i, NotCovered) ∷ (not (c.admits.ensures i), OverLimit) ∷ []))
+    ∙ (λ i. first_case ((c.in_ok-lacks.ensures i, NotCovered) ∷ (not (c.admits.ensures i), OverLimit) ∷ []))
     ∙ ap (λ (es : List Entry). first_case ((is_not_free rows agent resources, NotCovered) ∷ (not (admits rows role es), OverLimit) ∷ [])) c.quantities-amounts.ensures.value
-    ∙ ap (λ (r : Rows). first_case (cases_of_reserved r agent role resources)) (c.count_consumption.ensures.same ∙ c.settle.ensures.same)
+    ∙ ap (λ (r : Rows). first_case (cases_of_reserved r agent role resources)) c.count_consumption.ensures.same

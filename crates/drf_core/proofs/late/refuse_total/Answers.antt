@@ -11,22 +11,14 @@ use Rattle.drf_rows.specs.declared.rows.Rows.{Rows}
 use Rattle.drf_laws.specs.laws.Tests.{below_held}
 use Rattle.drf_core.proofs.late.refuse_total.Goals as goal
 
-pub held_on-requires-clause-settled : goal.held_on-requires-clause-settled
-held_on-requires-clause-settled c = c.in_ok-settle.ensures.settled
-
-pub held_on-requires-clause-known : goal.held_on-requires-clause-known
-held_on-requires-clause-known c = rw c.settle.ensures.same c.requires.known
-
-pub returns-clause-value : goal.returns-clause-value
-returns-clause-value c =
+pub returns : goal.returns
+returns c =
     let rows : Rows = c.args.tables.now.rows in
     let agent = c.args.agent.now in
     let total = c.args.total.now in
     let held = c.in_ok-held.held in
     let at = found_known rows agent c.requires.known in
-    let same = c.settle.ensures.same in
-    let is : held ≡ rest at.0.total (free_of rows at.0) =
-    c.in_ok-held.ensures at.0 (rw same at.1) ∙ ap (λ (r : Rows). rest at.0.total (free_of r at.0)) same in
+    let is : held ≡ rest at.0.total (free_of rows at.0) = c.in_ok-held.ensures at.0 at.1 in
     let below : not c.covers.result ≡ is_below_held rows agent total =
     ap not (covers_from c.covers.result total held c.covers.ensures.given.0 c.covers.ensures.given.1 c.covers.ensures.covers)
     ∙ ap (λ (rs : List Resource). not (covers total rs)) is

@@ -1,4 +1,4 @@
-use Rattle.std.proofs.Common.{◌∷◌, [], ap, ◌∙◌, not, nat_lt, false, Option}
+use Rattle.std.proofs.Common.{◌∷◌, [], sym, ap, ◌∙◌, not, nat_lt, false, Option}
 use Rattle.std.specs.Prelude.{is_some}
 use Rattle.std.specs.Option.{option_map_or}
 use Rattle.drf_role.specs.Text.{same_text}
@@ -7,7 +7,14 @@ use Rattle.drf_rows.specs.declared.limits.TheConstants.{LATEST_MOMENT}
 use Rattle.drf_rows.specs.declared.reply.Refusal.TheVariants.{BadMoment, Empty, HistoryFull, KnownTask, NotCovered, NotYours, UnknownFramework, UnknownOffer}
 use Rattle.drf_rows.specs.Tasks.{uses, covers_all}
 use Rattle.drf_rows.specs.declared.rows.OfferRow.{OfferRow}
+use Rattle.drf_core.proofs.refusing.Known.{known_offer}
 use Rattle.drf_core.proofs.refusal.refuse_tasks.Goals as goal
+
+pub is_unknown-requires : goal.is_unknown-requires
+is_unknown-requires c = λ holds.
+    let a = c.args.accept.now in
+    let its = ap (λ (o : Option OfferRow). option_map_or (λ o. same_text o.framework a.framework) o false) c.requires in
+    known_offer c.args.tables.now.rows a.offer a.framework c.recall.ensures (sym its ∙ sym c.is_its-holds.ensures ∙ holds)
 
 pub returns : goal.returns
 returns c =
@@ -15,4 +22,4 @@ returns c =
     let stands = c.stands.ensures ∙ ap is_some c.requires in
     let others = c.is_anothers.ensures ∙ ap (λ (o : Option OfferRow). option_map_or (λ o. not (same_text o.framework a.framework)) o false) c.requires in
     let beyond = c.is_beyond.ensures ∙ ap (λ (o : Option OfferRow). option_map_or (λ o. not (covers_all o.bundle (uses a.tasks))) o false) c.requires in
-    c.first_case.ensures ∙ (λ i. first_case ((c.is_full.ensures i, HistoryFull) ∷ (nat_lt LATEST_MOMENT c.args.accept.now.at, BadMoment) ∷ (not (c.has_framework.ensures i), UnknownFramework) ∷ (not (stands i), UnknownOffer) ∷ (others i, NotYours) ∷ (c.is_task_known.ensures i, KnownTask) ∷ (c.has_empty.ensures i, Empty) ∷ (beyond i, NotCovered) ∷ []))
+    c.first_case.ensures ∙ (λ i. first_case ((c.is_full.ensures i, HistoryFull) ∷ (nat_lt LATEST_MOMENT c.args.accept.now.at, BadMoment) ∷ (c.is_unknown.ensures i, UnknownFramework) ∷ (not (stands i), UnknownOffer) ∷ (others i, NotYours) ∷ (c.is_task_known.ensures i, KnownTask) ∷ (c.has_empty.ensures i, Empty) ∷ (beyond i, NotCovered) ∷ []))

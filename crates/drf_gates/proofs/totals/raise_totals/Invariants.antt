@@ -1,12 +1,8 @@
-use Rattle.std.proofs.Common.{◌≡◌, List}
-use Rattle.std.specs.Map.{keys_of}
+use Rattle.std.proofs.Common.{List}
 use Rattle.drf_gates.specs.Quota.{AreRaised, Usage}
 use Rattle.drf_gates.specs.Totals.{AreCarried, AreExact}
 use Rattle.drf_gates.proofs.totals.raise_totals.Given as goal
 
--- the totals of the fronts so far are those of now, and the roles are the same
+-- the totals of the fronts so far are those of now
 abbrev pub invariant-loop-len : goal.invariant-loop-len
-invariant-loop-len l = record {
-  carried : (old new : List Usage) → AreRaised old new l.role l.amounts → AreExact old l.fn.totals.entries → AreCarried old new l.role l.len l.totals.entries;
-  roles : keys_of l.totals.entries ≡ keys_of l.fn.totals.entries;
-}
+invariant-loop-len l = (old new : List Usage) → AreRaised old new l.role l.amounts → AreExact old l.fn.totals.entries → AreCarried old new l.role l.len l.totals.entries

@@ -1,8 +1,5 @@
-use Rattle.drf_gates.specs.Totals.{AreExact, AreLimited}
+use Rattle.drf_gates.specs.Totals.{AreExact}
 use Rattle.drf_gates.proofs.totals.totals_of.Given as goal
 
 abbrev pub invariant-loop-role : goal.invariant-loop-role
-invariant-loop-role l = record {
-  exact : AreExact l.used.entries l.totals.entries;
-  limited : AreLimited l.limits l.totals.entries;
-}
+invariant-loop-role l = AreExact l.used.entries l.totals.entries

@@ -50,6 +50,6 @@ returns-in-Unreserve-clause-read c =
     (λ read. unreserve_read c.in-Unreserve.agent c.in-Unreserve.role c.in-Unreserve.resources read.0 read.1 read.2)
     c.put_of_reservation-in-Unreserve.ensures.read)
 
-pub returns-in-RemoveAgent-clause-ok : goal.returns-in-RemoveAgent-clause-ok
+pub returns-in-RemoveAgent-clause-appends : goal.returns-in-RemoveAgent-clause-appends
 unfolding event_line
-returns-in-RemoveAgent-clause-ok c = rw c.in-RemoveAgent.is c.put_of_agent.ensures.ok
+returns-in-RemoveAgent-clause-appends c = rw c.in-RemoveAgent.is c.put_of_agent.ensures.appends

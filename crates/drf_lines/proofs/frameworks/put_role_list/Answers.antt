@@ -1,45 +1,28 @@
-use Rattle.std.proofs.Common.{◌++◌, map, All, subst, take_all, arith}
+use Rattle.std.proofs.Common.{All, subst, take_all, arith}
 use Rattle.std.proofs.lemmas.List.Elements.{All-more}
-use Rattle.std.proofs.lemmas.Result.{on_ok_weaker}
 use Rattle.json.specs.Print.{escape_byte}
-use Rattle.serde_json.specs.Data.{array}
-use Rattle.serde_json.specs.View.{items_of}
-use Rattle.serde_json.specs.Written.{compact_text}
-use Rattle.drf_lines.specs.FrameworkEvents.{role_value}
-use Rattle.drf_lines.proofs.ReplyTexts.{items_begun, item_more, items_ended}
+use Rattle.drf_lines.proofs.Appends.{opened, one_more, closed}
 use Rattle.drf_lines.proofs.Texts.{IsRoleRead, holds_at_ok, roles_read}
 use Rattle.drf_lines.proofs.frameworks.put_role_list.Goals as goal
 
 pub loop-i-init : goal.loop-i-init
 loop-i-init c = record {
-  text = items_begun role_value c.args.roles.now c.args.line.now.items c.put_byte.new.line.items c.in_ok-put_byte.ensures.ok;
-  front = c.put_byte.ensures.front;
-  utf8 = c.in_ok-put_byte.ensures.utf8;
+  written = opened c.in_ok-put_byte.ensures;
   read = λ k x below. absurd (omega (arith, below));
 }
 
 pub loop-i-preserved : goal.loop-i-preserved
 unfolding escape_byte
 loop-i-preserved c =
-    let all = c.args.roles.now in
-    let total = c.args.line.now.items ++ compact_text (array (items_of (map role_value all))) in
-    let so_far = c.loop-i.invariant in
     let inside = c.loop-i-test.true in
     let is = c.index-roles-i.is in
     record {
-      text = item_more role_value all c.loop-i.i c.index-roles-i.result total c.loop-i.line.items c.put_comma.new.line.items c.put_role.new.line.items
-          inside is so_far.text c.in_ok-put_comma.ensures.ok c.in_ok-put_role.ensures.ok;
-      front = λ front begins. c.put_role.ensures.front front (c.put_comma.ensures.front front (so_far.front front begins));
-      utf8 = λ old. c.in_ok-put_role.ensures.utf8 (c.in_ok-put_comma.ensures.utf8 (so_far.utf8 old));
-      read = All-more IsRoleRead all c.loop-i.i c.index-roles-i.result inside so_far.read (subst IsRoleRead is c.in_ok-put_role.ensures.read);
+      written = one_more c.loop-i.invariant.written inside is c.in_ok-put_comma.ensures c.in_ok-put_role.ensures.appends;
+      read = All-more IsRoleRead c.args.roles.now c.loop-i.i c.index-roles-i.result inside c.loop-i.invariant.read (subst IsRoleRead is c.in_ok-put_role.ensures.read);
     }
 
-pub returns-clause-ok : goal.returns-clause-ok
-returns-clause-ok c =
-    let total = c.args.line.now.items ++ compact_text (array (items_of (map role_value c.args.roles.now))) in
-    on_ok_weaker c.put_byte-2.result
-    (λ end. items_ended role_value c.args.roles.now c.loop-i.i total c.loop-i.line.items c.put_byte-2.new.line.items c.loop-i-test.false c.loop-i.invariant.text end)
-    c.put_byte-2.ensures.ok
+pub returns-clause-appends : goal.returns-clause-appends
+returns-clause-appends c = closed c.loop-i.invariant.written c.loop-i-test.false c.put_byte-2.ensures
 
 pub returns-clause-read : goal.returns-clause-read
 returns-clause-read c =

@@ -1,18 +1,11 @@
-use Rattle.std.proofs.Common.{◌≡◌, ◌++◌, map, drop, take, All}
-use Rattle.serde_json.specs.Data.{array}
-use Rattle.serde_json.specs.View.{items_of}
-use Rattle.serde_json.specs.Written.{compact_text}
+use Rattle.std.proofs.Common.{take, All}
 use Rattle.drf_lines.specs.FrameworkEvents.{role_value}
-use Rattle.drf_lines.specs.Written.{KeepsFront, KeepsUtf8}
-use Rattle.drf_lines.proofs.ReplyTexts.{left_text}
 use Rattle.drf_lines.proofs.Texts.{IsRoleRead}
+use Rattle.drf_lines.proofs.Appends.{AppendsItems}
 use Rattle.drf_lines.proofs.frameworks.put_role_list.Given as goal
 
--- with the text of those that are left the line is that of all
 abbrev pub invariant-loop-i : goal.invariant-loop-i
 invariant-loop-i l = record {
-  text : l.line.items ++ left_text role_value l.i (drop l.i l.roles) ≡ l.fn.line.items ++ compact_text (array (items_of (map role_value l.roles)));
-  front : KeepsFront l.fn.line.items l.line.items;
-  utf8 : KeepsUtf8 l.fn.line.items l.line.items;
+  written : AppendsItems role_value l.roles l.i l.fn.line.items l.line.items;
   read : All IsRoleRead (take l.i l.roles);
 }

@@ -1,15 +1,14 @@
-use Rattle.std.proofs.lemmas.Result.{on_ok_weaker}
 use Rattle.json.specs.Print.{escape_byte}
 use Rattle.drf_lines.specs.StateLine.{row_line}
-use Rattle.drf_lines.proofs.ReplyTexts.{then}
+use Rattle.drf_lines.proofs.Appends.{and_then}
 use Rattle.drf_lines.proofs.Rows.{filter_read}
 use Rattle.drf_lines.proofs.Texts.{holds_at_ok}
 use Rattle.drf_lines.proofs.held.push_filter_row.Goals as goal
 
-pub returns-clause-ok : goal.returns-clause-ok
+pub returns-clause-appends : goal.returns-clause-appends
 unfolding escape_byte row_line
-returns-clause-ok c =
-    on_ok_weaker c.put_byte.result (λ end. then c.args.text.now.items _ _ c.in_ok-put_name.ensures.ok (then c.put_name.new.line.items _ _ c.in_ok-put_name-2.ensures.ok (then c.put_name-2.new.line.items _ _ c.in_ok-put_bundle.ensures.ok (then c.put_bundle.new.line.items _ _ c.in_ok-put_role.ensures.ok (then c.put_role.new.line.items _ _ c.in_ok-put_number.ensures.ok end))))) c.put_byte.ensures.ok
+returns-clause-appends c =
+    and_then c.in_ok-put_name.ensures.appends (and_then c.in_ok-put_name-2.ensures.appends (and_then c.in_ok-put_bundle.ensures.appends (and_then c.in_ok-put_role.ensures.appends (and_then c.in_ok-put_number.ensures.appends c.put_byte.ensures))))
 
 pub returns-clause-read : goal.returns-clause-read
 returns-clause-read c =

@@ -1,5 +1,7 @@
-use Rattle.drf_lines.proofs.ReplyTexts.{added_utf8, byte_utf8}
+use Rattle.std.proofs.Common.{refl}
+use Rattle.drf_lines.proofs.Appends.{appended}
+use Rattle.drf_lines.proofs.ReplyTexts.{byte_utf8}
 use Rattle.drf_lines.proofs.member.put_byte.Goals as goal
 
-pub returns-clause-utf8 : goal.returns-clause-utf8
-returns-clause-utf8 c = added_utf8 c.args.line.now.items _ c.in_ok-push.ensures.items (byte_utf8 c.args.byte c.requires)
+pub returns : goal.returns
+returns c = appended _ c.args.line.now.items _ c.in_ok-push.ensures.items refl (byte_utf8 c.args.byte c.requires)

@@ -9,8 +9,8 @@ pub put_plain-requires : goal.put_plain-requires
 put_plain-requires c =
     subst (λ text. list_all is_plain_byte text ≡ true) (sym c.text.ensures.text) (name_is_plain c.args.name.now c.text.ensures.right.alphabet)
 
-pub returns-clause-ok : goal.returns-clause-ok
-returns-clause-ok c = rw c.text.ensures.text at c.put_plain.ensures.ok
+pub returns-clause-appends : goal.returns-clause-appends
+returns-clause-appends c = rw c.text.ensures.text at c.put_plain.ensures
 
 pub returns-clause-read : goal.returns-clause-read
 returns-clause-read c = holds_at_ok c.put_plain.result _ (name_read c.args.name.now c.text.ensures.right)

@@ -4,8 +4,8 @@ use Rattle.drf_lines.specs.Written.{IsText}
 use Rattle.drf_lines.proofs.Texts.{holds_at_ok, role_read}
 use Rattle.drf_lines.proofs.member.put_role.Goals as goal
 
-pub returns-clause-ok : goal.returns-clause-ok
-returns-clause-ok c = rw c.text.ensures.text at c.put_text.ensures.ok
+pub returns-clause-appends : goal.returns-clause-appends
+returns-clause-appends c = rw c.text.ensures.text at c.put_text.ensures
 
 pub returns-clause-read : goal.returns-clause-read
 returns-clause-read c =

@@ -1,18 +1,16 @@
-use Rattle.std.proofs.Common.{◌∙◌}
 use Rattle.std.proofs.lemmas.Result.{on_ok_weaker}
 use Rattle.json.specs.Print.{escape_byte}
 use Rattle.drf_lines.specs.TaskTexts.{tasks_members}
+use Rattle.drf_lines.proofs.Appends.{and_then, and_more}
 use Rattle.drf_lines.proofs.Events.{accept_read}
-use Rattle.drf_lines.proofs.ReplyTexts.{then}
 use Rattle.drf_lines.proofs.offers.put_accept.Goals as goal
 
-pub returns-clause-ok : goal.returns-clause-ok
+pub returns-clause-appends : goal.returns-clause-appends
 unfolding escape_byte
-returns-clause-ok c =
-    on_ok_weaker c.put_tasks.result (λ end.
-    then c.args.line.now.items _ _ c.in_ok-put_moment.ensures.ok (then c.put_moment.new.line.items _ _ c.in_ok-put_name.ensures.ok
-    (end ∙ c.in_ok-put_answered.ensures.ok (tasks_members c.args.accept.now.tasks))))
-    (rw c.as_slice.ensures.value at c.put_tasks.ensures.ok)
+returns-clause-appends c =
+    let tasks = rw c.as_slice.ensures.value at c.put_tasks.ensures.appends in
+    and_then c.in_ok-put_moment.ensures.appends (and_then c.in_ok-put_name.ensures.appends
+    (and_more (tasks_members c.args.accept.now.tasks) c.in_ok-put_answered.ensures.appends tasks))
 
 pub returns-clause-read : goal.returns-clause-read
 returns-clause-read c =

@@ -1,9 +1,9 @@
-use Rattle.std.proofs.lemmas.Result.{on_ok_weaker}
 use Rattle.json.specs.Print.{escape_byte}
-use Rattle.drf_lines.proofs.ReplyTexts.{then}
+use Rattle.drf_lines.proofs.Appends.{and_then}
 use Rattle.drf_lines.proofs.reply.put_offer.Goals as goal
 
-pub returns-clause-ok : goal.returns-clause-ok
+pub returns : goal.returns
 unfolding escape_byte
-returns-clause-ok c =
-    on_ok_weaker c.put_byte.result (λ end. then c.args.line.now.items _ _ c.in_ok-put_name.ensures.ok (then c.put_name.new.line.items _ _ c.in_ok-put_name-2.ensures.ok (then c.put_name-2.new.line.items _ _ c.in_ok-put_number.ensures.ok (then c.put_number.new.line.items _ _ c.in_ok-put_bundle.ensures.ok (then c.put_bundle.new.line.items _ _ c.in_ok-put_role.ensures.ok end))))) c.put_byte.ensures.ok
+returns c =
+    and_then c.in_ok-put_name.ensures.appends (and_then c.in_ok-put_name-2.ensures.appends (and_then c.in_ok-put_number.ensures.appends
+    (and_then c.in_ok-put_bundle.ensures.appends (and_then c.in_ok-put_role.ensures.appends c.put_byte.ensures))))

@@ -1,9 +1,7 @@
-use Rattle.std.proofs.lemmas.Result.{on_ok_weaker}
 use Rattle.json.specs.Print.{escape_byte}
-use Rattle.drf_lines.proofs.ReplyTexts.{then}
+use Rattle.drf_lines.proofs.Appends.{and_then}
 use Rattle.drf_lines.proofs.reply.put_offers.Goals as goal
 
-pub returns-clause-ok : goal.returns-clause-ok
+pub returns : goal.returns
 unfolding escape_byte
-returns-clause-ok c =
-    on_ok_weaker c.put_byte.result (λ end. then c.args.line.now.items _ _ c.in_ok-put.ensures.ok (then c.put.new.line.items _ _ c.in_ok-put_offer_list.ensures.ok end)) c.put_byte.ensures.ok
+returns c = and_then c.in_ok-put.ensures (and_then c.in_ok-put_offer_list.ensures c.put_byte.ensures)

@@ -1,15 +1,14 @@
-use Rattle.std.proofs.lemmas.Result.{on_ok_weaker}
 use Rattle.json.specs.Print.{escape_byte}
 use Rattle.drf_lines.specs.StateLine.{head_line}
-use Rattle.drf_lines.proofs.ReplyTexts.{then}
+use Rattle.drf_lines.proofs.Appends.{and_then}
 use Rattle.drf_lines.proofs.Rows.{head_read}
 use Rattle.drf_lines.proofs.Texts.{holds_at_ok}
 use Rattle.drf_lines.proofs.state_line.push_head.Goals as goal
 
-pub returns-clause-ok : goal.returns-clause-ok
+pub returns-clause-appends : goal.returns-clause-appends
 unfolding escape_byte head_line
-returns-clause-ok c =
-    on_ok_weaker c.put.result (λ end. then c.args.text.now.items _ _ c.in_ok-put_number.ensures.ok (then c.put_number.new.line.items _ _ c.in_ok-put_number-2.ensures.ok (then c.put_number-2.new.line.items _ _ c.in_ok-put_number-3.ensures.ok end))) c.put.ensures.ok
+returns-clause-appends c =
+    and_then c.in_ok-put_number.ensures.appends (and_then c.in_ok-put_number-2.ensures.appends (and_then c.in_ok-put_number-3.ensures.appends c.put.ensures))
 
 pub returns-clause-read : goal.returns-clause-read
 returns-clause-read c =

@@ -1,17 +1,13 @@
-use Rattle.std.proofs.Common.{ℕ, List, ◌++◌, ap, ◌∙◌, append_assoc}
+use Rattle.json.specs.Print.{escape_byte}
+use Rattle.drf_lines.proofs.Appends.{and_then, regrouped}
 use Rattle.drf_lines.proofs.Events.{start_read}
 use Rattle.drf_lines.proofs.Texts.{holds_at_ok}
-use Rattle.std.proofs.lemmas.Result.{on_ok_weaker}
-use Rattle.json.specs.Print.{escape_byte}
-use Rattle.drf_lines.proofs.ReplyTexts.{then}
 use Rattle.drf_lines.proofs.tasks.put_start.Goals as goal
 
-pub returns-clause-ok : goal.returns-clause-ok
+pub returns-clause-appends : goal.returns-clause-appends
 unfolding escape_byte
-returns-clause-ok c =
-    on_ok_weaker c.put_byte.result (λ end.
-    then c.args.line.now.items _ _ c.in_ok-put_name.ensures.ok (then c.put_name.new.line.items _ _ c.in_ok-put_bundle.ensures.ok end)
-    ∙ ap (λ (bytes : List ℕ). c.args.line.now.items ++ bytes) (append_assoc c.args.before.now _ _)) c.put_byte.ensures.ok
+returns-clause-appends c =
+    regrouped c.args.before.now _ _ (and_then c.in_ok-put_name.ensures.appends (and_then c.in_ok-put_bundle.ensures.appends c.put_byte.ensures))
 
 pub returns-clause-read : goal.returns-clause-read
 returns-clause-read c =

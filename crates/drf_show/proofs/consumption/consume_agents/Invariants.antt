@@ -8,5 +8,5 @@ use Rattle.drf_show.proofs.consumption.consume_agents.Given as goal
 -- with what is left all is counted
 abbrev pub invariant-loop-agent : goal.invariant-loop-agent
 invariant-loop-agent l =
-    (test : Path → Bool) (label : Text) → used_where test l.quota.used label + reserved_for test (drop l.agent-index l.agents) label
-    ≡ used_where test l.initial.quota.used label + reserved_for test l.agents label
+    (test : Path → Bool) (label : Text) → used_where test l.consumption label + reserved_for test (drop l.agent-index l.agents) label
+    ≡ used_where test l.initial.consumption label + reserved_for test l.agents label

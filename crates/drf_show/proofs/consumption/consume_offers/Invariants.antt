@@ -9,5 +9,5 @@ use Rattle.drf_show.proofs.consumption.consume_offers.Given as goal
 -- with what is left all is counted
 abbrev pub invariant-loop-offer : goal.invariant-loop-offer
 invariant-loop-offer l =
-    (test : Path → Bool) (label : Text) → used_where test l.quota.used label + held_unreserved test (map of_offer (drop l.offer-index l.offers)) label
-    ≡ used_where test l.initial.quota.used label + held_unreserved test (map of_offer l.offers) label
+    (test : Path → Bool) (label : Text) → used_where test l.consumption label + held_unreserved test (map of_offer (drop l.offer-index l.offers)) label
+    ≡ used_where test l.initial.consumption label + held_unreserved test (map of_offer l.offers) label

@@ -9,5 +9,5 @@ use Rattle.drf_show.proofs.consumption.consume_tasks.Given as goal
 -- with what is left all is counted
 abbrev pub invariant-loop-task : goal.invariant-loop-task
 invariant-loop-task l =
-    (test : Path → Bool) (label : Text) → used_where test l.quota.used label + held_unreserved test (map of_task (drop l.task-index l.tasks)) label
-    ≡ used_where test l.initial.quota.used label + held_unreserved test (map of_task l.tasks) label
+    (test : Path → Bool) (label : Text) → used_where test l.consumption label + held_unreserved test (map of_task (drop l.task-index l.tasks)) label
+    ≡ used_where test l.initial.consumption label + held_unreserved test (map of_task l.tasks) label

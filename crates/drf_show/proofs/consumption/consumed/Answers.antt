@@ -6,7 +6,7 @@ use Rattle.drf_show.proofs.consumption.consumed.Goals as goal
 
 pub loop-entry-preserved : goal.loop-entry-preserved
 loop-entry-preserved c =
-    let amount = c.consumption-amount.ensures.value ∙ ap (used_at c.args.quota.now.used c.args.role.now) c.text.ensures.text in
-    used_more c.args.quota.now.used c.args.role.now c.entries-entries.result.now _ _ c.loop-entry.entry-index c.entry-item.result
+    let amount = c.amount-amount.ensures.value ∙ ap (used_at c.args.consumption.now c.args.role.now) c.text.ensures.text in
+    used_more c.args.consumption.now c.args.role.now c.entries-entries.result.now _ _ c.loop-entry.entry-index c.entry-item.result
     c.loop-entry-test.true c.entry-item.is c.loop-entry.invariant
     (c.in_ok-set.ensures.ok ∙ (λ i. with_amount c.loop-entry.amounts (c.in_ok-copy.ensures i) (amount i)))

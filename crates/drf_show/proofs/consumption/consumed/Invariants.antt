@@ -3,4 +3,4 @@ use Rattle.drf_show.specs.Consuming.{used_of}
 use Rattle.drf_show.proofs.consumption.consumed.Given as goal
 
 abbrev pub invariant-loop-entry : goal.invariant-loop-entry
-invariant-loop-entry l = l.amounts ≡ used_of l.quota.used l.role (take l.entry-index l.entries)
+invariant-loop-entry l = l.amounts ≡ used_of l.consumption l.role (take l.entry-index l.entries)

@@ -21,7 +21,7 @@ returns-clause-text c =
     c.deref.ensures.value ∙ ap (λ (t : LinedBytes). t.bytes) c.text.view_is ∙ sym c.into_bytes-bytes.ensures in
     let digest : c.as_str.result.now ≡ encode_lower (sha256 c.into_bytes-bytes.result.items) =
     c.as_str.ensures.value ∙ c.in_ok-digest.ensures ∙ ap (λ (b : List ℕ). encode_lower (sha256 b)) read in
-    c.in_ok-push.ensures.items ∙ ap (λ (bs : List ℕ). bs ++ 10 ∷ []) c.in_ok-push_end.ensures.ok
+    c.in_ok-push.ensures.items ∙ ap (λ (bs : List ℕ). bs ++ 10 ∷ []) c.in_ok-push_end.ensures.appends.ok
     ∙ text_of rows c.into_bytes-bytes.result.items c.lines-lines.result c.as_str.result.now bytes lines digest
 
 pub returns-clause-said : goal.returns-clause-said

@@ -6,5 +6,5 @@ use Rattle.drf_tables.proofs.consuming.consume_offers.Given as goal
 
 abbrev pub invariant-loop-offer : goal.invariant-loop-offer
 invariant-loop-offer l =
-    IsPartly l.initial.quota l.quota (λ test label. held_unreserved test (map of_offer l.fn.offers) label)
+    IsPartly l.initial.consumption l.consumption (λ test label. held_unreserved test (map of_offer l.fn.offers) label)
     (λ test label. held_unreserved test (map of_offer l.offer-iterator) label)

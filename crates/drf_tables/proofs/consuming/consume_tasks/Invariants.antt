@@ -7,5 +7,5 @@ use Rattle.drf_tables.proofs.consuming.consume_tasks.Given as goal
 
 abbrev pub invariant-loop-task : goal.invariant-loop-task
 invariant-loop-task l =
-    IsPartly l.initial.quota l.quota (λ test label. held_unreserved test (map of_task (map task_row l.fn.tasks)) label)
+    IsPartly l.initial.consumption l.consumption (λ test label. held_unreserved test (map of_task (map task_row l.fn.tasks)) label)
     (λ test label. held_unreserved test (map of_task (map task_row l.task-iterator)) label)

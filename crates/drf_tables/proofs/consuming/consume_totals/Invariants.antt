@@ -7,5 +7,5 @@ use Rattle.drf_tables.proofs.consuming.consume_totals.Given as goal
 
 abbrev pub invariant-loop-slot : goal.invariant-loop-slot
 invariant-loop-slot l =
-    IsPartly l.initial.quota l.quota (λ test label. reserved_for test (map agent_row l.agents.entries) label)
+    IsPartly l.initial.consumption l.consumption (λ test label. reserved_for test (map agent_row l.agents.entries) label)
     (λ test label. reserved_for test (map agent_row (filled (drop l.slot-index l.slot-items))) label)

@@ -1,4 +1,4 @@
-use Rattle.std.proofs.Common.{◌≡◌, ◌<◌, true, List, ◌++◌, sym, ap, ◌∙◌, arith, length}
+use Rattle.std.proofs.Common.{◌<◌, true, List, ◌++◌, sym, ap, ◌∙◌, arith, length}
 use Rattle.drf_explain.specs.declared.finding.Finding.{Finding}
 use Rattle.drf_tables.specs.Drafts.{with_offers}
 use Rattle.drf_tables.specs.DraftLaws.{agents-with_offers}
@@ -11,7 +11,7 @@ tell_turn-requires-clause-place g c = omega (arith, c.if-self-agent_count.false,
 
 pub overflow_add-self : goal.overflow_add-self
 overflow_add-self g c =
-    omega (arith, c.if-self-agent_count.false, c.agent_count.ensures, (c.self.invariant c.if-self.false).drafting.few_agents)
+    omega (arith, c.if-self-agent_count.false, c.agent_count.ensures, (c.self.invariant c.if-self.false).1.drafting.few_agents)
 
 pub returns-clause-told : goal.returns-clause-told
 returns-clause-told g c =

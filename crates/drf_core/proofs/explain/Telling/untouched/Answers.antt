@@ -1,4 +1,4 @@
-use Rattle.std.proofs.Common.{◌≡◌, ◌<◌, List, ◌++◌, sym, ap, ◌∙◌, arith, length}
+use Rattle.std.proofs.Common.{◌<◌, List, ◌++◌, sym, ap, ◌∙◌, arith, length}
 use Rattle.drf_explain.specs.declared.finding.Finding.{Finding}
 use Rattle.drf_tables.specs.Drafts.{with_offers}
 use Rattle.drf_tables.specs.DraftLaws.{agents-with_offers}

@@ -3,7 +3,7 @@ use Rattle.drf_role.specs.Path.{Path}
 use Rattle.drf_role.specs.Text.{Text}
 use Rattle.drf_bundle.specs.Quantities.{known_amount, with_amount}
 use Rattle.drf_bundle.specs.declared.quantities.Entry.{Entry}
-use Rattle.drf_gates.specs.Quota.{lesser, used_at}
+use Rattle.drf_gates.specs.Quota.{Allowance, lesser, used_at}
 use Rattle.drf_gates.proofs.RoomLemmas.{lessening_end, lessening_more, lessening_start}
 use Rattle.drf_gates.proofs.quota.Quota.add_headroom.Goals as goal
 
@@ -18,9 +18,11 @@ loop-entry-preserved c =
     let room : List Entry = c.loop-entry.room in
     let limited : Path = c.args.limited.now in
     let used : Text → ℕ = used_at c.args.self.now.used limited in
+    let own : c.amount_at-used.result ≡ used c.text-label.result.now =
+    c.amount_at-used.ensures ∙ ap (λ (a : Allowance). used_at a.used limited c.text-label.result.now) c.self.view_is in
     let left : c.saturating_sub-left.result ≡ e.amount - used e.label =
     c.saturating_sub-left.ensures
-    ∙ (λ i. c.thousandths.ensures i - c.consumption_at-used.ensures i)
+    ∙ (λ i. c.thousandths.ensures i - own i)
     ∙ ap (λ (n : Text). e.amount - used n) c.text-label.ensures.text in
     let known : c.known_amount_of.result ≡ known_amount room e.label = c.known_amount_of.ensures in
     let least : c.lesser-least.result ≡ lesser (known_amount room e.label) (e.amount - used e.label) =

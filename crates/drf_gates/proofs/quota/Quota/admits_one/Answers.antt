@@ -1,13 +1,14 @@
-use Rattle.std.proofs.Common.{sym, ◌∙◌, arith}
+use Rattle.std.proofs.Common.{sym, ◌∙◌, arith, [], ap}
 use Rattle.drf_rows.specs.Quota.{stays_within}
-use Rattle.drf_gates.specs.Quota.{used_at}
+use Rattle.drf_gates.specs.Front.{limits_at}
+use Rattle.drf_gates.specs.Quota.{Allowance, used_at}
 use Rattle.drf_gates.proofs.LeaveLemmas.{front_fails, fronts_pass, none_passes}
 use Rattle.drf_gates.proofs.quota.Quota.admits_one.Goals as goal
 
 pub loop-len-init : goal.loop-len-init
 loop-len-init c =
     none_passes (stays_within (used_at c.args.self.now.used) c.args.more.now) c.args.role.now c.args.more.now.label c.args.self.now.limits
-    c.recall.ensures
+    (ap (λ (a : Allowance). limits_at [] a.limits) (sym c.self.view_is) ∙ c.recall.ensures)
 
 pub returns-then-not-front_admits : goal.returns-then-not-front_admits
 returns-then-not-front_admits c =

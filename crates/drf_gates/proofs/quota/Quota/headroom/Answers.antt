@@ -1,7 +1,8 @@
-use Rattle.std.proofs.Common.{◌≡◌, List, ap, ◌∙◌, arith}
+use Rattle.std.proofs.Common.{◌≡◌, List, ap, ◌∙◌, arith, [], sym}
 use Rattle.drf_bundle.specs.declared.quantities.Entry.{Entry}
 use Rattle.drf_rows.specs.Quota.{headrooms}
 use Rattle.drf_bundle.specs.Quantities.{known_amount}
+use Rattle.drf_gates.specs.Front.{limits_at}
 use Rattle.drf_gates.specs.Quota.{Allowance, used_at}
 use Rattle.drf_gates.proofs.QuotaLemmas.{headroom-its}
 use Rattle.drf_gates.proofs.RoomLemmas.{headrooms_are}
@@ -12,7 +13,7 @@ pub loop-len-init : goal.loop-len-init
 loop-len-init c = λ label.
     ap (λ (es : List Entry). known_amount es label) c.empty-room.ensures
     ∙ least_begun (used_at c.args.self.now.used) c.args.role.now label c.args.self.now.limits
-    c.recall.ensures
+    (ap (λ (a : Allowance). limits_at [] a.limits) (sym c.self.view_is) ∙ c.recall.ensures)
 
 pub loop-len-preserved : goal.loop-len-preserved
 loop-len-preserved c =

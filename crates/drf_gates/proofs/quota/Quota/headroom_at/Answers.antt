@@ -1,5 +1,6 @@
-use Rattle.std.proofs.Common.{◌≡◌, ◌∙◌, arith}
+use Rattle.std.proofs.Common.{◌≡◌, ◌∙◌, arith, [], ap, sym}
 use Rattle.drf_rows.specs.Quota.{headroom_under}
+use Rattle.drf_gates.specs.Front.{limits_at}
 use Rattle.drf_gates.specs.Quota.{Allowance, used_at}
 use Rattle.drf_gates.proofs.QuotaLemmas.{headroom_at-its}
 use Rattle.drf_gates.proofs.LeastLemmas.{least_begun, least_next, least_end}
@@ -8,7 +9,7 @@ use Rattle.drf_gates.proofs.quota.Quota.headroom_at.Goals as goal
 pub loop-len-init : goal.loop-len-init
 loop-len-init c =
     least_begun (used_at c.args.self.now.used) c.args.role.now c.args.label.now c.args.self.now.limits
-    c.recall.ensures
+    (ap (λ (a : Allowance). limits_at [] a.limits) (sym c.self.view_is) ∙ c.recall.ensures)
 
 pub loop-len-preserved : goal.loop-len-preserved
 loop-len-preserved c =

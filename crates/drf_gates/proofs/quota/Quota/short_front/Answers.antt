@@ -1,4 +1,4 @@
-use Rattle.std.proofs.Common.{◌≡◌, ℕ, ◌≤◌, length, nat_le, take, ap, sym, ◌∙◌, arith, length-take-le}
+use Rattle.std.proofs.Common.{◌≡◌, ℕ, ◌≤◌, length, nat_le, take, ap, sym, ◌∙◌, arith, length-take-le, []}
 use Rattle.std.specs.List.{list_all}
 use Rattle.std.proofs.lemmas.List.{length-take}
 use Rattle.drf_role.specs.Path.{Path}
@@ -19,7 +19,7 @@ pub loop-len-init : goal.loop-len-init
 loop-len-init c =
     let a : Allowance = c.args.self.now in
     none_passes (λ l. nat_le c.args.least (room_under (used_at a.used) c.args.label.now l)) c.args.role.now c.args.label.now a.limits
-    c.recall.ensures
+    (ap (λ (a : Allowance). limits_at [] a.limits) (sym c.self.view_is) ∙ c.recall.ensures)
 
 pub returns-then-not-front_leaves-clause-first : goal.returns-then-not-front_leaves-clause-first
 returns-then-not-front_leaves-clause-first c = record {

@@ -11,14 +11,14 @@ use Rattle.drf_row_laws.specs.RegistrationLaws.{new_agent, agent_added}
 use Rattle.drf_rows.specs.Members.{has_agent}
 use Rattle.drf_rows.specs.Quota.{reserved_in}
 use Rattle.drf_rows.specs.declared.limits.TheConstants.{LARGEST_AMOUNT}
-use Rattle.drf_rows.specs.declared.rows.LimitRow.{LimitRow}
 use Rattle.drf_rows.specs.declared.rows.Rows.{Rows}
-use Rattle.drf_tables.specs.Inside.{CountsIf, AreDerived, is_settled, rows_in, rows_of}
+use Rattle.drf_tables.specs.Inside.{AreDerived, is_settled, rows_in, rows_of}
+use Rattle.drf_tables.specs.Recounting.{CountsAll}
 use Rattle.drf_tables.specs.Stored.{Stored}
 use Rattle.drf_tables.specs.declared.tables.Agent.{Agent}
 use Rattle.drf_tables.proofs.Fields.{has_agent-rows_in, rows_of-agent, sums_fit}
 use Rattle.drf_tables.proofs.Kept.{AreDerived-agent_added}
-use Rattle.drf_tables.proofs.Running.{counts-limits, kept-limits}
+use Rattle.drf_tables.proofs.Running.{counts-alike, kept-still}
 use Rattle.drf_tables.proofs.Recounted.{adds_counted, consumption-agent_added, counts-consumed, counts-still, reserved_le}
 use Rattle.drf_tables.proofs.tables.Tables.add_agent.Goals as goal
 
@@ -34,22 +34,19 @@ plus-requires c = λ label.
     omega (arith, fits, sum, mine)
 
 pub consume_total-requires : goal.consume_total-requires
-consume_total-requires c = λ is test label.
+consume_total-requires c =
     let t = c.self.inside in
-    adds_counted t.is_counted (rows_in t) t.quota c.self.invariant.consumed is test label (reserved_in test label c.args.total)
-    c.self.invariant.kept.consistent c.self.invariant.kept.few (reserved_le c.args.total test label LARGEST_AMOUNT (c.requires.small label))
+    adds_counted (rows_in t) t.consumption c.self.invariant.consumed (λ test label. reserved_in test label c.args.total)
+    c.self.invariant.kept.consistent c.self.invariant.kept.few (λ test label. reserved_le c.args.total test label LARGEST_AMOUNT (c.requires.small label))
 
 pub invariant_of-self-in_err-consume_total : goal.invariant_of-self-in_err-consume_total
 invariant_of-self-in_err-consume_total c =
     let t = c.self.inside in
-    let after = c.consume_total.new.quota in
-    let same = c.in_err-consume_total.ensures.err in
     let entries = c.reserve.new.self.entries in
-    let kept = kept-limits t entries after c.reserve.ensures.same (sym same.limits) c.self.invariant.kept in
     record {
-      kept = kept;
-      consumed = counts-limits t entries after c.reserve.ensures.same (sym same.limits)
-          (counts-still t.is_counted (rows_in t) t.quota c.self.invariant.consumed after same);
+      kept = kept-still t entries c.reserve.ensures.same c.self.invariant.kept;
+      consumed = counts-alike t entries c.reserve.ensures.same c.consume_total.new.consumption
+          (counts-still (rows_in t) t.consumption c.self.invariant.consumed c.consume_total.new.consumption c.in_err-consume_total.ensures.err);
     }
 
 pub add-requires-clause-new : goal.add-requires-clause-new
@@ -71,28 +68,23 @@ invariant_of-self-2 c =
     let last : c.add.new.self.entries ≡ t.agents.entries ++ (name, agent) ∷ [] =
     c.add.ensures ∙ ap (λ (es : List (Text × Agent)). es ++ (name, agent) ∷ []) c.reserve.ensures.same in
     let entries = c.add.new.self.entries in
-    let after = c.consume_total.new.quota in
-    let raised = c.in_ok-consume_total.ensures.ok in
-    let limits : t.quota.limits ≡ after.limits = sym raised.limits in
-    let rows : List LimitRow → Rows = λ limits.
-    rows_of entries t.frameworks.entries t.holdings t.filters t.weights.entries limits t.clock t.next_offer t.events in
-    let told : rows t.quota.limits ≡ agent_added (rows_in t) name total = rows_of-agent t entries name agent last refl in
+    let after = c.consume_total.new.consumption in
+    let rows : Rows = rows_of entries t.frameworks.entries t.holdings t.filters t.weights.entries t.limits t.clock t.next_offer t.events in
+    let told : rows ≡ agent_added (rows_in t) name total = rows_of-agent t entries name agent last refl in
     let all : agent.free ≡ Some total = ap (λ (free : List Resource). Some free) (c.new.ensures ∙ c.in_ok-free.ensures.same) in
     let right : IsAgent (new_agent name total) = record {
       total = c.quantities.ensures.bundle;
       small = c.requires.small;
     } in
     let sum : c.in_ok-sum.sum ≡ plus t.total (quantities_of total) = c.in_ok-sum.ensures ∙ ap (plus t.total) c.quantities.ensures.value in
-    let kept : AreDerived (rows t.quota.limits) entries c.in_ok-sum.sum t.clients = rw (told, last, sum) (
+    let kept : AreDerived rows entries c.in_ok-sum.sum t.clients = rw (told, last, sum) (
     AreDerived-agent_added (rows_in t) t.agents.entries t.total t.clients name agent c.self.invariant.kept few new right all
     ) in
-    let counts : CountsIf t.is_counted (agent_added (rows_in t) name total) after =
-    counts-consumed t.is_counted (rows_in t) t.quota c.self.invariant.consumed (agent_added (rows_in t) name total) after
-    (λ test label. reserved_in test label total) raised refl (consumption-agent_added (rows_in t) name total) in
     record {
-      kept = subst (λ (ls : List LimitRow). AreDerived (rows ls) entries c.in_ok-sum.sum t.clients) limits kept;
-      consumed = subst (λ (ls : List LimitRow). CountsIf t.is_counted (rows ls) after) limits
-          (subst (λ (r : Rows). CountsIf t.is_counted r after) (sym told) counts);
+      kept = kept;
+      consumed = subst (λ (r : Rows). CountsAll r after) (sym told)
+          (counts-consumed (rows_in t) t.consumption c.self.invariant.consumed (agent_added (rows_in t) name total) after
+          (λ test label. reserved_in test label total) c.in_ok-consume_total.ensures.ok (consumption-agent_added (rows_in t) name total));
     }
 
 pub returns-clause-ok : goal.returns-clause-ok
@@ -104,10 +96,7 @@ returns-clause-ok c =
     ap (λ (s : Stored). has_agent s.rows name) c.self.view_is ∙ c.requires.new in
     let last : c.add.new.self.entries ≡ t.agents.entries ++ (name, agent) ∷ [] =
     c.add.ensures ∙ ap (λ (es : List (Text × Agent)). es ++ (name, agent) ∷ []) c.reserve.ensures.same in
-    let rows : List LimitRow → Rows = λ limits.
-    rows_of c.add.new.self.entries t.frameworks.entries t.holdings t.filters t.weights.entries limits t.clock t.next_offer t.events in
-    ap rows c.in_ok-consume_total.ensures.ok.limits
-    ∙ rows_of-agent t c.add.new.self.entries name agent last refl
+    rows_of-agent t c.add.new.self.entries name agent last refl
     ∙ ap (λ (s : Stored). agent_added s.rows name c.args.total) c.self.view_is
 
 pub returns-clause-settled : goal.returns-clause-settled

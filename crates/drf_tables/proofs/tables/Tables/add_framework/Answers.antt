@@ -41,7 +41,7 @@ invariant_of-self c =
           AreDerived-framework_added (rows_in t) t.agents.entries t.total t.clients f
           c.self.invariant.kept new valid c.requires.roles counted
           );
-      consumed = counts-same _ (rows_in c.self.inside) _ _ c.self.invariant.consumed refl refl (λ test label. refl);
+      consumed = counts-same (rows_in c.self.inside) _ _ c.self.invariant.consumed refl (λ test label. refl);
     }
 
 pub returns-clause-rows : goal.returns-clause-rows

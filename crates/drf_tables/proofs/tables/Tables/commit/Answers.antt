@@ -1,6 +1,5 @@
 use Rattle.std.proofs.Common.{◌≡◌, ℕ, ◌+◌, ◌++◌, List, true, map, length, sym, ap, ◌∙◌, subst, arith}
 use Rattle.drf_rows.specs.Consistent.{IsConsistent, are_rising}
-use Rattle.drf_rows.specs.declared.rows.LimitRow.{LimitRow}
 use Rattle.drf_rows.specs.declared.rows.OfferRow.{OfferRow}
 use Rattle.drf_rows.specs.declared.rows.Rows.{Rows}
 use Rattle.drf_holdings.specs.Listed.{offer_number}
@@ -8,14 +7,13 @@ use Rattle.drf_holdings.specs.RisingLaws.{rising_from}
 use Rattle.drf_tables.specs.Counting.{counting_all, first_number}
 use Rattle.drf_tables.specs.DraftLaws.{next-with_offers, offers-with_offers}
 use Rattle.drf_tables.specs.Drafts.{with_offers, frees_of, frees_after}
-use Rattle.drf_tables.specs.Inside.{CountsIf, rows_of, rows_in, framework_rows, is_settled}
+use Rattle.drf_tables.specs.Inside.{rows_of, rows_in, framework_rows, is_settled}
 use Rattle.drf_tables.specs.Recounting.{CountsAll}
 use Rattle.drf_tables.specs.Stored.{Stored}
 use Rattle.drf_tables.proofs.Counted.{CanCountAll-from}
 use Rattle.drf_tables.proofs.Appended.{made_from}
 use Rattle.drf_tables.proofs.Fields.{rows_of-offers, agents_in}
 use Rattle.drf_tables.proofs.Kept.{AreDerived-with_offers, known-left, settled-left}
-use Rattle.drf_tables.proofs.Running.{limits-with_offers}
 use Rattle.drf_tables.proofs.tables.Tables.commit.Goals as goal
 
 pub append-requires : goal.append-requires
@@ -90,22 +88,17 @@ invariant_of-self-2 c =
     let settled : is_settled t.agents.entries ≡ true = ap (λ (s : Stored). s.settled) c.self.view_is ∙ c.requires.settled in
     let known = known-left (rows_in t) t.agents.entries c.put_lefts.new.agents.entries offers lefts
     (agents_in t) c.put_lefts.ensures.rows settled c.self.invariant.kept.free c.put_lefts.ensures.free left in
-    let after : Rows = with_offers (rows_in t) offers in
-    let counting : CountsAll after c.args.quota = subst (λ (s : Stored). CountsAll (with_offers s.rows offers) c.args.quota) (sym c.self.view_is) c.requires.quota in
-    let own : t.quota.limits ≡ after.limits = limits-with_offers t offers in
-    let limits : c.take_over-self-inside.new.quota.limits ≡ t.quota.limits = c.take_over-self-inside.ensures.limits after counting own ∙ sym own in
-    let counts : CountsIf c.take_over-self-inside.result after c.take_over-self-inside.new.quota = c.take_over-self-inside.ensures.counts after counting in
-    let stands : List LimitRow → ℕ → Rows = λ limits made.
+    let counts : CountsAll later c.args.consumption =
+    subst (λ (s : Stored). CountsAll (with_offers s.rows offers) c.args.consumption) (sym c.self.view_is) c.requires.consumption in
+    let told : ℕ → Rows = λ made.
     rows_of c.put_lefts.new.agents.entries c.count_offers.new.frameworks.entries c.append.new.self t.filters t.weights.entries
-    limits t.clock (t.next_offer + made) t.events in
-    let told : stands c.take_over-self-inside.new.quota.limits c.len-made.result ≡ stands t.quota.limits (length offers) =
-    λ i. stands (limits i) (long i) in
+    t.limits t.clock (t.next_offer + made) t.events in
     record {
-      kept = rw (long, limits, rows) (
+      kept = rw (long, rows) (
           AreDerived-with_offers (rows_in t) t.agents.entries c.put_lefts.new.agents.entries t.total t.clients offers
           c.self.invariant.kept consistent known
           );
-      consumed = subst (λ (r : Rows). CountsIf c.take_over-self-inside.result r c.take_over-self-inside.new.quota) (sym (told ∙ rows)) counts;
+      consumed = subst (λ (r : Rows). CountsAll r c.args.consumption) (sym (ap told long ∙ rows)) counts;
     }
 
 pub returns-clause-ok : goal.returns-clause-ok
@@ -126,11 +119,7 @@ returns-clause-ok c =
     c.self.invariant.kept.consistent.numbered risen first c.in_ok-append.ensures.ok in
     let long : c.len-made.result ≡ length offers = omega (arith, c.len-made.ensures, c.args.offers.now.ok.0) in
     let counted = c.count_offers.ensures ∙ ap (counting_all (framework_rows t.frameworks.entries)) made in
-    let after : Rows = with_offers (rows_in t) offers in
-    let counting : CountsAll after c.args.quota = subst (λ (s : Stored). CountsAll (with_offers s.rows offers) c.args.quota) (sym c.self.view_is) c.requires.quota in
-    let own : t.quota.limits ≡ after.limits = limits-with_offers t offers in
-    let limits : c.take_over-self-inside.new.quota.limits ≡ t.quota.limits = c.take_over-self-inside.ensures.limits after counting own ∙ sym own in
-    rw (long, limits) (
+    rw long (
     rows_of-offers t c.put_lefts.new.agents.entries c.count_offers.new.frameworks.entries
     c.append.new.self offers c.put_lefts.ensures.rows counted c.in_ok-append.ensures.ok c.append.ensures.tasks
     )

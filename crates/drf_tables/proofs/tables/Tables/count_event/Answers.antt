@@ -10,5 +10,5 @@ invariant_of-self c =
     let t = c.self.inside in
     record {
       kept = AreDerived-clocked (rows_in t) _ _ _ t.clock (t.events + 1) c.self.invariant.kept.consistent.early c.self.invariant.kept;
-      consumed = counts-same _ (rows_in c.self.inside) _ _ c.self.invariant.consumed refl refl (λ test label. refl);
+      consumed = counts-same (rows_in c.self.inside) _ _ c.self.invariant.consumed refl (λ test label. refl);
     }

@@ -1,11 +1,9 @@
-use Rattle.std.proofs.Common.{◌≡◌, List, Some, None, sym, ap, ◌∙◌, subst}
-use Rattle.drf_rows.specs.Consistent.{IsConsistent}
+use Rattle.std.proofs.Common.{◌≡◌, Some, None, sym, ap, ◌∙◌, subst}
 use Rattle.drf_rows.specs.Endings.{without_ended}
-use Rattle.drf_rows.specs.declared.rows.LimitRow.{LimitRow}
 use Rattle.drf_rows.specs.declared.rows.Rows.{Rows}
 use Rattle.drf_rows.specs.Ended.{ending_of}
 use Rattle.drf_tables.specs.Ended.{HasEnded}
-use Rattle.drf_tables.specs.Inside.{CountsIf, AreDerived, rows_in, rows_of}
+use Rattle.drf_tables.specs.Inside.{rows_in, rows_of}
 use Rattle.drf_tables.specs.Stored.{Stored}
 use Rattle.drf_holdings.specs.Stored.{HasTaken, holding_of}
 use Rattle.drf_tables.proofs.Ended.{ended-kept, ended-one, rows_ended, rows-none, without_it, without-none}
@@ -23,7 +21,7 @@ returns-in_err-taken-clause-none c =
     )
 
 pub release_held-requires : goal.release_held-requires
-release_held-requires c = λ is label.
+release_held-requires c =
     let t = c.self.inside in
     let ending = ending_of c.args.ending in
     let taken = c.in_ok-taken.taken in
@@ -31,8 +29,8 @@ release_held-requires c = λ is label.
     let entries = c.give_back.new.self.entries in
     let one = without_it t entries c.take.new.self ending taken c.self.invariant.kept c.give_back.ensures lost in
     let new : Rows = rows_ended t entries c.take.new.self ending taken c.self.invariant.kept c.give_back.ensures lost in
-    ending_fits t.is_counted (rows_in t) new t.quota (holding_of taken) c.self.invariant.consumed one.less
-    (sym (ap (λ (r : Rows). r.agents) one.others)) is label
+    ending_fits (rows_in t) new t.consumption (holding_of taken) c.self.invariant.consumed one.less
+    (sym (ap (λ (r : Rows). r.agents) one.others))
 
 pub invariant_of-self-2 : goal.invariant_of-self-2
 invariant_of-self-2 c =
@@ -42,18 +40,12 @@ invariant_of-self-2 c =
     let lost : HasTaken ending t.holdings c.take.new.self (Some taken) = c.in_ok-taken.ensures in
     let held = c.take.new.self in
     let entries = c.give_back.new.self.entries in
-    let after = c.release_held.new.quota in
     let one = without_it t entries held ending taken c.self.invariant.kept c.give_back.ensures lost in
     let new : Rows = rows_ended t entries held ending taken c.self.invariant.kept c.give_back.ensures lost in
-    let rows : List LimitRow → Rows = λ limits.
-    rows_of entries t.frameworks.entries held t.filters t.weights.entries limits t.clock t.next_offer t.events in
-    let counts : CountsIf t.is_counted new after =
-    counts-ended t.is_counted (rows_in t) new t.quota (holding_of taken) c.self.invariant.consumed one.less
-    (sym (ap (λ (r : Rows). r.agents) one.others)) after c.release_held.ensures (sym (ap (λ (r : Rows). r.limits) one.others)) in
     record {
-      kept = subst (λ (limits : List LimitRow). AreDerived (rows limits) entries t.total t.clients) c.release_held.ensures.limits
-          (ended-kept t entries held ending taken c.self.invariant.kept c.give_back.ensures lost);
-      consumed = subst (λ (limits : List LimitRow). CountsIf t.is_counted (rows limits) after) c.release_held.ensures.limits counts;
+      kept = ended-kept t entries held ending taken c.self.invariant.kept c.give_back.ensures lost;
+      consumed = counts-ended (rows_in t) new t.consumption (holding_of taken) c.self.invariant.consumed one.less
+          (sym (ap (λ (r : Rows). r.agents) one.others)) c.release_held.new.consumption c.release_held.ensures.raised;
     }
 
 pub returns-clause-some : goal.returns-clause-some
@@ -63,9 +55,8 @@ returns-clause-some c =
     let taken = c.in_ok-taken.taken in
     let lost : HasTaken ending t.holdings c.take.new.self (Some taken) = c.in_ok-taken.ensures in
     let entries = c.give_back.new.self.entries in
-    let rows : List LimitRow → Rows = λ limits.
-    rows_of entries t.frameworks.entries c.take.new.self t.filters t.weights.entries limits t.clock t.next_offer t.events in
-    subst (λ (q : Stored × List LimitRow). HasEnded q.0.rows (rows q.1) ending taken) (λ i. (c.self.view_is i, c.release_held.ensures.limits i))
+    let after : Rows = rows_of entries t.frameworks.entries c.take.new.self t.filters t.weights.entries t.limits t.clock t.next_offer t.events in
+    subst (λ (s : Stored). HasEnded s.rows after ending taken) c.self.view_is
     (ended-one t entries c.take.new.self ending taken c.self.invariant.kept c.give_back.ensures lost)
 
 pub returns-clause-consistent : goal.returns-clause-consistent
@@ -74,8 +65,4 @@ returns-clause-consistent c =
     let ending = ending_of c.args.ending in
     let taken = c.in_ok-taken.taken in
     let lost : HasTaken ending t.holdings c.take.new.self (Some taken) = c.in_ok-taken.ensures in
-    let entries = c.give_back.new.self.entries in
-    let rows : List LimitRow → Rows = λ limits.
-    rows_of entries t.frameworks.entries c.take.new.self t.filters t.weights.entries limits t.clock t.next_offer t.events in
-    subst (λ (limits : List LimitRow). IsConsistent (rows limits)) c.release_held.ensures.limits
-    (ended-kept t entries c.take.new.self ending taken c.self.invariant.kept c.give_back.ensures lost).consistent
+    (ended-kept t c.give_back.new.self.entries c.take.new.self ending taken c.self.invariant.kept c.give_back.ensures lost).consistent

@@ -11,7 +11,7 @@ unfolding rows_of
 invariant_of-self c =
     record {
       kept = kept-swept c.self.inside c.drop_spent.new.self c.drop_spent.ensures c.self.invariant.kept;
-      consumed = counts-same _ (rows_in c.self.inside) _ _ c.self.invariant.consumed refl refl (λ test label. refl);
+      consumed = counts-same (rows_in c.self.inside) _ _ c.self.invariant.consumed refl (λ test label. refl);
     }
 
 pub returns-clause-live : goal.returns-clause-live

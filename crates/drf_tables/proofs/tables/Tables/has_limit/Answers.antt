@@ -9,5 +9,5 @@ use Rattle.drf_tables.proofs.tables.Tables.has_limit.Goals as goal
 pub returns : goal.returns
 unfolding rows_of
 returns c =
-    c.is_some.ensures ∙ sym (is_some-copied c.limit.result) ∙ ap is_some c.limit.ensures ∙ found_limit c.self.inside.quota.limits c.args.role.now
+    c.is_some.ensures ∙ sym (is_some-copied c.get.result) ∙ ap is_some c.get.ensures ∙ found_limit c.self.inside.limits c.args.role.now
     ∙ ap (λ (s : Stored). has_limit s.rows c.args.role.now) c.self.view_is

@@ -53,11 +53,10 @@ invariant_of-self-2 c =
     let made : c.push.new.self.items ≡ o ∷ [] = c.in_ok-push.ensures.items ∙ ap (λ (os : List OfferRow). os ++ o ∷ []) c.new-offers.ensures.items in
     let last : c.append.new.self.offers ≡ t.holdings.offers ++ o ∷ [] =
     c.in_ok-append.ensures.ok ∙ ap (λ (os : List OfferRow). t.holdings.offers ++ os) made in
-    let uncounted : t.is_counted ≡ false = ap (λ (s : Stored). s.counted) c.self.view_is ∙ c.requires.uncounted in
     record {
       kept = kept-offer_put t c.self.invariant.kept entries c.append.new.self
           o told last c.append.ensures.tasks consistent;
-      consumed = rw uncounted (none_counted _ _);
+      consumed = none_counted _ t.consumption (ap (λ (s : Stored). s.counted) c.self.view_is ∙ c.requires.uncounted);
     }
 
 pub returns-clause-ok : goal.returns-clause-ok

@@ -45,11 +45,10 @@ invariant_of-self-2 c =
     subst (λ (n : Text). (change : Agent → Agent) (a : Agent) → lookup (same_text n) t.agents.entries ≡ Some a → change a ≡ record a { free = c.in_ok-left.left }
     → entries ≡ map (changed n change) t.agents.entries) c.in_ok-name.ensures c.set_free.ensures
     (with_held x.bundle) a at (left_held a x.bundle c.in_ok-left.left c.in_ok-left.ensures) in
-    let uncounted : t.is_counted ≡ false = ap (λ (s : Stored). s.counted) c.self.view_is ∙ c.requires.uncounted in
     record {
       kept = kept-task_put t c.self.invariant.kept entries c.put_task.new.self
           x told c.in_ok-put_task.ensures.ok c.put_task.ensures.offers consistent;
-      consumed = rw uncounted (none_counted _ _);
+      consumed = none_counted _ t.consumption (ap (λ (s : Stored). s.counted) c.self.view_is ∙ c.requires.uncounted);
     }
 
 pub returns-clause-ok : goal.returns-clause-ok

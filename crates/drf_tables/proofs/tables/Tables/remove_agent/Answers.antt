@@ -1,19 +1,16 @@
-use Rattle.std.proofs.Common.{◌≡◌, List, not, filter, sym, ap, ◌∙◌, subst}
-use Rattle.drf_role.specs.Path.{same_path}
+use Rattle.std.proofs.Common.{◌≡◌, not, filter, sym, ap, ◌∙◌, subst}
 use Rattle.drf_role.specs.Text.{same_text}
 use Rattle.drf_rows.specs.Endings.{without_ended, all_on}
 use Rattle.drf_rows.specs.Held.{cluster_total}
 use Rattle.drf_rows.specs.Members.{agent_removed}
-use Rattle.drf_rows.specs.declared.rows.LimitRow.{LimitRow}
-use Rattle.drf_rows.specs.declared.rows.Rows.{Rows}
-use Rattle.drf_tables.specs.Inside.{CountsIf, AreDerived, rows_in, rows_of}
+use Rattle.drf_tables.specs.Inside.{rows_in}
 use Rattle.drf_tables.specs.Stored.{Stored}
 use Rattle.drf_tables.proofs.Changes.{rows-left, kept-left}
 use Rattle.drf_tables.proofs.Running.{agent_fits, counts-left}
 use Rattle.drf_tables.proofs.tables.Tables.remove_agent.Goals as goal
 
 pub release_agent-requires : goal.release_agent-requires
-release_agent-requires c = λ is role label. agent_fits c.self.inside c.self.invariant.consumed c.args.agent.now is (same_path role) label
+release_agent-requires c = agent_fits c.self.inside c.self.invariant.consumed c.args.agent.now
 
 pub invariant_of-self : goal.invariant_of-self
 invariant_of-self c =
@@ -25,14 +22,9 @@ invariant_of-self c =
     c.requires.total ∙ sym (ap (λ (s : Stored). cluster_total (filter (λ a. not (same_text a.name name)) s.rows.agents)) c.self.view_is) in
     let entries = c.remove.new.self.entries in
     let filters = c.drop_agent.new.self in
-    let after = c.release_agent.new.quota in
-    let rows : List LimitRow → Rows = λ limits.
-    rows_of entries t.frameworks.entries t.holdings filters t.weights.entries limits t.clock t.next_offer t.events in
     record {
-      kept = subst (λ (limits : List LimitRow). AreDerived (rows limits) entries c.args.total t.clients) c.release_agent.ensures.limits
-          (kept-left t c.self.invariant.kept name entries filters c.args.total nothing c.remove.ensures c.drop_agent.ensures others);
-      consumed = subst (λ (limits : List LimitRow). CountsIf t.is_counted (rows limits) after) c.release_agent.ensures.limits
-          (counts-left t c.self.invariant.consumed name entries filters after c.remove.ensures c.release_agent.ensures);
+      kept = kept-left t c.self.invariant.kept name entries filters c.args.total nothing c.remove.ensures c.drop_agent.ensures others;
+      consumed = counts-left t c.self.invariant.consumed name entries filters c.release_agent.new.consumption c.remove.ensures c.release_agent.ensures.raised;
     }
 
 pub returns-clause-rows : goal.returns-clause-rows
@@ -45,8 +37,5 @@ returns-clause-rows c =
     c.requires.total ∙ sym (ap (λ (s : Stored). cluster_total (filter (λ a. not (same_text a.name name)) s.rows.agents)) c.self.view_is) in
     let entries = c.remove.new.self.entries in
     let filters = c.drop_agent.new.self in
-    let rows : List LimitRow → Rows = λ limits.
-    rows_of entries t.frameworks.entries t.holdings filters t.weights.entries limits t.clock t.next_offer t.events in
-    ap rows (sym c.release_agent.ensures.limits)
-    ∙ rows-left t c.self.invariant.kept name entries filters c.args.total nothing c.remove.ensures c.drop_agent.ensures others
+    rows-left t c.self.invariant.kept name entries filters c.args.total nothing c.remove.ensures c.drop_agent.ensures others
     ∙ ap (λ (s : Stored). agent_removed s.rows name) c.self.view_is

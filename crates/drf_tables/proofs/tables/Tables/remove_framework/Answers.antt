@@ -21,7 +21,7 @@ invariant_of-self c =
     record {
       kept = kept-gone t c.self.invariant.kept name c.take_framework.new.frameworks.entries c.drop_framework.new.self c.take_framework.result nothing
           c.take_framework.ensures.rows c.take_framework.ensures.clients c.drop_framework.ensures;
-      consumed = counts-same _ (rows_in c.self.inside) _ _ c.self.invariant.consumed refl refl (λ test label. refl);
+      consumed = counts-same (rows_in c.self.inside) _ _ c.self.invariant.consumed refl (λ test label. refl);
     }
 
 pub returns : goal.returns

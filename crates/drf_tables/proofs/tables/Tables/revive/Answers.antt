@@ -10,5 +10,5 @@ invariant_of-self c =
     record {
       kept = kept-revived c.self.inside c.self.invariant.kept (record { role = c.args.role.now; framework = c.args.framework.now })
           c.suppress.new.frameworks.entries c.revive.new.self c.suppress.ensures c.revive.ensures;
-      consumed = counts-same _ (rows_in c.self.inside) _ _ c.self.invariant.consumed refl refl (λ test label. refl);
+      consumed = counts-same (rows_in c.self.inside) _ _ c.self.invariant.consumed refl (λ test label. refl);
     }

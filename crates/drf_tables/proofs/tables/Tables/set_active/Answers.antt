@@ -15,7 +15,7 @@ unfolding rows_of
 invariant_of-self c =
     record {
       kept = kept-active c.self.inside c.self.invariant.kept c.args.agent.now c.args.active c.set_active.new.self.entries c.set_active.ensures;
-      consumed = counts-same _ (rows_in c.self.inside) _ _ c.self.invariant.consumed refl refl
+      consumed = counts-same (rows_in c.self.inside) _ _ c.self.invariant.consumed refl
           (λ test label.
           reserved-with_activity (rows_in c.self.inside) c.args.agent.now c.args.active test label
           ∙ sym (ap (λ (r : Rows). reserved_for test r.agents label)

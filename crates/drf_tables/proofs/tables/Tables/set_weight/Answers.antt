@@ -20,7 +20,7 @@ invariant_of-self c =
           AreDerived-weight_set (rows_in t) t.agents.entries t.total t.clients role c.args.weight c.requires.right c.recall.ensures.right
           c.self.invariant.kept
           );
-      consumed = counts-same _ (rows_in c.self.inside) _ _ c.self.invariant.consumed refl refl (λ test label. refl);
+      consumed = counts-same (rows_in c.self.inside) _ _ c.self.invariant.consumed refl (λ test label. refl);
     }
 
 pub returns-clause-rows : goal.returns-clause-rows

@@ -4,13 +4,13 @@ use Rattle.drf_row_laws.specs.EndingLaws.{new_starts}
 use Rattle.drf_rows.specs.Consistent.{IsFilter}
 use Rattle.drf_rows.specs.Offers.{CanAccept, left_of_offer, offer_at, task_of, AreNew}
 use Rattle.drf_rows.specs.declared.rows.FilterRow.{FilterRow}
-use Rattle.drf_rows.specs.declared.rows.LimitRow.{LimitRow}
 use Rattle.drf_rows.specs.declared.rows.OfferRow.{OfferRow}
 use Rattle.drf_rows.specs.declared.rows.Rows.{Rows}
 use Rattle.drf_bundle.specs.declared.resource.Resource.{Resource}
 use Rattle.drf_tables.specs.Changing.{HasFreed}
 use Rattle.drf_tables.specs.Ended.{with_accepted}
-use Rattle.drf_tables.specs.Inside.{CountsIf, AreDerived, rows_of, rows_in}
+use Rattle.drf_tables.specs.Inside.{rows_of, rows_in}
+use Rattle.drf_tables.specs.Recounting.{CountsAll}
 use Rattle.drf_tables.specs.Stored.{Stored}
 use Rattle.drf_tables.proofs.Counts.{counts-same}
 use Rattle.drf_tables.proofs.Ended.{found_any, accepted-rows, accepted-kept}
@@ -39,7 +39,7 @@ start-requires-clause-new c = λ o found.
 
 pub release_held-requires : goal.release_held-requires
 unfolding rows_of
-release_held-requires c = λ is label.
+release_held-requires c =
     let t = c.self.inside in
     let number = c.args.number in
     let can : CanAccept (rows_in t) number c.args.tasks =
@@ -48,8 +48,8 @@ release_held-requires c = λ is label.
     c.requires.rest can.offer (sym (ap (λ (s : Stored). offer_at s.rows number) c.self.view_is) ∙ can.at) in
     let both : ◌≡◌ {A = Option OfferRow} (Some c.in-Ok.offer) (Some can.offer) = sym c.in-Ok.ensures.ok.found ∙ can.at in
     let same : c.in-Ok.offer ≡ can.offer = cc in
-    accept_fits t.is_counted (rows_in t) t.quota c.self.invariant.consumed number can.offer c.in-Ok.offer c.args.tasks c.args.rest
-    c.self.invariant.kept.consistent can.at c.requires.bundles can.can same rest is label
+    accept_fits (rows_in t) t.consumption c.self.invariant.consumed number can.offer c.in-Ok.offer c.args.tasks c.args.rest
+    c.self.invariant.kept.consistent can.at c.requires.bundles can.can same rest
 
 pub invariant_of-self-in-Ok : goal.invariant_of-self-in-Ok
 unfolding rows_of
@@ -66,25 +66,21 @@ invariant_of-self-in-Ok c =
     let entries = c.give_back.new.self.entries in
     let held = c.start.new.self in
     let filters = c.add_if.new.filters in
-    let after = c.release_held.new.quota in
+    let after = c.release_held.new.consumption in
     let more : List FilterRow = option_map_or (λ f. f ∷ []) c.args.filter [] in
-    let rows : List LimitRow → Rows = λ limits.
-    rows_of entries t.frameworks.entries held filters t.weights.entries limits t.clock t.next_offer t.events in
+    let rows : Rows = rows_of entries t.frameworks.entries held filters t.weights.entries t.limits t.clock t.next_offer t.events in
     let back = subst (λ (r : List Resource). HasFreed c.in-Ok.offer.agent r t.agents.entries entries) rest c.give_back.ensures in
     let told = accepted-rows t entries held filters number c.args.tasks c.args.filter can.offer c.in-Ok.offer c.self.invariant.kept can.at
     c.in-Ok.ensures.ok back c.in_ok-add_if.ensures.ok in
-    let counts : CountsIf t.is_counted (with_accepted (rows_in t) can.offer c.args.tasks c.args.filter) after =
-    counts-accepted t.is_counted (rows_in t) t.quota c.self.invariant.consumed number can.offer c.in-Ok.offer c.args.tasks c.args.rest
-    c.self.invariant.kept.consistent can.at c.requires.bundles can.can same rest more after c.release_held.ensures in
+    let counts : CountsAll (with_accepted (rows_in t) can.offer c.args.tasks c.args.filter) after =
+    counts-accepted (rows_in t) t.consumption c.self.invariant.consumed number can.offer c.in-Ok.offer c.args.tasks c.args.rest
+    c.self.invariant.kept.consistent can.at c.requires.bundles can.can same rest more after c.release_held.ensures.raised in
     record {
-      kept = AreDerived-clocked (rows after.limits) entries t.total t.clients c.args.moment t.events c.requires.early
-          (subst (λ (limits : List LimitRow). AreDerived (rows limits) entries t.total t.clients) c.release_held.ensures.limits
+      kept = AreDerived-clocked rows entries t.total t.clients c.args.moment t.events c.requires.early
           (accepted-kept t entries held filters number c.args.tasks c.args.filter
           can.offer c.in-Ok.offer c.self.invariant.kept can.at c.in-Ok.ensures.ok back c.in_ok-add_if.ensures.ok
-          c.requires.bundles can.can allowed));
-      consumed = counts-same _ (rows after.limits) _ _
-          (subst (λ (limits : List LimitRow). CountsIf t.is_counted (rows limits) after) c.release_held.ensures.limits
-          (subst (λ (r : Rows). CountsIf t.is_counted r after) (sym told) counts)) refl refl (λ test label. refl);
+          c.requires.bundles can.can allowed);
+      consumed = counts-same rows _ after (subst (λ (r : Rows). CountsAll r after) (sym told) counts) refl (λ test label. refl);
     }
 
 pub returns-in-Ok-clause-ok : goal.returns-in-Ok-clause-ok
@@ -95,11 +91,9 @@ returns-in-Ok-clause-ok c = λ o at.
     let found : offer_at (rows_in t) number ≡ Some o = ap (λ (s : Stored). offer_at s.rows number) c.self.view_is ∙ at in
     let entries = c.give_back.new.self.entries in
     let back = subst (λ (r : List Resource). HasFreed c.in-Ok.offer.agent r t.agents.entries entries) (c.requires.rest o at) c.give_back.ensures in
-    let rows : List LimitRow → Rows = λ limits.
-    rows_of entries t.frameworks.entries c.start.new.self c.add_if.new.filters t.weights.entries limits t.clock t.next_offer t.events in
-    let same : rows c.release_held.new.quota.limits ≡ with_accepted c.args.self.now.rows o c.args.tasks c.args.filter
-    = ap rows (sym c.release_held.ensures.limits)
-    ∙ accepted-rows t entries c.start.new.self c.add_if.new.filters number c.args.tasks c.args.filter
+    let after : Rows = rows_of entries t.frameworks.entries c.start.new.self c.add_if.new.filters t.weights.entries t.limits t.clock t.next_offer t.events in
+    let same : after ≡ with_accepted c.args.self.now.rows o c.args.tasks c.args.filter
+    = accepted-rows t entries c.start.new.self c.add_if.new.filters number c.args.tasks c.args.filter
     o c.in-Ok.offer c.self.invariant.kept found c.in-Ok.ensures.ok back c.in_ok-add_if.ensures.ok
     ∙ ap (λ (s : Stored). with_accepted s.rows o c.args.tasks c.args.filter) c.self.view_is in
     λ i. record (same i) { clock = c.args.moment }

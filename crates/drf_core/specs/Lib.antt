@@ -4,9 +4,6 @@ pub mod Copies
 pub mod Keeping
 pub mod Cluster
 pub mod Working
-pub mod Drafting
-pub mod Entitling
-pub mod Explaining
-pub mod Accepting
-pub mod Refusing
-pub mod Applying
+pub mod cycle
+pub mod refusal
+pub mod events

@@ -11,7 +11,7 @@ use Rattle.drf_rows.specs.declared.reply.Reply.{Reply}
 use Rattle.drf_rows.specs.declared.rows.Rows.{Rows}
 use Rattle.drf_rows.specs.declared.event.Event.{Event}
 use Rattle.drf_sorter.specs.Work.{Work}
-use Rattle.drf_core.specs.Refusing.{early_refusal_of}
+use Rattle.drf_core.specs.refusal.Cases.{early_refusal_of}
 
 pub record Machine : Type 0 where
   pub limits : LimitNumbers

@@ -5,7 +5,7 @@ ghost use Rattle.drf_core.specs.Copies.{copies_if};
 ghost use Rattle.drf_core.specs.Machine.{IsOpened, IsSafe, IsSame, IsAfter, IsAfterAll, HasStopped};
 
 use crate::cluster::Cluster;
-use crate::explain::Telling;
+use crate::cycle::explain::Telling;
 use crate::stepped::Stepped;
 use drf_explain::Finding;
 use drf_laws::given_law;
@@ -52,7 +52,7 @@ impl<S: Sorter> Model for Core<S> {
 impl<S: Sorter> Core<S> {
     ghost use Rattle.std.specs.List.{list_any};
     ghost use Rattle.drf_rows.specs.Step.{live_rows, refusal_of, reply_to, replies_to};
-    ghost use Rattle.drf_core.specs.Refusing.{early_refusal_of};
+    ghost use Rattle.drf_core.specs.refusal.Cases.{early_refusal_of};
     ghost use Rattle.drf_rows.specs.Report.{report_of};
     ghost use Rattle.drf_content.specs.Content.{content_of};
     ghost use Rattle.drf_explain.specs.Each.{turns_by_agent};

@@ -5,7 +5,7 @@ ghost use Rattle.drf_rows.specs.Step.{opening, live_rows, refusal_of};
 ghost use Rattle.drf_content.specs.Content.{content_of};
 ghost use Rattle.drf_laws.specs.Kept.{AreFew};
 ghost use Rattle.drf_core.specs.Keeping.{IsStanding};
-ghost use Rattle.drf_core.specs.Refusing.{early_refusal_of};
+ghost use Rattle.drf_core.specs.refusal.Cases.{early_refusal_of};
 
 use crate::refusal::{refusal, refuse_early};
 use drf_rows::{Event, Limits, Refusal, Rows};

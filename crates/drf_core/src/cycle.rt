@@ -9,22 +9,25 @@ ghost use Rattle.drf_rows.specs.Step.{line_told, new_offers, refusal_of, effect}
 ghost use Rattle.drf_rows.specs.declared.event.Event.TheVariants.{Cycle};
 ghost use Rattle.drf_rows.specs.declared.reply.Reply.TheVariants.{Offers};
 ghost use Rattle.drf_rows.specs.Client.{path_of};
-ghost use Rattle.drf_tables.specs.Drafts.{with_offers};
+ghost use Rattle.drf_tables.specs.cycle.Drafts.{with_offers};
 ghost use Rattle.drf_tables.specs.Stored.{Stored};
 ghost use Rattle.drf_sorter.specs.Content.{Content};
 ghost use Rattle.drf_content.specs.Content.{content_of};
 ghost use Rattle.drf_core.specs.Copies.{copies_if};
 ghost use Rattle.drf_laws.specs.Kept.{IsKept};
-ghost use Rattle.drf_gates.specs.Quota.{quota_under};
+ghost use Rattle.drf_gates.specs.quota.Allowance.{quota_under};
 ghost use Rattle.drf_rows.specs.declared.rows.LimitRow.{LimitRow};
-ghost use Rattle.drf_core.specs.Entitling.{IsPassedOver, IsQuotaOf, known_role};
+ghost use Rattle.drf_core.specs.cycle.Entitling.{IsPassedOver, IsQuotaOf, known_role};
 ghost use Rattle.drf_rows.specs.declared.rows.Rows.{Rows};
-ghost use Rattle.drf_core.specs.Drafting.{IsCycleAt, IsDrafting, IsTurn, CanCount, IsTried, is_open_at, turn_at, turns_of};
+ghost use Rattle.drf_core.specs.cycle.Drafting.{IsCycleAt, IsDrafting, IsTurn, CanCount, IsTried, is_open_at, turn_at, turns_of};
 ghost use Rattle.drf_sorter.specs.Work.{Adds};
 ghost use Rattle.drf_core.specs.Working.{AddsDrafts, nodes_of, offered_to, touched};
 
+pub(crate) mod explain;
+pub(crate) mod free;
+
 use crate::cluster::Cluster;
-use crate::free::{Free, Known, grant};
+use crate::cycle::free::{Free, Known, grant};
 use crate::stepped::Stepped;
 use drf_amount::Algebra;
 use drf_bundle::Bundle;

@@ -11,11 +11,13 @@ ghost use Rattle.drf_rows.specs.Tasks.{covers_all, uses};
 ghost use Rattle.drf_rows.specs.Weights.{is_weight, too_many_weights};
 ghost use Rattle.drf_rows.specs.declared.event.Event.TheVariants.{AddAgent, AddFramework, Rescind, Finish, SetWeight, SetLimit, Cycle};
 ghost use Rattle.drf_rows.specs.declared.reply.Refusal.TheVariants.{HistoryFull, UnknownFramework, NotInRole, TooMany};
-ghost use Rattle.drf_core.specs.Accepting.{cases_of_tasks};
+ghost use Rattle.drf_core.specs.refusal.Accepting.{cases_of_tasks};
 ghost use Rattle.drf_laws.specs.Kept.{AreFew};
-ghost use Rattle.drf_core.specs.Refusing.{cases_of_agent, cases_of_move, early_refusal_of};
+ghost use Rattle.drf_core.specs.refusal.Cases.{cases_of_agent, cases_of_move, early_refusal_of};
 
-use crate::late::refuse_late;
+mod late;
+
+use crate::refusal::late::refuse_late;
 use drf_bundle::{Bundle, Quantities};
 use drf_role::{Name, Role};
 use drf_rows::{Accept, Decline, Event, LATEST_MOMENT, Limits, OfferRow, Refusal, Table, TaskList};

@@ -3,7 +3,7 @@ use Rattle.std.specs.Prelude.{◌≡◌, Bool, List, [], filter, Option, Some, N
 use Rattle.std.specs.Option.{MatchOption}
 use Rattle.drf_role.specs.Path.{Path, role_part, framework_part}
 use Rattle.drf_bundle.specs.declared.resource.Resource.{Resource}
-use Rattle.drf_gates.specs.Quota.{Allowance, IsAllowanceOf}
+use Rattle.drf_gates.specs.quota.Allowance.{Allowance, IsAllowanceOf}
 use Rattle.drf_rows.specs.Client.{Client}
 use Rattle.drf_rows.specs.Filters.{holds_back}
 use Rattle.drf_rows.specs.declared.rows.AgentRow.{AgentRow}

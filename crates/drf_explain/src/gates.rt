@@ -2,7 +2,7 @@
 ghost use Rattle.std.specs.Prelude.{◌≡◌, max, filter, IfOk};
 ghost use Rattle.std.specs.Option.{option_copied};
 ghost use Rattle.drf_bundle.specs.Bundle.{covers};
-ghost use Rattle.drf_gates.specs.Quota.{used_at};
+ghost use Rattle.drf_gates.specs.quota.Allowance.{used_at};
 ghost use Rattle.drf_rows.specs.Client.{Client, path_of};
 ghost use Rattle.drf_rows.specs.Filters.{holds_back, is_on_agent};
 ghost use Rattle.drf_rows.specs.Quota.{binds, consumption, room_under};

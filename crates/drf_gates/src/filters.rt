@@ -1,13 +1,17 @@
 //! The filters of declined offers, and of what is left of accepted ones.
 ghost use Rattle.std.specs.Prelude.{◌≡◌, [], ◌∷◌, ◌++◌, length, take, IfOk, OnOk, OnErr};
 ghost use Rattle.drf_rows.specs.Filters.{is_held_back, in_force, number_in_force, filters_without_client, filters_without_agent, filters_without_framework};
-ghost use Rattle.drf_gates.specs.Slots.{filled};
+ghost use Rattle.drf_gates.specs.filters.Slots.{filled};
 
-use crate::row::{
+pub(crate) mod index;
+mod row;
+pub(crate) mod slots;
+
+use crate::filters::row::{
     copy_slot_in_force, keep_filled, keep_in_force, keep_other_agents, keep_other_frameworks,
     number_in_force, soonest,
 };
-use crate::slots::Slots;
+use crate::filters::slots::Slots;
 use drf_bundle::Bundle;
 use drf_role::{Name, Role};
 use drf_rows::{Copied, FilterRow, Table};
@@ -33,7 +37,7 @@ impl Model for FilterTable {
 
     ghost coded = { coded_list filter_row.the_row.coded };
 
-    ghost use Rattle.drf_gates.specs.Slots.{filters_in, IsFilterTable};
+    ghost use Rattle.drf_gates.specs.filters.Slots.{filters_in, IsFilterTable};
 
     ghost view = { λ t. filters_in t.slots };
 

@@ -2,21 +2,12 @@
 //! left of accepted ones.
 #![tactic(auto)]
 
-mod consumed;
-mod consumption;
 mod filters;
-mod fronts;
-mod index;
 mod laws;
-mod limits;
 mod quota;
-mod row;
-mod slots;
-mod totals;
-mod usage;
 
-pub use consumption::Consumption;
 pub use filters::FilterTable;
 pub use laws::filters_law;
-pub use limits::QuotaLimits;
 pub use quota::Quota;
+pub use quota::consumption::Consumption;
+pub use quota::limits::QuotaLimits;

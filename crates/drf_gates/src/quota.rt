@@ -7,11 +7,18 @@ ghost use Rattle.drf_role.specs.Path.{Path};
 ghost use Rattle.drf_bundle.specs.Quantities.{known_amount};
 ghost use Rattle.drf_rows.specs.Quota.{binds, headroom_under, headrooms, stays_within, admits_under, consumption, headroom_at, headroom, admits};
 ghost use Rattle.drf_rows.specs.declared.rows.Rows.{Rows};
-ghost use Rattle.drf_gates.specs.Front.{IsFirstShort, front_leaves, front_passes, least_at, limits_at};
-ghost use Rattle.drf_gates.specs.Quota.{IsAllowanceOf, lessened, limit_row, lesser, used_at};
+ghost use Rattle.drf_gates.specs.quota.Front.{IsFirstShort, front_leaves, front_passes, least_at, limits_at};
+ghost use Rattle.drf_gates.specs.quota.Allowance.{IsAllowanceOf, lessened, limit_row, lesser, used_at};
 
-use crate::consumption::Consumption;
-use crate::limits::QuotaLimits;
+mod consumed;
+pub(crate) mod consumption;
+mod fronts;
+pub(crate) mod limits;
+pub(crate) mod totals;
+mod usage;
+
+use crate::quota::consumption::Consumption;
+use crate::quota::limits::QuotaLimits;
 use drf_bundle::{Entry, Quantities};
 use drf_role::Role;
 use std::alloc::AllocError;
@@ -25,7 +32,7 @@ pub struct Quota<'a> {
 }
 
 impl<'a> Model for Quota<'a> {
-    ghost use Rattle.drf_gates.specs.Quota.{Allowance, allowance_code};
+    ghost use Rattle.drf_gates.specs.quota.Allowance.{Allowance, allowance_code};
 
     ghost Value = { Allowance };
 

@@ -11,7 +11,7 @@ use Rattle.drf_rows.specs.Holdings.{Holding, of_offer, of_task}
 use Rattle.drf_rows.specs.Quota.{consumption_where, held_unreserved, is_within, reserved_for, unreserved_in}
 use Rattle.drf_rows.specs.declared.rows.LimitRow.{LimitRow}
 use Rattle.drf_rows.specs.declared.rows.Rows.{Rows}
-use Rattle.drf_gates.specs.Quota.{IsConsumptionOf, Usage, used_at}
+use Rattle.drf_gates.specs.quota.Allowance.{IsConsumptionOf, Usage, used_at}
 use Rattle.drf_show.specs.Consuming.{limit_line_by, used_of}
 use Rattle.drf_show.specs.Shown.{limit_line}
 

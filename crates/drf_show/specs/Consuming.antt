@@ -8,7 +8,7 @@ use Rattle.drf_rows.specs.Consistent.{IsConsistent}
 use Rattle.drf_rows.specs.Held.{clients_of}
 use Rattle.drf_rows.specs.declared.rows.LimitRow.{LimitRow}
 use Rattle.drf_rows.specs.declared.rows.Rows.{Rows}
-use Rattle.drf_gates.specs.Quota.{Usage, used_at}
+use Rattle.drf_gates.specs.quota.Allowance.{Usage, used_at}
 use Rattle.drf_show.specs.declared.limits.LimitLine.{LimitLine}
 
 -- the rows are consistent, and few, so that sums fit

@@ -4,7 +4,7 @@ ghost use Rattle.drf_role.specs.Text.{Text};
 ghost use Rattle.drf_role.specs.Path.{Path};
 ghost use Rattle.drf_rows.specs.Holdings.{of_offer, of_task};
 ghost use Rattle.drf_rows.specs.Quota.{consumption_where, held_unreserved, reserved_for};
-ghost use Rattle.drf_gates.specs.Quota.{IsConsumptionOf, IsRaisedBy, used_where};
+ghost use Rattle.drf_gates.specs.quota.Allowance.{IsConsumptionOf, IsRaisedBy, used_where};
 ghost use Rattle.drf_show.specs.Consuming.{limit_line_by, used_of};
 ghost use Rattle.drf_show.specs.Shown.{limit_lines};
 

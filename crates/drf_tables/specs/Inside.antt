@@ -18,7 +18,7 @@ use Rattle.drf_bundle.specs.Taken.{rest_of_all}
 use Rattle.drf_rows.specs.Holdings.{Holding, holdings_of, parts_on}
 use Rattle.drf_rows.specs.declared.rows.FilterRow.{FilterRow}
 use Rattle.drf_holdings.specs.Stored.{OffersAndTasks}
-use Rattle.drf_tables.specs.Recounting.{CountsAll}
+use Rattle.drf_tables.specs.limits.Recounting.{CountsAll}
 use Rattle.drf_tables.specs.declared.tables.Left.{Left}
 use Rattle.drf_tables.specs.declared.tables.Agent.{Agent}
 use Rattle.drf_tables.specs.declared.tables.Tables.TheInside.{Inside}

@@ -1,9 +1,6 @@
-pub mod Drafts
-pub mod Ended
+pub mod cycle
+pub mod offers
 pub mod Stored
 pub mod Inside
-pub mod Changing
-pub mod Counting
-pub mod Recounting
-pub mod Registered
-pub mod DraftLaws
+pub mod registry
+pub mod limits

@@ -2,28 +2,18 @@
 //! and the total of the cluster. Contracts see the rows, what room is reserved, and whether what is free is known.
 #![tactic(auto)]
 
-mod consuming;
-mod copied;
-mod ending;
-mod filtering;
-mod free_part;
-mod gaps;
-mod leaving;
+mod agents;
+mod cycle;
+mod filters;
 mod limits;
-mod listing;
-mod members;
-mod moving;
 mod offers;
-mod recounting;
 mod registry;
-mod restoring;
+mod reservations;
 mod room;
-mod settling;
-mod sweep;
 mod tables;
 
 pub use drf_holdings::Taken;
 pub use drf_rows::Ending;
-pub use restoring::offers_with;
 pub use room::is_too_large;
+pub use tables::restoring::offers_with;
 pub use tables::{Left, Tables};

@@ -8,12 +8,17 @@ ghost use Rattle.drf_bundle.specs.Quantities.{plus};
 ghost use Rattle.drf_rows.specs.Held.{cluster_total};
 ghost use Rattle.drf_rows.specs.Quota.{admits, has_limit, limits_with};
 ghost use Rattle.drf_rows.specs.Totals.{with_total, with_other_total, exchanged};
-ghost use Rattle.drf_gates.specs.Quota.{quota_under};
-ghost use Rattle.drf_tables.specs.Changing.{CanExchangeOn, CanHaveTotal};
-ghost use Rattle.drf_tables.specs.Recounting.{CountsAll};
+ghost use Rattle.drf_gates.specs.quota.Allowance.{quota_under};
+ghost use Rattle.drf_tables.specs.registry.Changing.{CanExchangeOn, CanHaveTotal};
+ghost use Rattle.drf_tables.specs.limits.Recounting.{CountsAll};
 
-use crate::consuming::{consume_offers, consume_tasks, consume_totals};
-use crate::recounting::{consume_total, follow_limit, recount_total, release_agent, release_total};
+mod consuming;
+pub(crate) mod recounting;
+
+use crate::limits::consuming::{consume_offers, consume_tasks, consume_totals};
+use crate::limits::recounting::{
+    consume_total, follow_limit, recount_total, release_agent, release_total,
+};
 use crate::tables::Tables;
 use drf_bundle::{Bundle, Quantities};
 use drf_gates::{Consumption, Quota};

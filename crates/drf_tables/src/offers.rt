@@ -1,73 +1,140 @@
-//! What the offers of a cycle change: the counts of their clients, and what is free on the agents.
-ghost use Rattle.std.specs.Prelude.{◌≡◌, ◌<◌, map, length, All, true};
-ghost use Rattle.drf_rows.specs.Cycle.{counted};
-ghost use Rattle.drf_rows.specs.Holdings.{of_offer};
-ghost use Rattle.drf_rows.specs.Consistent.{are_distinct};
-ghost use Rattle.drf_tables.specs.Counting.{counting, counting_all, first_number, CanCount, CanCountAll};
-ghost use Rattle.drf_tables.specs.Inside.{agent_row, framework_rows, frees_in, known_after};
+//! What is held ends, and an offer that is accepted becomes tasks.
+#![tactic(auto, unfolding(crate::specs::Inside::rows_of))]
 
-use crate::free_part::FreePart;
-use crate::registry::Registry;
-use crate::tables::Left;
-use drf_holdings::InOrder;
+ghost use Rattle.std.specs.Prelude.{◌≡◌, ◌≤◌, ◌++◌, ◌∷◌, [], true, Some, IfOk, OnOk, OnErr, IfSome, IfNone, option_copied};
+ghost use Rattle.std.specs.List.{AllByRecursion};
+ghost use Rattle.std.specs.Option.{option_map_or};
+ghost use Rattle.drf_bundle.specs.Bundle.{IsBundle};
+ghost use Rattle.drf_rows.specs.Consistent.{IsConsistent, IsFilter};
+ghost use Rattle.drf_rows.specs.Cycle.{at_moment};
+ghost use Rattle.drf_rows.specs.Endings.{without_ended};
+ghost use Rattle.drf_rows.specs.Offers.{CanAccept, left_of_offer, offer_accepted, offer_at, has_task};
+ghost use Rattle.drf_rows.specs.Tasks.{uses};
+ghost use Rattle.drf_rows.specs.declared.limits.TheConstants.{LATEST_MOMENT};
+ghost use Rattle.drf_rows.specs.declared.rows.FilterRow.{FilterRow};
+ghost use Rattle.drf_rows.specs.declared.rows.OfferRow.{OfferRow};
+ghost use Rattle.drf_rows.specs.Ended.{ending_of};
+ghost use Rattle.drf_tables.specs.offers.Ended.{HasEnded, rest_taken, with_accepted};
+
+use crate::filters::filter_rest;
+use crate::limits::recounting::release_held;
+use crate::registry::settling::settle_all;
+use crate::tables::Tables;
+use drf_bundle::Bundle;
+use drf_gates::FilterTable;
+use drf_holdings::Taken;
 use drf_role::Name;
-use drf_rows::{ClientRow, OfferRow};
-use indexmap::IndexMap;
+use drf_rows::{Accept, Ending, FilterRow, OfferRow, TaskList};
+use std::alloc::AllocError;
 
-/// Counts an offer at the client, of those of its framework, that has its role.
-fn count_at(clients: &mut [ClientRow], offer: &OfferRow)
-    requires { CanCount 1 clients.old }
-    ensures { clients.new ≡ map (counted (of_offer offer.now).client) clients.old }
+/// Adds a filter, if there is one. An `Err` changes nothing.
+fn add_if(filters: &mut FilterTable, filter: Option<FilterRow>) -> Result<(), AllocError>
+    ensures ok { OnOk result (filters.new ≡ filters.old ++ option_map_or (λ f. f ∷ []) filter []) }
+    ensures err { OnErr result (filters.new ≡ filters.old) }
 {
-    for client in clients.iter_mut() {
-        if client.role == offer.role {
-            client.count += 1;
+    match filter {
+        Some(row) => filters.add(row),
+        None => Ok(()),
+    }
+}
+
+impl Tables {
+    /// The offer of a number.
+    pub fn offer(&self, number: u64) -> Option<&OfferRow>
+        ensures { option_copied result ≡ offer_at self.now.rows number }
+    {
+        self.holdings.offer(number)
+    }
+
+    /// Whether the framework has a task of that name.
+    pub fn has_task(&self, framework: &Name, name: &Name) -> bool
+        ensures { result ≡ has_task self.now.rows framework.now name.now }
+    {
+        self.holdings.has_task(framework, name)
+    }
+
+    /// Computes what is free where it is not known. An `Err` changes no row.
+    pub fn settle(&mut self) -> Result<(), AllocError>
+        ensures settled { OnOk result (self.new.settled ≡ true) }
+        ensures same { self.new.rows ≡ self.old.rows }
+    {
+        settle_all(&mut self.agents, &self.holdings)
+    }
+
+    /// Takes one holding out that ends, if there is one. It needs no memory.
+    pub fn end(&mut self, ending: Ending) -> Option<Taken>
+        ensures some { IfSome result (HasEnded self.old.rows self.new.rows (ending_of ending.entry)) }
+        ensures none { IfNone result ((self.new.rows ≡ self.old.rows) × (without_ended self.old.rows (ending_of ending.entry) ≡ self.old.rows)) }
+        ensures consistent { IsConsistent self.new.rows }
+        ensures counted { self.new.counted ≡ self.old.counted }
+    {
+        let taken = self.holdings.take(ending)?;
+        self.agents.give_back(&taken.agent, &taken.bundle);
+        release_held(&mut self.consumption, &taken.role, &taken.bundle);
+        Some(taken)
+    }
+
+    /// Tasks are started with parts of an offer at a moment. The rest is free, and held no longer, as is told, and a filter stands
+    /// last, if one is given. An `Err` changes no row.
+    fn start(
+        &mut self,
+        number: u64,
+        tasks: TaskList,
+        rest: Bundle,
+        filter: Option<FilterRow>,
+        moment: u64,
+    ) -> Result<Taken, AllocError>
+        requires bundles { AllByRecursion IsBundle (uses tasks) }
+        requires can { CanAccept self.old.rows number tasks }
+        requires filter { (f : FilterRow) → filter ≡ Some f → IsFilter self.old.rows.agents self.old.rows.frameworks f }
+        requires rest { (o : OfferRow) → offer_at self.old.rows number ≡ Some o → rest ≡ left_of_offer o tasks }
+        requires early { moment ≤ LATEST_MOMENT }
+        ensures ok { OnOk result ((o : OfferRow) → offer_at self.old.rows number ≡ Some o
+            → self.new.rows ≡ record (with_accepted self.old.rows o tasks filter) { clock = moment }) }
+        ensures taken { IfOk result (λ taken. (o : OfferRow) → offer_at self.old.rows number ≡ Some o → taken ≡ rest_taken o tasks) }
+        ensures err { OnErr result (self.new.rows ≡ self.old.rows) }
+        ensures counted { self.new.counted ≡ self.old.counted }
+    {
+        let filters = self.filters.len();
+        add_if(&mut self.filters, filter)?;
+        match self.holdings.start(number, tasks) {
+            Ok(offer) => {
+                self.agents.give_back(&offer.agent, &rest);
+                release_held(&mut self.consumption, &offer.role, &rest);
+                self.clock = moment;
+                Ok(Taken {
+                    agent: offer.agent,
+                    role: offer.role,
+                    framework: offer.framework,
+                    bundle: rest,
+                })
+            }
+            Err(error) => {
+                self.filters.truncate(filters);
+                Err(error)
+            }
         }
     }
-}
 
-/// Counts an offer at its client.
-fn count_offer(frameworks: &mut IndexMap<Name, Vec<ClientRow>>, offer: &OfferRow)
-    requires names { are_distinct (map (λ f. f.name) (framework_rows frameworks.old.entries)) ≡ true }
-    requires fits { CanCountAll 1 (framework_rows frameworks.old.entries) }
-    ensures { framework_rows frameworks.new.entries ≡ counting (framework_rows frameworks.old.entries) offer.now }
-{
-    if let Some(place) = frameworks.get_index_of(&offer.framework) {
-        count_at(&mut frameworks[place], offer);
-    }
-}
-
-/// The number of the first offer, or else the next one.
-pub(crate) fn first_number(offers: &[OfferRow], next: u64) -> u64
-    ensures { result ≡ first_number offers.now next }
-{
-    match offers.first() {
-        Some(offer) => offer.number,
-        None => next,
-    }
-}
-
-/// Counts each offer at its client.
-pub(crate) fn count_offers(
-    frameworks: &mut IndexMap<Name, Vec<ClientRow>>,
-    offers: InOrder<'_, OfferRow>,
-)
-    requires names { are_distinct (map (λ f. f.name) (framework_rows frameworks.old.entries)) ≡ true }
-    requires fits { CanCountAll (length offers) (framework_rows frameworks.old.entries) }
-    ensures { framework_rows frameworks.new.entries ≡ counting_all (framework_rows frameworks.old.entries) offers.entry }
-{
-    for offer in offers {
-        count_offer(frameworks, offer);
-    }
-}
-
-/// Puts what is left on agents in the place of what was free there.
-pub(crate) fn put_lefts(agents: &mut Registry, lefts: Vec<Left>)
-    requires { All (λ left. left.agent < length agents.old.entries) lefts.items }
-    ensures rows { map agent_row agents.new.entries ≡ map agent_row agents.old.entries }
-    ensures free { frees_in agents.new.entries ≡ known_after (frees_in agents.old.entries) lefts.items }
-{
-    for left in lefts {
-        agents.set_free_at(left.agent, FreePart::new(left.free));
+    /// A framework starts tasks with parts of an offer, at a moment to which the clock goes on. The rest is free, and held no longer,
+    /// as is told, and is refused for a time. An `Err` changes no row.
+    pub fn accept(&mut self, accept: Accept) -> Result<Taken, AllocError>
+        requires can { CanAccept self.old.rows accept.offer accept.tasks }
+        requires early { accept.at ≤ LATEST_MOMENT }
+        ensures bundles { OnOk result (AllByRecursion IsBundle (uses accept.tasks)) }
+        ensures ok { OnOk result ((o : OfferRow) → offer_at self.old.rows accept.offer ≡ Some o
+            → self.new.rows ≡ offer_accepted (at_moment self.old.rows accept.at) o accept.tasks accept.refuse_ms) }
+        ensures taken { IfOk result (λ taken. (o : OfferRow) → offer_at self.old.rows accept.offer ≡ Some o → taken ≡ rest_taken o accept.tasks) }
+        ensures err { OnErr result (self.new.rows ≡ self.old.rows) }
+        ensures counted { self.new.counted ≡ self.old.counted }
+    {
+        // The proof learns that the tasks use bundles by this call alone.
+        let _ = accept.tasks.as_slice();
+        let moment = self.clock.max(accept.at);
+        let offer = self.offer(accept.offer).unwrap();
+        let rest = accept.tasks.rest_of(&offer.bundle)?;
+        let filter = filter_rest(offer, &rest, moment, accept.refuse_ms)?;
+        let taken = self.start(accept.offer, accept.tasks, rest, filter, moment)?;
+        Ok(taken)
     }
 }

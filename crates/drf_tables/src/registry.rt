@@ -2,13 +2,18 @@
 ghost use Rattle.std.specs.Prelude.{◌≡◌, ◌+◌, ◌<◌, ◌≤◌, true, false, [], ◌∷◌, ◌++◌, is_some, length, slice_get, None, Some, OnOk};
 ghost use Rattle.std.specs.Map.{lookup, keys_of, remove_entry};
 ghost use Rattle.std.specs.Option.{option_copied, option_map};
-ghost use Rattle.drf_gates.specs.Slots.{filled};
+ghost use Rattle.drf_gates.specs.filters.Slots.{filled};
 ghost use Rattle.drf_role.specs.Text.{same_text};
 ghost use Rattle.drf_rows.specs.Consistent.{are_distinct};
-ghost use Rattle.drf_tables.specs.Registered.{with_free_at, IsRegistry};
+ghost use Rattle.drf_tables.specs.registry.Registered.{with_free_at, IsRegistry};
 
-use crate::free_part::FreePart;
-use crate::gaps::{close_gaps, ranked};
+pub(crate) mod free_part;
+mod gaps;
+pub(crate) mod members;
+pub(crate) mod settling;
+
+use crate::registry::free_part::FreePart;
+use crate::registry::gaps::{close_gaps, ranked};
 use crate::tables::Agent;
 use drf_role::Name;
 use indexmap::IndexMap;
@@ -27,16 +32,16 @@ pub(crate) struct Registry {
 }
 
 impl Model for Registry {
-    ghost use Rattle.drf_tables.specs.Registered.{Registered, registered_code};
+    ghost use Rattle.drf_tables.specs.registry.Registered.{Registered, registered_code};
 
     ghost Value = { Registered };
 
     ghost coded = { registered_code };
 
     ghost use Rattle.std.specs.Prelude.{◌-◌, length, min, vec_capacity};
-    ghost use Rattle.drf_gates.specs.Slots.{filled};
+    ghost use Rattle.drf_gates.specs.filters.Slots.{filled};
     ghost use Rattle.indexmap.specs.IndexMap.{spare};
-    ghost use Rattle.drf_tables.specs.Registered.{IsRegistry};
+    ghost use Rattle.drf_tables.specs.registry.Registered.{IsRegistry};
 
     ghost view = { λ r. record { entries = filled r.slots.items; room = min (vec_capacity r.slots - length r.slots.items) (spare r.places) } };
 

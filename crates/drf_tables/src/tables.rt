@@ -16,16 +16,20 @@ ghost use Rattle.drf_rows.specs.Weights.{has_weight, is_weight, weights_with};
 ghost use Rattle.drf_rows.specs.Consistent.{IsConsistent, are_distinct_roles, offers_counted};
 ghost use Rattle.drf_rows.specs.declared.limits.TheConstants.{LARGEST_AMOUNT, LATEST_MOMENT};
 ghost use Rattle.drf_rows.specs.declared.rows.AgentRow.{AgentRow};
-ghost use Rattle.drf_tables.specs.Drafts.{with_offers, frees_of, frees_after};
-ghost use Rattle.drf_tables.specs.Recounting.{CountsAll};
+ghost use Rattle.drf_tables.specs.cycle.Drafts.{with_offers, frees_of, frees_after};
+ghost use Rattle.drf_tables.specs.limits.Recounting.{CountsAll};
 
-use crate::free_part::FreePart;
-use crate::listing::{agent_rows, framework_rows, weight_rows};
-use crate::offers::{count_offers, first_number, put_lefts};
-use crate::recounting::consume_total;
+mod copied;
+mod listing;
+pub(crate) mod restoring;
+
+use crate::cycle::{count_offers, first_number, put_lefts};
+use crate::filters::sweep::Sweep;
+use crate::limits::recounting::consume_total;
 use crate::registry::Registry;
-use crate::settling::free_left;
-use crate::sweep::Sweep;
+use crate::registry::free_part::FreePart;
+use crate::registry::settling::free_left;
+use crate::tables::listing::{agent_rows, framework_rows, weight_rows};
 use drf_amount::Algebra;
 use drf_bundle::{Bundle, Quantities};
 use drf_gates::{Consumption, FilterTable, QuotaLimits};

@@ -11,14 +11,14 @@ use Rattle.drf_role.specs.PathLaws.{NoDots, no_dots-role, role_part-client_path}
 use Rattle.drf_role.specs.Role.{IsRole}
 use Rattle.drf_bundle.specs.Bundle.{IsBundle}
 use Rattle.drf_bundle.specs.declared.resource.Resource.{Resource}
-use Rattle.drf_gates.specs.Quota.{Allowance}
+use Rattle.drf_gates.specs.quota.Allowance.{Allowance}
 use Rattle.drf_rows.specs.Cycle.{free_of, new_offer, with_offer}
 use Rattle.drf_rows.specs.declared.rows.AgentRow.{AgentRow}
 use Rattle.drf_rows.specs.declared.rows.Rows.{Rows}
-use Rattle.drf_core.specs.Drafting.{IsFreeAt, IsRegisteredPath, IsTried}
-use Rattle.drf_core.specs.Entitling.{IsBarred, IsKnownOf, IsOffered, IsPassedOver, IsQuotaOf, has_at_least, is_reserved_for, is_reserved_near, known_role}
-use Rattle.drf_core.specs.declared.free.Known.{Known}
-use Rattle.drf_core.specs.declared.free.Known.TheVariants.{Nothing, Part, Barred}
+use Rattle.drf_core.specs.cycle.Drafting.{IsFreeAt, IsRegisteredPath, IsTried}
+use Rattle.drf_core.specs.cycle.Entitling.{IsBarred, IsKnownOf, IsOffered, IsPassedOver, IsQuotaOf, has_at_least, is_reserved_for, is_reserved_near, known_role}
+use Rattle.drf_core.specs.declared.cycle.free.Known.{Known}
+use Rattle.drf_core.specs.declared.cycle.free.Known.TheVariants.{Nothing, Part, Barred}
 use Rattle.drf_core.proofs.drafting.Granted.{nothing_granted, spent}
 use Rattle.drf_core.proofs.drafting.Near.{none_near, shorter}
 use Rattle.drf_core.proofs.drafting.Turn.{AreWaiting, all_dropped, queue_begins, waiting-passed}

@@ -10,7 +10,7 @@ use Rattle.drf_rows.specs.Step.{new_offers}
 use Rattle.drf_rows.specs.declared.rows.AgentRow.{AgentRow}
 use Rattle.drf_rows.specs.declared.rows.Rows.{Rows}
 use Rattle.drf_sorter.specs.Content.{Content, IsOrderOf}
-use Rattle.drf_core.specs.Drafting.{IsDrafting, is_open_at, turn_at, turns_of}
+use Rattle.drf_core.specs.cycle.Drafting.{IsDrafting, is_open_at, turn_at, turns_of}
 use Rattle.drf_core.proofs.drafting.Cycle.{new_offers-drafts, turns-next}
 use Rattle.drf_core.proofs.drafting.Turn.{ordered_from, turn_at-closed}
 

@@ -13,17 +13,17 @@ use Rattle.drf_rows.specs.declared.rows.AgentRow.{AgentRow}
 use Rattle.drf_rows.specs.declared.rows.LimitRow.{LimitRow}
 use Rattle.drf_rows.specs.declared.rows.OfferRow.{OfferRow}
 use Rattle.drf_rows.specs.declared.rows.Rows.{Rows}
-use Rattle.drf_tables.specs.Drafts.{with_offers}
+use Rattle.drf_tables.specs.cycle.Drafts.{with_offers}
 use Rattle.drf_tables.specs.Stored.{Stored}
 use Rattle.drf_core.specs.declared.cycle.Drafts.{Drafts}
 use Rattle.drf_sorter.specs.Content.{Content}
 use Rattle.drf_content.specs.Content.{content_of}
 use Rattle.drf_laws.specs.Kept.{IsKept}
-use Rattle.drf_core.specs.Drafting.{IsCycleAt, IsDrafting, turn_at, turns_of}
-use Rattle.drf_gates.specs.Quota.{Usage, quota_under}
-use Rattle.drf_core.specs.Entitling.{IsQuotaOf}
-use Rattle.drf_tables.specs.DraftLaws.{offers-with_offers}
-use Rattle.drf_tables.specs.Recounting.{CountsAll}
+use Rattle.drf_core.specs.cycle.Drafting.{IsCycleAt, IsDrafting, turn_at, turns_of}
+use Rattle.drf_gates.specs.quota.Allowance.{Usage, quota_under}
+use Rattle.drf_core.specs.cycle.Entitling.{IsQuotaOf}
+use Rattle.drf_tables.specs.cycle.DraftLaws.{offers-with_offers}
+use Rattle.drf_tables.specs.limits.Recounting.{CountsAll}
 use Rattle.drf_laws.specs.laws.Kept.{consistent-clock}
 
 -- what is left of a list from a place on begins with the element there

@@ -12,7 +12,7 @@ use Rattle.drf_row_laws.specs.ConsistentLaws.{is_registered-counted}
 use Rattle.drf_rows.specs.declared.rows.OfferRow.{OfferRow}
 use Rattle.drf_rows.specs.declared.rows.Rows.{Rows}
 use Rattle.drf_sorter.specs.Content.{Content, with_change, charged, discharged, has_client, HasChargeAt}
-use Rattle.drf_tables.specs.Drafts.{with_offers}
+use Rattle.drf_tables.specs.cycle.Drafts.{with_offers}
 use Rattle.drf_content.specs.Content.{content_of}
 use Rattle.drf_content.specs.laws.Offer.{content_of-with_offer, discharged-with_change, HasChargeAt-charged}
 use Rattle.drf_content.specs.laws.Members.{has_client-registered}

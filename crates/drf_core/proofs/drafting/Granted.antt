@@ -17,7 +17,7 @@ use Rattle.drf_bundle.specs.laws.KeyLaws.{unit_of, where-cons}
 use Rattle.drf_bundle.specs.laws.SumLaws.{amount-quantities_of, of_name}
 use Rattle.drf_bundle.specs.declared.quantities.Entry.{Entry}
 use Rattle.drf_bundle.specs.declared.resource.Resource.{Resource}
-use Rattle.drf_gates.specs.Quota.{Allowance, IsAllowanceOf, IsRaisedBy, Usage, quota_under}
+use Rattle.drf_gates.specs.quota.Allowance.{Allowance, IsAllowanceOf, IsRaisedBy, Usage, quota_under}
 use Rattle.drf_rows.specs.Client.{Client, path_of}
 use Rattle.drf_rows.specs.Consistent.{IsConsistent}
 use Rattle.drf_rows.specs.Cycle.{free_of, grant, is_allocatable, with_offer}
@@ -32,11 +32,11 @@ use Rattle.drf_rows.specs.declared.rows.FilterRow.{FilterRow}
 use Rattle.drf_rows.specs.declared.rows.LimitRow.{LimitRow}
 use Rattle.drf_rows.specs.declared.rows.OfferRow.{OfferRow}
 use Rattle.drf_rows.specs.declared.rows.Rows.{Rows}
-use Rattle.drf_core.specs.Drafting.{CanCount}
-use Rattle.drf_core.specs.Entitling.{IsEntitlement, IsKnown, IsKnownOf, IsOffered, IsQuotaOf, has_at_least, if_allocatable, is_of_worth, is_reserved, is_reserved_for, known_part, known_role}
-use Rattle.drf_core.specs.declared.free.Free.{Free}
-use Rattle.drf_core.specs.declared.free.Known.{Known}
-use Rattle.drf_core.specs.declared.free.Known.TheVariants.{Nothing, Part, Barred}
+use Rattle.drf_core.specs.cycle.Drafting.{CanCount}
+use Rattle.drf_core.specs.cycle.Entitling.{IsEntitlement, IsKnown, IsKnownOf, IsOffered, IsQuotaOf, has_at_least, if_allocatable, is_of_worth, is_reserved, is_reserved_for, known_part, known_role}
+use Rattle.drf_core.specs.declared.cycle.free.Free.{Free}
+use Rattle.drf_core.specs.declared.cycle.free.Known.{Known}
+use Rattle.drf_core.specs.declared.cycle.free.Known.TheVariants.{Nothing, Part, Barred}
 
 -- ---- what a role may have
 

@@ -10,7 +10,7 @@ use Rattle.drf_role.specs.TextLaws.{same_from_test}
 use Rattle.drf_role.specs.Path.{Path, begins_with, same_path}
 use Rattle.drf_role.specs.PathLaws.{same_path-true, same_path_itself}
 use Rattle.drf_bundle.specs.declared.resource.Resource.{Resource}
-use Rattle.drf_core.specs.Entitling.{is_reserved, is_reserved_for, is_reserved_near}
+use Rattle.drf_core.specs.cycle.Entitling.{is_reserved, is_reserved_for, is_reserved_near}
 
 -- fewer parts are alike too
 pub shorter : (m n : ℕ) (a b : Path) → m ≤ n → take n a ≡ take n b → take m a ≡ take m b

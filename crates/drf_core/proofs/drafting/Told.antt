@@ -9,7 +9,7 @@ use Rattle.drf_role.specs.PathLaws.{role_part-client_path}
 use Rattle.drf_role.specs.Text.{Text}
 use Rattle.drf_bundle.specs.Bundle.{part_for}
 use Rattle.drf_bundle.specs.declared.resource.Resource.{Resource}
-use Rattle.drf_gates.specs.Quota.{Allowance}
+use Rattle.drf_gates.specs.quota.Allowance.{Allowance}
 use Rattle.drf_rows.specs.Client.{Client, path_of}
 use Rattle.drf_rows.specs.Cycle.{free_of, is_allocatable, with_offer, tried, all_tried, turn, turn_order, at_moment}
 use Rattle.drf_row_laws.specs.CycleLaws.{all_tried_none}
@@ -29,12 +29,12 @@ use Rattle.drf_explain.specs.declared.finding.Finding.{Finding}
 use Rattle.drf_explain.specs.declared.finding.Finding.TheVariants.{Inactive, NothingFree, Tried, Left}
 use Rattle.drf_explain.specs.declared.finding.Outcome.{Outcome}
 use Rattle.drf_explain.specs.declared.gates.Gates.{Gates}
-use Rattle.drf_tables.specs.Drafts.{with_offers}
-use Rattle.drf_tables.specs.DraftLaws.{agents-with_offers}
+use Rattle.drf_tables.specs.cycle.Drafts.{with_offers}
+use Rattle.drf_tables.specs.cycle.DraftLaws.{agents-with_offers}
 use Rattle.drf_laws.specs.laws.Clients.{path_of-injective}
-use Rattle.drf_core.specs.Drafting.{IsRegisteredPath, IsTried, is_open_at, turn_at}
-use Rattle.drf_core.specs.Entitling.{IsEntitlement, IsQuotaOf}
-use Rattle.drf_core.specs.Explaining.{IsOutcomeOf, left_to_tell, left_told, told_at, told_by, told_on, untouched_at}
+use Rattle.drf_core.specs.cycle.Drafting.{IsRegisteredPath, IsTried, is_open_at, turn_at}
+use Rattle.drf_core.specs.cycle.Entitling.{IsEntitlement, IsQuotaOf}
+use Rattle.drf_core.specs.cycle.Explaining.{IsOutcomeOf, left_to_tell, left_told, told_at, told_by, told_on, untouched_at}
 use Rattle.drf_core.proofs.drafting.Cycle.{begins_at}
 use Rattle.drf_core.proofs.drafting.Turn.{element_at, queue_begins, turn_at-closed}
 

@@ -9,7 +9,7 @@ use Rattle.drf_role.specs.Path.{Path, role_part, framework_part}
 use Rattle.drf_role.specs.PathLaws.{role_part-client_path, framework_part-client_path}
 use Rattle.drf_bundle.specs.Bundle.{rest, quantities_of}
 use Rattle.drf_bundle.specs.declared.resource.Resource.{Resource}
-use Rattle.drf_gates.specs.Quota.{Allowance, Usage, quota_under}
+use Rattle.drf_gates.specs.quota.Allowance.{Allowance, Usage, quota_under}
 use Rattle.drf_bundle.specs.ListLaws.{each_at}
 use Rattle.drf_rows.specs.Client.{Client, path_of}
 use Rattle.drf_rows.specs.Holdings.{of_offer}
@@ -22,14 +22,14 @@ use Rattle.drf_rows.specs.declared.rows.LimitRow.{LimitRow}
 use Rattle.drf_rows.specs.declared.rows.OfferRow.{OfferRow}
 use Rattle.drf_rows.specs.declared.rows.Rows.{Rows}
 use Rattle.drf_sorter.specs.Content.{Content, with_change, charged, has_client, IsSound}
-use Rattle.drf_tables.specs.Drafts.{with_offers}
+use Rattle.drf_tables.specs.cycle.Drafts.{with_offers}
 use Rattle.drf_tables.specs.declared.tables.Left.{Left}
 use Rattle.drf_content.specs.Content.{content_of}
-use Rattle.drf_core.specs.Drafting.{IsDrafting, CanCount, HasLeft, IsRegisteredPath, IsFreeAt, IsTried}
-use Rattle.drf_core.specs.Entitling.{IsQuotaOf}
+use Rattle.drf_core.specs.cycle.Drafting.{IsDrafting, CanCount, HasLeft, IsRegisteredPath, IsFreeAt, IsTried}
+use Rattle.drf_core.specs.cycle.Entitling.{IsQuotaOf}
 use Rattle.drf_core.proofs.drafting.Granted.{can_count}
 use Rattle.drf_core.proofs.drafting.Turn.{left-tried}
-use Rattle.drf_tables.specs.DraftLaws.{agents-with_offers, next-with_offers}
+use Rattle.drf_tables.specs.cycle.DraftLaws.{agents-with_offers, next-with_offers}
 use Rattle.drf_core.proofs.drafting.Drafts.{with_offers-push, is_registered-with_offers}
 use Rattle.drf_content.specs.laws.Offer.{content_of-with_offer}
 use Rattle.drf_content.specs.laws.Members.{has_client-registered}

@@ -19,14 +19,14 @@ use Rattle.drf_row_laws.specs.ConsistentLaws.{same_text-swap}
 use Rattle.drf_rows.specs.declared.rows.AgentRow.{AgentRow}
 use Rattle.drf_rows.specs.declared.rows.OfferRow.{OfferRow}
 use Rattle.drf_rows.specs.declared.rows.Rows.{Rows}
-use Rattle.drf_tables.specs.Drafts.{with_offers, frees_of, frees_after}
+use Rattle.drf_tables.specs.cycle.Drafts.{with_offers, frees_of, frees_after}
 use Rattle.drf_tables.specs.Stored.{Stored}
 use Rattle.drf_tables.specs.declared.tables.Left.{Left}
 use Rattle.drf_core.specs.declared.cycle.Drafts.{Drafts}
-use Rattle.drf_core.specs.declared.free.Free.{Free}
-use Rattle.drf_core.specs.Drafting.{IsCycleAt, IsDrafting, IsFreeAt, IsRegisteredPath, IsTried, IsTurn, HasLeft, is_open_at, turn_at}
+use Rattle.drf_core.specs.declared.cycle.free.Free.{Free}
+use Rattle.drf_core.specs.cycle.Drafting.{IsCycleAt, IsDrafting, IsFreeAt, IsRegisteredPath, IsTried, IsTurn, HasLeft, is_open_at, turn_at}
 use Rattle.drf_sorter.specs.Content.{Content, IsSound, IsOrderOf}
-use Rattle.drf_tables.specs.DraftLaws.{agents-with_offers, next-with_offers}
+use Rattle.drf_tables.specs.cycle.DraftLaws.{agents-with_offers, next-with_offers}
 use Rattle.drf_core.proofs.drafting.Drafts.{is_registered-with_offers}
 use Rattle.drf_content.specs.laws.Sound.{IsSound-content_of}
 use Rattle.drf_content.specs.laws.Order.{IsOrderOf-turn_order}

@@ -5,7 +5,7 @@ use Rattle.drf_rows.specs.declared.event.Event.{Event}
 use Rattle.drf_rows.specs.declared.event.Event.TheVariants.{Cycle, Report}
 use Rattle.drf_rows.specs.declared.reply.Reply.TheVariants.{Done}
 use Rattle.drf_rows.specs.declared.rows.Rows.{Rows}
-use Rattle.drf_core.specs.Applying.{has_answer}
+use Rattle.drf_core.specs.events.Answered.{has_answer}
 
 pub done : (before after : Rows) (event : Event) → ((at : ℕ) → event ≡ Cycle at → ⊥) → (event ≡ Report → ⊥)
     → (has_answer event ≡ false) × (Done ≡ answer before after event)

@@ -20,7 +20,7 @@ use Rattle.drf_rows.specs.declared.rows.FrameworkRow.{FrameworkRow}
 use Rattle.drf_rows.specs.declared.rows.Rows.{Rows}
 use Rattle.drf_sorter.specs.Content.{Content, has_client, with_change, refunded, HoldsAt}
 use Rattle.drf_sorter.specs.Content as sorter
-use Rattle.drf_tables.specs.Ended.{HasEnded}
+use Rattle.drf_tables.specs.offers.Ended.{HasEnded}
 use Rattle.drf_rows.specs.Client.{path_of}
 use Rattle.drf_holdings.specs.Stored.{holding_of}
 use Rattle.drf_holdings.specs.declared.holdings.Taken.{Taken}

@@ -25,9 +25,9 @@ use Rattle.drf_rows.specs.declared.rows.AgentRow.{AgentRow}
 use Rattle.drf_rows.specs.declared.rows.LimitRow.{LimitRow}
 use Rattle.drf_rows.specs.declared.rows.Rows.{Rows}
 use Rattle.drf_sorter.specs.Content.{Content}
-use Rattle.drf_tables.specs.Changing.{CanExchangeOn, CanHaveTotal}
+use Rattle.drf_tables.specs.registry.Changing.{CanExchangeOn, CanHaveTotal}
 use Rattle.drf_content.specs.Content.{content_of}
-use Rattle.drf_core.specs.Refusing.{early_cases_of, late_cases_of}
+use Rattle.drf_core.specs.refusal.Cases.{early_cases_of, late_cases_of}
 use Rattle.drf_laws.specs.laws.Welcome.{no_case_of, small_amounts}
 
 -- the cases that are told whatever the memory come first

@@ -20,7 +20,7 @@ use Rattle.drf_row_laws.specs.TotalsLaws.{cluster_total-other_total}
 use Rattle.drf_rows.specs.declared.limits.TheConstants.{LARGEST_AMOUNT}
 use Rattle.drf_rows.specs.declared.rows.AgentRow.{AgentRow}
 use Rattle.drf_rows.specs.declared.rows.Rows.{Rows}
-use Rattle.drf_core.specs.Refusing.{cases_of_total}
+use Rattle.drf_core.specs.refusal.Cases.{cases_of_total}
 use Rattle.drf_laws.specs.laws.Welcome.{no_case, small_amounts}
 
 -- a result of which more is known

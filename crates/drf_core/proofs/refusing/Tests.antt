@@ -15,7 +15,7 @@ use Rattle.drf_rows.specs.Step.{first_case, refusal_of}
 use Rattle.drf_rows.specs.declared.event.Event.{Event}
 use Rattle.drf_rows.specs.declared.reply.Refusal.{Refusal}
 use Rattle.drf_rows.specs.declared.rows.Rows.{Rows}
-use Rattle.drf_core.specs.Refusing.{early_cases_of, late_cases_of, early_refusal_of}
+use Rattle.drf_core.specs.refusal.Cases.{early_cases_of, late_cases_of, early_refusal_of}
 use Rattle.drf_core.proofs.effects.Moved.{early_and_late}
 
 pub empty_from : {A : Type 0} (xs : List A) (b : Bool) → (b ≡ true → xs ≡ []) × (xs ≡ [] → b ≡ true) → b ≡ is_empty xs

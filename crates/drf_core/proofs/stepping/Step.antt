@@ -15,7 +15,7 @@ use Rattle.drf_rows.specs.declared.reply.Reply.{Reply}
 use Rattle.drf_rows.specs.declared.rows.Rows.{Rows}
 use Rattle.drf_core.specs.Machine.{Engine, IsSame, IsAfter, IsAfterAll, HasStopped}
 use Rattle.drf_laws.specs.Kept.{AreFew, IsKept, IsCountable}
-use Rattle.drf_core.specs.Refusing.{early_cases_of, early_refusal_of}
+use Rattle.drf_core.specs.refusal.Cases.{early_cases_of, early_refusal_of}
 use Rattle.drf_laws.specs.laws.Kept.{countable_after}
 use Rattle.drf_core.proofs.refusing.Tests.{told_early}
 use Rattle.drf_laws.specs.laws.SameLive.{welcome_from}

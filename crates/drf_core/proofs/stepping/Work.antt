@@ -21,7 +21,7 @@ use Rattle.drf_rows.specs.declared.rows.OfferRow.{OfferRow}
 use Rattle.drf_rows.specs.declared.rows.TaskRow.{TaskRow}
 use Rattle.drf_rows.specs.declared.rows.Rows.{Rows}
 use Rattle.drf_sorter.specs.Content.{Content, HasNodes}
-use Rattle.drf_tables.specs.Ended.{HasEnded}
+use Rattle.drf_tables.specs.offers.Ended.{HasEnded}
 use Rattle.drf_holdings.specs.Stored.{holding_of}
 use Rattle.drf_holdings.specs.declared.holdings.Taken.{Taken}
 use Rattle.drf_content.specs.Content.{content_of}

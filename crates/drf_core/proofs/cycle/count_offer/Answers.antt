@@ -1,7 +1,7 @@
 use Rattle.std.proofs.Common.{subst}
 use Rattle.std.proofs.lemmas.Result.{on_ok_weaker}
-use Rattle.drf_gates.specs.Quota.{quota_under}
-use Rattle.drf_core.specs.Entitling.{IsQuotaOf}
+use Rattle.drf_gates.specs.quota.Allowance.{quota_under}
+use Rattle.drf_core.specs.cycle.Entitling.{IsQuotaOf}
 use Rattle.drf_core.proofs.drafting.Granted.{offer-counted, unlimited-counted}
 use Rattle.drf_core.proofs.cycle.count_offer.Goals as goal
 

@@ -1,5 +1,5 @@
 use Rattle.std.proofs.Common.{◌≡◌, ◌<◌, ℕ, false}
-use Rattle.drf_core.specs.Drafting.{is_open_at}
+use Rattle.drf_core.specs.cycle.Drafting.{is_open_at}
 use Rattle.drf_core.proofs.cycle.has_open.Given as goal
 
 abbrev pub invariant-loop-place : goal.invariant-loop-place

@@ -1,7 +1,7 @@
 use Rattle.std.proofs.Common.{subst}
-use Rattle.drf_gates.specs.Quota.{quota_under}
+use Rattle.drf_gates.specs.quota.Allowance.{quota_under}
 use Rattle.drf_rows.specs.declared.rows.Rows.{Rows}
-use Rattle.drf_core.specs.Entitling.{IsQuotaOf}
+use Rattle.drf_core.specs.cycle.Entitling.{IsQuotaOf}
 use Rattle.drf_core.proofs.drafting.Cycle.{quota-lent}
 use Rattle.drf_core.proofs.cycle.lend_consumption.Goals as goal
 

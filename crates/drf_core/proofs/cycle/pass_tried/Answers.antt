@@ -1,5 +1,5 @@
 use Rattle.std.proofs.Common.{sym, subst}
-use Rattle.drf_core.specs.Entitling.{IsPassedOver}
+use Rattle.drf_core.specs.cycle.Entitling.{IsPassedOver}
 use Rattle.drf_core.proofs.drafting.Barred.{passed_alone}
 use Rattle.drf_core.proofs.cycle.pass_tried.Goals as goal
 

@@ -2,7 +2,7 @@ use Rattle.std.proofs.Common.{◌≡◌, true, vec_len}
 use Rattle.std.specs.List.{AllByRecursion}
 use Rattle.drf_rows.specs.Holdings.{of_offer}
 use Rattle.drf_rows.specs.Held.{is_registered}
-use Rattle.drf_tables.specs.Drafts.{with_offers}
+use Rattle.drf_tables.specs.cycle.Drafts.{with_offers}
 use Rattle.drf_content.specs.Content.{content_of}
 use Rattle.drf_core.proofs.cycle.take_back.Given as goal
 

@@ -5,15 +5,15 @@ use Rattle.std.specs.Option.{MatchOption, option_copied}
 use Rattle.drf_role.specs.Path.{Path, role_part}
 use Rattle.drf_bundle.specs.Bundle.{rest, quantities_of}
 use Rattle.drf_bundle.specs.ListLaws.{each_at}
-use Rattle.drf_gates.specs.Quota.{Allowance, quota_under}
+use Rattle.drf_gates.specs.quota.Allowance.{Allowance, quota_under}
 use Rattle.drf_rows.specs.Client.{path_of}
 use Rattle.drf_rows.specs.Holdings.{of_offer}
 use Rattle.drf_rows.specs.declared.rows.OfferRow.{OfferRow}
 use Rattle.drf_rows.specs.declared.rows.Rows.{Rows}
 use Rattle.drf_sorter.specs.Content.{with_change, charged}
-use Rattle.drf_tables.specs.Drafts.{with_offers}
-use Rattle.drf_core.specs.Drafting.{IsRegisteredPath, IsTried}
-use Rattle.drf_core.specs.Entitling.{IsKnown}
+use Rattle.drf_tables.specs.cycle.Drafts.{with_offers}
+use Rattle.drf_core.specs.cycle.Drafting.{IsRegisteredPath, IsTried}
+use Rattle.drf_core.specs.cycle.Entitling.{IsKnown}
 use Rattle.drf_core.specs.Working.{nodes_of, offered_to}
 use Rattle.drf_core.proofs.stepping.Work.{nodes_of-drafted}
 use Rattle.drf_core.proofs.drafting.Drafts.{with_offers-push}

@@ -5,11 +5,11 @@ use Rattle.drf_role.specs.Path.{Path}
 use Rattle.drf_rows.specs.Cycle.{is_allocatable, turn_order}
 use Rattle.drf_rows.specs.declared.rows.Rows.{Rows}
 use Rattle.drf_sorter.specs.Work.{Work, debt}
-use Rattle.drf_tables.specs.Drafts.{with_offers}
-use Rattle.drf_tables.specs.DraftLaws.{agents-with_offers}
-use Rattle.drf_gates.specs.Quota.{quota_under}
-use Rattle.drf_core.specs.Drafting.{IsRegisteredPath}
-use Rattle.drf_core.specs.Entitling.{IsPassedOver}
+use Rattle.drf_tables.specs.cycle.Drafts.{with_offers}
+use Rattle.drf_tables.specs.cycle.DraftLaws.{agents-with_offers}
+use Rattle.drf_gates.specs.quota.Allowance.{quota_under}
+use Rattle.drf_core.specs.cycle.Drafting.{IsRegisteredPath}
+use Rattle.drf_core.specs.cycle.Entitling.{IsPassedOver}
 use Rattle.drf_core.proofs.drafting.Turn.{cycle-closed, element_at, first_of_queue, free_here, is_open_at-before, turn-on, turn_at-closed, turn_at-open, waiting-over, waiting-passed}
 use Rattle.drf_core.proofs.drafting.Barred.{all_left, passed_falls, waiting-left}
 use Rattle.drf_core.proofs.cycle.turn.Given as given

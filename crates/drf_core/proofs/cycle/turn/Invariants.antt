@@ -1,6 +1,6 @@
 use Rattle.std.proofs.Common.{◌≤◌, length}
-use Rattle.drf_tables.specs.Drafts.{with_offers}
-use Rattle.drf_core.specs.Drafting.{IsTurn}
+use Rattle.drf_tables.specs.cycle.Drafts.{with_offers}
+use Rattle.drf_core.specs.cycle.Drafting.{IsTurn}
 use Rattle.drf_core.specs.Working.{AddsDrafts}
 use Rattle.drf_core.proofs.drafting.Turn.{AreWaiting}
 use Rattle.drf_core.proofs.cycle.turn.Given as goal

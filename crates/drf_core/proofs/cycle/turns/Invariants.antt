@@ -1,8 +1,8 @@
 use Rattle.std.proofs.Common.{◌≡◌, ◌≤◌, drop}
 use Rattle.std.specs.Prelude.{filter}
 use Rattle.drf_rows.specs.Cycle.{turns}
-use Rattle.drf_tables.specs.Drafts.{with_offers}
-use Rattle.drf_core.specs.Drafting.{IsCycleAt, turns_of}
+use Rattle.drf_tables.specs.cycle.Drafts.{with_offers}
+use Rattle.drf_core.specs.cycle.Drafting.{IsCycleAt, turns_of}
 use Rattle.drf_core.specs.Working.{AddsDrafts}
 use Rattle.drf_core.proofs.cycle.turns.Given as goal
 

@@ -1,7 +1,7 @@
 use Rattle.std.proofs.Common.{◌≡◌, Option, sym, ◌∙◌}
 use Rattle.drf_rows.specs.Step.{first_case, refusal_of}
 use Rattle.drf_rows.specs.declared.reply.Refusal.{Refusal}
-use Rattle.drf_core.specs.Refusing.{late_cases_of}
+use Rattle.drf_core.specs.refusal.Cases.{late_cases_of}
 use Rattle.drf_core.proofs.refusing.Late.{if_ok}
 use Rattle.drf_core.proofs.refusing.Tests.{told_early, told_late}
 use Rattle.drf_core.proofs.refusal.refusal.Goals as goal

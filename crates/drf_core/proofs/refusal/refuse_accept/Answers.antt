@@ -1,7 +1,7 @@
 use Rattle.std.proofs.Common.{◌∷◌, [], sym, ◌∙◌}
 use Rattle.drf_rows.specs.Step.{accept_is_too_much, refusal_of}
 use Rattle.drf_rows.specs.declared.reply.Refusal.TheVariants.{TooMany}
-use Rattle.drf_core.specs.Accepting.{cases_of_tasks}
+use Rattle.drf_core.specs.refusal.Accepting.{cases_of_tasks}
 use Rattle.drf_core.proofs.refusing.Tests.{first_front, first_rest}
 use Rattle.drf_laws.specs.laws.Welcome.{no_case}
 use Rattle.drf_core.proofs.refusal.refuse_accept.Goals as goal

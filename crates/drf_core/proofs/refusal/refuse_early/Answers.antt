@@ -1,7 +1,7 @@
 use Rattle.std.proofs.Common.{◌∷◌, [], ap, ◌∙◌, sym}
 use Rattle.drf_rows.specs.Step.{first_case, refusal_of}
 use Rattle.drf_rows.specs.declared.reply.Refusal.TheVariants.{HistoryFull}
-use Rattle.drf_core.specs.Refusing.{early_refusal_of}
+use Rattle.drf_core.specs.refusal.Cases.{early_refusal_of}
 use Rattle.drf_core.proofs.refusal.refuse_early.Goals as goal
 
 pub returns-in-AddAgent : goal.returns-in-AddAgent

@@ -2,7 +2,7 @@ use Rattle.std.proofs.Common.{◌∙◌, Some, sym, ap, subst}
 use Rattle.std.specs.Option.{option_copied}
 use Rattle.std.proofs.lemmas.Result.{IfOk-weaker}
 use Rattle.drf_role.specs.Text.{Text}
-use Rattle.drf_gates.specs.Quota.{used_at}
+use Rattle.drf_gates.specs.quota.Allowance.{used_at}
 use Rattle.drf_explain.specs.Explained.{tightest}
 use Rattle.drf_explain.specs.Gates.{IsQuotaOf}
 use Rattle.drf_explain.proofs.Rooms.{limiting_some}

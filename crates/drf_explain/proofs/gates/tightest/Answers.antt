@@ -1,5 +1,5 @@
 use Rattle.std.proofs.Common.{◌∙◌}
-use Rattle.drf_gates.specs.Quota.{used_at}
+use Rattle.drf_gates.specs.quota.Allowance.{used_at}
 use Rattle.drf_rows.specs.Quota.{binds, room_under}
 use Rattle.drf_explain.specs.Explained.{tighter}
 use Rattle.drf_explain.proofs.Found.{fold_more, fold_over, found_of}

@@ -1,6 +1,6 @@
 use Rattle.std.proofs.Common.{◌≡◌, fold, drop, None}
 use Rattle.std.specs.Option.{option_copied}
-use Rattle.drf_gates.specs.Quota.{used_at}
+use Rattle.drf_gates.specs.quota.Allowance.{used_at}
 use Rattle.drf_rows.specs.Quota.{binds, room_under}
 use Rattle.drf_explain.specs.Explained.{tighter}
 use Rattle.drf_explain.specs.Gates.{reduced}

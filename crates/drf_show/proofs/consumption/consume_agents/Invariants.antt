@@ -2,7 +2,7 @@ use Rattle.std.proofs.Common.{◌≡◌, ◌+◌, Bool, drop}
 use Rattle.drf_role.specs.Text.{Text}
 use Rattle.drf_role.specs.Path.{Path}
 use Rattle.drf_rows.specs.Quota.{reserved_for}
-use Rattle.drf_gates.specs.Quota.{used_where}
+use Rattle.drf_gates.specs.quota.Allowance.{used_where}
 use Rattle.drf_show.proofs.consumption.consume_agents.Given as goal
 
 -- with what is left all is counted

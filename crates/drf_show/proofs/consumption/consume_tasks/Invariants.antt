@@ -3,7 +3,7 @@ use Rattle.drf_role.specs.Text.{Text}
 use Rattle.drf_role.specs.Path.{Path}
 use Rattle.drf_rows.specs.Holdings.{of_task}
 use Rattle.drf_rows.specs.Quota.{held_unreserved}
-use Rattle.drf_gates.specs.Quota.{used_where}
+use Rattle.drf_gates.specs.quota.Allowance.{used_where}
 use Rattle.drf_show.proofs.consumption.consume_tasks.Given as goal
 
 -- with what is left all is counted

@@ -1,6 +1,6 @@
 use Rattle.std.proofs.Common.{ap, ◌∙◌}
 use Rattle.drf_bundle.specs.Quantities.{with_amount}
-use Rattle.drf_gates.specs.Quota.{used_at}
+use Rattle.drf_gates.specs.quota.Allowance.{used_at}
 use Rattle.drf_show.proofs.Counting.{used_more}
 use Rattle.drf_show.proofs.consumption.consumed.Goals as goal
 

@@ -1,7 +1,7 @@
 use Rattle.std.proofs.Common.{map, ap, arith}
 use Rattle.drf_rows.specs.Holdings.{of_offer, of_task}
 use Rattle.drf_rows.specs.Quota.{held_unreserved, reserved_for}
-use Rattle.drf_gates.specs.Quota.{used_where}
+use Rattle.drf_gates.specs.quota.Allowance.{used_where}
 use Rattle.drf_show.proofs.Counting.{consumption_parts}
 use Rattle.drf_show.proofs.consumption.consumption_of.Goals as goal
 

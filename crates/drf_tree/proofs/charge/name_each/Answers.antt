@@ -1,5 +1,5 @@
 use Rattle.std.proofs.Common.{◌∙◌, inl, inr}
-use Rattle.drf_tree.proofs.LabelLemmas.{named_at, names_more}
+use Rattle.drf_tree.proofs.change.Label.{named_at, names_more}
 use Rattle.drf_tree.proofs.charge.name_each.Goals as goal
 
 pub loop-entry-preserved : goal.loop-entry-preserved

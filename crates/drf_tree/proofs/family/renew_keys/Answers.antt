@@ -1,6 +1,6 @@
 use Rattle.std.proofs.Common.{arith, get_or, refl}
 use Rattle.drf_tree.specs.declared.family.Child.{Child}
-use Rattle.drf_tree.proofs.StaleLemmas.{stepped}
+use Rattle.drf_tree.proofs.keys.Stale.{stepped}
 use Rattle.drf_tree.proofs.family.renew_keys.Goals as goal
 
 pub loop-child-preserved : goal.loop-child-preserved

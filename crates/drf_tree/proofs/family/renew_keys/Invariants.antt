@@ -1,7 +1,7 @@
 use Rattle.std.proofs.Common.{◌≤◌}
 use Rattle.drf_sorter.specs.Work.{debt}
 use Rattle.drf_tree.specs.Marks.{work_of}
-use Rattle.drf_tree.proofs.StaleLemmas.{AreStepped}
+use Rattle.drf_tree.proofs.keys.Stale.{AreStepped}
 use Rattle.drf_tree.proofs.family.renew_keys.Given as goal
 
 -- the children so far are fresh, and the others are as they were, with their marks

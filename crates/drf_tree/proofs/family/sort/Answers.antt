@@ -1,5 +1,5 @@
 use Rattle.std.proofs.Common.{arith}
-use Rattle.drf_tree.proofs.FamilyLemmas.{sorted_anew, sorted_few}
+use Rattle.drf_tree.proofs.keys.Siblings.{sorted_anew, sorted_few}
 use Rattle.drf_tree.proofs.family.sort.Goals as goal
 
 pub returns-then-len-gt1-clause-sorted : goal.returns-then-len-gt1-clause-sorted

@@ -1,8 +1,8 @@
 use Rattle.std.specs.Prelude.{Some}
 use Rattle.std.proofs.Common.{ap, arith, subst, sym, ◌∙◌}
 use Rattle.drf_role.specs.Path.{IsClientPath, Path}
-use Rattle.drf_tree.proofs.FindLemmas.{take_whole}
-use Rattle.drf_tree.proofs.GrowLemmas.{front_no_client}
+use Rattle.drf_tree.proofs.shape.Find.{take_whole}
+use Rattle.drf_tree.proofs.growth.Grow.{front_no_client}
 use Rattle.drf_tree.proofs.members.client_of.Goals as goal
 
 pub returns-then-len-clause-client : goal.returns-then-len-clause-client

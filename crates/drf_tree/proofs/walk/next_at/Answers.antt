@@ -1,6 +1,6 @@
 use Rattle.std.specs.Prelude.{None, Some}
 use Rattle.std.proofs.Common.{arith, sym, ◌∙◌}
-use Rattle.drf_tree.proofs.NodeLemmas.{active_read, read_at, sum_within}
+use Rattle.drf_tree.proofs.shape.Node.{active_read, read_at, sum_within}
 use Rattle.drf_tree.proofs.walk.next_at.Goals as goal
 
 pub returns-in_default : goal.returns-in_default

@@ -3,4 +3,4 @@ use Rattle.drf_ask.proofs.list.OfferRowListed.push.Goals as goal
 
 pub returns : goal.returns
 unfolding row_line
-returns c = c.push_offer_row.ensures.ok
+returns c = c.push_offer_row.ensures.appends.ok

@@ -3,4 +3,4 @@ use Rattle.drf_ask.proofs.list.TaskRowListed.push.Goals as goal
 
 pub returns : goal.returns
 unfolding row_line
-returns c = c.push_task_row.ensures.ok
+returns c = c.push_task_row.ensures.appends.ok

@@ -5,7 +5,7 @@ use Rattle.drf_rows.specs.Step.{live_rows, refusal_of, reply_to, rows_after}
 use Rattle.drf_rows.specs.declared.rows.Rows.{Rows}
 use Rattle.drf_core.specs.Cluster.{ClusterState}
 use Rattle.drf_core.specs.Machine.{Engine, IsSafe}
-use Rattle.drf_core.specs.Refusing.{early_refusal_of}
+use Rattle.drf_core.specs.refusal.Cases.{early_refusal_of}
 use Rattle.drf_core.specs.Keeping.{IsStanding}
 use Rattle.drf_core.proofs.stepping.Filters.{one_filter_more}
 use Rattle.drf_core.proofs.stepping.Safe.{safe_kept}

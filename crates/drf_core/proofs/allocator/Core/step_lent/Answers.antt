@@ -5,7 +5,7 @@ use Rattle.drf_rows.specs.declared.rows.Rows.{Rows}
 use Rattle.drf_laws.specs.laws.SameLive.{refused_from}
 use Rattle.drf_sorter.specs.Work.{Adds}
 use Rattle.drf_core.specs.Machine.{Engine, IsAfter}
-use Rattle.drf_core.specs.Refusing.{early_refusal_of}
+use Rattle.drf_core.specs.refusal.Cases.{early_refusal_of}
 use Rattle.drf_core.specs.Working.{allowance}
 use Rattle.drf_core.proofs.refusing.Tests.{told_early}
 use Rattle.drf_core.proofs.stepping.Allowance.{allowance-refused}

@@ -6,7 +6,7 @@ use Rattle.drf_rows.specs.declared.reply.Reply.TheVariants.{Offers}
 use Rattle.drf_rows.specs.declared.rows.Rows.{Rows}
 use Rattle.drf_content.specs.Content.{content_of}
 use Rattle.drf_rows.specs.declared.rows.OfferRow.{OfferRow}
-use Rattle.drf_core.specs.Drafting.{turns_of}
+use Rattle.drf_core.specs.cycle.Drafting.{turns_of}
 use Rattle.drf_core.specs.Working.{nodes_of, offered_to}
 use Rattle.drf_row_laws.specs.OfferLaws.{moment_early}
 use Rattle.drf_laws.specs.laws.Welcome.{early_cycle}

@@ -1,7 +1,7 @@
 use Rattle.std.proofs.Common.{◌≡◌, ◌+◌, ◌≤◌, IsTrue}
 use Rattle.drf_rows.specs.Endings.{without_ended}
 use Rattle.drf_rows.specs.Ended.{ending_of}
-use Rattle.drf_tables.specs.Ended.{left_to_end}
+use Rattle.drf_tables.specs.offers.Ended.{left_to_end}
 use Rattle.drf_sorter.specs.Work.{debt}
 use Rattle.drf_content.specs.Content.{content_of}
 use Rattle.drf_core.specs.Working.{losers, nodes_of}

@@ -5,7 +5,7 @@ use Rattle.drf_content.specs.Content.{content_of}
 use Rattle.drf_content.specs.laws.Changed.{content_of-filters}
 use Rattle.drf_core.specs.Cluster.{ClusterState}
 use Rattle.drf_core.specs.Keeping.{IsStanding}
-use Rattle.drf_core.specs.Refusing.{early_refusal_of}
+use Rattle.drf_core.specs.refusal.Cases.{early_refusal_of}
 use Rattle.drf_core.proofs.stepping.Filters.{few_filters}
 use Rattle.drf_core.proofs.stepping.Saveable.{standing_forgot}
 use Rattle.drf_core.proofs.stepping.Step.{early_from}

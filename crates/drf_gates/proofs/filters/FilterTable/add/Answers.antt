@@ -1,4 +1,4 @@
-use Rattle.drf_gates.proofs.FilterLemmas.{table-push}
+use Rattle.drf_gates.proofs.filters.Held.{table-push}
 use Rattle.drf_gates.proofs.filters.FilterTable.add.Goals as goal
 
 pub invariant_of-self-2 : goal.invariant_of-self-2

@@ -1,8 +1,8 @@
 use Rattle.std.proofs.Common.{List, not, filter, ap, refl, ◌∙◌}
 use Rattle.drf_rows.specs.Filters.{is_on_agent}
 use Rattle.drf_rows.specs.declared.rows.FilterRow.{FilterRow}
-use Rattle.drf_gates.specs.Slots.{filters_in}
-use Rattle.drf_gates.proofs.FilterLemmas.{closed-filter, left-are, table-filter}
+use Rattle.drf_gates.specs.filters.Slots.{filters_in}
+use Rattle.drf_gates.proofs.filters.Held.{closed-filter, left-are, table-filter}
 use Rattle.drf_gates.proofs.filters.FilterTable.drop_agent.Goals as goal
 
 pub find_again-requires : goal.find_again-requires

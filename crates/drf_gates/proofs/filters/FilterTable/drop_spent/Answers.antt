@@ -1,8 +1,8 @@
 use Rattle.std.proofs.Common.{◌≡◌, List, ap, refl, subst, sym, ◌∙◌}
 use Rattle.drf_rows.specs.Filters.{is_in_force, in_force}
 use Rattle.drf_rows.specs.declared.rows.FilterRow.{FilterRow}
-use Rattle.drf_gates.specs.Slots.{filters_in}
-use Rattle.drf_gates.proofs.FilterLemmas.{all_in_force, closed-filter, left-are}
+use Rattle.drf_gates.specs.filters.Slots.{filters_in}
+use Rattle.drf_gates.proofs.filters.Held.{all_in_force, closed-filter, left-are}
 use Rattle.drf_gates.proofs.filters.FilterTable.drop_spent.Goals as goal
 
 pub returns-then-now-self : goal.returns-then-now-self

@@ -2,9 +2,9 @@ use Rattle.std.proofs.Common.{◌≡◌, List, Option, count_by, length, ap, sub
 use Rattle.std.proofs.lemmas.List.Sums.{length-filter}
 use Rattle.drf_rows.specs.Filters.{is_in_force, number_in_force}
 use Rattle.drf_rows.specs.declared.rows.FilterRow.{FilterRow}
-use Rattle.drf_gates.specs.Slots.{slot_passes, filters_in}
-use Rattle.drf_gates.proofs.SlotLemmas.{count-filled}
-use Rattle.drf_gates.proofs.FilterLemmas.{all_in_force}
+use Rattle.drf_gates.specs.filters.Slots.{slot_passes, filters_in}
+use Rattle.drf_gates.proofs.filters.Gaps.{count-filled}
+use Rattle.drf_gates.proofs.filters.Held.{all_in_force}
 use Rattle.drf_gates.proofs.filters.FilterTable.in_force.Goals as goal
 
 pub returns-then-now-self : goal.returns-then-now-self

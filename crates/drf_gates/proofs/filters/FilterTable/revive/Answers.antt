@@ -1,6 +1,6 @@
 use Rattle.std.proofs.Common.{not}
 use Rattle.drf_rows.specs.Filters.{is_of_client}
-use Rattle.drf_gates.proofs.FilterLemmas.{table-filter}
+use Rattle.drf_gates.proofs.filters.Held.{table-filter}
 use Rattle.drf_gates.proofs.filters.FilterTable.revive.Goals as goal
 
 pub invariant_of-self : goal.invariant_of-self

@@ -1,8 +1,8 @@
 use Rattle.std.proofs.Common.{List, Option, Some, take, ap, refl, ◌∙◌}
 use Rattle.std.specs.List.{take-map}
 use Rattle.drf_rows.specs.declared.rows.FilterRow.{FilterRow}
-use Rattle.drf_gates.specs.Slots.{filters_in}
-use Rattle.drf_gates.proofs.FilterLemmas.{closed-take, left-are, table-take}
+use Rattle.drf_gates.specs.filters.Slots.{filters_in}
+use Rattle.drf_gates.proofs.filters.Held.{closed-take, left-are, table-take}
 use Rattle.drf_gates.proofs.filters.FilterTable.truncate.Goals as goal
 
 pub find_again-requires : goal.find_again-requires

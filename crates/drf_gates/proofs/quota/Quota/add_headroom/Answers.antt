@@ -3,8 +3,8 @@ use Rattle.drf_role.specs.Path.{Path}
 use Rattle.drf_role.specs.Text.{Text}
 use Rattle.drf_bundle.specs.Quantities.{known_amount, with_amount}
 use Rattle.drf_bundle.specs.declared.quantities.Entry.{Entry}
-use Rattle.drf_gates.specs.Quota.{Allowance, lesser, used_at}
-use Rattle.drf_gates.proofs.RoomLemmas.{lessening_end, lessening_more, lessening_start}
+use Rattle.drf_gates.specs.quota.Allowance.{Allowance, lesser, used_at}
+use Rattle.drf_gates.proofs.quota.Room.{lessening_end, lessening_more, lessening_start}
 use Rattle.drf_gates.proofs.quota.Quota.add_headroom.Goals as goal
 
 pub loop-entry-init : goal.loop-entry-init

@@ -1,6 +1,6 @@
 use Rattle.std.proofs.Common.{drop}
-use Rattle.drf_gates.specs.Quota.{used_at}
-use Rattle.drf_gates.proofs.RoomLemmas.{IsLessening}
+use Rattle.drf_gates.specs.quota.Allowance.{used_at}
+use Rattle.drf_gates.proofs.quota.Room.{IsLessening}
 use Rattle.drf_gates.proofs.quota.Quota.add_headroom.Given as goal
 
 abbrev pub invariant-loop-entry : goal.invariant-loop-entry

@@ -1,8 +1,8 @@
 use Rattle.std.proofs.Common.{◌≡◌, ◌∙◌, false, rules, arith}
 use Rattle.std.proofs.lemmas.Grind.{common_steps}
 use Rattle.drf_rows.specs.Quota.{admits_under}
-use Rattle.drf_gates.specs.Quota.{Allowance, used_at}
-use Rattle.drf_gates.proofs.QuotaLemmas.{admits-its}
+use Rattle.drf_gates.specs.quota.Allowance.{Allowance, used_at}
+use Rattle.drf_gates.proofs.quota.Rows.{admits-its}
 use Rattle.drf_gates.proofs.quota.Quota.admits.Goals as goal
 
 pub returns-then-not-admits_one-clause-of_rows : goal.returns-then-not-admits_one-clause-of_rows

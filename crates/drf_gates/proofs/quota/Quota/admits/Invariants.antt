@@ -1,6 +1,6 @@
 use Rattle.std.proofs.Common.{◌≡◌, drop}
 use Rattle.drf_rows.specs.Quota.{admits_under}
-use Rattle.drf_gates.specs.Quota.{used_at}
+use Rattle.drf_gates.specs.quota.Allowance.{used_at}
 use Rattle.drf_gates.proofs.quota.Quota.admits.Given as goal
 
 abbrev pub invariant-loop-more : goal.invariant-loop-more

@@ -1,8 +1,8 @@
 use Rattle.std.proofs.Common.{sym, ◌∙◌, arith, [], ap}
 use Rattle.drf_rows.specs.Quota.{stays_within}
-use Rattle.drf_gates.specs.Front.{limits_at}
-use Rattle.drf_gates.specs.Quota.{Allowance, used_at}
-use Rattle.drf_gates.proofs.LeaveLemmas.{front_fails, fronts_pass, none_passes}
+use Rattle.drf_gates.specs.quota.Front.{limits_at}
+use Rattle.drf_gates.specs.quota.Allowance.{Allowance, used_at}
+use Rattle.drf_gates.proofs.quota.Leave.{front_fails, fronts_pass, none_passes}
 use Rattle.drf_gates.proofs.quota.Quota.admits_one.Goals as goal
 
 pub loop-len-init : goal.loop-len-init

@@ -1,7 +1,7 @@
 use Rattle.std.proofs.Common.{◌≡◌, ℕ, ◌<◌, true}
 use Rattle.drf_rows.specs.Quota.{stays_within}
-use Rattle.drf_gates.specs.Front.{front_passes}
-use Rattle.drf_gates.specs.Quota.{used_at}
+use Rattle.drf_gates.specs.quota.Front.{front_passes}
+use Rattle.drf_gates.specs.quota.Allowance.{used_at}
 use Rattle.drf_gates.proofs.quota.Quota.admits_one.Given as goal
 
 -- the limits of the fronts so far leave room

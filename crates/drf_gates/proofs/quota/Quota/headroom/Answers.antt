@@ -2,11 +2,11 @@ use Rattle.std.proofs.Common.{◌≡◌, List, ap, ◌∙◌, arith, [], sym}
 use Rattle.drf_bundle.specs.declared.quantities.Entry.{Entry}
 use Rattle.drf_rows.specs.Quota.{headrooms}
 use Rattle.drf_bundle.specs.Quantities.{known_amount}
-use Rattle.drf_gates.specs.Front.{limits_at}
-use Rattle.drf_gates.specs.Quota.{Allowance, used_at}
-use Rattle.drf_gates.proofs.QuotaLemmas.{headroom-its}
-use Rattle.drf_gates.proofs.RoomLemmas.{headrooms_are}
-use Rattle.drf_gates.proofs.LeastLemmas.{least_begun, least_next, least_end}
+use Rattle.drf_gates.specs.quota.Front.{limits_at}
+use Rattle.drf_gates.specs.quota.Allowance.{Allowance, used_at}
+use Rattle.drf_gates.proofs.quota.Rows.{headroom-its}
+use Rattle.drf_gates.proofs.quota.Room.{headrooms_are}
+use Rattle.drf_gates.proofs.quota.Least.{least_begun, least_next, least_end}
 use Rattle.drf_gates.proofs.quota.Quota.headroom.Goals as goal
 
 pub loop-len-init : goal.loop-len-init

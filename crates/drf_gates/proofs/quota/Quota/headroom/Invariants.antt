@@ -1,8 +1,8 @@
 use Rattle.std.proofs.Common.{◌≡◌}
 use Rattle.drf_role.specs.Text.{Text}
 use Rattle.drf_bundle.specs.Quantities.{known_amount}
-use Rattle.drf_gates.specs.Quota.{used_at}
-use Rattle.drf_gates.proofs.LeastLemmas.{least_until}
+use Rattle.drf_gates.specs.quota.Allowance.{used_at}
+use Rattle.drf_gates.proofs.quota.Least.{least_until}
 use Rattle.drf_gates.proofs.quota.Quota.headroom.Given as goal
 
 -- of each scalar what is known is what the limits of the fronts so far leave

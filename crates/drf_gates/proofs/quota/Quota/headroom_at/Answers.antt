@@ -1,9 +1,9 @@
 use Rattle.std.proofs.Common.{◌≡◌, ◌∙◌, arith, [], ap, sym}
 use Rattle.drf_rows.specs.Quota.{headroom_under}
-use Rattle.drf_gates.specs.Front.{limits_at}
-use Rattle.drf_gates.specs.Quota.{Allowance, used_at}
-use Rattle.drf_gates.proofs.QuotaLemmas.{headroom_at-its}
-use Rattle.drf_gates.proofs.LeastLemmas.{least_begun, least_next, least_end}
+use Rattle.drf_gates.specs.quota.Front.{limits_at}
+use Rattle.drf_gates.specs.quota.Allowance.{Allowance, used_at}
+use Rattle.drf_gates.proofs.quota.Rows.{headroom_at-its}
+use Rattle.drf_gates.proofs.quota.Least.{least_begun, least_next, least_end}
 use Rattle.drf_gates.proofs.quota.Quota.headroom_at.Goals as goal
 
 pub loop-len-init : goal.loop-len-init

@@ -1,6 +1,6 @@
 use Rattle.std.proofs.Common.{◌≡◌}
-use Rattle.drf_gates.specs.Quota.{used_at}
-use Rattle.drf_gates.proofs.LeastLemmas.{least_until}
+use Rattle.drf_gates.specs.quota.Allowance.{used_at}
+use Rattle.drf_gates.proofs.quota.Least.{least_until}
 use Rattle.drf_gates.proofs.quota.Quota.headroom_at.Given as goal
 
 -- what is known is what the limits of the fronts so far leave

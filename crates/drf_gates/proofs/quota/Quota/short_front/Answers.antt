@@ -3,10 +3,10 @@ use Rattle.std.specs.List.{list_all}
 use Rattle.std.proofs.lemmas.List.{length-take}
 use Rattle.drf_role.specs.Path.{Path}
 use Rattle.drf_rows.specs.Quota.{room_under}
-use Rattle.drf_gates.specs.Front.{limits_at, passes_one}
-use Rattle.drf_gates.specs.Quota.{Allowance, used_at}
-use Rattle.drf_gates.proofs.QuotaLemmas.{leaves-its}
-use Rattle.drf_gates.proofs.LeaveLemmas.{front_little, fronts_leave, none_passes}
+use Rattle.drf_gates.specs.quota.Front.{limits_at, passes_one}
+use Rattle.drf_gates.specs.quota.Allowance.{Allowance, used_at}
+use Rattle.drf_gates.proofs.quota.Rows.{leaves-its}
+use Rattle.drf_gates.proofs.quota.Leave.{front_little, fronts_leave, none_passes}
 use Rattle.drf_gates.proofs.quota.Quota.short_front.Goals as goal
 
 -- a role that begins with the same parts has as many

@@ -1,6 +1,6 @@
 use Rattle.std.proofs.Common.{◌≡◌, ℕ, ◌<◌, true}
-use Rattle.drf_gates.specs.Quota.{used_at}
-use Rattle.drf_gates.specs.Front.{front_leaves}
+use Rattle.drf_gates.specs.quota.Allowance.{used_at}
+use Rattle.drf_gates.specs.quota.Front.{front_leaves}
 use Rattle.drf_gates.proofs.quota.Quota.short_front.Given as goal
 
 -- the limits of the fronts so far leave enough

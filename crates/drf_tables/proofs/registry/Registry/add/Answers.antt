@@ -1,10 +1,10 @@
 use Rattle.std.proofs.Common.{◌≡◌, ◌++◌, ◌∷◌, [], Some, is_some, false, cond, length, ap, ◌∙◌, arith}
 use Rattle.std.specs.Map.{lookup}
 use Rattle.drf_role.specs.Text.{Text, same_text}
-use Rattle.drf_gates.specs.Slots.{filled}
-use Rattle.drf_tables.specs.Registered.{Registered}
-use Rattle.drf_tables.proofs.Entries.{from_ok}
-use Rattle.drf_tables.proofs.RegistryLemmas.{Slots, filled-push, filled-short, registry-push, slot_new}
+use Rattle.drf_gates.specs.filters.Slots.{filled}
+use Rattle.drf_tables.specs.registry.Registered.{Registered}
+use Rattle.drf_tables.proofs.registry.Entries.{from_ok}
+use Rattle.drf_tables.proofs.registry.Slots.{Slots, filled-push, filled-short, registry-push, slot_new}
 use Rattle.drf_tables.proofs.registry.Registry.add.Goals as goal
 
 pub unwrap-requires : goal.unwrap-requires

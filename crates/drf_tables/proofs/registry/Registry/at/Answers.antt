@@ -1,8 +1,8 @@
 use Rattle.std.proofs.Common.{◌≡◌, ℕ, None, Some, is_some, get_or, length, take, slice_get, sym, ap, ◌∙◌, arith}
 use Rattle.std.specs.Option.{option_copied}
-use Rattle.drf_gates.specs.Slots.{filled}
-use Rattle.drf_tables.specs.Registered.{Registered}
-use Rattle.drf_tables.proofs.RegistryLemmas.{Slots, filled_at, read_is, slot-below}
+use Rattle.drf_gates.specs.filters.Slots.{filled}
+use Rattle.drf_tables.specs.registry.Registered.{Registered}
+use Rattle.drf_tables.proofs.registry.Slots.{Slots, filled_at, read_is, slot-below}
 use Rattle.drf_tables.proofs.registry.Registry.at.Goals as goal
 
 pub index-requires : goal.index-requires

@@ -2,14 +2,14 @@ use Rattle.std.proofs.Common.{◌≡◌, None, Some, true, length, map, set, tak
 use Rattle.std.specs.List.{AllByRecursion}
 use Rattle.std.specs.Option.{option_copied, option_map}
 use Rattle.drf_bundle.specs.ListLaws.{each_at}
-use Rattle.drf_gates.specs.Slots.{filled}
+use Rattle.drf_gates.specs.filters.Slots.{filled}
 use Rattle.drf_role.specs.Text.{Text, same_text}
 use Rattle.drf_row_laws.specs.ConsistentLaws.{same_text-swap}
-use Rattle.drf_tables.specs.Changing.{CanExchangeAt, changed, with_exchanged}
-use Rattle.drf_tables.specs.Registered.{Registered, slot_of}
+use Rattle.drf_tables.specs.registry.Changing.{CanExchangeAt, changed, with_exchanged}
+use Rattle.drf_tables.specs.registry.Registered.{Registered, slot_of}
 use Rattle.drf_tables.specs.declared.tables.Agent.{Agent}
-use Rattle.drf_tables.proofs.RegistryChanges.{changed_slot, unchanged_slots}
-use Rattle.drf_tables.proofs.RegistryLemmas.{Entry, filled_at, no_gap, read_is, read_slot, registry-set, slot_found}
+use Rattle.drf_tables.proofs.registry.Changes.{changed_slot, unchanged_slots}
+use Rattle.drf_tables.proofs.registry.Slots.{Entry, filled_at, no_gap, read_is, read_slot, registry-set, slot_found}
 use Rattle.drf_tables.proofs.registry.Registry.exchange.Goals as goal
 
 pub returns-in_default-clause-ok : goal.returns-in_default-clause-ok

@@ -2,8 +2,8 @@ use Rattle.std.proofs.Common.{◌≡◌, None, Some, sym, ap, ◌∙◌, arith}
 use Rattle.std.specs.Map.{lookup}
 use Rattle.std.specs.Option.{option_copied}
 use Rattle.drf_role.specs.Text.{Text, same_text}
-use Rattle.drf_tables.specs.Registered.{Registered, slot_of}
-use Rattle.drf_tables.proofs.RegistryLemmas.{Entry, no_gap, read_is, slot_found, slot_none}
+use Rattle.drf_tables.specs.registry.Registered.{Registered, slot_of}
+use Rattle.drf_tables.proofs.registry.Slots.{Entry, no_gap, read_is, slot_found, slot_none}
 use Rattle.drf_tables.proofs.registry.Registry.get.Goals as goal
 
 pub returns-in_default : goal.returns-in_default

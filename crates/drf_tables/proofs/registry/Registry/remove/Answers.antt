@@ -1,10 +1,10 @@
 use Rattle.std.proofs.Common.{◌≡◌, None, Some, refl, sym, ap, ◌∙◌, arith}
 use Rattle.std.specs.Map.{remove_entry}
 use Rattle.drf_role.specs.Text.{Text, same_text}
-use Rattle.drf_gates.specs.Slots.{filled}
-use Rattle.drf_tables.specs.Registered.{Registered, slot_of}
-use Rattle.drf_tables.proofs.Entries.{removed-none}
-use Rattle.drf_tables.proofs.RegistryLemmas.{filled-gap, length-gap, registry-gap, slot_found, slot_none}
+use Rattle.drf_gates.specs.filters.Slots.{filled}
+use Rattle.drf_tables.specs.registry.Registered.{Registered, slot_of}
+use Rattle.drf_tables.proofs.registry.Entries.{removed-none}
+use Rattle.drf_tables.proofs.registry.Slots.{filled-gap, length-gap, registry-gap, slot_found, slot_none}
 use Rattle.drf_tables.proofs.registry.Registry.remove.Goals as goal
 
 pub returns-in_default : goal.returns-in_default

@@ -1,5 +1,5 @@
 use Rattle.std.proofs.Common.{arith}
-use Rattle.drf_tables.proofs.RegistryLemmas.{ok_then}
+use Rattle.drf_tables.proofs.registry.Slots.{ok_then}
 use Rattle.drf_tables.proofs.registry.Registry.reserve.Goals as goal
 
 pub returns-clause-ok : goal.returns-clause-ok

@@ -1,11 +1,11 @@
 use Rattle.std.proofs.Common.{◌≡◌, None, Some, map, set, refl, sym, ap, ◌∙◌, subst, arith}
 use Rattle.std.specs.Option.{option_copied, option_map}
 use Rattle.drf_role.specs.Text.{Text}
-use Rattle.drf_tables.specs.Changing.{changed, with_active}
-use Rattle.drf_tables.specs.Registered.{Registered, slot_of}
+use Rattle.drf_tables.specs.registry.Changing.{changed, with_active}
+use Rattle.drf_tables.specs.registry.Registered.{Registered, slot_of}
 use Rattle.drf_tables.specs.declared.tables.Agent.{Agent}
-use Rattle.drf_tables.proofs.RegistryChanges.{changed_slot, unchanged_slots}
-use Rattle.drf_tables.proofs.RegistryLemmas.{Entry, read_is, registry-set, slot_found}
+use Rattle.drf_tables.proofs.registry.Changes.{changed_slot, unchanged_slots}
+use Rattle.drf_tables.proofs.registry.Slots.{Entry, read_is, registry-set, slot_found}
 use Rattle.drf_tables.proofs.registry.Registry.set_active.Goals as goal
 
 pub returns-in_default : goal.returns-in_default

@@ -1,13 +1,13 @@
 use Rattle.std.proofs.Common.{◌≡◌, None, Some, map, set, sym, ap, ◌∙◌, subst, arith}
 use Rattle.std.specs.Map.{lookup}
 use Rattle.std.specs.Option.{option_copied, option_map}
-use Rattle.drf_gates.specs.Slots.{filled}
+use Rattle.drf_gates.specs.filters.Slots.{filled}
 use Rattle.drf_role.specs.Text.{Text, same_text}
-use Rattle.drf_tables.specs.Changing.{changed}
-use Rattle.drf_tables.specs.Registered.{Registered, slot_of}
+use Rattle.drf_tables.specs.registry.Changing.{changed}
+use Rattle.drf_tables.specs.registry.Registered.{Registered, slot_of}
 use Rattle.drf_tables.specs.declared.tables.Agent.{Agent}
-use Rattle.drf_tables.proofs.RegistryChanges.{changed_slot, unchanged_slots}
-use Rattle.drf_tables.proofs.RegistryLemmas.{Entry, read_is, registry-set, slot_found}
+use Rattle.drf_tables.proofs.registry.Changes.{changed_slot, unchanged_slots}
+use Rattle.drf_tables.proofs.registry.Slots.{Entry, read_is, registry-set, slot_found}
 use Rattle.drf_tables.proofs.registry.Registry.set_free.Goals as goal
 
 pub returns-in_default : goal.returns-in_default

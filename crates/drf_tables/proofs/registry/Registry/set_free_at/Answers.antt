@@ -1,10 +1,10 @@
 use Rattle.std.proofs.Common.{◌≡◌, ℕ, Option, None, Some, get_or, length, set, take, slice_get, sym, ap, ◌∙◌, arith}
 use Rattle.std.specs.Option.{option_map}
 use Rattle.indexmap.specs.IndexMap.{set_value_at}
-use Rattle.drf_gates.specs.Slots.{filled}
-use Rattle.drf_tables.specs.Registered.{Registered, with_free_at}
+use Rattle.drf_gates.specs.filters.Slots.{filled}
+use Rattle.drf_tables.specs.registry.Registered.{Registered, with_free_at}
 use Rattle.drf_tables.specs.declared.tables.Agent.{Agent}
-use Rattle.drf_tables.proofs.RegistryLemmas.{Entry, Slots, filled_at, filled_set, read_is, registry-set, slot-below, written_free}
+use Rattle.drf_tables.proofs.registry.Slots.{Entry, Slots, filled_at, filled_set, read_is, registry-set, slot-below, written_free}
 use Rattle.drf_tables.proofs.registry.Registry.set_free_at.Goals as goal
 
 pub index_mut-requires : goal.index_mut-requires

@@ -2,11 +2,11 @@ use Rattle.std.proofs.Common.{◌≡◌, List, None, Some, true, false, map, set
 use Rattle.std.specs.Option.{option_copied, option_map}
 use Rattle.drf_bundle.specs.declared.resource.Resource.{Resource}
 use Rattle.drf_role.specs.Text.{Text}
-use Rattle.drf_tables.specs.Changing.{changed, with_other}
-use Rattle.drf_tables.specs.Registered.{Registered, slot_of}
+use Rattle.drf_tables.specs.registry.Changing.{changed, with_other}
+use Rattle.drf_tables.specs.registry.Registered.{Registered, slot_of}
 use Rattle.drf_tables.specs.declared.tables.Agent.{Agent}
-use Rattle.drf_tables.proofs.RegistryChanges.{changed_slot, unchanged_slots}
-use Rattle.drf_tables.proofs.RegistryLemmas.{Entry, no_gap, read_is, read_slot, registry-set, slot_found}
+use Rattle.drf_tables.proofs.registry.Changes.{changed_slot, unchanged_slots}
+use Rattle.drf_tables.proofs.registry.Slots.{Entry, no_gap, read_is, read_slot, registry-set, slot_found}
 use Rattle.drf_tables.proofs.registry.Registry.set_total.Goals as goal
 
 pub returns-in_default : goal.returns-in_default

@@ -6,10 +6,10 @@ use Rattle.drf_rows.specs.Offers.{offer_accepted, filter_of, is_empty, left_of_o
 use Rattle.drf_rows.specs.declared.rows.OfferRow.{OfferRow}
 use Rattle.drf_rows.specs.declared.rows.Rows.{Rows}
 use Rattle.drf_row_laws.specs.OfferLaws.{moment_early, same_offer}
-use Rattle.drf_tables.specs.Ended.{filter_if}
+use Rattle.drf_tables.specs.offers.Ended.{filter_if}
 use Rattle.drf_tables.specs.Inside.{rows_of}
 use Rattle.drf_tables.specs.Stored.{Stored}
-use Rattle.drf_tables.proofs.Accepted.{accept_filter, rows_accepted}
+use Rattle.drf_tables.proofs.offers.Accepted.{accept_filter, rows_accepted}
 use Rattle.drf_tables.proofs.tables.Tables.accept.Goals as goal
 
 pub start-requires-clause-bundles : goal.start-requires-clause-bundles

@@ -13,13 +13,13 @@ use Rattle.drf_rows.specs.Quota.{reserved_in}
 use Rattle.drf_rows.specs.declared.limits.TheConstants.{LARGEST_AMOUNT}
 use Rattle.drf_rows.specs.declared.rows.Rows.{Rows}
 use Rattle.drf_tables.specs.Inside.{AreDerived, is_settled, rows_in, rows_of}
-use Rattle.drf_tables.specs.Recounting.{CountsAll}
+use Rattle.drf_tables.specs.limits.Recounting.{CountsAll}
 use Rattle.drf_tables.specs.Stored.{Stored}
 use Rattle.drf_tables.specs.declared.tables.Agent.{Agent}
-use Rattle.drf_tables.proofs.Fields.{has_agent-rows_in, rows_of-agent, sums_fit}
-use Rattle.drf_tables.proofs.Kept.{AreDerived-agent_added}
-use Rattle.drf_tables.proofs.Running.{counts-alike, kept-still}
-use Rattle.drf_tables.proofs.Recounted.{adds_counted, consumption-agent_added, counts-consumed, counts-still, reserved_le}
+use Rattle.drf_tables.proofs.tables.Fields.{has_agent-rows_in, rows_of-agent, sums_fit}
+use Rattle.drf_tables.proofs.tables.Kept.{AreDerived-agent_added}
+use Rattle.drf_tables.proofs.limits.Running.{counts-alike, kept-still}
+use Rattle.drf_tables.proofs.limits.Recounted.{adds_counted, consumption-agent_added, counts-consumed, counts-still, reserved_le}
 use Rattle.drf_tables.proofs.tables.Tables.add_agent.Goals as goal
 
 pub plus-requires : goal.plus-requires

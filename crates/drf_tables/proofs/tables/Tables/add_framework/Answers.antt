@@ -10,10 +10,10 @@ use Rattle.drf_rows.specs.declared.rows.ClientRow.{ClientRow}
 use Rattle.drf_rows.specs.declared.rows.FrameworkRow.{FrameworkRow}
 use Rattle.drf_tables.specs.Inside.{rows_of, rows_in}
 use Rattle.drf_tables.specs.Stored.{Stored}
-use Rattle.drf_tables.proofs.Entries.{from_ok}
-use Rattle.drf_tables.proofs.Fields.{rows_of-framework}
-use Rattle.drf_tables.proofs.Kept.{AreDerived-framework_added}
-use Rattle.drf_tables.proofs.Counts.{counts-same}
+use Rattle.drf_tables.proofs.registry.Entries.{from_ok}
+use Rattle.drf_tables.proofs.tables.Fields.{rows_of-framework}
+use Rattle.drf_tables.proofs.tables.Kept.{AreDerived-framework_added}
+use Rattle.drf_tables.proofs.limits.Counts.{counts-same}
 use Rattle.drf_tables.proofs.tables.Tables.add_framework.Goals as goal
 
 pub invariant_of-self : goal.invariant_of-self

@@ -1,7 +1,7 @@
 use Rattle.std.proofs.Common.{◌≡◌, Some, slice_get, ap, ◌∙◌, map}
 use Rattle.drf_tables.specs.Inside.{rows_of, agent_row}
 use Rattle.drf_tables.specs.Stored.{Stored}
-use Rattle.drf_tables.proofs.Fields.{name_at}
+use Rattle.drf_tables.proofs.tables.Fields.{name_at}
 use Rattle.drf_tables.proofs.tables.Tables.agent_name.Goals as goal
 
 pub returns : goal.returns

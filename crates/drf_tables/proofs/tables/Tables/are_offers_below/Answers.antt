@@ -6,7 +6,7 @@ use Rattle.drf_rows.specs.Offers.{is_empty}
 use Rattle.drf_rows.specs.declared.rows.OfferRow.{OfferRow}
 use Rattle.drf_tables.specs.Inside.{rows_of}
 use Rattle.drf_tables.specs.Stored.{Stored}
-use Rattle.drf_tables.proofs.Standing.{none_first, none_from}
+use Rattle.drf_tables.proofs.tables.Standing.{none_first, none_from}
 use Rattle.drf_tables.proofs.tables.Tables.are_offers_below.Goals as goal
 
 pub returns : goal.returns

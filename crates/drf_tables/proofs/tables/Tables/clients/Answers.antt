@@ -8,8 +8,8 @@ use Rattle.drf_rows.specs.declared.rows.ClientRow.{ClientRow}
 use Rattle.drf_rows.specs.declared.rows.FrameworkRow.{FrameworkRow}
 use Rattle.drf_tables.specs.Inside.{rows_of, rows_in, framework_row}
 use Rattle.drf_tables.specs.Stored.{Stored}
-use Rattle.drf_tables.proofs.Entries.{found-lookup, is_some-copied}
-use Rattle.drf_tables.proofs.Fields.{has_framework-rows_in}
+use Rattle.drf_tables.proofs.registry.Entries.{found-lookup, is_some-copied}
+use Rattle.drf_tables.proofs.tables.Fields.{has_framework-rows_in}
 use Rattle.drf_tables.proofs.tables.Tables.clients.Goals as goal
 
 pub unwrap-requires : goal.unwrap-requires

@@ -4,16 +4,16 @@ use Rattle.drf_rows.specs.declared.rows.OfferRow.{OfferRow}
 use Rattle.drf_rows.specs.declared.rows.Rows.{Rows}
 use Rattle.drf_holdings.specs.Listed.{offer_number}
 use Rattle.drf_holdings.specs.RisingLaws.{rising_from}
-use Rattle.drf_tables.specs.Counting.{counting_all, first_number}
-use Rattle.drf_tables.specs.DraftLaws.{next-with_offers, offers-with_offers}
-use Rattle.drf_tables.specs.Drafts.{with_offers, frees_of, frees_after}
+use Rattle.drf_tables.specs.cycle.Counting.{counting_all, first_number}
+use Rattle.drf_tables.specs.cycle.DraftLaws.{next-with_offers, offers-with_offers}
+use Rattle.drf_tables.specs.cycle.Drafts.{with_offers, frees_of, frees_after}
 use Rattle.drf_tables.specs.Inside.{rows_of, rows_in, framework_rows, is_settled}
-use Rattle.drf_tables.specs.Recounting.{CountsAll}
+use Rattle.drf_tables.specs.limits.Recounting.{CountsAll}
 use Rattle.drf_tables.specs.Stored.{Stored}
-use Rattle.drf_tables.proofs.Counted.{CanCountAll-from}
-use Rattle.drf_tables.proofs.Appended.{made_from}
-use Rattle.drf_tables.proofs.Fields.{rows_of-offers, agents_in}
-use Rattle.drf_tables.proofs.Kept.{AreDerived-with_offers, known-left, settled-left}
+use Rattle.drf_tables.proofs.cycle.Counted.{CanCountAll-from}
+use Rattle.drf_tables.proofs.cycle.Appended.{made_from}
+use Rattle.drf_tables.proofs.tables.Fields.{rows_of-offers, agents_in}
+use Rattle.drf_tables.proofs.tables.Kept.{AreDerived-with_offers, known-left, settled-left}
 use Rattle.drf_tables.proofs.tables.Tables.commit.Goals as goal
 
 pub append-requires : goal.append-requires

@@ -3,11 +3,11 @@ use Rattle.drf_bundle.specs.declared.quantities.Entry.{Entry}
 use Rattle.drf_role.specs.Text.{Text}
 use Rattle.drf_rows.specs.declared.rows.Rows.{Rows}
 use Rattle.drf_tables.specs.Inside.{AreDerived, rows_in}
-use Rattle.drf_tables.specs.Recounting.{CountsAll}
+use Rattle.drf_tables.specs.limits.Recounting.{CountsAll}
 use Rattle.drf_tables.specs.Stored.{Stored}
 use Rattle.drf_tables.specs.declared.tables.Agent.{Agent}
-use Rattle.drf_tables.proofs.CopyLemmas.{rows-copied}
-use Rattle.drf_tables.proofs.Recounted.{counts-still}
+use Rattle.drf_tables.proofs.tables.Copies.{rows-copied}
+use Rattle.drf_tables.proofs.limits.Recounted.{counts-still}
 use Rattle.drf_tables.proofs.tables.Tables.copy.Goals as goal
 
 pub invariant_of-result : goal.invariant_of-result

@@ -2,12 +2,12 @@ use Rattle.std.proofs.Common.{◌≡◌, Some, None, sym, ap, ◌∙◌, subst}
 use Rattle.drf_rows.specs.Endings.{without_ended}
 use Rattle.drf_rows.specs.declared.rows.Rows.{Rows}
 use Rattle.drf_rows.specs.Ended.{ending_of}
-use Rattle.drf_tables.specs.Ended.{HasEnded}
+use Rattle.drf_tables.specs.offers.Ended.{HasEnded}
 use Rattle.drf_tables.specs.Inside.{rows_in, rows_of}
 use Rattle.drf_tables.specs.Stored.{Stored}
 use Rattle.drf_holdings.specs.Stored.{HasTaken, holding_of}
-use Rattle.drf_tables.proofs.Ended.{ended-kept, ended-one, rows_ended, rows-none, without_it, without-none}
-use Rattle.drf_tables.proofs.Recounted.{counts-ended, ending_fits}
+use Rattle.drf_tables.proofs.offers.Ended.{ended-kept, ended-one, rows_ended, rows-none, without_it, without-none}
+use Rattle.drf_tables.proofs.limits.Recounted.{counts-ended, ending_fits}
 use Rattle.drf_tables.proofs.tables.Tables.end.Goals as goal
 
 pub returns-in_err-taken-clause-none : goal.returns-in_err-taken-clause-none

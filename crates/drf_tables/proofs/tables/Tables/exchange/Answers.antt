@@ -1,12 +1,12 @@
 use Rattle.std.proofs.Common.{sym, ap, ◌∙◌, subst}
 use Rattle.drf_rows.specs.Quota.{reserved_in}
 use Rattle.drf_rows.specs.Totals.{exchanged, with_total}
-use Rattle.drf_tables.specs.Changing.{CanExchangeOn}
+use Rattle.drf_tables.specs.registry.Changing.{CanExchangeOn}
 use Rattle.drf_tables.specs.Inside.{rows_in}
 use Rattle.drf_tables.specs.Stored.{Stored}
-use Rattle.drf_tables.proofs.Running.{counts-alike, counts-exchanged, exchange_adds, exchange_fits, kept-still}
-use Rattle.drf_tables.proofs.Moved.{can_each, rows-exchanged, kept-exchanged}
-use Rattle.drf_tables.proofs.Recounted.{counts-back, counts-still, raised_fits}
+use Rattle.drf_tables.proofs.limits.Running.{counts-alike, counts-exchanged, exchange_adds, exchange_fits, kept-still}
+use Rattle.drf_tables.proofs.reservations.Moved.{can_each, rows-exchanged, kept-exchanged}
+use Rattle.drf_tables.proofs.limits.Recounted.{counts-back, counts-still, raised_fits}
 use Rattle.drf_tables.proofs.tables.Tables.exchange.Goals as goal
 
 pub consume_total-requires : goal.consume_total-requires

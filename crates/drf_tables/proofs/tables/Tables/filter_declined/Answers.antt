@@ -5,7 +5,7 @@ use Rattle.drf_rows.specs.declared.rows.Rows.{Rows}
 use Rattle.drf_row_laws.specs.OfferLaws.{moment_early}
 use Rattle.drf_tables.specs.Inside.{rows_of}
 use Rattle.drf_tables.specs.Stored.{Stored}
-use Rattle.drf_tables.proofs.Accepted.{rows_refused}
+use Rattle.drf_tables.proofs.offers.Accepted.{rows_refused}
 use Rattle.drf_tables.proofs.tables.Tables.filter_declined.Goals as goal
 
 pub filter_offer-requires-clause-consistent : goal.filter_offer-requires-clause-consistent

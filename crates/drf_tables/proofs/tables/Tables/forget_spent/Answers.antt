@@ -1,9 +1,9 @@
 use Rattle.std.proofs.Common.{ap, ◌∙◌, refl}
 use Rattle.drf_rows.specs.Step.{live_rows}
 use Rattle.drf_tables.specs.Stored.{Stored}
-use Rattle.drf_tables.proofs.Spent.{kept-swept, left-swept, live-swept}
+use Rattle.drf_tables.proofs.filters.Spent.{kept-swept, left-swept, live-swept}
 use Rattle.drf_tables.specs.Inside.{rows_of, rows_in}
-use Rattle.drf_tables.proofs.Counts.{counts-same}
+use Rattle.drf_tables.proofs.limits.Counts.{counts-same}
 use Rattle.drf_tables.proofs.tables.Tables.forget_spent.Goals as goal
 
 pub invariant_of-self : goal.invariant_of-self

@@ -8,8 +8,8 @@ use Rattle.drf_rows.specs.Totals.{agent_at}
 use Rattle.drf_tables.specs.Inside.{rows_in, agent_row}
 use Rattle.drf_tables.specs.Stored.{Stored}
 use Rattle.drf_tables.specs.declared.tables.Agent.{Agent}
-use Rattle.drf_tables.proofs.Fields.{agent_at-rows_in}
-use Rattle.drf_tables.proofs.Known.{known_in, left_free}
+use Rattle.drf_tables.proofs.tables.Fields.{agent_at-rows_in}
+use Rattle.drf_tables.proofs.registry.Known.{known_in, left_free}
 use Rattle.drf_tables.proofs.tables.Tables.free_on.Goals as goal
 
 pub free_left-requires : goal.free_left-requires

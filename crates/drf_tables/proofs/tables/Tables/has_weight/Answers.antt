@@ -1,7 +1,7 @@
 use Rattle.std.proofs.Common.{sym, ap, ◌∙◌}
 use Rattle.drf_rows.specs.Weights.{has_weight}
 use Rattle.drf_tables.specs.Stored.{Stored}
-use Rattle.drf_tables.proofs.Weighed.{has_weight-rows_in}
+use Rattle.drf_tables.proofs.tables.Weighed.{has_weight-rows_in}
 use Rattle.drf_tables.proofs.tables.Tables.has_weight.Goals as goal
 
 pub returns : goal.returns

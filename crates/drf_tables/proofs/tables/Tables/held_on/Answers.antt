@@ -1,7 +1,7 @@
 use Rattle.std.proofs.Common.{◌≡◌, Option, Some, true, is_some, sym, ap, ◌∙◌}
 use Rattle.std.specs.Map.{lookup}
 use Rattle.std.specs.Option.{option_copied, option_map}
-use Rattle.drf_tables.proofs.Entries.{is_some-copied}
+use Rattle.drf_tables.proofs.registry.Entries.{is_some-copied}
 use Rattle.drf_role.specs.Text.{Text, same_text}
 use Rattle.drf_bundle.specs.Bundle.{rest}
 use Rattle.drf_rows.specs.Cycle.{free_of}
@@ -11,8 +11,8 @@ use Rattle.drf_rows.specs.declared.rows.AgentRow.{AgentRow}
 use Rattle.drf_tables.specs.Inside.{rows_in, agent_row}
 use Rattle.drf_tables.specs.Stored.{Stored}
 use Rattle.drf_tables.specs.declared.tables.Agent.{Agent}
-use Rattle.drf_tables.proofs.Fields.{agent_at-rows_in, has_agent-rows_in}
-use Rattle.drf_tables.proofs.Known.{known_in, left_free}
+use Rattle.drf_tables.proofs.tables.Fields.{agent_at-rows_in, has_agent-rows_in}
+use Rattle.drf_tables.proofs.registry.Known.{known_in, left_free}
 use Rattle.drf_tables.proofs.tables.Tables.held_on.Goals as goal
 
 pub unwrap-found-requires : goal.unwrap-found-requires

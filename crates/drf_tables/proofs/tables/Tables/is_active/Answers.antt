@@ -1,8 +1,8 @@
 use Rattle.std.proofs.Common.{◌≡◌, Some, slice_get, ap, ◌∙◌, map}
 use Rattle.drf_tables.specs.Inside.{rows_of, agent_row}
 use Rattle.drf_tables.specs.Stored.{Stored}
-use Rattle.drf_tables.proofs.Entries.{value_at}
-use Rattle.drf_tables.proofs.Fields.{active_at}
+use Rattle.drf_tables.proofs.registry.Entries.{value_at}
+use Rattle.drf_tables.proofs.tables.Fields.{active_at}
 use Rattle.drf_tables.proofs.tables.Tables.is_active.Goals as goal
 
 pub returns : goal.returns

@@ -10,8 +10,8 @@ use Rattle.drf_rows.specs.Step.{is_in_role}
 use Rattle.drf_rows.specs.declared.rows.ClientRow.{ClientRow}
 use Rattle.drf_tables.specs.Inside.{rows_of}
 use Rattle.drf_tables.specs.Stored.{Stored}
-use Rattle.drf_tables.proofs.Entries.{registered-lookup}
-use Rattle.drf_tables.proofs.Changes.{frameworks_apart}
+use Rattle.drf_tables.proofs.registry.Entries.{registered-lookup}
+use Rattle.drf_tables.proofs.agents.Changes.{frameworks_apart}
 use Rattle.drf_tables.proofs.tables.Tables.is_in_role.Goals as goal
 
 pub returns-in_default : goal.returns-in_default

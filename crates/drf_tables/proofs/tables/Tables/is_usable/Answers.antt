@@ -10,9 +10,9 @@ use Rattle.drf_rows.specs.Totals.{agent_at}
 use Rattle.drf_tables.specs.Inside.{rows_in, agent_row, is_settled}
 use Rattle.drf_tables.specs.Stored.{Stored}
 use Rattle.drf_tables.specs.declared.tables.Agent.{Agent}
-use Rattle.drf_tables.proofs.Fields.{agent_at-rows_in}
-use Rattle.drf_tables.proofs.Known.{free_found}
-use Rattle.drf_tables.proofs.PutBack.{usable_free}
+use Rattle.drf_tables.proofs.tables.Fields.{agent_at-rows_in}
+use Rattle.drf_tables.proofs.registry.Known.{free_found}
+use Rattle.drf_tables.proofs.tables.PutBack.{usable_free}
 use Rattle.drf_tables.proofs.tables.Tables.is_usable.Goals as goal
 
 pub returns-in_default : goal.returns-in_default

@@ -3,9 +3,9 @@ use Rattle.std.specs.Option.{option_copied}
 use Rattle.drf_rows.specs.Cycle.{free_of, is_allocatable}
 use Rattle.drf_tables.specs.Inside.{rows_of, rows_in, agent_row, is_settled}
 use Rattle.drf_tables.specs.Stored.{Stored}
-use Rattle.drf_tables.proofs.Entries.{value_at}
-use Rattle.drf_tables.proofs.Fields.{free_of-at}
-use Rattle.drf_tables.proofs.Known.{settled_at}
+use Rattle.drf_tables.proofs.registry.Entries.{value_at}
+use Rattle.drf_tables.proofs.tables.Fields.{free_of-at}
+use Rattle.drf_tables.proofs.registry.Known.{settled_at}
 use Rattle.drf_tables.proofs.tables.Tables.is_worth_an_offer.Goals as goal
 
 pub unwrap-requires : goal.unwrap-requires

@@ -4,15 +4,15 @@ use Rattle.std.specs.Option.{option_copied}
 use Rattle.drf_role.specs.Text.{Text, same_text}
 use Rattle.drf_rows.specs.Consistent.{IsConsistent}
 use Rattle.drf_rows.specs.declared.rows.TaskRow.{TaskRow}
-use Rattle.drf_tables.specs.Changing.{changed, with_held}
+use Rattle.drf_tables.specs.registry.Changing.{changed, with_held}
 use Rattle.drf_tables.specs.Inside.{is_settled, rows_in, rows_of}
 use Rattle.drf_tables.specs.Stored.{Stored}
 use Rattle.drf_tables.specs.declared.tables.Agent.{Agent}
-use Rattle.drf_tables.proofs.Counts.{none_counted}
-use Rattle.drf_tables.proofs.Entries.{is_some-copied}
-use Rattle.drf_tables.proofs.Fields.{has_agent-rows_in}
-use Rattle.drf_tables.proofs.Held.{settled-held}
-use Rattle.drf_tables.proofs.PutBack.{agent_of-task, kept-task_put, left_held, new_task, rows-task_put, task_put}
+use Rattle.drf_tables.proofs.limits.Counts.{none_counted}
+use Rattle.drf_tables.proofs.registry.Entries.{is_some-copied}
+use Rattle.drf_tables.proofs.tables.Fields.{has_agent-rows_in}
+use Rattle.drf_tables.proofs.registry.Held.{settled-held}
+use Rattle.drf_tables.proofs.tables.PutBack.{agent_of-task, kept-task_put, left_held, new_task, rows-task_put, task_put}
 use Rattle.drf_tables.proofs.tables.Tables.put_task.Goals as goal
 
 pub unwrap-agent-requires : goal.unwrap-agent-requires

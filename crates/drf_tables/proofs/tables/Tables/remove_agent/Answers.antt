@@ -5,8 +5,8 @@ use Rattle.drf_rows.specs.Held.{cluster_total}
 use Rattle.drf_rows.specs.Members.{agent_removed}
 use Rattle.drf_tables.specs.Inside.{rows_in}
 use Rattle.drf_tables.specs.Stored.{Stored}
-use Rattle.drf_tables.proofs.Changes.{rows-left, kept-left}
-use Rattle.drf_tables.proofs.Running.{agent_fits, counts-left}
+use Rattle.drf_tables.proofs.agents.Changes.{rows-left, kept-left}
+use Rattle.drf_tables.proofs.limits.Running.{agent_fits, counts-left}
 use Rattle.drf_tables.proofs.tables.Tables.remove_agent.Goals as goal
 
 pub release_agent-requires : goal.release_agent-requires

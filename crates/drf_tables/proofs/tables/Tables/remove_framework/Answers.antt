@@ -3,8 +3,8 @@ use Rattle.drf_rows.specs.Endings.{without_ended, all_of}
 use Rattle.drf_rows.specs.Members.{framework_removed}
 use Rattle.drf_tables.specs.Inside.{rows_of, rows_in}
 use Rattle.drf_tables.specs.Stored.{Stored}
-use Rattle.drf_tables.proofs.Changes.{rows-gone, kept-gone}
-use Rattle.drf_tables.proofs.Counts.{counts-same}
+use Rattle.drf_tables.proofs.agents.Changes.{rows-gone, kept-gone}
+use Rattle.drf_tables.proofs.limits.Counts.{counts-same}
 use Rattle.drf_tables.proofs.tables.Tables.remove_framework.Goals as goal
 
 pub overflow_sub-self : goal.overflow_sub-self

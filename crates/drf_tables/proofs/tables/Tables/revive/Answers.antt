@@ -1,7 +1,7 @@
 use Rattle.std.proofs.Common.{refl}
-use Rattle.drf_tables.proofs.Changes.{kept-revived}
+use Rattle.drf_tables.proofs.agents.Changes.{kept-revived}
 use Rattle.drf_tables.specs.Inside.{rows_of, rows_in}
-use Rattle.drf_tables.proofs.Counts.{counts-same}
+use Rattle.drf_tables.proofs.limits.Counts.{counts-same}
 use Rattle.drf_tables.proofs.tables.Tables.revive.Goals as goal
 
 pub invariant_of-self : goal.invariant_of-self

@@ -1,7 +1,7 @@
 use Rattle.std.proofs.Common.{refl}
 use Rattle.drf_tables.specs.Inside.{rows_of, rows_in}
-use Rattle.drf_tables.proofs.Kept.{AreDerived-clocked}
-use Rattle.drf_tables.proofs.Counts.{counts-same}
+use Rattle.drf_tables.proofs.tables.Kept.{AreDerived-clocked}
+use Rattle.drf_tables.proofs.limits.Counts.{counts-same}
 use Rattle.drf_tables.proofs.tables.Tables.set_clock.Goals as goal
 
 pub invariant_of-self : goal.invariant_of-self

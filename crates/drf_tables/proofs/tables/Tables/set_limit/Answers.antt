@@ -1,8 +1,8 @@
 use Rattle.std.proofs.Common.{List, Option, sym, subst}
 use Rattle.drf_rows.specs.declared.rows.LimitRow.{LimitRow}
-use Rattle.drf_gates.specs.Quota.{Usage}
+use Rattle.drf_gates.specs.quota.Allowance.{Usage}
 use Rattle.drf_tables.specs.Inside.{IsWhole}
-use Rattle.drf_tables.proofs.Moved.{limit-set}
+use Rattle.drf_tables.proofs.reservations.Moved.{limit-set}
 use Rattle.drf_tables.proofs.tables.Tables.set_limit.Goals as goal
 
 pub invariant_of-self : goal.invariant_of-self

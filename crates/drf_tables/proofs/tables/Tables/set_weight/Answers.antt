@@ -3,9 +3,9 @@ use Rattle.indexmap.specs.IndexMap.{insert_entry}
 use Rattle.drf_role.specs.Path.{same_path}
 use Rattle.drf_tables.specs.Inside.{rows_of, rows_in}
 use Rattle.drf_tables.specs.Stored.{Stored}
-use Rattle.drf_tables.proofs.Entries.{from_ok}
-use Rattle.drf_tables.proofs.Weighed.{weight_set, rows_of-weight, AreDerived-weight_set}
-use Rattle.drf_tables.proofs.Counts.{counts-same}
+use Rattle.drf_tables.proofs.registry.Entries.{from_ok}
+use Rattle.drf_tables.proofs.tables.Weighed.{weight_set, rows_of-weight, AreDerived-weight_set}
+use Rattle.drf_tables.proofs.limits.Counts.{counts-same}
 use Rattle.drf_tables.proofs.tables.Tables.set_weight.Goals as goal
 
 pub invariant_of-self : goal.invariant_of-self

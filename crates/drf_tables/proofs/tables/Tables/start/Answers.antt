@@ -7,15 +7,15 @@ use Rattle.drf_rows.specs.declared.rows.FilterRow.{FilterRow}
 use Rattle.drf_rows.specs.declared.rows.OfferRow.{OfferRow}
 use Rattle.drf_rows.specs.declared.rows.Rows.{Rows}
 use Rattle.drf_bundle.specs.declared.resource.Resource.{Resource}
-use Rattle.drf_tables.specs.Changing.{HasFreed}
-use Rattle.drf_tables.specs.Ended.{with_accepted}
+use Rattle.drf_tables.specs.registry.Changing.{HasFreed}
+use Rattle.drf_tables.specs.offers.Ended.{with_accepted}
 use Rattle.drf_tables.specs.Inside.{rows_of, rows_in}
-use Rattle.drf_tables.specs.Recounting.{CountsAll}
+use Rattle.drf_tables.specs.limits.Recounting.{CountsAll}
 use Rattle.drf_tables.specs.Stored.{Stored}
-use Rattle.drf_tables.proofs.Counts.{counts-same}
-use Rattle.drf_tables.proofs.Ended.{found_any, accepted-rows, accepted-kept}
-use Rattle.drf_tables.proofs.Kept.{AreDerived-clocked}
-use Rattle.drf_tables.proofs.Recounted.{accept_fits, counts-accepted}
+use Rattle.drf_tables.proofs.limits.Counts.{counts-same}
+use Rattle.drf_tables.proofs.offers.Ended.{found_any, accepted-rows, accepted-kept}
+use Rattle.drf_tables.proofs.tables.Kept.{AreDerived-clocked}
+use Rattle.drf_tables.proofs.limits.Recounted.{accept_fits, counts-accepted}
 use Rattle.drf_tables.proofs.tables.Tables.start.Goals as goal
 
 pub start-requires-clause-there : goal.start-requires-clause-there

@@ -1,7 +1,7 @@
 use Rattle.std.proofs.Common.{true, refl}
-use Rattle.drf_tables.proofs.Changes.{kept-suppressed}
+use Rattle.drf_tables.proofs.agents.Changes.{kept-suppressed}
 use Rattle.drf_tables.specs.Inside.{rows_of, rows_in}
-use Rattle.drf_tables.proofs.Counts.{counts-same}
+use Rattle.drf_tables.proofs.limits.Counts.{counts-same}
 use Rattle.drf_tables.proofs.tables.Tables.suppress.Goals as goal
 
 pub invariant_of-self : goal.invariant_of-self

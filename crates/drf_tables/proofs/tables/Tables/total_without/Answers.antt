@@ -11,9 +11,9 @@ use Rattle.drf_rows.specs.declared.rows.AgentRow.{AgentRow}
 use Rattle.drf_tables.specs.Inside.{rows_of, rows_in, agent_row}
 use Rattle.drf_tables.specs.Stored.{Stored}
 use Rattle.drf_tables.specs.declared.tables.Agent.{Agent}
-use Rattle.drf_tables.proofs.Entries.{found-lookup}
-use Rattle.drf_tables.proofs.Fields.{has_agent-rows_in}
-use Rattle.drf_tables.proofs.Totals.{total-covers, total-without}
+use Rattle.drf_tables.proofs.registry.Entries.{found-lookup}
+use Rattle.drf_tables.proofs.tables.Fields.{has_agent-rows_in}
+use Rattle.drf_tables.proofs.registry.Totals.{total-covers, total-without}
 use Rattle.drf_tables.proofs.tables.Tables.total_without.Goals as goal
 
 pub returns-in_default : goal.returns-in_default

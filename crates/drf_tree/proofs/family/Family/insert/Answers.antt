@@ -2,7 +2,7 @@ use Rattle.std.proofs.Common.{◌≡◌, true, not, is_ok, drop, take, ◌∙◌
 use Rattle.std.specs.List.{list_all}
 use Rattle.drf_tree.specs.declared.family.Child.{Child}
 use Rattle.drf_tree.specs.Family.{are_sorted, is_before}
-use Rattle.drf_tree.proofs.FamilyLemmas.{sorted_tried, with_child}
+use Rattle.drf_tree.proofs.keys.Siblings.{sorted_tried, with_child}
 use Rattle.drf_tree.proofs.family.Family.insert.Goals as goal
 
 pub invariant_of-self : goal.invariant_of-self

@@ -6,7 +6,7 @@ use Rattle.std.proofs.lemmas.List.Sorted.{IsPermutation-map}
 use Rattle.drf_role.specs.Text.{Text}
 use Rattle.drf_tree.specs.declared.family.Child.{Child}
 use Rattle.drf_tree.specs.Family.{IsFresh, known}
-use Rattle.drf_tree.proofs.SameFamily.{each_moved}
+use Rattle.drf_tree.proofs.shape.SameFamily.{each_moved}
 use Rattle.drf_tree.proofs.family.Family.renew_all.Goals as goal
 
 -- what is sorted is what was written, which is as long as what stood there

@@ -3,7 +3,7 @@ use Rattle.std.specs.Vec.{vec_capacity}
 use Rattle.std.proofs.Common.{ap, arith, subst, sym, ◌∙◌}
 use Rattle.std.proofs.lemmas.List.{get_or_read}
 use Rattle.drf_tree.specs.Marks.{AreWaiting, Flags}
-use Rattle.drf_tree.proofs.WaitLemmas.{has_room, marked_anew}
+use Rattle.drf_tree.proofs.marks.Waiting.{has_room, marked_anew}
 use Rattle.drf_tree.proofs.marks.Marks.mark.Goals as goal
 
 pub push_reserved-requires : goal.push_reserved-requires

@@ -2,7 +2,7 @@ use Rattle.std.specs.Prelude.{◌≡◌, ◌≤◌, ◌+◌, ◌++◌, ◌∷◌
 use Rattle.std.specs.Vec.{vec_capacity}
 use Rattle.std.proofs.Common.{ap, arith, subst, sym, ◌∙◌}
 use Rattle.drf_tree.specs.Marks.{AreWaiting}
-use Rattle.drf_tree.proofs.WaitLemmas.{few_wait, one_number_more}
+use Rattle.drf_tree.proofs.marks.Waiting.{few_wait, one_number_more}
 use Rattle.drf_tree.proofs.marks.Marks.push.Goals as goal
 
 pub invariant_of-self-2 : goal.invariant_of-self-2

@@ -3,8 +3,8 @@ use Rattle.std.specs.Vec.{vec_capacity}
 use Rattle.std.proofs.Common.{ap, arith, refl, subst, sym, ◌∙◌}
 use Rattle.std.proofs.lemmas.List.{get_or_read, nil_from_length}
 use Rattle.drf_tree.specs.Marks.{AreWaiting, marked_in}
-use Rattle.drf_tree.proofs.MarkLemmas.{down_at}
-use Rattle.drf_tree.proofs.WaitLemmas.{forgotten, last_within, nobody_waits, unlisted}
+use Rattle.drf_tree.proofs.marks.Flags.{down_at}
+use Rattle.drf_tree.proofs.marks.Waiting.{forgotten, last_within, nobody_waits, unlisted}
 use Rattle.drf_tree.proofs.marks.Marks.take.Goals as goal
 
 pub invariant_of-self : goal.invariant_of-self

@@ -1,6 +1,6 @@
 use Rattle.std.proofs.Common.{◌∙◌, ap, sym}
 use Rattle.drf_bundle.specs.Quantities.{amount_of}
-use Rattle.drf_tree.proofs.NothingLemmas.{nothing_of}
+use Rattle.drf_tree.proofs.keys.Nothing.{nothing_of}
 use Rattle.drf_tree.proofs.node.Sum.copy_held.Goals as goal
 
 pub returns-then-not-holds_any : goal.returns-then-not-holds_any

@@ -1,7 +1,7 @@
 use Rattle.std.specs.Prelude.{None, slice_set}
 use Rattle.std.proofs.Common.{subst, sym}
 use Rattle.drf_tree.specs.Places.{AreTaken}
-use Rattle.drf_tree.proofs.PlaceLemmas.{taken_freed}
+use Rattle.drf_tree.proofs.growth.Place.{taken_freed}
 use Rattle.drf_tree.proofs.places.Places.free.Goals as goal
 
 pub invariant_of-self : goal.invariant_of-self

@@ -2,7 +2,7 @@ use Rattle.std.specs.Prelude.{List, Option}
 use Rattle.std.proofs.Common.{ap, subst, sym}
 use Rattle.drf_tree.specs.declared.node.Place.{Place}
 use Rattle.drf_tree.specs.Places.{AreTaken, Numbered}
-use Rattle.drf_tree.proofs.PlaceLemmas.{taken_first}
+use Rattle.drf_tree.proofs.growth.Place.{taken_first}
 use Rattle.drf_tree.proofs.places.Places.free_number.Goals as goal
 
 pub loop-node-init : goal.loop-node-init

@@ -2,7 +2,7 @@ use Rattle.std.specs.Prelude.{List, Option}
 use Rattle.std.proofs.Common.{subst, sym}
 use Rattle.drf_tree.specs.declared.node.Place.{Place}
 use Rattle.drf_tree.specs.Places.{AreTaken}
-use Rattle.drf_tree.proofs.PlaceLemmas.{taken_pushed}
+use Rattle.drf_tree.proofs.growth.Place.{taken_pushed}
 use Rattle.drf_tree.proofs.places.Places.push_reserved.Goals as goal
 
 pub invariant_of-self : goal.invariant_of-self

@@ -2,7 +2,7 @@ use Rattle.std.specs.Prelude.{List, Option, length}
 use Rattle.std.proofs.Common.{ap, arith, subst, sym}
 use Rattle.drf_tree.specs.declared.node.Place.{Place}
 use Rattle.drf_tree.specs.Places.{AreTaken, Numbered}
-use Rattle.drf_tree.proofs.PlaceLemmas.{taken_put}
+use Rattle.drf_tree.proofs.growth.Place.{taken_put}
 use Rattle.drf_tree.proofs.places.Places.put.Goals as goal
 
 pub invariant_of-self : goal.invariant_of-self

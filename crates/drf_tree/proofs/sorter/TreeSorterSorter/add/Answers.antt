@@ -6,11 +6,11 @@ use Rattle.drf_sorter.specs.Content.{has_client, with_client}
 use Rattle.drf_sorter.specs.Plain.{plain_content}
 use Rattle.drf_tree.specs.Sorter.{Sorted}
 use Rattle.drf_tree.specs.Tree.{IsTreeOf}
-use Rattle.drf_tree.proofs.ClimbLemmas.{node_from_live}
-use Rattle.drf_tree.proofs.KeptLemmas.{stopped}
-use Rattle.drf_tree.proofs.LeafLemmas.{admit_fits, few_clients}
+use Rattle.drf_tree.proofs.change.Climb.{node_from_live}
+use Rattle.drf_tree.proofs.walk.Kept.{stopped}
+use Rattle.drf_tree.proofs.sums.Leaf.{admit_fits, few_clients}
 use Rattle.drf_tree.specs.Tidy.{IsTidy, IsTidyBut}
-use Rattle.drf_tree.proofs.TidyLemmas.{has_more}
+use Rattle.drf_tree.proofs.growth.Tidy.{has_more}
 use Rattle.drf_tree.proofs.sorter.TreeSorterSorter.add.Goals as goal
 
 pub invariant_of-self-in_err-node : goal.invariant_of-self-in_err-node

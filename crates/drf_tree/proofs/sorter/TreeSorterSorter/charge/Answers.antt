@@ -5,10 +5,10 @@ use Rattle.drf_sorter.specs.Plain.{plain_content}
 use Rattle.drf_sorter.specs.declared.plain.PlainSorter.{PlainSorter}
 use Rattle.drf_tree.specs.Nodes.{is_live, path_at}
 use Rattle.drf_tree.specs.Sorter.{Sorted}
-use Rattle.drf_tree.proofs.FindLemmas.{client_below}
-use Rattle.drf_tree.proofs.KeptLemmas.{active_stays, kept_along, kept_by, queue_stays, total_counts}
-use Rattle.drf_tree.proofs.LeafLemmas.{known_in, leaf_of, room}
-use Rattle.drf_tree.proofs.TidyLemmas.{has_changed}
+use Rattle.drf_tree.proofs.shape.Find.{client_below}
+use Rattle.drf_tree.proofs.walk.Kept.{active_stays, kept_along, kept_by, queue_stays, total_counts}
+use Rattle.drf_tree.proofs.sums.Leaf.{known_in, leaf_of, room}
+use Rattle.drf_tree.proofs.growth.Tidy.{has_changed}
 use Rattle.drf_tree.proofs.sorter.TreeSorterSorter.charge.Goals as goal
 
 pub returns-in_default-clause-ok : goal.returns-in_default-clause-ok

@@ -5,8 +5,8 @@ use Rattle.drf_sorter.specs.Plain.{plain_content}
 use Rattle.drf_tree.specs.declared.node.Place.{Place}
 use Rattle.drf_tree.specs.Queue.{AreFrames, IsSettled}
 use Rattle.drf_tree.specs.Tree.{IsTreeOf}
-use Rattle.drf_tree.proofs.CopyLemmas.{settled_copied}
-use Rattle.drf_tree.proofs.KeptLemmas.{total_counts}
+use Rattle.drf_tree.proofs.shape.Copy.{settled_copied}
+use Rattle.drf_tree.proofs.walk.Kept.{total_counts}
 use Rattle.drf_tree.specs.Tidy.{IsTidy}
 use Rattle.drf_tree.proofs.sorter.TreeSorterSorter.copy.Goals as goal
 

@@ -8,8 +8,8 @@ use Rattle.drf_sorter.specs.Plain.{plain_content}
 use Rattle.drf_sorter.specs.declared.plain.PlainSorter.{PlainSorter}
 use Rattle.drf_tree.specs.Queue.{frames_queue, order_in}
 use Rattle.drf_tree.specs.Sorter.{Sorted}
-use Rattle.drf_tree.proofs.OrderOfWalk.{order_of_walk, right_paths}
-use Rattle.drf_tree.proofs.RenewLemmas.{plain_weighs}
+use Rattle.drf_tree.proofs.walk.OrderOfTree.{order_of_walk, right_paths}
+use Rattle.drf_tree.proofs.keys.Renew.{plain_weighs}
 use Rattle.drf_tree.proofs.sorter.TreeSorterSorter.fix_order.Goals as goal
 
 pub returns-clause-order : goal.returns-clause-order

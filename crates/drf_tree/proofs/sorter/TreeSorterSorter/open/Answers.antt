@@ -1,6 +1,6 @@
 use Rattle.std.proofs.Common.{false}
 use Rattle.drf_sorter.specs.Content.{empty}
-use Rattle.drf_tree.proofs.KeptLemmas.{stopped, total_counts}
+use Rattle.drf_tree.proofs.walk.Kept.{stopped, total_counts}
 use Rattle.drf_tree.proofs.sorter.TreeSorterSorter.open.Goals as goal
 
 pub invariant_of-result : goal.invariant_of-result

@@ -7,10 +7,10 @@ use Rattle.drf_sorter.specs.Plain.{plain_content}
 use Rattle.drf_sorter.specs.declared.plain.PlainSorter.{PlainSorter}
 use Rattle.drf_tree.specs.Sorter.{Sorted}
 use Rattle.drf_tree.specs.Tree.{IsTreeOf}
-use Rattle.drf_tree.proofs.FindLemmas.{client_below}
-use Rattle.drf_tree.proofs.KeptLemmas.{active_stays, kept_along, queue_stays}
-use Rattle.drf_tree.proofs.LeafLemmas.{can_refund, known_in, leaf_of, lowerable, lowered_refunded}
-use Rattle.drf_tree.proofs.TidyLemmas.{has_changed}
+use Rattle.drf_tree.proofs.shape.Find.{client_below}
+use Rattle.drf_tree.proofs.walk.Kept.{active_stays, kept_along, queue_stays}
+use Rattle.drf_tree.proofs.sums.Leaf.{can_refund, known_in, leaf_of, lowerable, lowered_refunded}
+use Rattle.drf_tree.proofs.growth.Tidy.{has_changed}
 use Rattle.drf_tree.proofs.sorter.TreeSorterSorter.refund.Goals as goal
 
 pub invariant_of-self : goal.invariant_of-self

@@ -8,11 +8,11 @@ use Rattle.drf_sorter.specs.Content.{Content, has_client, without_client}
 use Rattle.drf_sorter.specs.Plain.{plain_content}
 use Rattle.drf_tree.specs.Sorter.{Sorted}
 use Rattle.drf_tree.specs.Tree.{IsTreeOf}
-use Rattle.drf_tree.proofs.FindLemmas.{client_below}
-use Rattle.drf_tree.proofs.KeptLemmas.{stopped}
-use Rattle.drf_tree.proofs.LeafLemmas.{leaf_of, least}
+use Rattle.drf_tree.proofs.shape.Find.{client_below}
+use Rattle.drf_tree.proofs.walk.Kept.{stopped}
+use Rattle.drf_tree.proofs.sums.Leaf.{leaf_of, least}
 use Rattle.drf_tree.specs.Tidy.{IsTidyBut}
-use Rattle.drf_tree.proofs.TidyLemmas.{has_less}
+use Rattle.drf_tree.proofs.growth.Tidy.{has_less}
 use Rattle.drf_tree.proofs.sorter.TreeSorterSorter.remove.Goals as goal
 
 pub remove-requires : goal.remove-requires

@@ -6,10 +6,10 @@ use Rattle.drf_sorter.specs.Content.{Content, activated, with_change}
 use Rattle.drf_sorter.specs.Plain.{plain_content}
 use Rattle.drf_tree.specs.Sorter.{Sorted}
 use Rattle.drf_tree.specs.Tree.{IsTreeOf}
-use Rattle.drf_tree.proofs.FindLemmas.{client_below}
-use Rattle.drf_tree.proofs.KeptLemmas.{stopped}
-use Rattle.drf_tree.proofs.LeafLemmas.{active_fits, few_clients, known_in, leaf_of, least}
-use Rattle.drf_tree.proofs.TidyLemmas.{has_changed, tidy_along}
+use Rattle.drf_tree.proofs.shape.Find.{client_below}
+use Rattle.drf_tree.proofs.walk.Kept.{stopped}
+use Rattle.drf_tree.proofs.sums.Leaf.{active_fits, few_clients, known_in, leaf_of, least}
+use Rattle.drf_tree.proofs.growth.Tidy.{has_changed, tidy_along}
 use Rattle.drf_tree.proofs.sorter.TreeSorterSorter.set_active.Goals as goal
 
 pub invariant_of-self : goal.invariant_of-self

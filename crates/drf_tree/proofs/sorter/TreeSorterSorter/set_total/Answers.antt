@@ -4,9 +4,9 @@ use Rattle.drf_sorter.specs.Plain.{plain_content}
 use Rattle.drf_tree.specs.Sorter.{Sorted}
 use Rattle.drf_tree.specs.Tidy.{IsTidy}
 use Rattle.drf_tree.specs.Tree.{IsTotalFree}
-use Rattle.drf_tree.proofs.CountLemmas.{few_stale}
-use Rattle.drf_tree.proofs.KeptLemmas.{kept_by, settled_along}
-use Rattle.drf_tree.proofs.RenewLemmas.{plain_weighs}
+use Rattle.drf_tree.proofs.marks.Count.{few_stale}
+use Rattle.drf_tree.proofs.walk.Kept.{kept_by, settled_along}
+use Rattle.drf_tree.proofs.keys.Renew.{plain_weighs}
 use Rattle.drf_tree.proofs.sorter.TreeSorterSorter.set_total.Goals as goal
 
 -- the tree is right for this total as it is

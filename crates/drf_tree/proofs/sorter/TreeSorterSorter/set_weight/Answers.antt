@@ -5,8 +5,8 @@ use Rattle.drf_bundle.specs.declared.quantities.Entry.{Entry}
 use Rattle.drf_sorter.specs.Content.{Content, with_weight}
 use Rattle.drf_sorter.specs.Plain.{plain_content}
 use Rattle.drf_tree.specs.Tree.{IsTreeOf}
-use Rattle.drf_tree.proofs.KeptLemmas.{kept_along, kept_by}
-use Rattle.drf_tree.proofs.WeighLemmas.{unweighed_tree}
+use Rattle.drf_tree.proofs.walk.Kept.{kept_along, kept_by}
+use Rattle.drf_tree.proofs.change.Weigh.{unweighed_tree}
 use Rattle.drf_tree.proofs.sorter.TreeSorterSorter.set_weight.Goals as goal
 
 pub invariant_of-self : goal.invariant_of-self

@@ -8,8 +8,8 @@ use Rattle.drf_sorter.specs.Plain.{plain_content}
 use Rattle.drf_sorter.specs.declared.plain.PlainSorter.{PlainSorter}
 use Rattle.drf_tree.specs.Sorter.{Sorted}
 use Rattle.drf_tree.specs.Tree.{IsTreeOf}
-use Rattle.drf_tree.proofs.RenewLemmas.{weighs_within}
-use Rattle.drf_tree.proofs.ShareLemmas.{held_within, nobody, shares_are, somebody, sum_is}
+use Rattle.drf_tree.proofs.keys.Renew.{weighs_within}
+use Rattle.drf_tree.proofs.sums.Share.{held_within, nobody, shares_are, somebody, sum_is}
 use Rattle.drf_tree.proofs.sorter.TreeSorterSorter.share.Goals as goal
 
 pub returns-in_err-find-clause-known : goal.returns-in_err-find-clause-known

@@ -1,9 +1,9 @@
 use Rattle.std.proofs.Common.{◌≡◌, ◌+◌, refl, ap, ◌∙◌, arith}
 use Rattle.drf_tree.specs.declared.node.Sum.{Sum}
 use Rattle.drf_tree.specs.Nodes.{parent_at}
-use Rattle.drf_tree.proofs.ClimbLemmas.{climb_less, climb_on, climb_start, climb_step, climb_was}
-use Rattle.drf_tree.proofs.MoveLemmas.{IsMoved, none, of_newcomer}
-use Rattle.drf_tree.proofs.AdmitLemmas.{admitted, is_admitted}
+use Rattle.drf_tree.proofs.change.Climb.{climb_less, climb_on, climb_start, climb_step, climb_was}
+use Rattle.drf_tree.proofs.sums.Move.{IsMoved, none, of_newcomer}
+use Rattle.drf_tree.proofs.change.Admit.{admitted, is_admitted}
 use Rattle.drf_tree.proofs.tree.Tree.admit.Goals as goal
 
 pub loop-node-init : goal.loop-node-init

@@ -5,8 +5,8 @@ use Rattle.drf_role.specs.Text.{same_text}
 use Rattle.drf_tree.specs.Family.{child_name}
 use Rattle.drf_tree.specs.Nodes.{children_at}
 use Rattle.drf_tree.specs.Tree.{IsChildOf}
-use Rattle.drf_tree.proofs.NodeLemmas.{family_read, node_within}
-use Rattle.drf_tree.proofs.NameLemmas.{none_named, one_named}
+use Rattle.drf_tree.proofs.shape.Node.{family_read, node_within}
+use Rattle.drf_tree.proofs.shape.Name.{none_named, one_named}
 use Rattle.drf_tree.proofs.tree.Tree.child.Goals as goal
 
 pub returns-in_err-place-clause-missing : goal.returns-in_err-place-clause-missing

@@ -1,6 +1,6 @@
 use Rattle.std.proofs.Common.{ap, map, ◌∙◌}
 use Rattle.drf_tree.specs.Nodes.{seen_in}
-use Rattle.drf_tree.proofs.CopyLemmas.{copied_lists}
+use Rattle.drf_tree.proofs.shape.Copy.{copied_lists}
 use Rattle.drf_tree.proofs.tree.Tree.copy.Goals as goal
 
 pub returns-clause-tree : goal.returns-clause-tree

@@ -2,10 +2,10 @@ use Rattle.std.proofs.Common.{◌≡◌, ◌-◌, [], ℕ, refl, sym, ap, subst,
 use Rattle.drf_bundle.specs.laws.QuantitiesLaws.{covers_from}
 use Rattle.drf_tree.specs.declared.node.Sum.{Sum}
 use Rattle.drf_tree.specs.Nodes.{parent_at}
-use Rattle.drf_tree.proofs.ClimbLemmas.{climb_less, climb_on, climb_start, climb_step, climb_was, leaf_other, marking_start, marking_step}
-use Rattle.drf_tree.proofs.DismissLemmas.{dismissed_tree, is_emptied, is_gone, least_read}
-use Rattle.drf_tree.proofs.MoveLemmas.{IsMoved, amounts_in, none}
-use Rattle.drf_tree.proofs.SliceLemmas.{same_read}
+use Rattle.drf_tree.proofs.change.Climb.{climb_less, climb_on, climb_start, climb_step, climb_was, leaf_other, marking_start, marking_step}
+use Rattle.drf_tree.proofs.change.Dismiss.{dismissed_tree, is_emptied, is_gone, least_read}
+use Rattle.drf_tree.proofs.sums.Move.{IsMoved, amounts_in, none}
+use Rattle.drf_tree.proofs.shape.Slice.{same_read}
 use Rattle.drf_tree.proofs.tree.Tree.dismiss.Goals as goal
 
 pub loop-node-init : goal.loop-node-init

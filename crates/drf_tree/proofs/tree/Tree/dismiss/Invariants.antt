@@ -1,7 +1,7 @@
 use Rattle.std.proofs.Common.{length}
 use Rattle.drf_tree.specs.Nodes.{path_at}
-use Rattle.drf_tree.proofs.ClimbLemmas.{IsClimbing, IsMarking}
-use Rattle.drf_tree.proofs.MoveLemmas.{IsMoved, amounts_in, none}
+use Rattle.drf_tree.proofs.change.Climb.{IsClimbing, IsMarking}
+use Rattle.drf_tree.proofs.sums.Move.{IsMoved, amounts_in, none}
 use Rattle.drf_tree.proofs.tree.Tree.dismiss.Given as goal
 
 abbrev pub invariant-loop-node : goal.invariant-loop-node

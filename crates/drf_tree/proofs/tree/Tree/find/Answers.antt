@@ -1,9 +1,9 @@
 use Rattle.std.proofs.Common.{refl, sym, ap, ◌∙◌, arith}
 use Rattle.std.specs.Prelude.{◌++◌, ◌∷◌, []}
 use Rattle.drf_role.specs.Path.{Path}
-use Rattle.drf_tree.proofs.ClimbLemmas.{node_from_live}
-use Rattle.drf_tree.proofs.FindLemmas.{no_such, not_below, take_one_more, take_whole}
-use Rattle.drf_tree.proofs.WayLemmas.{top_is}
+use Rattle.drf_tree.proofs.change.Climb.{node_from_live}
+use Rattle.drf_tree.proofs.shape.Find.{no_such, not_below, take_one_more, take_whole}
+use Rattle.drf_tree.proofs.shape.Way.{top_is}
 use Rattle.drf_tree.proofs.tree.Tree.find.Goals as goal
 
 pub loop-i-init : goal.loop-i-init

@@ -5,9 +5,9 @@ use Rattle.drf_role.specs.Path.{Path}
 use Rattle.drf_sorter.specs.Plain.{plain_content}
 use Rattle.drf_tree.specs.declared.node.Place.{Place}
 use Rattle.drf_tree.specs.Tidy.{IsTidyBut}
-use Rattle.drf_tree.proofs.FindLemmas.{take_whole}
-use Rattle.drf_tree.proofs.TidyLemmas.{but_along}
-use Rattle.drf_tree.proofs.GrowLemmas.{grow_start, grow_step, grown_client, grown_live}
+use Rattle.drf_tree.proofs.shape.Find.{take_whole}
+use Rattle.drf_tree.proofs.growth.Tidy.{but_along}
+use Rattle.drf_tree.proofs.growth.Grow.{grow_start, grow_step, grown_client, grown_live}
 use Rattle.drf_tree.proofs.tree.Tree.grow.Goals as goal
 
 pub loop-i-init : goal.loop-i-init

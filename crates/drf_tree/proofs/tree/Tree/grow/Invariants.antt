@@ -1,5 +1,5 @@
 use Rattle.drf_sorter.specs.Plain.{plain_content}
-use Rattle.drf_tree.proofs.GrowLemmas.{IsGrowing}
+use Rattle.drf_tree.proofs.growth.Grow.{IsGrowing}
 use Rattle.drf_tree.proofs.tree.Tree.grow.Given as goal
 
 abbrev pub invariant-loop-i : goal.invariant-loop-i

@@ -3,8 +3,8 @@ use Rattle.std.specs.Bool.{◌==◌}
 use Rattle.std.proofs.lemmas.Option.{slice_get_read}
 use Rattle.drf_tree.specs.declared.family.Family.{Family}
 use Rattle.drf_tree.specs.declared.node.Sum.{Sum}
-use Rattle.drf_tree.proofs.NodeLemmas.{live_within}
-use Rattle.drf_tree.proofs.NameLemmas.{bare_is, bare_out, bare_then}
+use Rattle.drf_tree.proofs.shape.Node.{live_within}
+use Rattle.drf_tree.proofs.shape.Name.{bare_is, bare_out, bare_then}
 use Rattle.drf_tree.proofs.tree.Tree.is_bare.Goals as goal
 
 pub returns-then-index-eq0 : goal.returns-then-index-eq0

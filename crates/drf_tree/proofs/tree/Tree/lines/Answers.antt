@@ -6,9 +6,9 @@ use Rattle.drf_sorter.specs.Content.{has_node}
 use Rattle.drf_sorter.specs.Lines.{AreLinesOf, has_line}
 use Rattle.drf_sorter.specs.Plain.{plain_content}
 use Rattle.drf_tree.specs.Nodes.{is_live, path_at}
-use Rattle.drf_tree.proofs.LineLemmas.{node_of}
-use Rattle.drf_tree.proofs.ListedLemmas.{front_parts}
-use Rattle.drf_tree.proofs.NodeLemmas.{live_within}
+use Rattle.drf_tree.proofs.lines.Nodes.{node_of}
+use Rattle.drf_tree.proofs.lines.Numbers.{front_parts}
+use Rattle.drf_tree.proofs.shape.Node.{live_within}
 use Rattle.drf_tree.proofs.tree.Tree.lines.Goals as goal
 
 pub loop-node-preserved : goal.loop-node-preserved

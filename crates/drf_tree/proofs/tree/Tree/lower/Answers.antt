@@ -2,9 +2,9 @@ use Rattle.std.proofs.Common.{◌≡◌, ◌-◌, refl, ap, ◌∙◌, arith}
 use Rattle.drf_bundle.specs.laws.QuantitiesLaws.{covers_from}
 use Rattle.drf_tree.specs.declared.node.Sum.{Sum}
 use Rattle.drf_tree.specs.Nodes.{parent_at}
-use Rattle.drf_tree.proofs.ClimbLemmas.{climb_less, climb_on, climb_start, climb_step, climb_was, marking_start, marking_step}
-use Rattle.drf_tree.proofs.LowerLemmas.{is_lowered, lowered_tree, of_lowered}
-use Rattle.drf_tree.proofs.MoveLemmas.{IsMoved, none}
+use Rattle.drf_tree.proofs.change.Climb.{climb_less, climb_on, climb_start, climb_step, climb_was, marking_start, marking_step}
+use Rattle.drf_tree.proofs.change.Lower.{is_lowered, lowered_tree, of_lowered}
+use Rattle.drf_tree.proofs.sums.Move.{IsMoved, none}
 use Rattle.drf_tree.proofs.tree.Tree.lower.Goals as goal
 
 pub loop-node-init : goal.loop-node-init

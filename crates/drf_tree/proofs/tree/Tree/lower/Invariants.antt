@@ -1,8 +1,8 @@
 use Rattle.std.proofs.Common.{length}
 use Rattle.drf_tree.specs.Nodes.{path_at}
-use Rattle.drf_tree.proofs.ClimbLemmas.{IsClimbing, IsMarking}
-use Rattle.drf_tree.proofs.LowerLemmas.{of_lowered}
-use Rattle.drf_tree.proofs.MoveLemmas.{IsMoved, none}
+use Rattle.drf_tree.proofs.change.Climb.{IsClimbing, IsMarking}
+use Rattle.drf_tree.proofs.change.Lower.{of_lowered}
+use Rattle.drf_tree.proofs.sums.Move.{IsMoved, none}
 use Rattle.drf_tree.proofs.tree.Tree.lower.Given as goal
 
 abbrev pub invariant-loop-node : goal.invariant-loop-node

@@ -11,9 +11,9 @@ use Rattle.drf_tree.specs.declared.node.Sum.{Sum}
 use Rattle.drf_tree.specs.Family.{child_name}
 use Rattle.drf_tree.specs.Nodes.{children_at, holds_any, is_holding, is_live, path_at}
 use Rattle.drf_tree.specs.Tree.{IsChildOf, IsMarkedOrRight, IsSumOf}
-use Rattle.drf_tree.proofs.NodeLemmas.{flags_changed}
-use Rattle.drf_tree.proofs.NothingLemmas.{key_of_none}
-use Rattle.drf_tree.proofs.RepairLemmas.{sum_there}
+use Rattle.drf_tree.proofs.shape.Node.{flags_changed}
+use Rattle.drf_tree.proofs.keys.Nothing.{key_of_none}
+use Rattle.drf_tree.proofs.keys.Repair.{sum_there}
 use Rattle.drf_tree.proofs.tree.Tree.mark_all.Goals as goal
 
 -- what the clients have does not tell the total

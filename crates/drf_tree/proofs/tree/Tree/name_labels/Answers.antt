@@ -1,8 +1,8 @@
 use Rattle.std.proofs.Common.{◌≡◌, refl, ap, ◌∙◌, arith}
 use Rattle.drf_tree.specs.declared.node.Sum.{Sum}
 use Rattle.drf_tree.specs.Nodes.{parent_at}
-use Rattle.drf_tree.proofs.ClimbLemmas.{climb_less, climb_start, climb_step, climb_sum}
-use Rattle.drf_tree.proofs.LabelLemmas.{IsNamed, are_same, few_end, named_end, same_held, same_set, same_tree}
+use Rattle.drf_tree.proofs.change.Climb.{climb_less, climb_start, climb_step, climb_sum}
+use Rattle.drf_tree.proofs.change.Label.{IsNamed, are_same, few_end, named_end, same_held, same_set, same_tree}
 use Rattle.drf_tree.proofs.tree.Tree.name_labels.Goals as goal
 
 pub loop-node-init : goal.loop-node-init

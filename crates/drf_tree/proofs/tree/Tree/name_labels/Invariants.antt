@@ -1,7 +1,7 @@
 use Rattle.std.proofs.Common.{◌≡◌, length}
 use Rattle.drf_tree.specs.Nodes.{path_at}
-use Rattle.drf_tree.proofs.ClimbLemmas.{IsClimbing}
-use Rattle.drf_tree.proofs.LabelLemmas.{AreSame, IsNamed}
+use Rattle.drf_tree.proofs.change.Climb.{IsClimbing}
+use Rattle.drf_tree.proofs.change.Label.{AreSame, IsNamed}
 use Rattle.drf_tree.proofs.tree.Tree.name_labels.Given as goal
 
 abbrev pub invariant-loop-node : goal.invariant-loop-node

@@ -3,7 +3,7 @@ use Rattle.drf_tree.specs.declared.family.Family.{Family}
 use Rattle.drf_tree.specs.declared.node.Place.{Place}
 use Rattle.drf_tree.specs.declared.node.Sum.{Sum}
 use Rattle.drf_tree.specs.Nodes.{children_at}
-use Rattle.drf_tree.proofs.OpenLemmas.{opened, opened_tidy}
+use Rattle.drf_tree.proofs.shape.Root.{opened, opened_tidy}
 use Rattle.drf_tree.proofs.tree.Tree.open.Goals as goal
 
 pub returns-clause-tree : goal.returns-clause-tree

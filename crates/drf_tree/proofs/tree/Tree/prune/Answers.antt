@@ -1,6 +1,6 @@
 use Rattle.std.proofs.Common.{arith, sym, ◌∙◌}
-use Rattle.drf_tree.proofs.TidyLemmas.{tidy_at_root, tidy_at_used}
-use Rattle.drf_tree.proofs.BareLemmas.{prune_less, prune_live, prune_start, prune_step}
+use Rattle.drf_tree.proofs.growth.Tidy.{tidy_at_root, tidy_at_used}
+use Rattle.drf_tree.proofs.growth.Bare.{prune_less, prune_live, prune_start, prune_step}
 use Rattle.drf_tree.proofs.tree.Tree.prune.Goals as goal
 
 pub loop-node-init : goal.loop-node-init

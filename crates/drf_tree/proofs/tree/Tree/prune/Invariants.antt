@@ -1,6 +1,6 @@
 use Rattle.std.proofs.Common.{length}
 use Rattle.drf_tree.specs.Nodes.{path_at}
-use Rattle.drf_tree.proofs.BareLemmas.{IsPruning}
+use Rattle.drf_tree.proofs.growth.Bare.{IsPruning}
 use Rattle.drf_tree.proofs.tree.Tree.prune.Given as goal
 
 abbrev pub invariant-loop-node : goal.invariant-loop-node

@@ -8,9 +8,9 @@ use Rattle.drf_sorter.specs.laws.LineLaws.{each-with, has_line-new, has_line-oth
 use Rattle.drf_sorter.specs.Lines.{IsLineOf, has_line, line_with, with_line}
 use Rattle.drf_sorter.specs.Plain.{plain_content}
 use Rattle.drf_tree.specs.Nodes.{path_at}
-use Rattle.drf_tree.proofs.LineLemmas.{line_is, live_place, path_place}
-use Rattle.drf_tree.proofs.RenewLemmas.{weighs_within}
-use Rattle.drf_tree.proofs.ShareLemmas.{held_within, nobody, sum_is}
+use Rattle.drf_tree.proofs.lines.Nodes.{line_is, live_place, path_place}
+use Rattle.drf_tree.proofs.keys.Renew.{weighs_within}
+use Rattle.drf_tree.proofs.sums.Share.{held_within, nobody, sum_is}
 use Rattle.drf_tree.proofs.tree.Tree.put_line.Goals as goal
 
 pub returns-then-sum-eq0-clause-put : goal.returns-then-sum-eq0-clause-put

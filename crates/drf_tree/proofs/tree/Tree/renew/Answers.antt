@@ -11,8 +11,8 @@ use Rattle.drf_tree.specs.Changes.{IsShapeOf}
 use Rattle.drf_tree.specs.Family.{IsRenewed}
 use Rattle.drf_tree.specs.Nodes.{children_at, is_live, parent_at, path_at}
 use Rattle.drf_tree.specs.Tree.{AreRight, AreSums, IsShape, IsSumOf}
-use Rattle.drf_tree.proofs.NodeLemmas.{family_read, live_within, node_within}
-use Rattle.drf_tree.proofs.RenewLemmas.{IsRepaired, can_key, plain_weighs, renewed}
+use Rattle.drf_tree.proofs.shape.Node.{family_read, live_within, node_within}
+use Rattle.drf_tree.proofs.keys.Renew.{IsRepaired, can_key, plain_weighs, renewed}
 use Rattle.drf_tree.proofs.tree.Tree.renew.Goals as goal
 
 -- the sum that was read is that of the node

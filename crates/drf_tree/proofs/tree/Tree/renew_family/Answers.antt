@@ -6,9 +6,9 @@ use Rattle.drf_sorter.specs.Plain.{plain_content}
 use Rattle.drf_tree.specs.declared.family.Child.{Child}
 use Rattle.drf_tree.specs.Family.{AreFresh, CanKeyAt, has_child, is_same, known, numbers_of}
 use Rattle.drf_tree.specs.Nodes.{children_at}
-use Rattle.drf_tree.proofs.NodeLemmas.{family_read}
-use Rattle.drf_tree.proofs.RenewLemmas.{plain_weighs}
-use Rattle.drf_tree.proofs.RepairLemmas.{can_key_all, numbers_once, repaired}
+use Rattle.drf_tree.proofs.shape.Node.{family_read}
+use Rattle.drf_tree.proofs.keys.Renew.{plain_weighs}
+use Rattle.drf_tree.proofs.keys.Repair.{can_key_all, numbers_once, repaired}
 use Rattle.drf_tree.proofs.tree.Tree.renew_family.Goals as goal
 
 pub renew_all-requires-clause-once : goal.renew_all-requires-clause-once

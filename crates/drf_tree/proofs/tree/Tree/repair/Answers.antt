@@ -9,8 +9,8 @@ use Rattle.drf_tree.specs.declared.tree.Tree.{Tree}
 use Rattle.drf_tree.specs.Marks.{Flags, marked_in}
 use Rattle.drf_tree.specs.Nodes.{children_at}
 use Rattle.drf_tree.specs.Tree.{IsMarkedOrRight, IsTreeBut, IsTreeOf}
-use Rattle.drf_tree.proofs.MarkLemmas.{down_at, marked_less, one_more}
-use Rattle.drf_tree.proofs.NodeLemmas.{flags_changed, live_within}
+use Rattle.drf_tree.proofs.marks.Flags.{down_at, marked_less, one_more}
+use Rattle.drf_tree.proofs.shape.Node.{flags_changed, live_within}
 use Rattle.drf_tree.proofs.tree.Tree.repair.Goals as goal
 
 module _ (content : Content) (tree : Tree) (of : IsTreeOf content tree) (marks : Flags) where

@@ -2,10 +2,10 @@ use Rattle.std.proofs.Common.{◌≡◌, ◌≤◌, ◌+◌, ◌-◌, Bool, true
 use mir.Val.{bool_byte}
 use Rattle.drf_tree.specs.declared.node.Sum.{Sum}
 use Rattle.drf_tree.specs.Nodes.{parent_at}
-use Rattle.drf_tree.proofs.ActiveLemmas.{activated_tree, is_activated, of_active}
-use Rattle.drf_tree.proofs.ClimbLemmas.{climb_less, climb_on, climb_start, climb_step, climb_was}
-use Rattle.drf_tree.proofs.MoveLemmas.{IsMoved}
-use Rattle.drf_tree.proofs.SliceLemmas.{same_read}
+use Rattle.drf_tree.proofs.change.Active.{activated_tree, is_activated, of_active}
+use Rattle.drf_tree.proofs.change.Climb.{climb_less, climb_on, climb_start, climb_step, climb_was}
+use Rattle.drf_tree.proofs.sums.Move.{IsMoved}
+use Rattle.drf_tree.proofs.shape.Slice.{same_read}
 use Rattle.drf_tree.proofs.tree.Tree.set_active.Goals as goal
 
 pub loop-node-init : goal.loop-node-init

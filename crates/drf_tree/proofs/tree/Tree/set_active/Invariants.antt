@@ -1,8 +1,8 @@
 use Rattle.std.proofs.Common.{◌≡◌, length}
 use Rattle.drf_tree.specs.Nodes.{path_at}
-use Rattle.drf_tree.proofs.ClimbLemmas.{IsClimbing}
-use Rattle.drf_tree.proofs.ActiveLemmas.{of_active}
-use Rattle.drf_tree.proofs.MoveLemmas.{IsMoved}
+use Rattle.drf_tree.proofs.change.Climb.{IsClimbing}
+use Rattle.drf_tree.proofs.change.Active.{of_active}
+use Rattle.drf_tree.proofs.sums.Move.{IsMoved}
 use Rattle.drf_tree.proofs.tree.Tree.set_active.Given as goal
 
 abbrev pub invariant-loop-node : goal.invariant-loop-node

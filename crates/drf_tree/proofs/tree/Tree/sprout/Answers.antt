@@ -7,9 +7,9 @@ use Rattle.drf_tree.specs.declared.tree.Tree.{Tree}
 use Rattle.drf_tree.specs.Changes.{IsOneLonger, IsShapeOf}
 use Rattle.drf_tree.specs.Family.{IsWith}
 use Rattle.drf_tree.specs.Nodes.{is_live, is_node, path_at, place_at}
-use Rattle.drf_tree.proofs.NodeLemmas.{family_read, node_within}
-use Rattle.drf_tree.proofs.TidyLemmas.{one_more}
-use Rattle.drf_tree.proofs.SproutLemmas.{IsReady, counted_shape, counted_tree, kept_tree, ready_seen, sprout_tree}
+use Rattle.drf_tree.proofs.shape.Node.{family_read, node_within}
+use Rattle.drf_tree.proofs.growth.Tidy.{one_more}
+use Rattle.drf_tree.proofs.growth.Sprout.{IsReady, counted_shape, counted_tree, kept_tree, ready_seen, sprout_tree}
 use Rattle.drf_tree.proofs.tree.Tree.sprout.Goals as goal
 
 -- what was asked of the tree holds after a number was found and a key was made

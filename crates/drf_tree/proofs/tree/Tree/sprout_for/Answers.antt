@@ -4,7 +4,7 @@ use Rattle.drf_role.specs.Path.{IsNodePath, Path}
 use Rattle.drf_tree.specs.Tidy.{IsOneMore}
 use Rattle.drf_sorter.specs.Content.{has_node}
 use Rattle.drf_sorter.specs.Plain.{plain_content}
-use Rattle.drf_tree.proofs.GrowLemmas.{front_right}
+use Rattle.drf_tree.proofs.growth.Grow.{front_right}
 use Rattle.drf_tree.proofs.tree.Tree.sprout_for.Goals as goal
 
 pub sprout-requires-clause-right : goal.sprout-requires-clause-right

@@ -2,8 +2,8 @@ use Rattle.std.specs.Prelude.{List, Option}
 use Rattle.std.proofs.Common.{[], arith, subst, sym}
 use Rattle.drf_tree.specs.declared.node.Place.{Place}
 use Rattle.drf_tree.specs.Places.{AreTaken}
-use Rattle.drf_tree.proofs.PlaceLemmas.{taken_pushed}
-use Rattle.drf_tree.proofs.VacantLemmas.{place_more, places_long, shape_more, tree_more, tree_same}
+use Rattle.drf_tree.proofs.growth.Place.{taken_pushed}
+use Rattle.drf_tree.proofs.growth.Vacant.{place_more, places_long, shape_more, tree_more, tree_same}
 use Rattle.drf_tree.proofs.tree.Tree.vacant.Goals as goal
 
 pub returns-in_err-push-clause-tree : goal.returns-in_err-push-clause-tree

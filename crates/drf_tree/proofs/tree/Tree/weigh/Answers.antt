@@ -1,8 +1,8 @@
 use Rattle.std.specs.Prelude.{length}
 use Rattle.std.proofs.Common.{arith, refl}
 use Rattle.std.proofs.lemmas.Option.{slice_get_read}
-use Rattle.drf_tree.proofs.NodeLemmas.{live_within}
-use Rattle.drf_tree.proofs.WeighLemmas.{weighed_tree}
+use Rattle.drf_tree.proofs.shape.Node.{live_within}
+use Rattle.drf_tree.proofs.change.Weigh.{weighed_tree}
 use Rattle.drf_tree.proofs.tree.Tree.weigh.Goals as goal
 
 pub returns-clause-tree : goal.returns-clause-tree

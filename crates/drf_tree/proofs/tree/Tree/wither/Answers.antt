@@ -7,8 +7,8 @@ use Rattle.drf_tree.specs.Family.{IsGone}
 use Rattle.drf_tree.specs.declared.tree.Tree.{Tree}
 use Rattle.drf_tree.specs.Changes.{IsShapeOf}
 use Rattle.drf_tree.specs.Nodes.{children_at, is_live, parent_at}
-use Rattle.drf_tree.proofs.BareLemmas.{wither_shape, wither_tree}
-use Rattle.drf_tree.proofs.NodeLemmas.{family_read, live_within, node_within}
+use Rattle.drf_tree.proofs.growth.Bare.{wither_shape, wither_tree}
+use Rattle.drf_tree.proofs.shape.Node.{family_read, live_within, node_within}
 use Rattle.drf_tree.proofs.tree.Tree.wither.Goals as goal
 
 pub index_mut-requires : goal.index_mut-requires

@@ -15,8 +15,8 @@ use Rattle.drf_tree.specs.Family.{numbers_of}
 use Rattle.drf_tree.specs.Nodes.{client_at, path_at, place_at}
 use Rattle.drf_tree.specs.Queue.{AreFrames, IsAtClient, IsSettled, frames_queue}
 use Rattle.drf_tree.specs.Tree.{IsTreeOf}
-use Rattle.drf_tree.proofs.NodeLemmas.{read_at}
-use Rattle.drf_tree.proofs.StepLemmas.{first_is, frames_last, nobody_left, settled_last}
+use Rattle.drf_tree.proofs.shape.Node.{read_at}
+use Rattle.drf_tree.proofs.walk.Step.{first_is, frames_last, nobody_left, settled_last}
 use Rattle.drf_tree.proofs.walk.Walk.first.Goals as goal
 
 -- a list and its last element

@@ -8,7 +8,7 @@ use Rattle.drf_tree.specs.declared.walk.Walk.{Walk}
 use Rattle.drf_tree.specs.Changes.{IsShapeOf}
 use Rattle.drf_tree.specs.Queue.{AreFrames, IsSettled, frames_queue, onward}
 use Rattle.drf_tree.specs.Tree.{IsTreeOf}
-use Rattle.drf_tree.proofs.StepLemmas.{frames_onward, nobody_left, passed_on}
+use Rattle.drf_tree.proofs.walk.Step.{frames_onward, nobody_left, passed_on}
 use Rattle.drf_tree.proofs.walk.Walk.pass.Goals.{in-Some, in_default}
 use Rattle.drf_tree.proofs.walk.Walk.pass.Goals as goal
 

@@ -3,8 +3,8 @@ use Rattle.std.proofs.Common.{ap, rules, subst, sym, take-append-drop, ◌∙◌
 use Rattle.drf_sorter.specs.Passed.{IsPassedFront}
 use Rattle.drf_sorter.specs.laws.PassedLaws.{one_is_front}
 use Rattle.drf_tree.specs.Queue.{AreFrames, frames_queue}
-use Rattle.drf_tree.proofs.PassLemmas.{passed_front}
-use Rattle.drf_tree.proofs.StepLemmas.{frames_front}
+use Rattle.drf_tree.proofs.walk.Pass.{passed_front}
+use Rattle.drf_tree.proofs.walk.Step.{frames_front}
 use Rattle.drf_tree.proofs.walk.Walk.pass_front.Goals as goal
 
 pub settle-requires-clause-frames : goal.settle-requires-clause-frames

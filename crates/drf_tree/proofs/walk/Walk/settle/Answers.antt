@@ -7,7 +7,7 @@ use Rattle.drf_tree.specs.declared.walk.Next.TheVariants.{Client, End, Nobody, N
 use Rattle.drf_tree.specs.Changes.{IsShapeOf}
 use Rattle.drf_tree.specs.Queue.{AreFrames, IsNext, IsSettled, onward}
 use Rattle.drf_tree.specs.Tree.{IsTreeOf}
-use Rattle.drf_tree.proofs.StepLemmas.{IsStep, settled_at, step_down, step_end, step_nobody}
+use Rattle.drf_tree.proofs.walk.Step.{IsStep, settled_at, step_down, step_end, step_nobody}
 use Rattle.drf_tree.proofs.walk.Walk.settle.Goals as goal
 
 -- the steps between the lists that the code has

@@ -3,7 +3,7 @@ use Rattle.drf_sorter.specs.Content.{Content}
 use Rattle.drf_tree.specs.Nodes.{family_at}
 use Rattle.drf_tree.specs.Queue.{AreFrames, frames_queue, most_parts}
 use Rattle.drf_tree.specs.Tree.{IsTreeOf}
-use Rattle.drf_tree.proofs.FrameLemmas.{left}
+use Rattle.drf_tree.proofs.walk.Frames.{left}
 use Rattle.drf_tree.proofs.walk.Walk.settle.Given as goal
 
 abbrev pub invariant-loop-frame : goal.invariant-loop-frame

@@ -2,7 +2,7 @@ use Rattle.std.specs.Prelude.{◌∷◌, ◌++◌, [], List}
 use Rattle.std.proofs.Common.{ap, ◌∙◌}
 use Rattle.drf_tree.specs.declared.walk.Frame.{Frame}
 use Rattle.drf_tree.specs.Queue.{frames_queue}
-use Rattle.drf_tree.proofs.StepLemmas.{top, top_queue}
+use Rattle.drf_tree.proofs.walk.Step.{top, top_queue}
 use Rattle.drf_tree.proofs.walk.Walk.start.Goals as goal
 
 pub returns-clause-queue : goal.returns-clause-queue

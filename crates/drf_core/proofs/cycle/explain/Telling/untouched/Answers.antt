@@ -1,0 +1,20 @@
+use Rattle.std.proofs.Common.{◌<◌, List, ◌++◌, sym, ap, ◌∙◌, arith, length}
+use Rattle.drf_explain.specs.declared.finding.Finding.{Finding}
+use Rattle.drf_tables.specs.cycle.Drafts.{with_offers}
+use Rattle.drf_tables.specs.cycle.DraftLaws.{agents-with_offers}
+use Rattle.drf_core.specs.cycle.Explaining.{left_to_tell, untouched_at}
+use Rattle.drf_core.proofs.drafting.Told.{untouched-next}
+use Rattle.drf_core.proofs.cycle.explain.Telling.untouched.Goals as goal
+
+pub tell_untouched-requires-clause-place : goal.tell_untouched-requires-clause-place
+tell_untouched-requires-clause-place g c = omega (arith, c.if-self-agent_count.false, c.agent_count.ensures)
+
+pub returns-clause-told : goal.returns-clause-told
+returns-clause-told g c = λ turn turns is.
+    let rows = c.self.inside.tables.rows in
+    let offers = c.self.inside.drafts.offers.items in
+    let place = c.self.inside.place in
+    let inside : place < length rows.agents = omega (arith, c.if-self-agent_count.false, c.agent_count.ensures) in
+    untouched-next rows (with_offers rows offers) place c.tell_untouched.new.findings.items turn turns inside (agents-with_offers rows offers)
+    (c.in_ok-tell_untouched.ensures.told ∙ ap (λ (fs : List Finding). fs ++ untouched_at (with_offers rows offers) place) c.new-untouched.ensures.items)
+    (sym (ap (λ over. left_to_tell over rows offers place) c.if-self.false) ∙ c.self.view_is ∙ is)

@@ -1,6 +1,0 @@
-use Rattle.std.proofs.Common.{sym, ap, ◌∙◌}
-use Rattle.drf_core.specs.Entitling.{known_part}
-use Rattle.drf_core.proofs.free.take_part.Goals as goal
-
-pub returns-in-Part-clause-part : goal.returns-in-Part-clause-part
-returns-in-Part-clause-part c = sym (ap known_part c.in-Part.is) ∙ ap known_part c.replace.ensures.value

@@ -1,0 +1,56 @@
+-- What is told of a cycle, agent by agent, while its offers are drafts.
+use Rattle.std.specs.Prelude.{◌≡◌, ℕ, ◌++◌, Bool, List, [], ◌∷◌, drop, slice_get, Some, if◌then◌else◌, nat_lt}
+use Rattle.std.specs.Option.{option_map_or}
+use Rattle.drf_role.specs.Text.{Text}
+use Rattle.drf_role.specs.Path.{Path}
+use Rattle.drf_bundle.specs.declared.resource.Resource.{Resource}
+use Rattle.drf_rows.specs.Client.{Client, path_of}
+use Rattle.drf_rows.specs.Cycle.{all_tried, turn_order}
+use Rattle.drf_rows.specs.declared.rows.AgentRow.{AgentRow}
+use Rattle.drf_rows.specs.declared.rows.Rows.{Rows}
+use Rattle.drf_rows.specs.declared.rows.OfferRow.{OfferRow}
+use Rattle.drf_explain.specs.Each.{told_of_each, each_on, turns_on_all, untouched_on}
+use Rattle.drf_explain.specs.Explained.{outcome, told_of_agent, told_of_all}
+use Rattle.drf_tables.specs.cycle.Drafts.{with_offers}
+use Rattle.drf_explain.specs.declared.finding.Finding.{Finding}
+use Rattle.drf_explain.specs.declared.finding.Finding.TheVariants.{Left, Tried}
+
+-- what is told of clients on an agent: of each, or of those before too little is left
+abbrev pub told_by : Bool → Rows → AgentRow → List Client → List Finding
+told_by each rows agent clients = if each then told_of_each rows agent clients else told_of_all rows agent clients
+
+-- and of an agent
+abbrev pub told_on : Bool → Rows → AgentRow → List Finding
+told_on each rows agent = if each then each_on rows agent else told_of_agent rows agent
+
+-- what is told of the agent at a place
+abbrev pub told_at : Bool → Rows → ℕ → List Finding
+told_at each rows place = option_map_or (told_on each rows) (slice_get rows.agents place) []
+
+-- what would be told of each client of the turn of the agent at a place, were it tried first
+abbrev pub untouched_at : Rows → ℕ → List Finding
+untouched_at rows place = option_map_or (untouched_on rows) (slice_get rows.agents place) []
+
+-- what is told of clients that are not tried
+abbrev pub left_told : Text → List Resource → ℕ → List Finding
+left_told agent left clients = if nat_lt 0 clients then Left agent left clients ∷ [] else []
+
+-- all clients were tried on the agent at that place, as far as what is left is worth an offer
+abbrev pub AreTried : Rows → Rows → ℕ → Type 0
+AreTried old new place = (agent : AgentRow) → slice_get old.agents place ≡ Some agent → new ≡ all_tried old agent (turn_order old)
+
+-- and that is told behind what was told before
+abbrev pub AreToldAt : Bool → Rows → ℕ → List Finding → List Finding → Type 0
+AreToldAt each rows place before after = (agent : AgentRow) → slice_get rows.agents place ≡ Some agent
+    → after ≡ before ++ told_by each rows agent (turn_order rows)
+
+-- the finding is what comes of the client of that path on the agent of that name, in all rows with those gates
+abbrev pub IsOutcomeOf : Rows → AgentRow → Path → Finding → Type 0
+IsOutcomeOf rows agent path finding = (client : Client) → path ≡ path_of client
+    → finding ≡ Tried agent.name (path_of client) (outcome rows agent client)
+
+-- ---- a telling that goes from agent to agent
+
+-- what is left to be told of the agents from a place on, with the drafts: nothing where the telling is over
+abbrev pub left_to_tell : Bool → Rows → List OfferRow → ℕ → List (List Finding × List Finding)
+left_to_tell over rows offers place = if over then [] else turns_on_all (with_offers rows offers) (drop place rows.agents)

@@ -1,0 +1,2 @@
+-- What events do that are not refused.
+pub mod Answered

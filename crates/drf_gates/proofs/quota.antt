@@ -1,0 +1,12 @@
+-- How much roles may have, and what they consume.
+pub mod Used
+pub mod Rows
+pub mod Gone
+pub mod Resources
+pub mod Total
+pub mod Carry
+pub mod Room
+pub mod Front
+pub mod Leave
+pub mod Least
+pub mod Something

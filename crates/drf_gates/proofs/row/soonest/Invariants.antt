@@ -1,7 +1,0 @@
-use Rattle.std.proofs.Common.{take}
-use Rattle.drf_gates.specs.Index.{NoneEndsBefore}
-use Rattle.drf_gates.specs.Slots.{filled}
-use Rattle.drf_gates.proofs.row.soonest.Given as goal
-
-abbrev pub invariant-loop-slot : goal.invariant-loop-slot
-invariant-loop-slot l = NoneEndsBefore l.soonest (filled (take l.slot-index l.rows))

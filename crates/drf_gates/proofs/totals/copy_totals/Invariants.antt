@@ -1,9 +1,0 @@
-use Rattle.std.proofs.Common.{List}
-use Rattle.drf_gates.specs.Quota.{Usage}
-use Rattle.drf_gates.specs.Totals.{AreExact}
-use Rattle.drf_gates.proofs.totals.copy_totals.Given as goal
-
--- what is copied is exact where what is copied from is
-abbrev pub invariant-loop-role : goal.invariant-loop-role
-invariant-loop-role l =
-    (used : List Usage) → AreExact used l.totals.entries → record { copied : AreExact used l.copy.entries; left : AreExact used l.role-iterator }

@@ -1,8 +1,0 @@
-use Rattle.std.proofs.Common.{List}
-use Rattle.drf_gates.specs.Quota.{AreRaised, Usage}
-use Rattle.drf_gates.specs.Totals.{AreCarried, AreExact}
-use Rattle.drf_gates.proofs.totals.raise_totals.Given as goal
-
--- the totals of the fronts so far are those of now
-abbrev pub invariant-loop-len : goal.invariant-loop-len
-invariant-loop-len l = (old new : List Usage) → AreRaised old new l.role l.amounts → AreExact old l.fn.totals.entries → AreCarried old new l.role l.len l.totals.entries

@@ -1,5 +1,0 @@
-use Rattle.drf_gates.specs.Totals.{AreExact}
-use Rattle.drf_gates.proofs.totals.totals_of.Given as goal
-
-abbrev pub invariant-loop-role : goal.invariant-loop-role
-invariant-loop-role l = AreExact l.used.entries l.totals.entries

@@ -1,0 +1,69 @@
+//! What is kept of a role and of the roles above it, found by the fronts of the role's text.
+ghost use Rattle.std.specs.Prelude.{◌≡◌, ◌≤◌, length, take};
+ghost use Rattle.std.specs.Option.{option_map, option_to_list};
+ghost use Rattle.std.specs.Cmp.Lexicographic.{lists_equiv, nat_list_eq_equiv};
+ghost use Rattle.drf_role.specs.Path.{same_path};
+ghost use Rattle.drf_gates.specs.quota.Front.{path_in, end_of, limits_at};
+ghost use Rattle.drf_gates.specs.quota.FrontLaws.{same_writes};
+ghost use Rattle.drf_gates.specs.quota.Allowance.{limit_row, limit_rows};
+
+use drf_bundle::Quantities;
+use drf_role::Role;
+use indexmap::{Equivalent, IndexMap};
+
+/// A front of a role's text, by which the role that it names is looked up. An empty one names none.
+#[derive(Clone, Copy, PartialEq, Eq, Hash)]
+pub(crate) struct Front<'a> {
+    text: &'a str,
+}
+
+impl<'a> Equivalent<Role> for Front<'a> {
+    ghost equivalent = { λ q. same_path (path_in q.text.now) };
+
+    ghost respects_hash = { λ q. same_writes q.text.now };
+
+    ghost respects_eq = { λ q. (lists_equiv nat_list_eq_equiv).congr (path_in q.text.now) };
+
+    fn equivalent(&self, key: &Role) -> bool {
+        self.text == key.text()
+    }
+}
+
+/// Where the first parts of a role, so many, end in its text.
+fn end_of(role: &Role, len: usize) -> usize
+    requires { len ≤ length role.now }
+    ensures { result ≡ end_of (take len role.now) }
+{
+    role.recall();
+    let mut next = 0;
+    for i in 0..len {
+        next += role.part(i).len() + 1;
+    }
+    next.saturating_sub(1)
+}
+
+/// The first parts of a role, so many.
+pub(crate) fn first_parts(role: &Role, len: usize) -> Front<'_>
+    requires { len ≤ length role.now }
+    ensures { path_in result.text.now ≡ take len role.now }
+{
+    let end = end_of(role, len);
+    Front {
+        text: &role.text()[..end],
+    }
+}
+
+/// The limit of the first parts of a role, so many, and its place, if they have one.
+pub(crate) fn limit_above<'a>(
+    limits: &'a IndexMap<Role, Quantities>,
+    role: &Role,
+    len: usize,
+) -> Option<(usize, &'a Role, &'a Quantities)>
+    requires { len ≤ length role.now }
+    ensures { limits_at (take len role.now) (limit_rows limits.now.entries)
+        ≡ option_to_list (option_map (λ f. limit_row (f.1.now, f.2.now)) result) }
+{
+    // The proof learns that no role has two limits by this call alone.
+    let _ = limits.len();
+    limits.get_full(first_parts(role, len))
+}

@@ -1,0 +1,158 @@
+//! The limits of roles.
+ghost use Rattle.std.specs.Prelude.{◌≡◌, ◌≤◌, ◌↔◌, [], length, take, IsTrue, IfOk, IsOk, OnOk, OnErr};
+ghost use Rattle.std.specs.Map.{keys_of};
+ghost use Rattle.std.specs.Option.{option_copied, option_map, option_to_list};
+ghost use Rattle.drf_role.specs.Path.{same_path};
+ghost use Rattle.indexmap.specs.IndexMap.{insert_entry};
+ghost use Rattle.drf_rows.specs.Quota.{limit_of, limits_with};
+ghost use Rattle.drf_gates.specs.quota.Front.{limits_at};
+ghost use Rattle.drf_gates.specs.quota.Allowance.{limit_row, limit_rows};
+
+use crate::quota::fronts::limit_above;
+use drf_bundle::Quantities;
+use drf_role::Role;
+use drf_rows::{LimitRow, Table};
+use indexmap::IndexMap;
+use std::alloc::{AllocError, Global};
+use std::marker::Model;
+
+/// The limits of roles, in the order in which the roles got one. Contracts see the rows.
+#[derive(Drop)]
+pub struct QuotaLimits {
+    limits: IndexMap<Role, Quantities>,
+}
+
+impl Model for QuotaLimits {
+    ghost use Rattle.std.specs.Prelude.{◌≡◌, List, [], None};
+    ghost use Rattle.std.specs.Coded.{coded_list};
+    ghost use Rattle.std.specs.Map.{lookup};
+    ghost use Rattle.drf_role.specs.Path.{same_path};
+    ghost use Rattle.drf_rows.specs.contracts.rows.LimitRow as limit_row;
+    ghost use Rattle.drf_rows.specs.declared.rows.LimitRow.{LimitRow};
+    ghost use Rattle.drf_gates.specs.quota.Allowance.{limit_rows};
+
+    ghost Value = { List LimitRow };
+
+    ghost coded = { coded_list limit_row.the_row.coded };
+
+    ghost view = { λ q. limit_rows q.limits.entries };
+
+    // The empty path, which is no role, has none.
+    ghost invariant = { λ q. lookup (same_path []) q.limits.entries ≡ None };
+}
+
+/// Puts a limit behind the others, or in the place of the role's former one. An `Err` changes nothing.
+fn put_limit(
+    limits: &mut IndexMap<Role, Quantities>,
+    role: &Role,
+    limit: Quantities,
+) -> Result<(), AllocError>
+    ensures ok { OnOk result (limits.new.entries ≡ insert_entry same_path limits.old.entries role.now limit) }
+    ensures err { OnErr result (limits.new.entries ≡ limits.old.entries) }
+{
+    let role = role.copy()?;
+    limits.insert(role, limit)?;
+    Ok(())
+}
+
+/// Limits, copied in their order.
+fn copy_limits(
+    limits: &IndexMap<Role, Quantities>,
+) -> Result<IndexMap<Role, Quantities>, AllocError>
+    ensures { IfOk result (λ copy. copy.entries ≡ limits.now.entries) }
+{
+    let mut copy = IndexMap::with_capacity(*limits.allocator(), limits.len())?;
+    for (role, limit) in limits {
+        put_limit(&mut copy, role, limit.copy()?)?;
+    }
+    Ok(copy)
+}
+
+impl QuotaLimits {
+    /// No limit.
+    pub fn new(alloc: Global) -> QuotaLimits
+        ensures { result ≡ [] }
+    {
+        QuotaLimits {
+            limits: IndexMap::new(alloc),
+        }
+    }
+
+    /// The same limits, copied in their order.
+    pub fn copy(&self) -> Result<QuotaLimits, AllocError>
+        ensures { IfOk result (λ copy. copy ≡ self.now) }
+    {
+        let limits = copy_limits(&self.limits)?;
+        Ok(QuotaLimits { limits })
+    }
+
+    /// Tells a proof that the empty path, which is no role, has no limit. It does nothing.
+    pub(crate) fn recall(&self)
+        ensures { limits_at [] self.now ≡ [] }
+    {
+        let _ = &self.limits;
+    }
+
+    /// How many roles have a limit.
+    pub fn len(&self) -> usize
+        ensures { result ≡ length self.now }
+    {
+        self.limits.len()
+    }
+
+    /// Whether no role has a limit.
+    pub fn is_empty(&self) -> bool
+        ensures { IsTrue result ↔ (self.now ≡ []) }
+    {
+        self.limits.is_empty()
+    }
+
+    /// The roles with their limits.
+    pub(crate) fn entries(&self) -> &IndexMap<Role, Quantities> {
+        &self.limits
+    }
+
+    /// The limits as rows, copied.
+    pub fn rows(&self) -> Result<Table<LimitRow>, AllocError>
+        ensures { IfOk result (λ rows. rows ≡ self.now) }
+    {
+        let mut rows = Vec::with_capacity(*self.limits.allocator(), self.limits.len())?;
+        for (role, limit) in &self.limits {
+            rows.push(LimitRow {
+                role: role.copy()?,
+                limit: limit.copy()?,
+            })?;
+        }
+        Ok(Table::from_vec(rows))
+    }
+
+    /// The limit of a role, if it has one.
+    pub fn get(&self, role: &Role) -> Option<&Quantities>
+        ensures { option_copied result ≡ limit_of self.now role.now }
+    {
+        self.limits.get(role)
+    }
+
+    /// The limit of the first parts of a role, so many, and its place among all, if they have one.
+    pub(crate) fn above(&self, role: &Role, len: usize) -> Option<(usize, &Role, &Quantities)>
+        requires { len ≤ length role.now }
+        ensures { limits_at (take len role.now) self.now ≡ option_to_list (option_map (λ f. limit_row (f.1.now, f.2.now)) result) }
+    {
+        limit_above(&self.limits, role, len)
+    }
+
+    /// Gives a role a limit in the place of the one that it has, if any. A limit that names nothing takes the role's limit
+    /// away, for which no memory is needed. An `Err` changes nothing.
+    pub fn set(&mut self, role: &Role, limit: Quantities) -> Result<(), AllocError>
+        ensures ok { OnOk result (self.new ≡ limits_with self.old role.now limit) }
+        ensures err { OnErr result (self.new ≡ self.old) }
+        ensures none { limit ≡ [] → IsOk result }
+    {
+        role.recall();
+        if limit.entries().is_empty() {
+            self.limits.shift_remove(role);
+            return Ok(());
+        }
+        put_limit(&mut self.limits, role, limit)
+    }
+}

@@ -1,0 +1,3 @@
+-- The offers of a cycle.
+pub mod Appended
+pub mod Counted

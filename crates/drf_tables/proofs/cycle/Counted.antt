@@ -1,0 +1,150 @@
+-- Offers that are counted at their clients.
+use Rattle.std.specs.Prelude.{◌≡◌, ℕ, ◌+◌, ◌<◌, ◌≤◌, ◌^◌, ◌||◌, Bool, true, false, List, [], ◌∷◌, ◌++◌, length, map, flat_map, sum_by, take, drop}
+use Rattle.std.specs.List.{list_any}
+use Rattle.std.proofs.Common.{refl, sym, ap, ◌∙◌, inl, inr, zero, suc, arith, get_or, set}
+use Rattle.std.proofs.lemmas.Bool.{cases_Bool, false≢true}
+use Rattle.std.proofs.lemmas.List.{length-append, length-map}
+use Rattle.std.proofs.lemmas.List.Sums.{sum_by-cons}
+use Rattle.drf_role.specs.Text.{same_text}
+use Rattle.drf_role.specs.Path.{same_path}
+use Rattle.drf_role.specs.TextLaws.{same_itself}
+use Rattle.drf_rows.specs.Client.{Client}
+use Rattle.drf_rows.specs.Consistent.{offers_counted}
+use Rattle.drf_rows.specs.Cycle.{counted, count_offer}
+use Rattle.drf_rows.specs.Held.{client_of}
+use Rattle.drf_rows.specs.Holdings.{of_offer}
+use Rattle.drf_rows.specs.declared.rows.ClientRow.{ClientRow}
+use Rattle.drf_rows.specs.declared.rows.FrameworkRow.{FrameworkRow}
+use Rattle.drf_rows.specs.declared.rows.OfferRow.{OfferRow}
+use Rattle.drf_tables.specs.cycle.Counting.{counting, counting_all, count_clients, CanCount, CanCountAll}
+use Rattle.drf_row_laws.specs.ConsistentLaws.{same_text-swap, name-count_offer}
+
+-- ---- one client after another
+
+-- where the elements before a place are mapped, and the others are not
+module _ {X : Type 0} (f : X → X) where
+  pub map_next : (xs ys : List X) (i n : ℕ) (d : X) → n ≡ i + 1 → i < length xs → ys ≡ map f (take i xs) ++ drop i xs
+      → set ys i (f (get_or ys i d)) ≡ map f (take n xs) ++ drop n xs
+  map_next xs ys i n d next within so = rw so (at xs i n next within)
+    where
+      at : (xs : List X) (i n : ℕ) → n ≡ i + 1 → i < length xs
+          → set (map f (take i xs) ++ drop i xs) i (f (get_or (map f (take i xs) ++ drop i xs) i d))
+          ≡ map f (take n xs) ++ drop n xs
+      at [] i n next within = absurd (omega arith)
+      at (x ∷ xs) zero zero next within = absurd (omega arith)
+      at (x ∷ xs) zero (suc n) next within =
+          let none : n ≡ 0 = omega arith in
+          rw none refl
+      at (x ∷ xs) (suc i) zero next within = absurd (omega arith)
+      at (x ∷ xs) (suc i) (suc n) next within = ap (λ l. f x ∷ l) (at xs i n (omega arith) (omega arith))
+
+-- ---- what is counted
+
+pub counted_here : (client : Client) (c : ClientRow)
+    → same_path c.role client.role ≡ true → counted client c ≡ record c { count = c.count + 1 }
+counted_here client c same = rw same refl
+
+pub counted_other : (client : Client) (c : ClientRow) → same_path c.role client.role ≡ false → counted client c ≡ c
+counted_other client c other = rw other refl
+
+-- one more offer fits, and then one less
+counted_fits : (n m : ℕ) (client : Client) (c : ClientRow)
+    → m ≡ n + 1 → c.count + m < 2 ^ 64 → (counted client c).count + n < 2 ^ 64
+counted_fits n m client c next fits = elim (cases_Bool (same_path c.role client.role)) [
+  | inl same ↦ rw same (omega (arith, next, fits))
+  | inr other ↦ rw other (omega (arith, next, fits))
+]
+
+pub CanCount-counted : (n m : ℕ) (client : Client) (cs : List ClientRow)
+    → m ≡ n + 1 → CanCount m cs → CanCount n (map (counted client) cs)
+CanCount-counted n m client [] next all = tt
+CanCount-counted n m client (c ∷ cs) next all =
+    (counted_fits n m client c next all.0, CanCount-counted n m client cs next all.1)
+
+CanCount-less : (n m : ℕ) (cs : List ClientRow) → n ≤ m → CanCount m cs → CanCount n cs
+CanCount-less n m [] less all = tt
+CanCount-less n m (c ∷ cs) less all = (omega (arith, less, all.0), CanCount-less n m cs less all.1)
+
+counted_in : (n m : ℕ) (client : Client) (f : FrameworkRow)
+    → m ≡ n + 1 → CanCount m f.clients → CanCount n (count_offer client f).clients
+counted_in n m client f next all = elim (cases_Bool (same_text f.name client.framework)) [
+  | inl same ↦ rw same (CanCount-counted n m client f.clients next all)
+  | inr other ↦ rw other (CanCount-less n m f.clients (omega arith) all)
+]
+
+pub CanCountAll-counting : (n m : ℕ) (fs : List FrameworkRow) (offer : OfferRow)
+    → m ≡ n + 1 → CanCountAll m fs → CanCountAll n (counting fs offer)
+CanCountAll-counting n m [] offer next all = tt
+CanCountAll-counting n m (f ∷ fs) offer next all =
+    (counted_in n m (of_offer offer).client f next all.0, CanCountAll-counting n m fs offer next all.1)
+
+-- no client was made more offers than all
+CanCount-from : (n : ℕ) (cs : List ClientRow) → sum_by (λ c. c.count) cs + n < 2 ^ 64 → CanCount n cs
+CanCount-from n [] few = tt
+CanCount-from n (c ∷ cs) few =
+    let first = sum_by-cons (λ (c : ClientRow). c.count) c cs in
+    (omega (arith, first, few), CanCount-from n cs (omega (arith, first, few)))
+
+pub CanCountAll-from : (n : ℕ) (fs : List FrameworkRow) → offers_counted fs + n < 2 ^ 64 → CanCountAll n fs
+CanCountAll-from n [] few = tt
+CanCountAll-from n (f ∷ fs) few =
+    let first = sum_by-cons (λ (f : FrameworkRow). sum_by (λ (c : ClientRow). c.count) f.clients) f fs in
+    (CanCount-from n f.clients (omega (arith, first, few)), CanCountAll-from n fs (omega (arith, first, few)))
+
+-- ---- what counting leaves
+
+pub names-counting : (fs : List FrameworkRow) (offer : OfferRow)
+    → map (λ f. f.name) (counting fs offer) ≡ map (λ f. f.name) fs
+names-counting [] offer = refl
+names-counting (f ∷ fs) offer = λ i. name-count_offer (of_offer offer).client f i ∷ names-counting fs offer i
+
+length-count_offer : (client : Client) (f : FrameworkRow) → length (count_offer client f).clients ≡ length f.clients
+length-count_offer client f = elim (cases_Bool (same_text f.name client.framework)) [
+  | inl same ↦ rw same (length-map f.clients (counted client))
+  | inr other ↦ rw other refl
+]
+
+-- a framework that no row names is counted nowhere
+pub counting-unknown : (fs : List FrameworkRow) (offer : OfferRow)
+    → list_any (λ f. same_text f.name offer.framework) fs ≡ false → counting fs offer ≡ fs
+counting-unknown [] offer none = refl
+counting-unknown (f ∷ fs) offer none = elim (cases_Bool (same_text f.name offer.framework)) [
+  | inl same ↦
+      absurd (false≢true (sym none ∙ ap (λ (b : Bool). b || list_any (λ f. same_text f.name offer.framework) fs) same))
+  | inr other ↦
+      let rest : list_any (λ f. same_text f.name offer.framework) fs ≡ false
+      = sym (ap (λ (b : Bool). b || list_any (λ f. same_text f.name offer.framework) fs) other) ∙ none in
+      rw other (ap (λ gs. f ∷ gs) (counting-unknown fs offer rest))
+]
+
+pub count_offer-other : (client : Client) (f : FrameworkRow)
+    → same_text client.framework f.name ≡ false → count_offer client f ≡ f
+count_offer-other client f other =
+    let none : same_text f.name client.framework ≡ false = same_text-swap f.name client.framework ∙ other in
+    rw none refl
+
+pub count_offer-here : (client : Client) (f : FrameworkRow)
+    → f.name ≡ client.framework → count_offer client f ≡ record f { clients = map (counted client) f.clients }
+count_offer-here client f named =
+    let same : same_text f.name client.framework ≡ true =
+    ap (λ n. same_text n client.framework) named ∙ same_itself client.framework in
+    rw same refl
+
+pub count_clients-cons : (f : FrameworkRow) (fs : List FrameworkRow)
+    → count_clients (f ∷ fs) ≡ length f.clients + count_clients fs
+count_clients-cons f fs =
+    length-append (map (client_of f) f.clients) (flat_map (λ f. map (client_of f) f.clients) fs)
+    ∙ ap (λ n. n + count_clients fs) (length-map f.clients (client_of f))
+
+count_clients-counting : (fs : List FrameworkRow) (offer : OfferRow)
+    → count_clients (counting fs offer) ≡ count_clients fs
+count_clients-counting [] offer = refl
+count_clients-counting (f ∷ fs) offer =
+    count_clients-cons (count_offer (of_offer offer).client f) (counting fs offer)
+    ∙ (λ i. length-count_offer (of_offer offer).client f i + count_clients-counting fs offer i)
+    ∙ sym (count_clients-cons f fs)
+
+pub count_clients-counting_all : (fs : List FrameworkRow) (offers : List OfferRow)
+    → count_clients (counting_all fs offers) ≡ count_clients fs
+count_clients-counting_all fs [] = refl
+count_clients-counting_all fs (o ∷ os) = count_clients-counting_all (counting fs o) os ∙ count_clients-counting fs o

@@ -1,0 +1,2 @@
+-- Filters that ran out.
+pub mod Spent

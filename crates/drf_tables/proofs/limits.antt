@@ -1,0 +1,4 @@
+-- What roles consume, kept through changes.
+pub mod Counts
+pub mod Recounted
+pub mod Running

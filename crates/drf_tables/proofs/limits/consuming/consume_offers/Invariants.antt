@@ -1,0 +1,10 @@
+use Rattle.std.proofs.Common.{map}
+use Rattle.drf_rows.specs.Holdings.{of_offer}
+use Rattle.drf_rows.specs.Quota.{held_unreserved}
+use Rattle.drf_tables.proofs.limits.Counts.{IsPartly}
+use Rattle.drf_tables.proofs.limits.consuming.consume_offers.Given as goal
+
+abbrev pub invariant-loop-offer : goal.invariant-loop-offer
+invariant-loop-offer l =
+    IsPartly l.initial.consumption l.consumption (λ test label. held_unreserved test (map of_offer l.fn.offers) label)
+    (λ test label. held_unreserved test (map of_offer l.offer-iterator) label)

@@ -1,6 +1,0 @@
-use Rattle.std.proofs.Common.{◌≡◌, ◌++◌}
-use Rattle.drf_tables.specs.Inside.{framework_rows}
-use Rattle.drf_tables.proofs.listing.framework_rows.Given as goal
-
-abbrev pub invariant-loop-name : goal.invariant-loop-name
-invariant-loop-name l = l.rows.items ++ framework_rows l.name-iterator ≡ framework_rows l.frameworks.entries

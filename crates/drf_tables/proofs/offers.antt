@@ -1,0 +1,3 @@
+-- Offers and tasks that end.
+pub mod Ended
+pub mod Accepted

@@ -1,8 +1,0 @@
-use Rattle.std.proofs.Common.{◌≡◌, ◌++◌, map, take, drop}
-use Rattle.drf_rows.specs.Cycle.{counted}
-use Rattle.drf_rows.specs.Holdings.{of_offer}
-use Rattle.drf_tables.proofs.offers.count_at.Given as goal
-
-abbrev pub invariant-loop-client : goal.invariant-loop-client
-invariant-loop-client l =
-    l.clients ≡ map (counted (of_offer l.offer).client) (take l.client-index l.fn.clients) ++ drop l.client-index l.fn.clients

@@ -1,0 +1,2 @@
+-- Agents whose totals change.
+pub mod Moved

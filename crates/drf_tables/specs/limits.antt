@@ -1,0 +1,2 @@
+-- What roles consume under their limits.
+pub mod Recounting

@@ -1,0 +1,2 @@
+-- Offers and tasks that end.
+pub mod Ended

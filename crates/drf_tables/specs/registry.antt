@@ -1,0 +1,3 @@
+-- The registered agents, and how their entries change.
+pub mod Changing
+pub mod Registered

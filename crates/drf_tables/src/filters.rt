@@ -1,0 +1,139 @@
+//! The filters of declined offers, and of what is left of accepted ones.
+#![tactic(auto, unfolding(crate::specs::Inside::rows_of))]
+
+ghost use Rattle.std.specs.Prelude.{◌≡◌, ◌≤◌, ◌&&◌, ◌++◌, ◌∷◌, [], true, not, nat_le, nat_lt, length, Some, IfOk, OnOk, OnErr};
+ghost use Rattle.drf_rows.specs.Consistent.{IsConsistent, IsFilter};
+ghost use Rattle.drf_rows.specs.Cycle.{at_moment};
+ghost use Rattle.drf_rows.specs.Filters.{is_held_back, number_in_force};
+ghost use Rattle.drf_rows.specs.Offers.{filter_of, filters_with, has_offer, is_empty, offer_at, filtered_until, filters_all};
+ghost use Rattle.drf_rows.specs.Step.{live_rows};
+ghost use Rattle.drf_rows.specs.declared.limits.TheConstants.{LATEST_MOMENT};
+ghost use Rattle.drf_rows.specs.declared.rows.OfferRow.{OfferRow};
+ghost use Rattle.drf_tables.specs.offers.Ended.{filter_if};
+
+pub(crate) mod sweep;
+
+use crate::filters::sweep::Sweep;
+use crate::tables::Tables;
+use drf_amount::Algebra;
+use drf_bundle::Bundle;
+use drf_role::{Name, Role};
+use drf_rows::{Decline, FilterRow, LONGEST_FILTER, OfferRow};
+use std::alloc::AllocError;
+
+/// The filter that keeps a bundle on an offer's agent from its client. It ends so long after the moment, both in
+/// milliseconds, but not later than after 365 days.
+fn filter_row(
+    offer: &OfferRow,
+    bundle: &Bundle,
+    moment: u64,
+    refuse_ms: u64,
+) -> Result<FilterRow, AllocError>
+    requires { moment ≤ LATEST_MOMENT }
+    ensures { IfOk result (λ row. row ≡ filter_of offer.now bundle.now (filtered_until moment refuse_ms)) }
+{
+    Ok(FilterRow {
+        framework: offer.framework.copy()?,
+        role: offer.role.copy()?,
+        agent: offer.agent.copy()?,
+        bundle: bundle.copy()?,
+        until: moment + refuse_ms.min(LONGEST_FILTER),
+    })
+}
+
+/// The filter of what is left of an offer, if anything is, and if it is refused for any time.
+pub(crate) fn filter_rest(
+    offer: &OfferRow,
+    rest: &Bundle,
+    moment: u64,
+    refuse_ms: u64,
+) -> Result<Option<FilterRow>, AllocError>
+    requires { moment ≤ LATEST_MOMENT }
+    ensures { IfOk result (λ filter. filter ≡ filter_if (nat_lt 0 refuse_ms && not (is_empty rest.now)) (filter_of offer.now rest.now (filtered_until moment refuse_ms))) }
+{
+    if refuse_ms == 0 {
+        return Ok(None);
+    }
+    if rest.is_empty() {
+        return Ok(None);
+    }
+    Ok(Some(filter_row(offer, rest, moment, refuse_ms)?))
+}
+
+/// A filter for the whole of an offer, if for any time.
+fn filter_offer(
+    tables: &mut Tables,
+    number: u64,
+    moment: u64,
+    refuse_ms: u64,
+) -> Result<(), AllocError>
+    requires consistent { IsConsistent tables.old.rows }
+    requires offer { has_offer tables.old.rows number ≡ true }
+    requires early { moment ≤ LATEST_MOMENT }
+    ensures ok { OnOk result ((o : OfferRow) → offer_at tables.old.rows number ≡ Some o
+        → tables.new.rows ≡ record tables.old.rows { filters = filters_with (record tables.old.rows { clock = moment }) (filters_all refuse_ms) o o.bundle refuse_ms }) }
+    ensures err { OnErr result (tables.new.rows ≡ tables.old.rows) }
+{
+    if refuse_ms == 0 {
+        return Ok(());
+    }
+    let offer = tables.offer(number).unwrap();
+    let filter = filter_row(offer, &offer.bundle, moment, refuse_ms)?;
+    tables.add_filter(filter)
+}
+
+impl Tables {
+    /// Whether at least so many filters are in force at a moment, in milliseconds. They are looked at only where so many stand.
+    pub fn are_in_force(&self, number: u64, moment: u64) -> bool
+        ensures { result ≡ nat_le number (number_in_force moment self.now.rows.filters) }
+    {
+        number <= self.filters.len() as u64 && number <= self.filters.in_force(moment)
+    }
+
+    /// Whether a filter in force holds the bundle back from the client on the agent.
+    pub fn is_held_back(&self, role: &Role, framework: &Name, agent: &Name, bundle: &Bundle) -> bool
+        ensures { result ≡ is_held_back self.now.rows.filters self.now.rows.clock (record { role = role.now; framework = framework.now }) agent.now bundle.now }
+    {
+        self.filters
+            .holds_back(role, framework, agent, bundle, self.clock)
+    }
+
+    /// Puts a filter behind the others. An `Err` changes no row.
+    pub fn add_filter(&mut self, filter: FilterRow) -> Result<(), AllocError>
+        requires { IsFilter self.old.rows.agents self.old.rows.frameworks filter }
+        ensures ok { OnOk result (self.new.rows ≡ record self.old.rows { filters = self.old.rows.filters ++ filter ∷ [] }) }
+        ensures err { OnErr result (self.new.rows ≡ self.old.rows) }
+        ensures settled { self.new.settled ≡ self.old.settled }
+        ensures counted { self.new.counted ≡ self.old.counted }
+    {
+        self.filters.add(filter)
+    }
+
+    /// A declined offer is filtered whole, if for any time, at a moment to which the clock goes on. An `Err` changes no row.
+    pub fn filter_declined(&mut self, decline: &Decline) -> Result<(), AllocError>
+        requires offer { has_offer self.old.rows decline.now.offer ≡ true }
+        requires early { decline.now.at ≤ LATEST_MOMENT }
+        ensures ok { OnOk result ((o : OfferRow) → offer_at self.old.rows decline.now.offer ≡ Some o
+            → self.new.rows ≡ record (at_moment self.old.rows decline.now.at) { filters = filters_with (at_moment self.old.rows decline.now.at) (filters_all decline.now.refuse_ms) o o.bundle decline.now.refuse_ms }) }
+        ensures err { OnErr result (self.new.rows ≡ self.old.rows) }
+    {
+        let moment = self.clock.max(decline.at);
+        filter_offer(self, decline.offer, moment, decline.refuse_ms)?;
+        self.set_clock(moment);
+        Ok(())
+    }
+
+    /// Drops filters that have run out, when the filters have become many: where as many stand afterwards as may be in force, all are.
+    pub fn forget_spent(&mut self)
+        ensures live { live_rows self.new.rows ≡ live_rows self.old.rows }
+        ensures others { self.new.rows ≡ record self.old.rows { filters = self.new.rows.filters } }
+        ensures consistent { IsConsistent self.new.rows }
+        ensures swept { 65536 ≤ length self.new.rows.filters → number_in_force self.new.rows.clock self.new.rows.filters ≡ length self.new.rows.filters }
+    {
+        if !self.sweep.is_due(self.filters.len()) {
+            return;
+        }
+        self.filters.drop_spent(self.clock);
+        self.sweep = Sweep::behind(self.filters.len());
+    }
+}

@@ -1,0 +1,128 @@
+//! Agents and frameworks that change, found by name.
+ghost use Rattle.std.specs.Prelude.{◌≡◌, ◌+◌, ◌⊎◌, None, Some, filter, map, not, true, if◌then◌else◌};
+ghost use Rattle.std.specs.Map.{lookup};
+ghost use Rattle.std.specs.Option.{option_map};
+ghost use Rattle.std.specs.List.{list_any};
+ghost use Rattle.drf_role.specs.Path.{same_path};
+ghost use Rattle.drf_role.specs.Text.{same_text};
+ghost use Rattle.drf_rows.specs.Consistent.{are_distinct};
+ghost use Rattle.drf_rows.specs.Members.{suppressed_in};
+ghost use Rattle.drf_rows.specs.declared.rows.ClientRow.{ClientRow};
+ghost use Rattle.drf_tables.specs.registry.Changing.{changed, joined_free, with_active, HasFreed};
+ghost use Rattle.drf_tables.specs.cycle.Counting.{count_clients};
+ghost use Rattle.drf_tables.specs.Inside.{framework_rows};
+ghost use Rattle.drf_tables.specs.declared.tables.Agent.{Agent};
+
+use crate::registry::free_part::FreePart;
+use crate::registry::{Registry, put_free};
+use crate::tables::Agent;
+use drf_amount::Algebra;
+use drf_bundle::Bundle;
+use drf_role::{Name, Role};
+use drf_rows::ClientRow;
+use indexmap::IndexMap;
+
+/// What was free with a part that comes back. Where memory ends, it is not known.
+fn freed(free: &Option<FreePart>, part: &Bundle) -> Option<FreePart>
+    ensures { (result ≡ joined_free free.now part.now) ⊎ (result ≡ None) }
+{
+    let both = free.as_ref()?.bundle().try_join(part).ok()?;
+    Some(FreePart::new(both))
+}
+
+/// Makes an agent active or inactive, if there is one.
+fn put_active(slot: &mut Option<(Name, Agent)>, active: bool)
+    ensures { slot.new ≡ option_map (λ e. (e.0, with_active active e.1)) slot.old }
+{
+    if let Some(entry) = slot {
+        entry.1.active = active;
+    }
+}
+
+impl Registry {
+    /// Gives an agent a part back that is held there no longer. Where memory ends, what is free there is not known any more.
+    pub(crate) fn give_back(&mut self, name: &Name, part: &Bundle)
+        ensures { HasFreed name.now part.now self.old.entries self.new.entries }
+    {
+        let Some(place) = self.places.get(name) else {
+            return;
+        };
+        let place = *place;
+        let Some(entry) = &self.slots[place] else {
+            return;
+        };
+        let free = freed(&entry.1.free, part);
+        put_free(&mut self.slots[place], free);
+    }
+
+    /// Makes an agent active or inactive.
+    pub(crate) fn set_active(&mut self, name: &Name, active: bool)
+        ensures { self.new.entries ≡ map (changed name.now (with_active active)) self.old.entries }
+    {
+        let Some(place) = self.places.get(name) else {
+            return;
+        };
+        put_active(&mut self.slots[*place], active);
+    }
+
+    /// Says what is free on the agent of a name, which changes it as is told.
+    pub(crate) fn set_free(&mut self, name: &Name, free: Option<FreePart>)
+        ensures { (change : Agent → Agent) (a : Agent) → lookup (same_text name.now) self.old.entries ≡ Some a → change a ≡ record a { free = free }
+            → self.new.entries ≡ map (changed name.now change) self.old.entries }
+    {
+        let Some(place) = self.places.get(name) else {
+            return;
+        };
+        put_free(&mut self.slots[*place], free);
+    }
+}
+
+/// Suppresses the client that has a role, of those of its framework, or ends that.
+fn suppress_at(clients: &mut [ClientRow], role: &Role, suppressed: bool)
+    ensures { clients.new ≡ map (λ (c : ClientRow). if same_path c.role role.now then record c { suppressed = suppressed } else c) clients.old }
+{
+    for client in clients.iter_mut() {
+        if client.role == *role {
+            client.suppressed = suppressed;
+        }
+    }
+}
+
+/// Suppresses a client, or ends that.
+pub(crate) fn suppress(
+    frameworks: &mut IndexMap<Name, Vec<ClientRow>>,
+    framework: &Name,
+    role: &Role,
+    suppressed: bool,
+)
+    requires { are_distinct (map (λ f. f.name) (framework_rows frameworks.old.entries)) ≡ true }
+    ensures { framework_rows frameworks.new.entries
+        ≡ map (suppressed_in (record { role = role.now; framework = framework.now }) suppressed) (framework_rows frameworks.old.entries) }
+{
+    if let Some(place) = frameworks.get_index_of(framework) {
+        suppress_at(&mut frameworks[place], role, suppressed);
+    }
+}
+
+/// Takes a framework out. How many clients it had.
+pub(crate) fn take_framework(
+    frameworks: &mut IndexMap<Name, Vec<ClientRow>>,
+    framework: &Name,
+) -> usize
+    requires { are_distinct (map (λ f. f.name) (framework_rows frameworks.old.entries)) ≡ true }
+    ensures rows { framework_rows frameworks.new.entries
+        ≡ filter (λ f. not (same_text f.name framework.now)) (framework_rows frameworks.old.entries) }
+    ensures clients { count_clients (framework_rows frameworks.old.entries) ≡ count_clients (framework_rows frameworks.new.entries) + result }
+{
+    match frameworks.shift_remove(framework) {
+        Some(clients) => clients.len(),
+        None => 0,
+    }
+}
+
+/// Whether one of the clients has the role.
+pub(crate) fn has_role(clients: &[ClientRow], role: &Role) -> bool
+    ensures { result ≡ list_any (λ c. same_path c.role role.now) clients.now }
+{
+    clients.iter().any(|client| client.role == *role)
+}

@@ -1,0 +1,213 @@
+//! Copies of the tables.
+#![tactic(auto)]
+
+ghost use Rattle.std.specs.Prelude.{◌≡◌, [], ◌∷◌, ◌++◌, false, is_some, Some, IfOk, OnOk};
+ghost use Rattle.std.specs.Map.{lookup};
+ghost use Rattle.indexmap.specs.IndexMap.{insert_entry};
+ghost use Rattle.drf_role.specs.Path.{same_path};
+ghost use Rattle.drf_role.specs.Text.{Text, same_text};
+ghost use Rattle.drf_gates.specs.filters.Slots.{filled};
+ghost use Rattle.drf_tables.specs.Inside.{framework_rows};
+ghost use Rattle.drf_tables.specs.limits.Recounting.{IsRaisedIf};
+ghost use Rattle.drf_tables.specs.declared.tables.Agent.{Agent};
+
+use crate::registry::Registry;
+use crate::registry::free_part::FreePart;
+use crate::tables::{Agent, Tables};
+use drf_amount::Algebra;
+use drf_bundle::Quantities;
+use drf_gates::{Consumption, FilterTable, QuotaLimits};
+use drf_holdings::Holdings;
+use drf_role::{Name, Role};
+use drf_rows::{ClientRow, copy_all};
+use indexmap::IndexMap;
+use std::alloc::AllocError;
+
+/// What is free on an agent, copied where it is known.
+fn copy_free(free: &Option<FreePart>) -> Result<Option<FreePart>, AllocError>
+    ensures { IfOk result (λ copy. copy ≡ free.now) }
+{
+    match free {
+        Some(known) => Ok(Some(known.copy()?)),
+        None => Ok(None),
+    }
+}
+
+fn copy_agent(agent: &Agent) -> Result<Agent, AllocError>
+    ensures { IfOk result (λ copy. copy ≡ agent.now) }
+{
+    Ok(Agent {
+        total: agent.total.copy()?,
+        active: agent.active,
+        free: copy_free(&agent.free)?,
+    })
+}
+
+/// Puts what goes by a name, in the place of what went by it before.
+fn put<V: Drop>(map: &mut IndexMap<Name, V>, name: Name, value: V) -> Result<(), AllocError>
+    ensures { OnOk result (map.new.entries ≡ insert_entry same_text map.old.entries name value) }
+{
+    map.insert(name, value)?;
+    Ok(())
+}
+
+fn put_weight(weights: &mut IndexMap<Role, u64>, role: Role, weight: u64) -> Result<(), AllocError>
+    ensures { OnOk result (weights.new.entries ≡ insert_entry same_path weights.old.entries role weight) }
+{
+    weights.insert(role, weight)?;
+    Ok(())
+}
+
+/// Adds a copy of an agent, if there is one.
+fn copy_slot(copy: &mut Registry, slot: &Option<(Name, Agent)>) -> Result<(), AllocError>
+    requires { (e : Text × Agent) → slot.now ≡ Some e → is_some (lookup (same_text e.0) copy.old.entries) ≡ false }
+    ensures { OnOk result (copy.new.entries ≡ copy.old.entries ++ filled (slot.now ∷ [])) }
+{
+    let Some(entry) = slot else {
+        return Ok(());
+    };
+    let key = entry.0.copy()?;
+    let name = entry.0.copy()?;
+    let agent = copy_agent(&entry.1)?;
+    copy.reserve()?;
+    copy.add(key, name, agent);
+    Ok(())
+}
+
+/// The agents, copied in their order.
+fn copy_agents(agents: &Registry) -> Result<Registry, AllocError>
+    ensures { IfOk result (λ copy. copy.entries ≡ agents.now.entries) }
+{
+    let mut copy = Registry::new(*agents.allocator());
+    for slot in agents.slots() {
+        copy_slot(&mut copy, slot)?;
+    }
+    Ok(copy)
+}
+
+/// The frameworks with their clients, copied in their order.
+fn copy_frameworks(
+    frameworks: &IndexMap<Name, Vec<ClientRow>>,
+) -> Result<IndexMap<Name, Vec<ClientRow>>, AllocError>
+    ensures { IfOk result (λ copy. framework_rows copy.entries ≡ framework_rows frameworks.now.entries) }
+{
+    // The proof learns that no two have one name by this call alone.
+    let _ = frameworks.len();
+    let alloc = *frameworks.allocator();
+    let mut copy = IndexMap::new(alloc);
+    for (name, clients) in frameworks {
+        let name = name.copy()?;
+        let clients = copy_all(alloc, clients)?;
+        put(&mut copy, name, clients.into_vec())?;
+    }
+    Ok(copy)
+}
+
+/// The weights of roles, copied in their order.
+fn copy_weights(weights: &IndexMap<Role, u64>) -> Result<IndexMap<Role, u64>, AllocError>
+    ensures { IfOk result (λ copy. copy.entries ≡ weights.now.entries) }
+{
+    // The proof learns that no role has two weights by this call alone.
+    let _ = weights.len();
+    let mut copy = IndexMap::new(*weights.allocator());
+    for (role, weight) in weights {
+        let role = role.copy()?;
+        put_weight(&mut copy, role, *weight)?;
+    }
+    Ok(copy)
+}
+
+// The parts of a copy are made in twos and threes: a proof goes through the drop of all that stands at each `?`.
+
+/// Agents and frameworks, copied.
+fn copy_members(
+    agents: &Registry,
+    frameworks: &IndexMap<Name, Vec<ClientRow>>,
+) -> Result<(Registry, IndexMap<Name, Vec<ClientRow>>), AllocError>
+    ensures agents { IfOk result (λ copy. copy.0.entries ≡ agents.now.entries) }
+    ensures frameworks { IfOk result (λ copy. framework_rows copy.1.entries ≡ framework_rows frameworks.now.entries) }
+{
+    let agents = copy_agents(agents)?;
+    let frameworks = copy_frameworks(frameworks)?;
+    Ok((agents, frameworks))
+}
+
+/// What is held and what is held back, copied.
+fn copy_held(
+    holdings: &Holdings,
+    filters: &FilterTable,
+) -> Result<(Holdings, FilterTable), AllocError>
+    ensures holdings { IfOk result (λ copy. copy.0 ≡ holdings.now) }
+    ensures filters { IfOk result (λ copy. copy.1 ≡ filters.now) }
+{
+    let holdings = holdings.copy()?;
+    let filters = filters.copy()?;
+    Ok((holdings, filters))
+}
+
+/// Weights and the total, copied.
+fn copy_amounts(
+    weights: &IndexMap<Role, u64>,
+    total: &Quantities,
+) -> Result<(IndexMap<Role, u64>, Quantities), AllocError>
+    ensures weights { IfOk result (λ copy. copy.0.entries ≡ weights.now.entries) }
+    ensures total { IfOk result (λ copy. copy.1 ≡ total.now) }
+{
+    let weights = copy_weights(weights)?;
+    let total = total.copy()?;
+    Ok((weights, total))
+}
+
+/// What roles consume, copied where it is counted.
+fn copy_consumption(consumption: &Option<Consumption>) -> Result<Option<Consumption>, AllocError>
+    ensures { IfOk result (λ copy. IsRaisedIf consumption.now copy (λ _ _. 0)) }
+{
+    match consumption {
+        Some(counted) => Ok(Some(counted.copy()?)),
+        None => Ok(None),
+    }
+}
+
+/// Limits and what roles consume, copied.
+fn copy_quota(
+    limits: &QuotaLimits,
+    consumption: &Option<Consumption>,
+) -> Result<(QuotaLimits, Option<Consumption>), AllocError>
+    ensures limits { IfOk result (λ copy. copy.0 ≡ limits.now) }
+    ensures consumption { IfOk result (λ copy. IsRaisedIf consumption.now copy.1 (λ _ _. 0)) }
+{
+    let limits = limits.copy()?;
+    let consumption = copy_consumption(consumption)?;
+    Ok((limits, consumption))
+}
+
+impl Tables {
+    /// Tables of their own with the same rows.
+    pub fn copy(&self) -> Result<Tables, AllocError>
+        ensures { IfOk result (λ copy. copy.rows ≡ self.now.rows) }
+    {
+        let members = copy_members(&self.agents, &self.frameworks)?;
+        let held = copy_held(&self.holdings, &self.filters)?;
+        let amounts = copy_amounts(&self.weights, &self.total)?;
+        let quota = copy_quota(&self.limits, &self.consumption)?;
+        let (agents, frameworks) = members;
+        let (holdings, filters) = held;
+        let (weights, total) = amounts;
+        let (limits, consumption) = quota;
+        Ok(Tables {
+            agents,
+            frameworks,
+            holdings,
+            filters,
+            weights,
+            clock: self.clock,
+            next_offer: self.next_offer,
+            events: self.events,
+            total,
+            clients: self.clients,
+            limits,
+            consumption,
+            sweep: self.sweep,
+        })
+    }
+}

@@ -1,0 +1,71 @@
+//! The rows, as they are handed out.
+#![tactic(auto)]
+
+ghost use Rattle.std.specs.Prelude.{◌≡◌, [], ◌∷◌, ◌++◌, map, IfOk, OnOk};
+ghost use Rattle.drf_gates.specs.filters.Slots.{filled};
+ghost use Rattle.drf_tables.specs.Inside.{agent_row, framework_rows, weight_rows};
+
+use crate::registry::Registry;
+use crate::tables::Agent;
+use drf_amount::Algebra;
+use drf_role::{Name, Role};
+use drf_rows::{AgentRow, ClientRow, FrameworkRow, Table, WeightRow, copy_all};
+use indexmap::IndexMap;
+use std::alloc::{AllocError, Global};
+
+/// Lists an agent behind others, if there is one.
+fn push_row(rows: &mut Vec<AgentRow>, slot: &Option<(Name, Agent)>) -> Result<(), AllocError>
+    ensures { OnOk result (rows.new.items ≡ rows.old.items ++ map agent_row (filled (slot.now ∷ []))) }
+{
+    let Some(entry) = slot else {
+        return Ok(());
+    };
+    rows.push(AgentRow {
+        name: entry.0.copy()?,
+        total: entry.1.total.copy()?,
+        active: entry.1.active,
+    })?;
+    Ok(())
+}
+
+pub(crate) fn agent_rows(alloc: Global, agents: &Registry) -> Result<Table<AgentRow>, AllocError>
+    ensures { IfOk result (λ rows. rows ≡ map agent_row agents.now.entries) }
+{
+    let mut rows = Vec::with_capacity(alloc, agents.len())?;
+    for slot in agents.slots() {
+        push_row(&mut rows, slot)?;
+    }
+    Ok(Table::from_vec(rows))
+}
+
+pub(crate) fn framework_rows(
+    alloc: Global,
+    frameworks: &IndexMap<Name, Vec<ClientRow>>,
+) -> Result<Table<FrameworkRow>, AllocError>
+    ensures { IfOk result (λ rows. rows ≡ framework_rows frameworks.now.entries) }
+{
+    let mut rows = Vec::with_capacity(alloc, frameworks.len())?;
+    for (name, clients) in frameworks {
+        rows.push(FrameworkRow {
+            name: name.copy()?,
+            clients: copy_all(alloc, clients)?,
+        })?;
+    }
+    Ok(Table::from_vec(rows))
+}
+
+pub(crate) fn weight_rows(
+    alloc: Global,
+    weights: &IndexMap<Role, u64>,
+) -> Result<Table<WeightRow>, AllocError>
+    ensures { IfOk result (λ rows. rows ≡ weight_rows weights.now.entries) }
+{
+    let mut rows = Vec::with_capacity(alloc, weights.len())?;
+    for (role, weight) in weights {
+        rows.push(WeightRow {
+            role: role.copy()?,
+            weight: *weight,
+        })?;
+    }
+    Ok(Table::from_vec(rows))
+}

@@ -1,0 +1,7 @@
+-- Siblings in the order of their keys, and keys that are computed anew.
+pub mod Siblings
+pub mod Order
+pub mod Renew
+pub mod Repair
+pub mod Stale
+pub mod Nothing

@@ -1,0 +1,3 @@
+-- The lines of a report.
+pub mod Numbers
+pub mod Nodes

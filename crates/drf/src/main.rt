@@ -2,7 +2,7 @@
 #![tactic(auto)]
 
 use drf_app::command;
-use drf_files::SystemFiles;
+use drf_files::{SystemFiles, random_key};
 use drf_journal::Device;
 use drf_told::no_words;
 use std::env::Env;
@@ -14,7 +14,10 @@ fn words<R: Env + AllocGlobal>(rt: &R) -> io::Result<Vec<String>> {
 }
 
 fn main(rt: HostRuntime) -> ExitCode {
-    let mut files = SystemFiles { rt: &rt };
+    let mut files = SystemFiles {
+        rt: &rt,
+        key: random_key(&rt),
+    };
     let mut input = Device::new(rt.stdin());
     let mut output = Device::new(rt.stdout());
     let mut errors = Device::new(rt.stderr());

@@ -7,6 +7,7 @@ ghost use Rattle.drf_audit.specs.Held.{parts_in, parts_of};
 use crate::held::Held;
 use drf_amount::Algebra;
 use drf_bundle::Bundle;
+use drf_hash::HashKey;
 use drf_role::Name;
 use drf_rows::{AgentRow, Rows};
 use rayon::prelude::*;
@@ -54,15 +55,16 @@ fn agent_line(held: &Held, agent: &AgentRow) -> Result<AuditLine, AllocError>
     }
 }
 
-/// A line for each agent, in order of registration.
+/// A line for each agent, in order of registration. Names are found by hashes that begin with the key.
 pub fn audit(
     rt: &(impl Threads + Sync),
     alloc: Global,
+    key: HashKey,
     rows: &Rows,
 ) -> Result<Vec<AuditLine>, AllocError>
     ensures { IfOk result (λ lines. lines.items ≡ map (line_of rows.now) rows.now.agents) }
 {
-    let held = Held::of(alloc, rows)?;
+    let held = Held::of(alloc, key, rows)?;
     rows.agents
         .as_slice()
         .par_iter()

@@ -5,6 +5,7 @@ ghost use Rattle.drf_rows.specs.Holdings.{holdings_of, of_offer, of_task, parts_
 ghost use Rattle.drf_audit.specs.Held.{parts_in};
 
 use drf_bundle::Bundle;
+use drf_hash::{ByName, HashKey};
 use drf_role::Name;
 use drf_rows::{OfferRow, Rows, TaskRow};
 use indexmap::IndexMap;
@@ -13,15 +14,15 @@ use std::alloc::{AllocError, Global};
 /// The bundles that are held on each agent, by its name.
 #[derive(Drop)]
 pub(crate) struct Held<'a> {
-    pub(crate) by_agent: IndexMap<Name, Vec<&'a Bundle>>,
+    pub(crate) by_agent: ByName<Vec<&'a Bundle>>,
 }
 
 impl<'a> Held<'a> {
-    fn new(alloc: Global) -> Held<'a>
+    fn new(alloc: Global, key: HashKey) -> Held<'a>
         ensures { (name : Text) → parts_in result name ≡ [] }
     {
         Held {
-            by_agent: IndexMap::new(alloc),
+            by_agent: IndexMap::with_hasher(alloc, key),
         }
     }
 
@@ -61,10 +62,10 @@ impl<'a> Held<'a> {
     }
 
     /// What is offered and what is in tasks, looked at once each.
-    pub(crate) fn of(alloc: Global, rows: &'a Rows) -> Result<Held<'a>, AllocError>
+    pub(crate) fn of(alloc: Global, key: HashKey, rows: &'a Rows) -> Result<Held<'a>, AllocError>
         ensures { IfOk result (λ held. (name : Text) → parts_in held name ≡ parts_on name (holdings_of rows.now)) }
     {
-        let mut held = Held::new(alloc);
+        let mut held = Held::new(alloc, key);
         held.add_offers(rows.offers.as_slice())?;
         held.add_tasks(rows.tasks.as_slice())?;
         Ok(held)

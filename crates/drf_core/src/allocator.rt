@@ -8,6 +8,7 @@ use crate::cluster::Cluster;
 use crate::cycle::explain::Telling;
 use crate::stepped::Stepped;
 use drf_explain::Finding;
+use drf_hash::HashKey;
 use drf_laws::given_law;
 use drf_rows::{Event, Limits, Reply, Report, Rows};
 use drf_sorter::Sorter;
@@ -61,8 +62,15 @@ impl<S: Sorter> Core<S> {
     ghost use Rattle.drf_saved_laws.specs.SavedLaws.{IsSaveable};
     ghost use Rattle.drf_rows.specs.declared.limits.TheConstants.{LATEST_MOMENT};
 
-    /// An allocator with no rows.
+    /// An allocator with no rows, for names that nobody chooses in order to slow it down.
     pub fn open(alloc: Global, limits: Limits) -> Result<Core<S>, AllocError>
+        ensures { IfOk result (IsOpened limits) }
+    {
+        Core::open_keyed(alloc, limits, HashKey::known())
+    }
+
+    /// An allocator with no rows. The hashes of names begin with a key, which those who choose names should not know.
+    pub fn open_keyed(alloc: Global, limits: Limits, key: HashKey) -> Result<Core<S>, AllocError>
         ensures { IfOk result (IsOpened limits) }
     {
         // The contract of this call tells that the limits are within the ceilings.
@@ -70,7 +78,7 @@ impl<S: Sorter> Core<S> {
         Ok(Core {
             alloc,
             limits,
-            cluster: Box::new(alloc, Cluster::open(alloc)?)?,
+            cluster: Box::new(alloc, Cluster::open(alloc, key)?)?,
         })
     }
 
@@ -225,6 +233,11 @@ impl<S: Sorter> Core<S> {
         ensures { IfOk result (λ telling. telling ≡ turns_by_agent (live_rows self.now.rows) at) }
     {
         self.cluster.telling(self.alloc, &self.limits, at)
+    }
+
+    /// With what the hashes of names begin, for tables of the same names. No clause says anything of it.
+    pub fn key(&self) -> HashKey {
+        self.cluster.key()
     }
 
     /// An allocator of its own with the same rows and limits.

@@ -8,6 +8,7 @@ ghost use Rattle.drf_core.specs.Keeping.{IsStanding};
 ghost use Rattle.drf_core.specs.refusal.Cases.{early_refusal_of};
 
 use crate::refusal::{refusal, refuse_early};
+use drf_hash::HashKey;
 use drf_rows::{Event, Limits, Refusal, Rows};
 use drf_sorter::Sorter;
 use drf_tables::Tables;
@@ -38,13 +39,13 @@ impl<S: Sorter> Model for Cluster<S> {
 
 impl<S: Sorter> Cluster<S> {
     /// A cluster with no rows.
-    pub(crate) fn open(alloc: Global) -> Result<Cluster<S>, AllocError>
+    pub(crate) fn open(alloc: Global, key: HashKey) -> Result<Cluster<S>, AllocError>
         ensures rows { IfOk result (λ cluster. cluster.rows ≡ opening) }
         ensures work { IfOk result (λ cluster. cluster.work ≡ record { made = 0; marked = 0 }) }
     {
         Ok(Cluster {
-            tables: Tables::new(alloc),
-            sorter: S::open(alloc)?,
+            tables: Tables::new(alloc, key),
+            sorter: S::open(alloc, key)?,
         })
     }
 
@@ -94,6 +95,11 @@ impl<S: Sorter> Cluster<S> {
         ensures work { self.new.work ≡ self.old.work }
     {
         self.tables.count_event();
+    }
+
+    /// With what the hashes of names begin.
+    pub(crate) fn key(&self) -> HashKey {
+        self.tables.key()
     }
 
     /// The sorter: the order of its clients, and its work.

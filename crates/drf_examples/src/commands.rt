@@ -5,6 +5,7 @@ use crate::streams::{Bounds, Full, NO_BOUNDS, Slow};
 use drf_app::command;
 use drf_drive_app::command as drive_command;
 use drf_files::{FileBytes, SystemFiles};
+use drf_hash::HashKey;
 use drf_journal::{Device, RunFault};
 use std::alloc::{AllocError, Global};
 use std::rt::{Files, Runtime};
@@ -115,7 +116,11 @@ struct WithState<'a, R> {
 impl<R: Files + AllocGlobal> FileBytes for WithState<'_, R> {
     fn bytes(&mut self, name: &str) -> Result<Vec<u8>, RunFault> {
         if name != "STATE" {
-            return SystemFiles { rt: self.rt }.bytes(name);
+            let mut files = SystemFiles {
+                rt: self.rt,
+                key: HashKey::known(),
+            };
+            return files.bytes(name);
         }
         let mut bytes = Vec::new(self.rt.alloc());
         bytes.extend_from_slice(self.state)?;

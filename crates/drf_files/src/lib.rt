@@ -3,4 +3,4 @@
 
 mod files;
 
-pub use files::{FileBytes, SystemFiles};
+pub use files::{FileBytes, SystemFiles, random_key};

@@ -10,3 +10,4 @@ pub mod Front
 pub mod Leave
 pub mod Least
 pub mod Something
+pub mod Swapped

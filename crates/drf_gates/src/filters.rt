@@ -7,12 +7,10 @@ pub(crate) mod index;
 mod row;
 pub(crate) mod slots;
 
-use crate::filters::row::{
-    copy_slot_in_force, keep_filled, keep_in_force, keep_other_agents, keep_other_frameworks,
-    number_in_force, soonest,
-};
+use crate::filters::row::{copy_slot_in_force, keep_filled, number_in_force, soonest};
 use crate::filters::slots::Slots;
 use drf_bundle::Bundle;
+use drf_hash::HashKey;
 use drf_role::{Name, Role};
 use drf_rows::{Copied, FilterRow, Table};
 use std::alloc::{AllocError, Global};
@@ -45,12 +43,12 @@ impl Model for FilterTable {
 }
 
 impl FilterTable {
-    /// A table with no filters.
-    pub fn new(alloc: Global) -> FilterTable
+    /// A table with no filters, which are found by hashes that begin with a key.
+    pub fn new(alloc: Global, key: HashKey) -> FilterTable
         ensures { result ≡ [] }
     {
         FilterTable {
-            slots: Slots::new(alloc),
+            slots: Slots::new(alloc, key.start),
             soonest: u64::MAX,
         }
     }
@@ -124,12 +122,11 @@ impl FilterTable {
         if now < self.soonest {
             return;
         }
-        keep_in_force(&mut self.slots.rows, now);
-        self.slots.find_again();
+        self.slots.drop_spent(now);
         self.soonest = soonest(&self.slots.rows);
     }
 
-    /// Drops the filters of a client, on whatever agent. Filters of others are looked at only where names collide.
+    /// Drops the filters of a client, on whatever agent. Filters of others are looked at only where they share a bucket.
     pub fn revive(&mut self, role: &Role, framework: &Name)
         ensures { self.new ≡ filters_without_client (record { role = role.now; framework = framework.now }) self.old }
     {
@@ -140,16 +137,14 @@ impl FilterTable {
     pub fn drop_agent(&mut self, agent: &Name)
         ensures { self.new ≡ filters_without_agent agent.now self.old }
     {
-        keep_other_agents(&mut self.slots.rows, agent);
-        self.slots.find_again();
+        self.slots.drop_agent(agent);
     }
 
     /// Drops the filters of a framework in all its roles.
     pub fn drop_framework(&mut self, framework: &Name)
         ensures { self.new ≡ filters_without_framework framework.now self.old }
     {
-        keep_other_frameworks(&mut self.slots.rows, framework);
-        self.slots.find_again();
+        self.slots.drop_framework(framework);
     }
 
     /// The filters in force at `now`, in milliseconds, copied.
@@ -167,7 +162,11 @@ impl FilterTable {
     pub fn copy(&self) -> Result<FilterTable, AllocError>
         ensures { IfOk result (λ table. table ≡ self.now) }
     {
-        let mut copy = FilterTable::new(*self.slots.rows.allocator());
+        // The hashes of clients begin with the key as it was given.
+        let key = HashKey {
+            start: self.slots.clients.start,
+        };
+        let mut copy = FilterTable::new(*self.slots.rows.allocator(), key);
         for slot in &self.slots.rows {
             copy.add_slot(slot)?;
         }

@@ -143,6 +143,14 @@ found_out ns left n i search removed rising =
     ∙ filter_only (λ m. m == n) (take i ns) (drop (suc i) ns) n others.0 (eq-eqb n n refl) others.1
     )
 
+-- the first is taken out
+pub first_out : (ns rest : List ℕ) (n : ℕ) → ns ≡ n ∷ rest → IsRising ns → drop 1 ns ≡ filter (λ m. not (m == n)) ns
+first_out ns rest n is rising =
+    let others = others_split (λ (m : ℕ). m) [] rest n (rising_each (n ∷ rest) (subst IsRising is rising)) in
+    ap (drop 1) is
+    ∙ sym (filter_only (λ m. m == n) [] rest n others.0 (eq-eqb n n refl) others.1)
+    ∙ ap (filter (λ m. not (m == n))) (sym is)
+
 -- and where it finds none, there is none
 pub missing_out : (ns : List ℕ) (n i : ℕ) → IsBinarySearchResult (λ m. nat_cmp m n) ns (Err i)
     → IsRising ns → ns ≡ filter (λ m. not (m == n)) ns

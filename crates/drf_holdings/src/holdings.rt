@@ -16,6 +16,7 @@ use crate::by_number::InOrder;
 use crate::offers::OfferTable;
 use crate::tasks::{Task, TaskTable};
 use drf_bundle::Bundle;
+use drf_hash::HashKey;
 use drf_role::{Name, Role};
 use drf_rows::{Ending, OfferRow, Table, TaskList, TaskRow};
 use std::alloc::{AllocError, Global};
@@ -96,14 +97,14 @@ impl Model for Holdings {
 }
 
 impl Holdings {
-    /// No offers and no tasks.
-    pub fn new(alloc: Global) -> Holdings
+    /// No offers and no tasks. Names are found by hashes that begin with a key.
+    pub fn new(alloc: Global, key: HashKey) -> Holdings
         ensures offers { result.offers ≡ [] }
         ensures tasks { result.tasks ≡ [] }
     {
         Holdings {
-            offers: OfferTable::new(alloc),
-            tasks: TaskTable::new(alloc),
+            offers: OfferTable::new(alloc, key),
+            tasks: TaskTable::new(alloc, key),
         }
     }
 

@@ -4,6 +4,7 @@ ghost use Rattle.std.specs.Option.{option_to_list};
 ghost use Rattle.drf_role.specs.Text.{Text, same_text};
 ghost use Rattle.drf_holdings.specs.Listed.{serials_in, TaskKey};
 
+use drf_hash::{ByName, HashKey};
 use drf_role::Name;
 use indexmap::IndexMap;
 use std::alloc::{AllocError, Global};
@@ -11,16 +12,16 @@ use std::alloc::{AllocError, Global};
 /// The serial numbers of tasks, by framework and name. A framework stands here while it has a task.
 #[derive(Drop)]
 pub(crate) struct Names {
-    pub(crate) frameworks: IndexMap<Name, IndexMap<Name, u64>>,
+    pub(crate) frameworks: ByName<ByName<u64>>,
 }
 
 impl Names {
     /// The names of no tasks.
-    pub(crate) fn new(alloc: Global) -> Names
+    pub(crate) fn new(alloc: Global, hash_key: HashKey) -> Names
         ensures { (key : TaskKey) → serials_in result key ≡ [] }
     {
         Names {
-            frameworks: IndexMap::new(alloc),
+            frameworks: IndexMap::with_hasher(alloc, hash_key),
         }
     }
 
@@ -60,7 +61,10 @@ impl Names {
             tasks.insert(name, serial)?;
             return Ok(());
         }
-        let mut tasks = IndexMap::new(*self.frameworks.allocator());
+        let mut tasks = IndexMap::with_hasher(
+            *self.frameworks.allocator(),
+            *self.frameworks.hasher(),
+        );
         tasks.insert(name, serial)?;
         self.frameworks.insert(framework.copy()?, tasks)?;
         Ok(())

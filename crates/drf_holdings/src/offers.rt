@@ -1,9 +1,9 @@
 //! The offers that stand, in order of number.
-ghost use Rattle.std.specs.Prelude.{◌≡◌, ◌==◌, ◌+◌, ◌≤◌, List, [], ◌∷◌, ◌++◌, map, find, filter, not, nat_lt, take, reverse, length, vec_len, vec_capacity, IfOk, OnOk, OnErr, MatchOption, option_copied};
+ghost use Rattle.std.specs.Prelude.{◌≡◌, ◌==◌, ◌+◌, ◌≤◌, List, [], ◌∷◌, ◌++◌, map, find, filter, flat_map, not, nat_lt, take, reverse, length, vec_len, vec_capacity, IfOk, OnOk, OnErr, MatchOption, option_copied};
 ghost use Rattle.drf_bundle.specs.Taken.{rest_of_all};
 ghost use Rattle.drf_rows.specs.Holdings.{of_offer, parts_on};
 ghost use Rattle.drf_rows.specs.declared.rows.OfferRow.{OfferRow};
-ghost use Rattle.drf_holdings.specs.Listed.{offer_number, offer_on, offer_of, AreOffersListed, AreOffersKept};
+ghost use Rattle.drf_holdings.specs.Listed.{offer_number, offer_on, offer_of, bundles_at, AreOffersListed, AreOffersKept};
 ghost use Rattle.drf_holdings.specs.Rising.{IsRising};
 ghost use Rattle.drf_holdings.specs.Taking.{IsTaken, HasNone};
 
@@ -11,9 +11,11 @@ use crate::by_number::{ByNumber, InOrder, Numbered};
 use crate::index::Index;
 use drf_amount::Algebra;
 use drf_bundle::Bundle;
+use drf_hash::HashKey;
 use drf_role::Name;
 use drf_rows::{Copied, OfferRow, Table};
 use std::alloc::{AllocError, AllocFailed, Global};
+use std::collections::VecDeque;
 use std::marker::Model;
 
 /// The numbers of offers, by agent and by framework.
@@ -25,12 +27,12 @@ pub(crate) struct OfferIndex {
 
 impl OfferIndex {
     /// The index of no offers.
-    fn new(alloc: Global) -> OfferIndex
+    fn new(alloc: Global, key: HashKey) -> OfferIndex
         ensures { AreOffersListed result [] }
     {
         OfferIndex {
-            agents: Index::new(alloc),
-            frameworks: Index::new(alloc),
+            agents: Index::new(alloc, key),
+            frameworks: Index::new(alloc, key),
         }
     }
 
@@ -174,12 +176,12 @@ impl Model for OfferTable {
 
 impl OfferTable {
     /// A table with no offers.
-    pub(crate) fn new(alloc: Global) -> OfferTable
+    pub(crate) fn new(alloc: Global, key: HashKey) -> OfferTable
         ensures { result ≡ [] }
     {
         OfferTable {
             rows: ByNumber::new(alloc),
-            index: OfferIndex::new(alloc),
+            index: OfferIndex::new(alloc, key),
         }
     }
 
@@ -221,7 +223,7 @@ impl OfferTable {
     {
         let alloc = self.index.agents.alloc();
         let mut rows = ByNumber::new(alloc);
-        let mut index = OfferIndex::new(alloc);
+        let mut index = OfferIndex::new(alloc, self.index.agents.key());
         for offer in self.rows() {
             let row = offer.copy()?;
             index.add(&row)?;
@@ -237,18 +239,29 @@ impl OfferTable {
         self.rows.get(number)
     }
 
-    /// What is left of a bundle when the offers on an agent are taken from it.
-    pub(crate) fn left_of(&self, whole: &Bundle, agent: &Name) -> Result<Bundle, AllocError>
-        ensures { IfOk result (λ left. left ≡ rest_of_all whole.now (parts_on agent.now (map of_offer self.now))) }
+    /// What is left of a bundle when the offers of some numbers are taken from it.
+    fn less(&self, whole: Bundle, numbers: &VecDeque<u64>) -> Result<Bundle, AllocError>
+        ensures { IfOk result (λ left. left ≡ rest_of_all whole (flat_map (bundles_at offer_number (λ o. o.bundle) self.now) numbers.now.items)) }
     {
-        let mut left = whole.copy()?;
-        for number in self.index.agents.list(agent) {
+        let mut left = whole;
+        for number in numbers {
             let Some(offer) = self.get(*number) else {
                 continue;
             };
             left = left.rest(&offer.bundle)?;
         }
         Ok(left)
+    }
+
+    /// What is left of a bundle when the offers on an agent are taken from it.
+    pub(crate) fn left_of(&self, whole: &Bundle, agent: &Name) -> Result<Bundle, AllocError>
+        ensures { IfOk result (λ left. left ≡ rest_of_all whole.now (parts_on agent.now (map of_offer self.now))) }
+    {
+        let whole = whole.copy()?;
+        match self.index.agents.list(agent) {
+            Some(numbers) => self.less(whole, numbers),
+            None => Ok(whole),
+        }
     }
 
     /// Takes the offer of a number out.
@@ -269,7 +282,7 @@ impl OfferTable {
             (HasNone (offer_on agent.now) self.old self.new)
             (IsTaken (offer_on agent.now) self.old self.new) }
     {
-        let number = *self.index.agents.list(agent).last()?;
+        let number = self.index.agents.last(agent)?;
         self.take(number)
     }
 
@@ -279,7 +292,7 @@ impl OfferTable {
             (HasNone (offer_of framework.now) self.old self.new)
             (IsTaken (offer_of framework.now) self.old self.new) }
     {
-        let number = *self.index.frameworks.list(framework).last()?;
+        let number = self.index.frameworks.last(framework)?;
         self.take(number)
     }
 

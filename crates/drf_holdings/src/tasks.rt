@@ -16,9 +16,11 @@ use crate::index::Index;
 use crate::names::Names;
 use drf_amount::Algebra;
 use drf_bundle::Bundle;
+use drf_hash::HashKey;
 use drf_role::Name;
 use drf_rows::{Copied, Table, TaskRow};
 use std::alloc::{AllocError, Global};
+use std::collections::VecDeque;
 use std::marker::Model;
 
 /// A task, and its number among all that were started.
@@ -37,12 +39,12 @@ pub(crate) struct TaskIndex {
 
 impl TaskIndex {
     /// The index of no tasks.
-    fn new(alloc: Global) -> TaskIndex
+    fn new(alloc: Global, key: HashKey) -> TaskIndex
         ensures { AreTasksListed result [] }
     {
         TaskIndex {
-            agents: Index::new(alloc),
-            names: Names::new(alloc),
+            agents: Index::new(alloc, key),
+            names: Names::new(alloc, key),
         }
     }
 
@@ -84,8 +86,12 @@ impl Numbered for Task {
 }
 
 /// What is left of a bundle when the tasks of some serial numbers are taken from it.
-fn less_tasks(whole: Bundle, tasks: &ByNumber<Task>, serials: &[u64]) -> Result<Bundle, AllocError>
-    ensures { IfOk result (λ left. left ≡ rest_of_all whole (flat_map (bundles_at task_serial (λ t. t.row.bundle) tasks.now) serials.now)) }
+fn less_tasks(
+    whole: Bundle,
+    tasks: &ByNumber<Task>,
+    serials: &VecDeque<u64>,
+) -> Result<Bundle, AllocError>
+    ensures { IfOk result (λ left. left ≡ rest_of_all whole (flat_map (bundles_at task_serial (λ t. t.row.bundle) tasks.now) serials.now.items)) }
 {
     let mut left = whole;
     for serial in serials {
@@ -136,6 +142,7 @@ fn put_task(
 /// The tasks, with serial numbers from 0 on.
 fn renumbered(
     alloc: Global,
+    key: HashKey,
     tasks: &ByNumber<Task>,
 ) -> Result<(ByNumber<Task>, TaskIndex), AllocError>
     requires { AreNew [] (map task_row tasks.now) }
@@ -143,7 +150,7 @@ fn renumbered(
     ensures kept { IfOk result (λ made. AreTasksKept made.1 made.0 (length made.0)) }
 {
     let mut copy = ByNumber::new(alloc);
-    let mut index = TaskIndex::new(alloc);
+    let mut index = TaskIndex::new(alloc, key);
     let mut serial = 0;
     for task in tasks.values() {
         put_task(&mut copy, &mut index, serial, task.row.copy()?)?;
@@ -167,7 +174,7 @@ fn next_serial(
     if next < u64::MAX {
         return Ok(next);
     }
-    let (copy, names) = renumbered(index.agents.alloc(), tasks)?;
+    let (copy, names) = renumbered(index.agents.alloc(), index.agents.key(), tasks)?;
     *tasks = copy;
     *index = names;
     Ok(tasks.len() as u64)
@@ -203,12 +210,12 @@ impl Model for TaskTable {
 
 impl TaskTable {
     /// A table with no tasks.
-    pub(crate) fn new(alloc: Global) -> TaskTable
+    pub(crate) fn new(alloc: Global, key: HashKey) -> TaskTable
         ensures { result ≡ [] }
     {
         TaskTable {
             tasks: ByNumber::new(alloc),
-            index: TaskIndex::new(alloc),
+            index: TaskIndex::new(alloc, key),
             next: 0,
         }
     }
@@ -242,7 +249,11 @@ impl TaskTable {
     pub(crate) fn copy(&self) -> Result<TaskTable, AllocError>
         ensures { IfOk result (λ copy. copy ≡ self.now) }
     {
-        let (tasks, index) = renumbered(self.index.agents.alloc(), &self.tasks)?;
+        let (tasks, index) = renumbered(
+            self.index.agents.alloc(),
+            self.index.agents.key(),
+            &self.tasks,
+        )?;
         let next = tasks.len() as u64;
         Ok(TaskTable { tasks, index, next })
     }
@@ -258,7 +269,10 @@ impl TaskTable {
     pub(crate) fn left_of(&self, whole: Bundle, agent: &Name) -> Result<Bundle, AllocError>
         ensures { IfOk result (λ left. left ≡ rest_of_all whole (parts_on agent.now (map of_task self.now))) }
     {
-        less_tasks(whole, &self.tasks, self.index.agents.list(agent))
+        match self.index.agents.list(agent) {
+            Some(serials) => less_tasks(whole, &self.tasks, serials),
+            None => Ok(whole),
+        }
     }
 
     /// Puts a task behind those that are there. An `Err` changes nothing.
@@ -316,7 +330,7 @@ impl TaskTable {
             (HasNone (λ t. same_text t.agent agent.now) self.old self.new)
             (IsTaken (λ t. same_text t.agent agent.now) self.old self.new) }
     {
-        let serial = *self.index.agents.list(agent).last()?;
+        let serial = self.index.agents.last(agent)?;
         let task = take_task(&mut self.tasks, &mut self.index, serial)?;
         Some(task.row)
     }

@@ -182,7 +182,7 @@ impl<S: Sorter> Session<S> {
         ensures { IfOk result (λ lines. lines.items ≡ map (line_of self.now.machine.rows) self.now.machine.rows.agents) }
     {
         let rows = self.core.rows()?;
-        audit(rt, alloc, &rows)
+        audit(rt, alloc, self.core.key(), &rows)
     }
 
     /// The lines that tell of the cycle at a moment, in milliseconds.

@@ -21,12 +21,11 @@ use crate::words::KnownWords;
 use drf_bundle::Bundle;
 use drf_role::Name;
 use drf_rows::AgentRow;
-use std::alloc::{AllocError, Global};
+use std::alloc::AllocError;
 
 /// The agent and the total of an event that has no other keys.
 #[tactic(auto, unfolding(crate::specs::AgentEvents::its_total))]
 pub fn read_its_total(
-    alloc: Global,
     known: &mut KnownWords,
     value: &LineValue<'_>,
 ) -> Result<(Name, Bundle), LineError>
@@ -35,7 +34,7 @@ pub fn read_its_total(
     keys(value, 3)?;
     let agent = text_at(value, "agent")?;
     let total = text_at(value, "total")?;
-    Ok((known.name(alloc, agent)?, known.bundle(alloc, total)?))
+    Ok((known.name(agent)?, known.bundle(total)?))
 }
 
 /// An event of an agent and a total.
@@ -57,16 +56,12 @@ pub fn put_of_total(
 
 /// The agent of an event that has no other key.
 #[tactic(auto, unfolding(crate::specs::AgentEvents::agent_of))]
-pub fn read_its_agent(
-    alloc: Global,
-    known: &mut KnownWords,
-    value: &LineValue<'_>,
-) -> Result<Name, LineError>
+pub fn read_its_agent(known: &mut KnownWords, value: &LineValue<'_>) -> Result<Name, LineError>
     ensures { IsReadOf result (agent_of (line_view value.now)) }
 {
     keys(value, 2)?;
     let agent = text_at(value, "agent")?;
-    known.name(alloc, agent)
+    known.name(agent)
 }
 
 /// An event of an agent alone.
@@ -80,11 +75,7 @@ pub fn put_of_agent(line: &mut Vec<u8>, event: &str, agent: &Name) -> Result<(),
 }
 
 #[tactic(auto, unfolding(crate::specs::AgentRows::agent_row))]
-pub fn read_agent_row(
-    alloc: Global,
-    known: &mut KnownWords,
-    value: &LineValue<'_>,
-) -> Result<AgentRow, LineError>
+pub fn read_agent_row(known: &mut KnownWords, value: &LineValue<'_>) -> Result<AgentRow, LineError>
     ensures { IsReadOf result (agent_row (line_view value.now)) }
 {
     keys(value, 4)?;
@@ -92,8 +83,8 @@ pub fn read_agent_row(
     let agent = text_at(value, "agent")?;
     let total = text_at(value, "total")?;
     Ok(AgentRow {
-        name: known.name(alloc, agent)?,
-        total: known.bundle(alloc, total)?,
+        name: known.name(agent)?,
+        total: known.bundle(total)?,
         active,
     })
 }

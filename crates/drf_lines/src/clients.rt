@@ -55,15 +55,11 @@ pub fn client_texts<'a>(
 }
 
 #[tactic(auto, unfolding(crate::specs::FrameworkRows::client_in))]
-fn read_client(
-    alloc: Global,
-    known: &mut KnownWords,
-    client: &ClientText,
-) -> Result<ClientRow, LineError>
+fn read_client(known: &mut KnownWords, client: &ClientText) -> Result<ClientRow, LineError>
     ensures { IsReadOf result (client_in (client.now.role.now, client.now.count, client.now.suppressed)) }
 {
     Ok(ClientRow {
-        role: known.role(alloc, client.role)?,
+        role: known.role(client.role)?,
         count: client.count,
         suppressed: client.suppressed,
     })
@@ -71,15 +67,14 @@ fn read_client(
 
 /// Reads the clients of a framework.
 pub fn read_clients(
-    alloc: Global,
     known: &mut KnownWords,
     texts: &[ClientText],
 ) -> Result<Table<ClientRow>, LineError>
     ensures { IsReadOf result (each_in client_in (map (λ client. (client.role.now, client.count, client.suppressed)) texts.now)) }
 {
-    let mut clients = Vec::with_capacity(alloc, texts.len())?;
+    let mut clients = Vec::with_capacity(known.alloc, texts.len())?;
     for text in texts {
-        clients.push(read_client(alloc, known, text)?)?;
+        clients.push(read_client(known, text)?)?;
     }
     Ok(Table::from_vec(clients))
 }

@@ -10,7 +10,7 @@ ghost use Rattle.drf_lines.specs.Written.{AppendsText};
 use crate::agents::{put_of_agent, put_of_total};
 use crate::frameworks::{put_add_framework, put_of_client, put_of_framework};
 use crate::limits::put_set_limit;
-use crate::member::{put, put_byte, put_number};
+use crate::member::{put, put_number};
 use crate::offers::{put_accept, put_decline, put_finish, put_rescind};
 use crate::reservations::put_of_reservation;
 use crate::weights::put_set_weight;

@@ -24,38 +24,30 @@ use crate::object::{LineValue, keys, text_at, texts_at, values_at};
 use crate::words::KnownWords;
 use drf_role::{Name, Role};
 use drf_rows::{Event, FrameworkRow, Table};
-use std::alloc::{AllocError, Global};
+use std::alloc::AllocError;
 
 /// Reads the roles of a framework, of which one may stand more than once.
-fn read_roles(
-    alloc: Global,
-    known: &mut KnownWords,
-    texts: &[&str],
-) -> Result<Table<Role>, LineError>
+fn read_roles(known: &mut KnownWords, texts: &[&str]) -> Result<Table<Role>, LineError>
     ensures { IsReadOf result (roles_in (map (λ text. text.now) texts.now)) }
 {
-    let mut roles = Vec::with_capacity(alloc, texts.len())?;
+    let mut roles = Vec::with_capacity(known.alloc, texts.len())?;
     for text in texts {
-        let role = known.role(alloc, text)?;
+        let role = known.role(text)?;
         roles.push(role)?;
     }
     Ok(Table::from_vec(roles))
 }
 
 #[tactic(auto, unfolding(crate::specs::FrameworkEvents::framework_event))]
-pub fn read_framework(
-    alloc: Global,
-    known: &mut KnownWords,
-    value: &LineValue<'_>,
-) -> Result<Event, LineError>
+pub fn read_framework(known: &mut KnownWords, value: &LineValue<'_>) -> Result<Event, LineError>
     ensures { IsReadOf result (framework_event (line_view value.now)) }
 {
     keys(value, 3)?;
     let framework = text_at(value, "framework")?;
-    let roles = texts_at(alloc, value, "roles")?;
+    let roles = texts_at(known.alloc, value, "roles")?;
     Ok(Event::AddFramework {
-        framework: known.name(alloc, framework)?,
-        roles: read_roles(alloc, known, &roles)?,
+        framework: known.name(framework)?,
+        roles: read_roles(known, &roles)?,
     })
 }
 
@@ -92,16 +84,12 @@ pub fn put_add_framework(
 
 /// The framework of an event that has no other key.
 #[tactic(auto, unfolding(crate::specs::FrameworkEvents::framework_of))]
-pub fn read_its_framework(
-    alloc: Global,
-    known: &mut KnownWords,
-    value: &LineValue<'_>,
-) -> Result<Name, LineError>
+pub fn read_its_framework(known: &mut KnownWords, value: &LineValue<'_>) -> Result<Name, LineError>
     ensures { IsReadOf result (framework_of (line_view value.now)) }
 {
     keys(value, 2)?;
     let framework = text_at(value, "framework")?;
-    known.name(alloc, framework)
+    known.name(framework)
 }
 
 /// An event of a framework alone.
@@ -117,7 +105,6 @@ pub fn put_of_framework(line: &mut Vec<u8>, event: &str, framework: &Name) -> Re
 /// The framework and the role of an event that has no other keys.
 #[tactic(auto, unfolding(crate::specs::FrameworkEvents::its_client))]
 pub fn read_its_client(
-    alloc: Global,
     known: &mut KnownWords,
     value: &LineValue<'_>,
 ) -> Result<(Name, Role), LineError>
@@ -126,7 +113,7 @@ pub fn read_its_client(
     keys(value, 3)?;
     let framework = text_at(value, "framework")?;
     let role = text_at(value, "role")?;
-    Ok((known.name(alloc, framework)?, known.role(alloc, role)?))
+    Ok((known.name(framework)?, known.role(role)?))
 }
 
 /// An event of a framework in a role.
@@ -147,18 +134,17 @@ pub fn put_of_client(
 
 #[tactic(auto, unfolding(crate::specs::FrameworkRows::framework_row))]
 pub fn read_framework_row(
-    alloc: Global,
     known: &mut KnownWords,
     value: &LineValue<'_>,
 ) -> Result<FrameworkRow, LineError>
     ensures { IsReadOf result (framework_row (line_view value.now)) }
 {
     keys(value, 3)?;
-    let clients = client_texts(alloc, values_at(value, "clients")?)?;
+    let clients = client_texts(known.alloc, values_at(value, "clients")?)?;
     let framework = text_at(value, "framework")?;
     Ok(FrameworkRow {
-        name: known.name(alloc, framework)?,
-        clients: read_clients(alloc, known, clients.as_slice())?,
+        name: known.name(framework)?,
+        clients: read_clients(known, clients.as_slice())?,
     })
 }
 

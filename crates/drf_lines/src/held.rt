@@ -15,7 +15,7 @@ use crate::object::{LineValue, keys, number_at, text_at};
 use crate::words::{KnownWords, read_name};
 use drf_role::{Name, Role};
 use drf_rows::{FilterRow, OfferRow, TaskRow};
-use std::alloc::{AllocError, Global};
+use std::alloc::AllocError;
 
 /// Whose a row is, as it stands in a line.
 #[derive(Clone, Copy)]
@@ -40,67 +40,54 @@ fn owner_text<'a>(value: &LineValue<'a>) -> Result<OwnerText<'a>, LineFault>
 }
 
 #[tactic(auto, unfolding(crate::specs::HeldRows::owner_in))]
-fn read_owner(
-    alloc: Global,
-    known: &mut KnownWords,
-    owner: &OwnerText,
-) -> Result<(Name, Name, Role), LineError>
+fn read_owner(known: &mut KnownWords, owner: &OwnerText) -> Result<(Name, Name, Role), LineError>
     ensures { IsReadOf result (owner_in (owner.now.agent.now, owner.now.framework.now, owner.now.role.now)) }
 {
     Ok((
-        known.name(alloc, owner.agent)?,
-        known.name(alloc, owner.framework)?,
-        known.role(alloc, owner.role)?,
+        known.name(owner.agent)?,
+        known.name(owner.framework)?,
+        known.role(owner.role)?,
     ))
 }
 
 #[tactic(auto, unfolding(crate::specs::HeldRows::offer_row))]
-pub fn read_offer_row(
-    alloc: Global,
-    known: &mut KnownWords,
-    value: &LineValue<'_>,
-) -> Result<OfferRow, LineError>
+pub fn read_offer_row(known: &mut KnownWords, value: &LineValue<'_>) -> Result<OfferRow, LineError>
     ensures { IsReadOf result (offer_row (line_view value.now)) }
 {
     keys(value, 6)?;
     let owner = owner_text(value)?;
     let number = number_at(value, "offer")?;
     let resources = text_at(value, "resources")?;
-    let (agent, framework, role) = read_owner(alloc, known, &owner)?;
+    let (agent, framework, role) = read_owner(known, &owner)?;
     Ok(OfferRow {
         number,
         agent,
         framework,
         role,
-        bundle: known.bundle(alloc, resources)?,
+        bundle: known.bundle(resources)?,
     })
 }
 
 #[tactic(auto, unfolding(crate::specs::HeldRows::task_row))]
-pub fn read_task_row(
-    alloc: Global,
-    known: &mut KnownWords,
-    value: &LineValue<'_>,
-) -> Result<TaskRow, LineError>
+pub fn read_task_row(known: &mut KnownWords, value: &LineValue<'_>) -> Result<TaskRow, LineError>
     ensures { IsReadOf result (task_row (line_view value.now)) }
 {
     keys(value, 6)?;
     let owner = owner_text(value)?;
     let task = text_at(value, "task")?;
     let used = text_at(value, "use")?;
-    let (agent, framework, role) = read_owner(alloc, known, &owner)?;
+    let (agent, framework, role) = read_owner(known, &owner)?;
     Ok(TaskRow {
-        name: read_name(alloc, task)?,
+        name: read_name(known.alloc, task)?,
         agent,
         framework,
         role,
-        bundle: known.bundle(alloc, used)?,
+        bundle: known.bundle(used)?,
     })
 }
 
 #[tactic(auto, unfolding(crate::specs::HeldRows::filter_row))]
 pub fn read_filter_row(
-    alloc: Global,
     known: &mut KnownWords,
     value: &LineValue<'_>,
 ) -> Result<FilterRow, LineError>
@@ -110,12 +97,12 @@ pub fn read_filter_row(
     let owner = owner_text(value)?;
     let resources = text_at(value, "resources")?;
     let until = number_at(value, "until")?;
-    let (agent, framework, role) = read_owner(alloc, known, &owner)?;
+    let (agent, framework, role) = read_owner(known, &owner)?;
     Ok(FilterRow {
         framework,
         role,
         agent,
-        bundle: known.bundle(alloc, resources)?,
+        bundle: known.bundle(resources)?,
         until,
     })
 }

@@ -24,12 +24,11 @@ use drf_bundle::Quantities;
 use drf_role::Role;
 use drf_rows::LimitRow;
 use drf_text::write_quantities;
-use std::alloc::{AllocError, Global};
+use std::alloc::AllocError;
 
 /// The role and the limit of an event, or of a row, that has no other keys.
 #[tactic(auto, unfolding(crate::specs::LimitEvents::its_limit))]
 pub fn read_its_limit(
-    alloc: Global,
     known: &mut KnownWords,
     value: &LineValue<'_>,
 ) -> Result<(Role, Quantities), LineError>
@@ -38,7 +37,7 @@ pub fn read_its_limit(
     keys(value, 3)?;
     let role = text_at(value, "role")?;
     let limit = text_at(value, "limit")?;
-    Ok((known.role(alloc, role)?, read_quantities(alloc, limit)?))
+    Ok((known.role(role)?, read_quantities(known.alloc, limit)?))
 }
 
 /// Writes what stands before a limit with its first `"`, and the limit, amounts of 0 too. It is read as this limit.

@@ -98,74 +98,41 @@ fn read_report(value: &LineValue<'_>) -> Result<Event, LineError>
     Ok(Event::Report)
 }
 
+/// An event of the parts that were read.
+macro_rules! made {
+    ($event:ident { $($part:ident),+ } of $read:expr) => {{
+        let ($($part),+) = $read?;
+        Ok(Event::$event { $($part),+ })
+    }};
+}
+
 #[tactic(auto, unfolding(crate::specs::Meaning::event_in))]
-fn read_object(
-    alloc: Global,
-    known: &mut KnownWords,
-    value: &LineValue<'_>,
-) -> Result<Event, LineError>
+fn read_object(known: &mut KnownWords, value: &LineValue<'_>) -> Result<Event, LineError>
     ensures { IsReadOf result (event_in (line_view value.now)) }
 {
     match text_at(value, "event")? {
         // Most lines are of these, so that they are looked for first.
-        "finish" => read_finish(alloc, known, value),
-        "accept" => read_accept(alloc, known, value),
-        "decline" => read_decline(alloc, known, value),
+        "finish" => read_finish(known, value),
+        "accept" => read_accept(known, value),
+        "decline" => read_decline(known, value),
         "rescind" => read_rescind(value),
         "cycle" => read_cycle(value),
-        "add_agent" => {
-            let (agent, total) = read_its_total(alloc, known, value)?;
-            Ok(Event::AddAgent { agent, total })
-        }
-        "remove_agent" => Ok(Event::RemoveAgent {
-            agent: read_its_agent(alloc, known, value)?,
-        }),
-        "activate_agent" => Ok(Event::ActivateAgent {
-            agent: read_its_agent(alloc, known, value)?,
-        }),
-        "deactivate_agent" => Ok(Event::DeactivateAgent {
-            agent: read_its_agent(alloc, known, value)?,
-        }),
-        "set_agent" => {
-            let (agent, total) = read_its_total(alloc, known, value)?;
-            Ok(Event::SetAgent { agent, total })
-        }
-        "add_framework" => read_framework(alloc, known, value),
-        "remove_framework" => Ok(Event::RemoveFramework {
-            framework: read_its_framework(alloc, known, value)?,
-        }),
-        "suppress" => {
-            let (framework, role) = read_its_client(alloc, known, value)?;
-            Ok(Event::Suppress { framework, role })
-        }
-        "revive" => {
-            let (framework, role) = read_its_client(alloc, known, value)?;
-            Ok(Event::Revive { framework, role })
-        }
-        "reserve" => {
-            let (agent, role, resources) = read_its_reservation(alloc, known, value)?;
-            Ok(Event::Reserve {
-                agent,
-                role,
-                resources,
-            })
-        }
-        "unreserve" => {
-            let (agent, role, resources) = read_its_reservation(alloc, known, value)?;
-            Ok(Event::Unreserve {
-                agent,
-                role,
-                resources,
-            })
-        }
-        "set_weight" => {
-            let (role, weight) = read_its_weight(alloc, known, value)?;
-            Ok(Event::SetWeight { role, weight })
-        }
-        "set_limit" => {
-            let (role, limit) = read_its_limit(alloc, known, value)?;
-            Ok(Event::SetLimit { role, limit })
-        }
+        "add_agent" => made!(AddAgent { agent, total } of read_its_total(known, value)),
+        "remove_agent" => made!(RemoveAgent { agent } of read_its_agent(known, value)),
+        "activate_agent" => made!(ActivateAgent { agent } of read_its_agent(known, value)),
+        "deactivate_agent" => made!(DeactivateAgent { agent } of read_its_agent(known, value)),
+        "set_agent" => made!(SetAgent { agent, total } of read_its_total(known, value)),
+        "add_framework" => read_framework(known, value),
+        "remove_framework" =>
+            made!(RemoveFramework { framework } of read_its_framework(known, value)),
+        "suppress" => made!(Suppress { framework, role } of read_its_client(known, value)),
+        "revive" => made!(Revive { framework, role } of read_its_client(known, value)),
+        "reserve" =>
+            made!(Reserve { agent, role, resources } of read_its_reservation(known, value)),
+        "unreserve" =>
+            made!(Unreserve { agent, role, resources } of read_its_reservation(known, value)),
+        "set_weight" => made!(SetWeight { role, weight } of read_its_weight(known, value)),
+        "set_limit" => made!(SetLimit { role, limit } of read_its_limit(known, value)),
         "report" => read_report(value),
         _ => Err(LineError::Fault(LineFault::BadShape)),
     }
@@ -180,7 +147,6 @@ const LARGE_ARENA: usize = 8_388_608;
 /// A reader of lines, one after another, and a writer of what they are answered. What a line needs to be read is kept for the next one, and so is
 /// the report that was written last.
 pub struct LineReader {
-    alloc: Global,
     arena: Bump,
     scratch: Scratch,
     known: KnownWords,
@@ -191,7 +157,6 @@ pub struct LineReader {
 impl Drop for LineReader {
     fn drop(self) {
         let LineReader {
-            alloc: _alloc,
             arena: _arena,
             scratch: _scratch,
             known: _known,
@@ -203,14 +168,13 @@ impl Drop for LineReader {
 impl LineReader {
     /// A reader that has read nothing.
     pub fn new(alloc: Global) -> LineReader {
-        LineReader::knowing(alloc, KnownWords::new(alloc))
+        LineReader::knowing(KnownWords::new(alloc))
     }
 
-    fn knowing(alloc: Global, known: KnownWords) -> LineReader {
+    fn knowing(known: KnownWords) -> LineReader {
         LineReader {
-            alloc,
-            arena: Bump::new(alloc),
-            scratch: Scratch::new(alloc),
+            arena: Bump::new(known.alloc),
+            scratch: Scratch::new(known.alloc),
             known,
             last: LastReport::new(),
         }
@@ -219,7 +183,7 @@ impl LineReader {
     /// Gives back what a long line took.
     fn empty_arena(&mut self) {
         if self.arena.allocated_bytes() > LARGE_ARENA {
-            self.arena = Bump::new(self.alloc);
+            self.arena = Bump::new(self.known.alloc);
         }
         let _ = self.arena.reset();
     }
@@ -235,7 +199,7 @@ impl LineReader {
         }
         self.empty_arena();
         let value = line_value(&self.arena, &mut self.scratch, line)?;
-        read_object(self.alloc, &mut self.known, &value)
+        read_object(&mut self.known, &value)
     }
 
     /// Reads a line of a state, of any length, which is its numbers, a row or its end, or has a fault.
@@ -245,7 +209,7 @@ impl LineReader {
     {
         self.empty_arena();
         let value = line_value(&self.arena, &mut self.scratch, line)?;
-        read_state_object(self.alloc, &mut self.known, &value)
+        read_state_object(&mut self.known, &value)
     }
 
     /// Adds the line that tells a reply, as the function of this name does. Of nodes that are as in the report that was written last the text is copied.
@@ -263,5 +227,5 @@ pub fn read_event(alloc: Global, line: &[u8]) -> Result<Event, LineError>
     ensures memory { IsErrOf result LineError.Memory → length line.now ≤ longest_line }
     ensures utf8 { IsErrOf result LineError.Memory → IsUtf8 line.now }
 {
-    LineReader::knowing(alloc, KnownWords::none(alloc)).read(line)
+    LineReader::knowing(KnownWords::none(alloc)).read(line)
 }

@@ -6,7 +6,6 @@ ghost use Rattle.drf_lines.specs.Fault.{IsReadOf};
 ghost use Rattle.drf_lines.specs.LineValue.{line_view};
 ghost use Rattle.drf_lines.specs.TaskTexts.{each_in, start_in, start_text, several_members, tasks_members};
 ghost use Rattle.drf_lines.specs.Spelled.{IsSpelled};
-ghost use Rattle.drf_lines.specs.Words.{name_in};
 ghost use Rattle.drf_lines.specs.Written.{AppendsMembers, AppendsText};
 ghost use Rattle.drf_lines.specs.OfferEvents.{refusal_member, offer_members, accept_event, accept_value, decline_event, decline_value, rescind_event, rescind_value, finish_event, finish_value};
 
@@ -18,39 +17,31 @@ use crate::words::{KnownWords, read_name};
 use drf_bundle::Bundle;
 use drf_role::Name;
 use drf_rows::{Accept, Decline, Event};
-use std::alloc::{AllocError, Global};
+use std::alloc::AllocError;
 
 /// For how many milliseconds an offer is refused where a line does not say.
 const USUAL_REFUSAL: u64 = 5000;
 
 #[tactic(auto, unfolding(crate::specs::OfferEvents::accept_event))]
-pub fn read_accept(
-    alloc: Global,
-    known: &mut KnownWords,
-    value: &LineValue<'_>,
-) -> Result<Event, LineError>
+pub fn read_accept(known: &mut KnownWords, value: &LineValue<'_>) -> Result<Event, LineError>
     ensures { IsReadOf result (accept_event (line_view value.now)) }
 {
-    let tasks = task_texts(alloc, value)?;
+    let tasks = task_texts(known.alloc, value)?;
     let framework = text_at(value, "framework")?;
     let offer = number_at(value, "offer")?;
     let at = number_at(value, "at")?;
     let refuse_ms = number_or(value, "refuse_ms", USUAL_REFUSAL)?;
     Ok(Event::Accept(Accept {
-        framework: known.name(alloc, framework)?,
+        framework: known.name(framework)?,
         offer,
-        tasks: read_tasks(alloc, known, tasks.as_slice())?,
+        tasks: read_tasks(known, tasks.as_slice())?,
         at,
         refuse_ms,
     }))
 }
 
 #[tactic(auto, unfolding(crate::specs::OfferEvents::decline_event))]
-pub fn read_decline(
-    alloc: Global,
-    known: &mut KnownWords,
-    value: &LineValue<'_>,
-) -> Result<Event, LineError>
+pub fn read_decline(known: &mut KnownWords, value: &LineValue<'_>) -> Result<Event, LineError>
     ensures { IsReadOf result (decline_event (line_view value.now)) }
 {
     keys_besides(value, "refuse_ms", 4)?;
@@ -59,7 +50,7 @@ pub fn read_decline(
     let at = number_at(value, "at")?;
     let refuse_ms = number_or(value, "refuse_ms", USUAL_REFUSAL)?;
     Ok(Event::Decline(Decline {
-        framework: known.name(alloc, framework)?,
+        framework: known.name(framework)?,
         offer,
         at,
         refuse_ms,
@@ -76,19 +67,15 @@ pub fn read_rescind(value: &LineValue<'_>) -> Result<Event, LineError>
 }
 
 #[tactic(auto, unfolding(crate::specs::OfferEvents::finish_event))]
-pub fn read_finish(
-    alloc: Global,
-    known: &mut KnownWords,
-    value: &LineValue<'_>,
-) -> Result<Event, LineError>
+pub fn read_finish(known: &mut KnownWords, value: &LineValue<'_>) -> Result<Event, LineError>
     ensures { IsReadOf result (finish_event (line_view value.now)) }
 {
     keys(value, 3)?;
     let framework = text_at(value, "framework")?;
     let task = text_at(value, "task")?;
     Ok(Event::Finish {
-        framework: known.name(alloc, framework)?,
-        task: read_name(alloc, task)?,
+        framework: known.name(framework)?,
+        task: read_name(known.alloc, task)?,
     })
 }
 

@@ -16,12 +16,11 @@ use crate::object::{LineValue, keys, text_at};
 use crate::words::KnownWords;
 use drf_bundle::Bundle;
 use drf_role::{Name, Role};
-use std::alloc::{AllocError, Global};
+use std::alloc::AllocError;
 
 /// The agent, the role and the resources of an event that has no other keys.
 #[tactic(auto, unfolding(crate::specs::ReservationEvents::its_reservation))]
 pub fn read_its_reservation(
-    alloc: Global,
     known: &mut KnownWords,
     value: &LineValue<'_>,
 ) -> Result<(Name, Role, Bundle), LineError>
@@ -32,9 +31,9 @@ pub fn read_its_reservation(
     let role = text_at(value, "role")?;
     let resources = text_at(value, "resources")?;
     Ok((
-        known.name(alloc, agent)?,
-        known.role(alloc, role)?,
-        known.bundle(alloc, resources)?,
+        known.name(agent)?,
+        known.role(role)?,
+        known.bundle(resources)?,
     ))
 }
 

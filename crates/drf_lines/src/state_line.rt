@@ -20,7 +20,7 @@ use crate::weights::{push_weight_row, read_its_weight};
 use crate::words::KnownWords;
 use drf_rows::{LimitRow, WeightRow};
 use drf_saved::{Head, SavedRow, StateLine};
-use std::alloc::{AllocError, Global};
+use std::alloc::AllocError;
 
 #[tactic(auto, unfolding(crate::specs::StateMeaning::head_in))]
 fn read_head(value: &LineValue<'_>) -> Result<Head, LineError>
@@ -49,7 +49,6 @@ fn read_end(value: &LineValue<'_>) -> Result<StateLine, LineError>
 
 #[tactic(auto, unfolding(crate::specs::StateMeaning::state_line_in))]
 pub fn read_state_object(
-    alloc: Global,
     known: &mut KnownWords,
     value: &LineValue<'_>,
 ) -> Result<StateLine, LineError>
@@ -57,19 +56,19 @@ pub fn read_state_object(
 {
     let row = match text_at(value, "row")? {
         "state" => return Ok(StateLine::Head(read_head(value)?)),
-        "agent" => SavedRow::Agent(read_agent_row(alloc, known, value)?),
-        "framework" => SavedRow::Framework(read_framework_row(alloc, known, value)?),
+        "agent" => SavedRow::Agent(read_agent_row(known, value)?),
+        "framework" => SavedRow::Framework(read_framework_row(known, value)?),
         "weight" => {
-            let (role, weight) = read_its_weight(alloc, known, value)?;
+            let (role, weight) = read_its_weight(known, value)?;
             SavedRow::Weight(WeightRow { role, weight })
         }
         "limit" => {
-            let (role, limit) = read_its_limit(alloc, known, value)?;
+            let (role, limit) = read_its_limit(known, value)?;
             SavedRow::Limit(LimitRow { role, limit })
         }
-        "offer" => SavedRow::Offer(read_offer_row(alloc, known, value)?),
-        "task" => SavedRow::Task(read_task_row(alloc, known, value)?),
-        "filter" => SavedRow::Filter(read_filter_row(alloc, known, value)?),
+        "offer" => SavedRow::Offer(read_offer_row(known, value)?),
+        "task" => SavedRow::Task(read_task_row(known, value)?),
+        "filter" => SavedRow::Filter(read_filter_row(known, value)?),
         "end" => return read_end(value),
         _ => return Err(LineError::Fault(LineFault::BadShape)),
     };

@@ -103,28 +103,23 @@ pub fn task_texts<'a>(
 }
 
 #[tactic(auto, unfolding(crate::specs::TaskTexts::start_in))]
-fn read_start(
-    alloc: Global,
-    known: &mut KnownWords,
-    text: &TaskText,
-) -> Result<(Name, Bundle), LineError>
+fn read_start(known: &mut KnownWords, text: &TaskText) -> Result<(Name, Bundle), LineError>
     ensures { IsReadOf result (start_in (text.now.name.now, text.now.used.now)) }
 {
-    let name = read_name(alloc, text.name)?;
-    let used = known.bundle(alloc, text.used)?;
+    let name = read_name(known.alloc, text.name)?;
+    let used = known.bundle(text.used)?;
     Ok((name, used))
 }
 
 fn read_starts(
-    alloc: Global,
     known: &mut KnownWords,
     texts: &[TaskText],
 ) -> Result<Table<(Name, Bundle)>, LineError>
     ensures { IsReadOf result (each_in start_in (map (λ text. (text.name.now, text.used.now)) texts.now)) }
 {
-    let mut starts = Vec::with_capacity(alloc, texts.len())?;
+    let mut starts = Vec::with_capacity(known.alloc, texts.len())?;
     for text in texts {
-        starts.push(read_start(alloc, known, text)?)?;
+        starts.push(read_start(known, text)?)?;
     }
     Ok(Table::from_vec(starts))
 }
@@ -139,14 +134,10 @@ fn task_list(tasks: Table<(Name, Bundle)>) -> Result<TaskList, LineFault>
 
 /// Reads the tasks of an accept.
 #[tactic(auto, unfolding(crate::specs::TaskTexts::starts_in))]
-pub fn read_tasks(
-    alloc: Global,
-    known: &mut KnownWords,
-    texts: &[TaskText],
-) -> Result<TaskList, LineError>
+pub fn read_tasks(known: &mut KnownWords, texts: &[TaskText]) -> Result<TaskList, LineError>
     ensures { IsReadOf result (starts_in (map (λ text. (text.name.now, text.used.now)) texts.now)) }
 {
-    let starts = read_starts(alloc, known, texts)?;
+    let starts = read_starts(known, texts)?;
     let tasks = task_list(starts)?;
     Ok(tasks)
 }

@@ -23,12 +23,11 @@ use crate::words::KnownWords;
 use drf_role::Role;
 use drf_rows::WeightRow;
 use drf_text::{weight_round_trip_law, write_weight};
-use std::alloc::{AllocError, Global};
+use std::alloc::AllocError;
 
 /// The role and the weight of an event, or of a row, that has no other keys.
 #[tactic(auto, unfolding(crate::specs::WeightEvents::its_weight))]
 pub fn read_its_weight(
-    alloc: Global,
     known: &mut KnownWords,
     value: &LineValue<'_>,
 ) -> Result<(Role, u64), LineError>
@@ -37,7 +36,7 @@ pub fn read_its_weight(
     keys(value, 3)?;
     let role = text_at(value, "role")?;
     let weight = text_at(value, "weight")?;
-    Ok((known.role(alloc, role)?, read_weight(weight)?))
+    Ok((known.role(role)?, read_weight(weight)?))
 }
 
 /// Writes what stands before a weight with its first `"`, and the weight. It is read as this weight.

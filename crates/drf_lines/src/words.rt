@@ -8,8 +8,9 @@ ghost use Rattle.drf_lines.specs.Words.{name_in, role_in};
 use crate::fault::LineError;
 use crate::known::KnownBundles;
 use drf_bundle::Bundle;
-use drf_role::{Name, Role, mixed};
+use drf_role::{Name, Role};
 use std::alloc::{AllocError, Global};
+use std::hash::{FoldHasher, Hasher};
 
 /// Reads the name of an agent, a framework or a task.
 pub fn read_name(alloc: Global, text: &str) -> Result<Name, LineError>
@@ -31,12 +32,11 @@ const NAME_PLACES: usize = 2048;
 /// How many roles are known at most.
 const ROLE_PLACES: usize = 1024;
 
-/// What the hash of a text begins with.
-const START: u64 = 0xcbf2_9ce4_8422_2325;
-
 /// The number by which the place of a text is told.
 fn hash_of(text: &str) -> usize {
-    mixed(START, text) as usize
+    let mut hasher = FoldHasher::default();
+    hasher.write(text.as_bytes());
+    hasher.finish() as usize
 }
 
 /// What stands at a place.
@@ -81,6 +81,8 @@ fn known_role(roles: &[Option<Role>], place: usize, text: &str) -> Option<Role>
 
 /// A reader of names, roles and bundles, which knows some, or none where it reads a line alone. What it knows is in no contract.
 pub struct KnownWords {
+    /// Where what is read goes.
+    pub alloc: Global,
     keeps: bool,
     // What came last at each place. Nothing stands behind the end.
     names: Vec<Option<Name>>,
@@ -92,6 +94,7 @@ pub struct KnownWords {
 impl Drop for KnownWords {
     fn drop(self) {
         let KnownWords {
+            alloc: _alloc,
             keeps: _keeps,
             names: _names,
             roles: _roles,
@@ -104,6 +107,7 @@ impl KnownWords {
     /// None is known yet.
     pub fn new(alloc: Global) -> KnownWords {
         KnownWords {
+            alloc,
             keeps: true,
             names: Vec::new(alloc),
             roles: Vec::new(alloc),
@@ -114,6 +118,7 @@ impl KnownWords {
     /// None is known, and none will be.
     pub fn none(alloc: Global) -> KnownWords {
         KnownWords {
+            alloc,
             keeps: false,
             names: Vec::new(alloc),
             roles: Vec::new(alloc),
@@ -136,35 +141,35 @@ impl KnownWords {
     }
 
     /// Reads the name of an agent or a framework.
-    pub fn name(&mut self, alloc: Global, text: &str) -> Result<Name, LineError>
+    pub fn name(&mut self, text: &str) -> Result<Name, LineError>
         ensures { IsReadOf result (name_in text.now) }
     {
         let place = hash_of(text) % NAME_PLACES;
         if let Some(name) = known_name(&self.names, place, text) {
             return Ok(name);
         }
-        let name = read_name(alloc, text)?;
+        let name = read_name(self.alloc, text)?;
         let _ = self.keep_name(place, &name);
         Ok(name)
     }
 
     /// Reads a role.
-    pub fn role(&mut self, alloc: Global, text: &str) -> Result<Role, LineError>
+    pub fn role(&mut self, text: &str) -> Result<Role, LineError>
         ensures { IsReadOf result (role_in text.now) }
     {
         let place = hash_of(text) % ROLE_PLACES;
         if let Some(role) = known_role(&self.roles, place, text) {
             return Ok(role);
         }
-        let role = read_role(alloc, text)?;
+        let role = read_role(self.alloc, text)?;
         let _ = self.keep_role(place, &role);
         Ok(role)
     }
 
     /// Reads a bundle.
-    pub fn bundle(&mut self, alloc: Global, text: &str) -> Result<Bundle, LineError>
+    pub fn bundle(&mut self, text: &str) -> Result<Bundle, LineError>
         ensures { IsReadOf result (bundle_in text.now) }
     {
-        self.bundles.read(alloc, text)
+        self.bundles.read(self.alloc, text)
     }
 }

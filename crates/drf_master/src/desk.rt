@@ -8,7 +8,7 @@ ghost use Rattle.drf_master.specs.Receipts.{IsSamePass, Keeps};
 
 use crate::book::{Book, Copies, Next};
 use crate::pass::{Pass, Receipt};
-use drf_board::{Board, Entry, Naming, Sheet, Told};
+use drf_board::{Board, Entry, Naming, Sheet, Told, Viewer};
 use drf_rows::{Copied, Event, Reply};
 use drf_tree::TreeSorter;
 use std::alloc::AllocError;
@@ -183,6 +183,14 @@ impl<K: Naming, R: Wait + Drop> Desk<K, R> {
         ensures begins { IsPrefix told.now self.new }
     {
         self.board.recall_told(told);
+    }
+
+    /// The same of what a viewer saw or learnt.
+    pub fn recall_viewer(&mut self, viewer: &Viewer<K>)
+        ensures same { self.new ≡ self.old }
+        ensures begins { IsPrefix viewer.now self.new }
+    {
+        self.board.recall_viewer(viewer);
     }
 
     /// Takes an event, a refused one too, and shows what comes of it. Where it finds no memory, journal and board stay as they are.

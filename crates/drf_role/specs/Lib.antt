@@ -10,5 +10,4 @@ pub mod RoleLaws
 pub mod Spans
 pub mod Tests
 pub mod TestLaws
-pub mod Mark
 pub mod LabelText

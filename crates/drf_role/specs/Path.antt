@@ -23,6 +23,11 @@ begins_with path node = starts_with same_text path node
 abbrev pub client_path : Path → Text → Path
 client_path role framework = role ++ codes "." ∷ framework ∷ []
 
+-- a role and the name of a framework, of which a client's path consists
+pub record IsNamed (role : Path) (framework : Text) : Type 0 where
+  pub right_role : IsRole role
+  pub right_name : IsName framework
+
 -- the path of some framework in some role
 pub record IsClientPath (path : Path) : Type 0 where
   pub role : Path

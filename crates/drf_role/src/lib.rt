@@ -4,7 +4,6 @@
 mod joined;
 mod label_text;
 mod laws;
-mod mark;
 mod name;
 mod parts;
 mod path;
@@ -12,7 +11,6 @@ mod role;
 mod word;
 
 pub use laws::client_path_law;
-pub use mark::mixed;
 pub use name::{Label, Name, NameFault};
 pub use parts::Parts;
 pub use path::{ClientPath, NodePath};

@@ -6,11 +6,9 @@ ghost use Rattle.std.specs.Cmp.Lexicographic.{pointwise, lists_equiv, nat_list_e
 ghost use Rattle.std.specs.Hash as fed;
 ghost use Rattle.std.specs.Hash.{same_Alike};
 ghost use Rattle.drf_role.specs.Parts.{parts_of, text_of};
-ghost use Rattle.drf_role.specs.Mark.{IsMarked, path_mark};
-ghost use Rattle.drf_role.specs.Path.{client_path, role_part, framework_part, IsClientPath, IsNodePath};
+ghost use Rattle.drf_role.specs.Path.{client_path, role_part, framework_part, IsClientPath, IsNamed, IsNodePath};
 
 use crate::joined::Joined;
-use crate::mark::mark_of;
 use crate::name::Name;
 use crate::role::Role;
 use std::alloc::{AllocError, Global};
@@ -42,8 +40,6 @@ fn client_text(alloc: Global, role: &str, framework: &str) -> Result<String, All
 pub struct ClientPath {
     role: Role,
     framework: Name,
-    // The hash of both, by which others find the client.
-    mark: u64,
 }
 
 impl Model for ClientPath {
@@ -51,7 +47,7 @@ impl Model for ClientPath {
 
     ghost view = { λ p. client_path p.role p.framework };
 
-    ghost invariant = { λ p. IsMarked p.role p.framework p.mark };
+    ghost invariant = { λ p. IsNamed p.role p.framework };
 }
 
 // Written out, so that the proof of whoever drops a path sees one call.
@@ -60,7 +56,6 @@ impl Drop for ClientPath {
         let ClientPath {
             role: _role,
             framework: _framework,
-            mark: _mark,
         } = self;
     }
 }
@@ -78,12 +73,7 @@ impl ClientPath {
     {
         role.recall();
         framework.recall();
-        let mark = mark_of(&role, &framework);
-        ClientPath {
-            role,
-            framework,
-            mark,
-        }
+        ClientPath { role, framework }
     }
 
     /// The role that the client is in.
@@ -123,20 +113,12 @@ impl ClientPath {
         }
     }
 
-    /// The hash of the client, which is that of every equal path.
-    pub fn mark(&self) -> u64
-        ensures { result ≡ path_mark self.now }
-    {
-        self.mark
-    }
-
     pub fn copy(&self) -> Result<ClientPath, AllocError>
         ensures { IfOk result (λ path. path ≡ self.now) }
     {
         Ok(ClientPath {
             role: self.role.copy()?,
             framework: self.framework.copy()?,
-            mark: self.mark,
         })
     }
 
@@ -191,12 +173,13 @@ impl Eq for ClientPath {
 }
 
 impl Hash for ClientPath {
-    ghost hash_input = { λ path. fed.u64 (path_mark path) };
+    ghost hash_input = { λ path. fed.str (framework_part path) ++ fed.str (text_of (role_part path)) };
 
-    ghost respects_eq = { (same_Alike (λ path. fed.u64 (path_mark path)) (pointwise_decides bytes_decides)).fed };
+    ghost respects_eq = { (same_Alike (λ path. fed.str (framework_part path) ++ fed.str (text_of (role_part path))) (pointwise_decides bytes_decides)).fed };
 
     fn hash<H: Hasher>(&self, state: &mut H) {
-        self.mark().hash(state);
+        self.framework().text().hash(state);
+        self.role().text().hash(state);
     }
 }
 

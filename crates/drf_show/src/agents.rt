@@ -12,6 +12,7 @@ use crate::shown::Shown;
 use drf_amount::Algebra;
 use drf_audit::{AuditLine, audit};
 use drf_bundle::Bundle;
+use drf_hash::HashKey;
 use drf_role::Name;
 use drf_rows::{AgentRow, Rows};
 use drf_text::write_bundle;
@@ -48,11 +49,12 @@ fn agent_line(agent: &AgentRow, audited: &AuditLine) -> Result<AgentLine, AllocE
 pub(crate) fn agent_lines(
     rt: &(impl Threads + Sync),
     alloc: Global,
+    key: HashKey,
     rows: &Rows,
 ) -> Result<Vec<AgentLine>, AllocError>
     ensures { IfOk result (λ lines. lines.items ≡ agent_lines rows.now) }
 {
-    let audited = audit(rt, alloc, rows)?;
+    let audited = audit(rt, alloc, key, rows)?;
     let agents = rows.agents.as_slice();
     let mut lines = Vec::with_capacity(alloc, agents.len())?;
     for (place, line) in audited.iter().enumerate() {

@@ -19,6 +19,7 @@ use crate::had::Had;
 use crate::json::push_value;
 use crate::shown::Shown;
 use drf_bundle::Quantities;
+use drf_hash::HashKey;
 use drf_lines::write_fraction;
 use drf_role::{ClientPath, Name, Role};
 use drf_rows::{ClientRow, FrameworkRow, Rows};
@@ -135,6 +136,7 @@ fn lines_of<S: Sorter>(
 /// A line for each client, in order of frameworks.
 pub(crate) fn client_lines<S: Sorter>(
     alloc: Global,
+    key: HashKey,
     sorter: &S,
     rows: &Rows,
 ) -> Result<Vec<ClientLine>, AllocError>
@@ -142,8 +144,8 @@ pub(crate) fn client_lines<S: Sorter>(
     requires content { S.content sorter.now ≡ content_of rows.now }
     ensures { IfOk result (λ lines. lines.items ≡ client_lines rows.now) }
 {
-    let offered = Had::of_offers(alloc, rows.offers.as_slice())?;
-    let used = Had::of_tasks(alloc, rows.tasks.as_slice())?;
+    let offered = Had::of_offers(alloc, key, rows.offers.as_slice())?;
+    let used = Had::of_tasks(alloc, key, rows.tasks.as_slice())?;
     lines_of(alloc, sorter, &offered, &used, rows.frameworks.as_slice())
 }
 

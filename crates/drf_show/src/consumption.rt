@@ -11,15 +11,16 @@ ghost use Rattle.drf_show.specs.Shown.{limit_lines};
 use crate::limits::LimitLine;
 use drf_bundle::Quantities;
 use drf_gates::{Consumption, QuotaLimits};
+use drf_hash::HashKey;
 use drf_role::Role;
 use drf_rows::{AgentRow, LimitRow, OfferRow, Rows, TaskRow};
 use std::alloc::{AllocError, Global};
 
 /// Nothing is consumed yet. Totals of the roles that have a limit will be kept.
-fn none_under(alloc: Global, limits: &[LimitRow]) -> Result<Consumption, AllocError>
+fn none_under(alloc: Global, key: HashKey, limits: &[LimitRow]) -> Result<Consumption, AllocError>
     ensures { IfOk result (λ consumption. consumption ≡ []) }
 {
-    let mut kept = QuotaLimits::new(alloc);
+    let mut kept = QuotaLimits::new(alloc, key);
     for row in limits {
         kept.set(&row.role, row.limit.copy()?)?;
     }
@@ -63,11 +64,11 @@ fn consume_agents(consumption: &mut Consumption, agents: &[AgentRow]) -> Result<
 }
 
 /// What roles consume by the rows.
-fn consumption_of(alloc: Global, rows: &Rows) -> Result<Consumption, AllocError>
+fn consumption_of(alloc: Global, key: HashKey, rows: &Rows) -> Result<Consumption, AllocError>
     requires { (test : Path → Bool) (label : Text) → consumption_where test rows.now label < 2 ^ 64 }
     ensures { IfOk result (IsConsumptionOf rows.now) }
 {
-    let mut consumption = none_under(alloc, rows.limits.as_slice())?;
+    let mut consumption = none_under(alloc, key, rows.limits.as_slice())?;
     consume_offers(&mut consumption, rows.offers.as_slice())?;
     consume_tasks(&mut consumption, rows.tasks.as_slice())?;
     consume_agents(&mut consumption, rows.agents.as_slice())?;
@@ -122,10 +123,14 @@ fn lines_under(
 }
 
 /// A line for each limit.
-pub(crate) fn limit_lines(alloc: Global, rows: &Rows) -> Result<Vec<LimitLine>, AllocError>
+pub(crate) fn limit_lines(
+    alloc: Global,
+    key: HashKey,
+    rows: &Rows,
+) -> Result<Vec<LimitLine>, AllocError>
     requires { (test : Path → Bool) (label : Text) → consumption_where test rows.now label < 2 ^ 64 }
     ensures { IfOk result (λ lines. lines.items ≡ limit_lines rows.now) }
 {
-    let consumption = consumption_of(alloc, rows)?;
+    let consumption = consumption_of(alloc, key, rows)?;
     lines_under(alloc, &consumption, rows.limits.as_slice())
 }

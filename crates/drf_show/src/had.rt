@@ -7,6 +7,7 @@ ghost use Rattle.drf_rows.specs.Holdings.{of_offer, of_task};
 ghost use Rattle.drf_show.specs.Had.{AreAllOf, AreSmall, parts_for, parts_in, parts_of, sum_for, sum_with};
 
 use drf_bundle::{Bundle, Quantities};
+use drf_hash::{ByName, HashKey};
 use drf_role::{Name, Role};
 use drf_rows::{OfferRow, TaskRow};
 use indexmap::IndexMap;
@@ -15,15 +16,15 @@ use std::alloc::{AllocError, Global};
 /// The roles and bundles that each framework has, by its name.
 #[derive(Drop)]
 pub(crate) struct Had<'a> {
-    pub(crate) by_framework: IndexMap<Name, Vec<(&'a Role, &'a Bundle)>>,
+    pub(crate) by_framework: ByName<Vec<(&'a Role, &'a Bundle)>>,
 }
 
 impl<'a> Had<'a> {
-    fn new(alloc: Global) -> Had<'a>
+    fn new(alloc: Global, key: HashKey) -> Had<'a>
         ensures { (name : Text) → parts_in result name ≡ [] }
     {
         Had {
-            by_framework: IndexMap::new(alloc),
+            by_framework: IndexMap::with_hasher(alloc, key),
         }
     }
 
@@ -48,10 +49,14 @@ impl<'a> Had<'a> {
     }
 
     /// What is offered.
-    pub(crate) fn of_offers(alloc: Global, offers: &'a [OfferRow]) -> Result<Had<'a>, AllocError>
+    pub(crate) fn of_offers(
+        alloc: Global,
+        key: HashKey,
+        offers: &'a [OfferRow],
+    ) -> Result<Had<'a>, AllocError>
         ensures { IfOk result (λ had. AreAllOf had (map of_offer offers.now)) }
     {
-        let mut had = Had::new(alloc);
+        let mut had = Had::new(alloc, key);
         for offer in offers {
             had.add(&offer.framework, &offer.role, &offer.bundle)?;
         }
@@ -59,10 +64,14 @@ impl<'a> Had<'a> {
     }
 
     /// What tasks use.
-    pub(crate) fn of_tasks(alloc: Global, tasks: &'a [TaskRow]) -> Result<Had<'a>, AllocError>
+    pub(crate) fn of_tasks(
+        alloc: Global,
+        key: HashKey,
+        tasks: &'a [TaskRow],
+    ) -> Result<Had<'a>, AllocError>
         ensures { IfOk result (λ had. AreAllOf had (map of_task tasks.now)) }
     {
-        let mut had = Had::new(alloc);
+        let mut had = Had::new(alloc, key);
         for task in tasks {
             had.add(&task.framework, &task.role, &task.bundle)?;
         }

@@ -16,6 +16,7 @@ use crate::form::Form;
 use crate::shown::{Shown, push_shown};
 use crate::tables::table_lines;
 use drf_core::Core;
+use drf_hash::HashKey;
 use drf_rows::{Limits, Report, Rows};
 use drf_saved::Head;
 use drf_sorter::Sorter;
@@ -51,18 +52,20 @@ fn push_head(alloc: Global, form: Form, rows: &Rows, text: &mut Vec<u8>) -> Resu
 fn push_agents(
     rt: &(impl Threads + Sync),
     alloc: Global,
+    key: HashKey,
     form: Form,
     rows: &Rows,
     text: &mut Vec<u8>,
 ) -> Result<(), AllocError>
     ensures { OnOk result (text.new.items ≡ text.old.items ++ behind form (agent_table rows.now)) }
 {
-    let lines = agent_lines(rt, alloc, rows)?;
+    let lines = agent_lines(rt, alloc, key, rows)?;
     push_behind(alloc, form, &lines, text)
 }
 
 fn push_clients<S: Sorter>(
     alloc: Global,
+    key: HashKey,
     form: Form,
     sorter: &S,
     rows: &Rows,
@@ -72,15 +75,21 @@ fn push_clients<S: Sorter>(
     requires content { S.content sorter.now ≡ content_of rows.now }
     ensures { OnOk result (text.new.items ≡ text.old.items ++ behind form (client_table rows.now)) }
 {
-    let lines = client_lines(alloc, sorter, rows)?;
+    let lines = client_lines(alloc, key, sorter, rows)?;
     push_behind(alloc, form, &lines, text)
 }
 
-fn push_limits(alloc: Global, form: Form, rows: &Rows, text: &mut Vec<u8>) -> Result<(), AllocError>
+fn push_limits(
+    alloc: Global,
+    key: HashKey,
+    form: Form,
+    rows: &Rows,
+    text: &mut Vec<u8>,
+) -> Result<(), AllocError>
     requires { IsFit rows.now }
     ensures { OnOk result (text.new.items ≡ text.old.items ++ behind form (limit_table rows.now)) }
 {
-    let lines = limit_lines(alloc, rows)?;
+    let lines = limit_lines(alloc, key, rows)?;
     push_behind(alloc, form, &lines, text)
 }
 
@@ -117,6 +126,7 @@ fn push_counts(
 fn push_tables<S: Sorter>(
     rt: &(impl Threads + Sync),
     alloc: Global,
+    key: HashKey,
     form: Form,
     sorter: &S,
     rows: &Rows,
@@ -130,11 +140,11 @@ fn push_tables<S: Sorter>(
     ensures { OnOk result (text.new.items ≡ text.old.items ++ rows_text form limits.now rows.now) }
 {
     push_head(alloc, form, rows, text)?;
-    push_agents(rt, alloc, form, rows, text)?;
-    push_clients(alloc, form, sorter, rows, text)?;
+    push_agents(rt, alloc, key, form, rows, text)?;
+    push_clients(alloc, key, form, sorter, rows, text)?;
     push_behind(alloc, form, report.nodes.as_slice(), text)?;
     push_behind(alloc, form, rows.weights.as_slice(), text)?;
-    push_limits(alloc, form, rows, text)?;
+    push_limits(alloc, key, form, rows, text)?;
     push_behind(alloc, form, rows.offers.as_slice(), text)?;
     push_behind(alloc, form, rows.tasks.as_slice(), text)?;
     push_filters(alloc, form, rows, text)?;
@@ -159,6 +169,9 @@ pub fn show<S: Sorter>(
     let report = core.report()?;
     let mut text = Vec::new(alloc);
     let sorter = core.sorter();
-    push_tables(rt, alloc, form, sorter, &rows, &report, limits, &mut text)?;
+    let key = core.key();
+    push_tables(
+        rt, alloc, key, form, sorter, &rows, &report, limits, &mut text,
+    )?;
     Ok(text)
 }

@@ -16,6 +16,7 @@ use crate::lines::{NodeLines, node_line};
 use crate::share::Share;
 use crate::sorter::Sorter;
 use drf_bundle::Quantities;
+use drf_hash::HashKey;
 use drf_role::{ClientPath, NodePath, Role};
 use drf_rows::{NodeLine, WeightRow};
 use indexmap::IndexSet;
@@ -29,7 +30,7 @@ pub const DEFAULT_WEIGHT: u64 = 1000;
 pub struct PlainSorter {
     clients: Vec<Client>,
     /// Their paths in the same order, by which a client is found.
-    paths: IndexSet<ClientPath>,
+    paths: IndexSet<ClientPath, HashKey>,
     total: Quantities,
     weights: Vec<WeightRow>,
     queue: Vec<ClientPath>,
@@ -73,11 +74,15 @@ fn copies_of(alloc: Global, clients: &[Client]) -> Result<Vec<Client>, AllocErro
 }
 
 /// The paths of clients, by which they are found.
-fn paths_of(alloc: Global, clients: &[Client]) -> Result<IndexSet<ClientPath>, AllocError>
+fn paths_of(
+    alloc: Global,
+    key: HashKey,
+    clients: &[Client],
+) -> Result<IndexSet<ClientPath, HashKey>, AllocError>
     requires { IsDistinct same_path (map (λ c. c.path) clients.now) }
     ensures { IfOk result (λ paths. paths.keys ≡ map (λ c. c.path) clients.now) }
 {
-    let mut paths = IndexSet::new(alloc);
+    let mut paths = IndexSet::with_hasher(alloc, key);
     for client in clients {
         paths.insert(client.path.copy()?)?;
     }
@@ -245,10 +250,10 @@ impl Sorter for PlainSorter {
 
     const COUNTED: bool = false;
 
-    fn open(alloc: Global) -> Result<Self, AllocError> {
+    fn open(alloc: Global, key: HashKey) -> Result<Self, AllocError> {
         Ok(PlainSorter {
             clients: Vec::new(alloc),
-            paths: IndexSet::new(alloc),
+            paths: IndexSet::with_hasher(alloc, key),
             total: Quantities::empty(alloc),
             weights: Vec::new(alloc),
             queue: Vec::new(alloc),
@@ -399,7 +404,7 @@ impl Sorter for PlainSorter {
         let alloc = self.alloc();
         Ok(PlainSorter {
             clients: copies_of(alloc, &self.clients)?,
-            paths: paths_of(alloc, &self.clients)?,
+            paths: paths_of(alloc, *self.paths.hasher(), &self.clients)?,
             total: self.total.copy()?,
             weights: weights_of(alloc, &self.weights)?,
             queue: Vec::new(alloc),

@@ -9,6 +9,7 @@ ghost use Rattle.drf_sorter.specs.Share.{IsShareOf};
 
 use crate::share::Share;
 use drf_bundle::Quantities;
+use drf_hash::HashKey;
 use drf_role::{ClientPath, NodePath, Role};
 use drf_rows::NodeLine;
 use std::alloc::{AllocError, Global};
@@ -31,8 +32,8 @@ pub trait Sorter: Sized + Drop {
     /// Whether the bounds on its work hold of this sorter.
     const COUNTED: bool;
 
-    /// A sorter that holds nothing.
-    fn open(alloc: Global) -> Result<Self, AllocError>
+    /// A sorter that holds nothing. Where it finds clients by hashes, these begin with a key, and so in copies.
+    fn open(alloc: Global, key: HashKey) -> Result<Self, AllocError>
         ensures empty { IfOk result (λ sorter. content sorter ≡ empty) }
         ensures work { IfOk result (λ sorter. work sorter ≡ record { made = 0; marked = 0 }) };
 

@@ -8,6 +8,7 @@ ghost use Rattle.drf_start.specs.declared.start.StartFault.TheVariants.{Run};
 
 use drf_core::Core;
 use drf_files::FileBytes;
+use drf_hash::HashKey;
 use drf_journal::{Device, ProgramSorter, RunFault};
 use drf_rows::Limits;
 use drf_state::{StateError, StateFault, read_state};
@@ -73,16 +74,17 @@ fn read_start<F: FileBytes>(
     ensures same { F.known files.new ≡ F.known files.old }
 {
     let bytes = files.bytes(name)?;
-    Ok(read_state(alloc, Limits::full(), &bytes)?)
+    let key = files.hash_key();
+    Ok(read_state(alloc, Limits::full(), key, &bytes)?)
 }
 
 /// An allocator with no rows.
-fn open_start(alloc: Global) -> Result<Core<ProgramSorter>, StartFault>
+fn open_start(alloc: Global, key: HashKey) -> Result<Core<ProgramSorter>, StartFault>
     ensures ok { IfOk result (λ core. live core ≡ opened ceilings) }
     ensures limits { IfOk result (λ core. core.limits ≡ ceilings) }
     ensures err { IfErr result (λ fault. fault ≡ Run Memory) }
 {
-    Ok(Core::open(alloc, Limits::full())?)
+    Ok(Core::open_keyed(alloc, Limits::full(), key)?)
 }
 
 /// The allocator that a task begins with: with no rows, or with those that a file says, which is read then.
@@ -98,7 +100,7 @@ pub fn begin<F: FileBytes>(
 {
     match from {
         Some(name) => read_start(alloc, files, name),
-        None => open_start(alloc),
+        None => open_start(alloc, files.hash_key()),
     }
 }
 

@@ -11,6 +11,7 @@ ghost use Rattle.drf_state.specs.Placing.{FitsBehind, IsPlaced};
 ghost use Rattle.drf_state.specs.Restored.{HasWorked, PartsAgree};
 
 use crate::clients::put_clients;
+use drf_hash::HashKey;
 use drf_role::ClientPath;
 use drf_rows::{AgentRow, FilterRow, FrameworkRow, LimitRow, OfferRow, TaskRow, WeightRow};
 use drf_saved::{Head, SavedRow};
@@ -52,7 +53,7 @@ fn register(tables: &mut Tables, agent: AgentRow) -> Result<(), AllocError>
 
 impl<S: Sorter> Parts<S> {
     /// Parts with these numbers and no rows.
-    pub(crate) fn begin(alloc: Global, head: Head) -> Result<Parts<S>, AllocError>
+    pub(crate) fn begin(alloc: Global, key: HashKey, head: Head) -> Result<Parts<S>, AllocError>
         requires early { head.clock ≤ LATEST_MOMENT }
         requires numbered { 1 ≤ head.next_offer }
         ensures rows { IfOk result (λ parts. parts.tables.rows ≡ begun head) }
@@ -60,8 +61,8 @@ impl<S: Sorter> Parts<S> {
         ensures work { IfOk result (λ parts. S.work parts.sorter ≡ record { made = 0; marked = 0 }) }
     {
         Ok(Parts {
-            tables: Tables::begin(alloc, head),
-            sorter: S::open(alloc)?,
+            tables: Tables::begin(alloc, key, head),
+            sorter: S::open(alloc, key)?,
             counted: 0,
         })
     }

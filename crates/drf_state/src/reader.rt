@@ -14,6 +14,7 @@ use crate::digest::digest_of;
 use crate::fault::{LineStop, StateError, StateFault};
 use crate::restoring::Restoring;
 use drf_core::Core;
+use drf_hash::HashKey;
 use drf_lines::{LineReader, push_end, push_head, push_row};
 use drf_rows::Limits;
 use drf_saved::{RowFault, StateLine};
@@ -25,6 +26,7 @@ use std::alloc::{AllocError, Global};
 #[derive(Drop)]
 struct Scratch {
     alloc: Global,
+    key: HashKey,
     reader: LineReader,
     written: Vec<u8>,
 }
@@ -80,7 +82,7 @@ fn begin<S: Sorter>(
     ensures err { IfErr result (IsStop (rows_begun limits (said_by line.now))) }
 {
     match said_by(scratch, line)? {
-        StateLine::Head(head) => Ok(Restoring::begin(scratch.alloc, limits, head)?),
+        StateLine::Head(head) => Ok(Restoring::begin(scratch.alloc, limits, scratch.key, head)?),
         StateLine::Row(_) => Err(LineStop::Fault(StateFault::Row(RowFault::OutOfOrder))),
         StateLine::End => Err(LineStop::Fault(StateFault::Row(RowFault::OutOfOrder))),
     }
@@ -190,10 +192,11 @@ fn take_lines<S: Sorter>(
     Err(out_of_order(lines + 1))
 }
 
-/// Reads a state: the allocator with just its rows, or the first line that has a fault.
+/// Reads a state: the allocator with just its rows, or the first line that has a fault. Its names are found by hashes that begin with the key.
 pub fn read_state<S: Sorter>(
     alloc: Global,
     limits: Limits,
+    key: HashKey,
     bytes: &[u8],
 ) -> Result<Core<S>, StateError>
     ensures ok { IfOk result (IsReadState limits bytes.now) }
@@ -201,6 +204,7 @@ pub fn read_state<S: Sorter>(
 {
     let mut scratch = Scratch {
         alloc,
+        key,
         reader: LineReader::new(alloc),
         written: Vec::new(alloc),
     };

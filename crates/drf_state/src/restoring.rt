@@ -9,6 +9,7 @@ use crate::fault::RestoreError;
 use crate::fitting::{head_fault, row_fault};
 use crate::placing::Parts;
 use drf_core::Core;
+use drf_hash::HashKey;
 use drf_rows::Limits;
 use drf_saved::{Head, SavedRow};
 use drf_sorter::Sorter;
@@ -37,8 +38,13 @@ impl<S: Sorter> Model for Restoring<S> {
 }
 
 impl<S: Sorter> Restoring<S> {
-    /// An allocator with these numbers and no rows.
-    pub fn begin(alloc: Global, limits: Limits, head: Head) -> Result<Restoring<S>, RestoreError>
+    /// An allocator with these numbers and no rows. Who chooses names and does not know the key cannot slow it down by them.
+    pub fn begin(
+        alloc: Global,
+        limits: Limits,
+        key: HashKey,
+        head: Head,
+    ) -> Result<Restoring<S>, RestoreError>
         ensures { MatchResult result (IsBegunWith limits head) (IsTold (head_fault limits head)) }
     {
         // The contract of this call tells that the limits are within the ceilings.
@@ -49,7 +55,7 @@ impl<S: Sorter> Restoring<S> {
         Ok(Restoring {
             alloc,
             limits,
-            parts: Parts::begin(alloc, head)?,
+            parts: Parts::begin(alloc, key, head)?,
         })
     }
 

@@ -11,6 +11,7 @@ ghost use Rattle.drf_summary.specs.Places.{findings_of};
 use crate::taking::taker_in;
 use drf_bundle::Bundle;
 use drf_explain::Finding;
+use drf_hash::HashKey;
 use drf_role::ClientPath;
 use indexmap::IndexMap;
 use std::alloc::{AllocError, Global};
@@ -20,7 +21,7 @@ use std::marker::Model;
 /// there.
 #[derive(Debug, Drop)]
 pub struct Passers {
-    by_client: IndexMap<ClientPath, u64>,
+    by_client: IndexMap<ClientPath, u64, HashKey>,
 }
 
 impl Model for Passers {
@@ -33,7 +34,7 @@ impl Model for Passers {
 }
 
 /// One agent more than a client has, or the first.
-fn next_agents(by_client: &IndexMap<ClientPath, u64>, client: &ClientPath) -> u64
+fn next_agents(by_client: &IndexMap<ClientPath, u64, HashKey>, client: &ClientPath) -> u64
     ensures { result ≡ next_agents (lookup (same_path client.now) by_client.now.entries) }
 {
     match by_client.get(client) {
@@ -44,7 +45,7 @@ fn next_agents(by_client: &IndexMap<ClientPath, u64>, client: &ClientPath) -> u6
 
 /// Counts an agent of a client.
 fn count_in(
-    by_client: &mut IndexMap<ClientPath, u64>,
+    by_client: &mut IndexMap<ClientPath, u64, HashKey>,
     client: &ClientPath,
 ) -> Result<(), AllocError>
     ensures { OnOk result (by_client.new.entries
@@ -58,15 +59,15 @@ fn count_in(
 
 impl Passers {
     /// Nobody.
-    pub(crate) fn new(alloc: Global) -> Passers
+    pub(crate) fn new(alloc: Global, key: HashKey) -> Passers
         ensures { result ≡ [] }
     {
         Passers {
-            by_client: IndexMap::new(alloc),
+            by_client: IndexMap::with_hasher(alloc, key),
         }
     }
 
-    pub(crate) fn entries(&self) -> &IndexMap<ClientPath, u64>
+    pub(crate) fn entries(&self) -> &IndexMap<ClientPath, u64, HashKey>
         ensures { map passer_of result.now.entries ≡ self.now }
     {
         &self.by_client

@@ -5,6 +5,7 @@ ghost use Rattle.drf_summary.specs.Pick.{is_of_client};
 ghost use Rattle.drf_summary.specs.Places.{ArePlacesIn, place_in};
 
 use drf_explain::Finding;
+use drf_hash::HashKey;
 use drf_role::ClientPath;
 use indexmap::IndexMap;
 use std::alloc::{AllocError, Global};
@@ -12,15 +13,15 @@ use std::alloc::{AllocError, Global};
 /// Where each client is first told of among some findings, found by its path.
 #[derive(Drop)]
 pub(crate) struct Places {
-    pub(crate) by_client: IndexMap<ClientPath, usize>,
+    pub(crate) by_client: IndexMap<ClientPath, usize, HashKey>,
 }
 
 impl Places {
-    fn new(alloc: Global) -> Places
+    fn new(alloc: Global, key: HashKey) -> Places
         ensures { (path : Path) → place_in result path ≡ None }
     {
         Places {
-            by_client: IndexMap::new(alloc),
+            by_client: IndexMap::with_hasher(alloc, key),
         }
     }
 
@@ -45,10 +46,14 @@ impl Places {
     }
 
     /// The places of all clients of findings: from the last one on, so that the first of a client is kept.
-    pub(crate) fn of(alloc: Global, findings: &[Finding]) -> Result<Places, AllocError>
+    pub(crate) fn of(
+        alloc: Global,
+        key: HashKey,
+        findings: &[Finding],
+    ) -> Result<Places, AllocError>
         ensures { IfOk result (ArePlacesIn findings.now) }
     {
-        let mut places = Places::new(alloc);
+        let mut places = Places::new(alloc, key);
         for i in (0..findings.len()).rev() {
             places.put_finding(&findings[i], i)?;
         }

@@ -6,6 +6,7 @@ ghost use Rattle.drf_role.specs.Text.{Text, same_text};
 ghost use Rattle.drf_summary.specs.Passers.{weighted_in};
 ghost use Rattle.drf_summary.specs.Shares.{AreSharesIn, share_at};
 
+use drf_hash::HashKey;
 use drf_lines::write_fraction;
 use drf_role::NodePath;
 use drf_rows::{NodeLine, Report};
@@ -16,13 +17,13 @@ use std::alloc::{AllocError, Global};
 #[derive(Drop)]
 pub(crate) struct Shares<'a> {
     pub(crate) report: &'a Report,
-    pub(crate) by_node: IndexMap<String, String>,
+    pub(crate) by_node: IndexMap<String, String, HashKey>,
 }
 
 /// Keeps the share of a node.
 fn put_share(
     alloc: Global,
-    by_node: &mut IndexMap<String, String>,
+    by_node: &mut IndexMap<String, String, HashKey>,
     line: &NodeLine,
 ) -> Result<(), AllocError>
     ensures { OnOk result ((node : Text) → share_at by_node.new node
@@ -36,12 +37,16 @@ fn put_share(
 
 impl<'a> Shares<'a> {
     /// Those of a report: from the last line on, so that the first of a node is kept.
-    pub(crate) fn of(alloc: Global, report: &'a Report) -> Result<Shares<'a>, AllocError>
+    pub(crate) fn of(
+        alloc: Global,
+        key: HashKey,
+        report: &'a Report,
+    ) -> Result<Shares<'a>, AllocError>
         ensures shares { IfOk result AreSharesIn }
         ensures report { IfOk result (λ shares. shares.report.now ≡ report.now) }
     {
         let nodes = report.nodes.as_slice();
-        let mut by_node = IndexMap::new(alloc);
+        let mut by_node = IndexMap::with_hasher(alloc, key);
         for i in (0..nodes.len()).rev() {
             put_share(alloc, &mut by_node, &nodes[i])?;
         }

@@ -21,6 +21,7 @@ use crate::taking::{begins_with_grant, has_taker};
 use crate::turn::FoundTurn;
 use drf_bundle::Bundle;
 use drf_explain::{Finding, Outcome, TurnTold};
+use drf_hash::HashKey;
 use drf_role::{ClientPath, NodePath};
 use drf_rows::{ClientRow, FrameworkRow, Report, Rows};
 use serde_json::{Map, Value, json, put};
@@ -70,7 +71,7 @@ fn raise_if(more: bool, count: &mut u64)
 
 impl Tally {
     /// The tally of a client before it is told of.
-    fn new(alloc: Global, client: ClientPath) -> Tally
+    fn new(alloc: Global, key: HashKey, client: ClientPath) -> Tally
         ensures { result ≡ tally_of [] client }
     {
         Tally {
@@ -84,7 +85,7 @@ impl Tally {
             inactive: 0,
             nothing_free: 0,
             passed: 0,
-            passers: Passers::new(alloc),
+            passers: Passers::new(alloc, key),
         }
     }
 
@@ -153,12 +154,12 @@ fn take_in_each(tallies: &mut [Tally], turn: &FoundTurn) -> Result<(), AllocErro
     Ok(())
 }
 
-/// Counts what is told of each client in a turn.
-pub fn take_turn(tallies: &mut [Tally], turn: &TurnTold) -> Result<(), AllocError>
+/// Counts what is told of each client in a turn. Clients are found by hashes that begin with the key.
+pub fn take_turn(tallies: &mut [Tally], key: HashKey, turn: &TurnTold) -> Result<(), AllocError>
     ensures { OnOk result ((rows : Rows) (turns : List Turn) → tallies.old ≡ tallies_of rows turns
         → tallies.new ≡ tallies_of rows (turns ++ (turn.now.told.items, turn.now.untouched.items) ∷ [])) }
 {
-    let found = FoundTurn::of(*turn.told.allocator(), turn)?;
+    let found = FoundTurn::of(*turn.told.allocator(), key, turn)?;
     take_in_each(tallies, &found)?;
     Ok(())
 }
@@ -166,6 +167,7 @@ pub fn take_turn(tallies: &mut [Tally], turn: &TurnTold) -> Result<(), AllocErro
 /// Adds the tally of a client of a framework, if it wants offers.
 fn add_tally(
     alloc: Global,
+    key: HashKey,
     framework: &FrameworkRow,
     client: &ClientRow,
     tallies: &mut Vec<Tally>,
@@ -174,7 +176,7 @@ fn add_tally(
 {
     if !client.suppressed {
         let client = ClientPath::new(alloc, &client.role, &framework.name)?;
-        tallies.push(Tally::new(alloc, client))?;
+        tallies.push(Tally::new(alloc, key, client))?;
     }
     Ok(())
 }
@@ -182,6 +184,7 @@ fn add_tally(
 /// Adds the tallies of the clients of a framework that want offers, in their order.
 fn add_tallies(
     alloc: Global,
+    key: HashKey,
     framework: &FrameworkRow,
     tallies: &mut Vec<Tally>,
 ) -> Result<(), AllocError>
@@ -189,19 +192,19 @@ fn add_tallies(
 {
     let clients = framework.clients.as_slice();
     for client in clients {
-        add_tally(alloc, framework, client, tallies)?;
+        add_tally(alloc, key, framework, client, tallies)?;
     }
     Ok(())
 }
 
 /// The tallies of all clients that want offers, in order of registration, before anything is told.
-pub fn tallies(alloc: Global, rows: &Rows) -> Result<Vec<Tally>, AllocError>
+pub fn tallies(alloc: Global, key: HashKey, rows: &Rows) -> Result<Vec<Tally>, AllocError>
     ensures { IfOk result (λ tallies. tallies.items ≡ tallies_of rows.now []) }
 {
     let mut tallies = Vec::new(alloc);
     let frameworks = rows.frameworks.as_slice();
     for framework in frameworks {
-        add_tallies(alloc, framework, &mut tallies)?;
+        add_tallies(alloc, key, framework, &mut tallies)?;
     }
     Ok(tallies)
 }
@@ -303,13 +306,14 @@ fn write_each(
 /// those that a report tells, not those of the turn in which one passes another.
 pub fn write_tallies(
     alloc: Global,
+    key: HashKey,
     report: &Report,
     tallies: &[Tally],
     text: &mut Vec<u8>,
 ) -> Result<(), AllocError>
     ensures { OnOk result (text.new.items ≡ text.old.items ++ flat_map (tally_lines report.now) tallies.now) }
 {
-    let shares = Shares::of(alloc, report)?;
+    let shares = Shares::of(alloc, key, report)?;
     write_each(alloc, &shares, tallies, text)?;
     Ok(())
 }

@@ -12,6 +12,7 @@ use crate::places::Places;
 use crate::taking::bundle_in;
 use drf_bundle::Bundle;
 use drf_explain::{Finding, TurnTold};
+use drf_hash::HashKey;
 use drf_role::ClientPath;
 use std::alloc::{AllocError, Global};
 
@@ -40,13 +41,17 @@ fn has_nothing_free(findings: &[Finding]) -> bool
 
 impl<'a> FoundTurn<'a> {
     /// Looks at each finding once.
-    pub(crate) fn of(alloc: Global, turn: &'a TurnTold) -> Result<FoundTurn<'a>, AllocError>
+    pub(crate) fn of(
+        alloc: Global,
+        key: HashKey,
+        turn: &'a TurnTold,
+    ) -> Result<FoundTurn<'a>, AllocError>
         ensures found { IfOk result IsFound }
         ensures turn { IfOk result (λ found. found.turn.now ≡ turn.now) }
     {
         let told = turn.told.as_slice();
-        let places = Places::of(alloc, told)?;
-        let untouched = Places::of(alloc, turn.untouched.as_slice())?;
+        let places = Places::of(alloc, key, told)?;
+        let untouched = Places::of(alloc, key, turn.untouched.as_slice())?;
         let grants = Grants::of(alloc, told)?;
         Ok(FoundTurn {
             turn,

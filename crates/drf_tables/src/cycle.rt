@@ -9,10 +9,9 @@ ghost use Rattle.drf_tables.specs.Inside.{agent_row, framework_rows, frees_in, k
 use crate::registry::Registry;
 use crate::registry::free_part::FreePart;
 use crate::tables::Left;
+use drf_hash::ByName;
 use drf_holdings::InOrder;
-use drf_role::Name;
 use drf_rows::{ClientRow, OfferRow};
-use indexmap::IndexMap;
 
 /// Counts an offer at the client, of those of its framework, that has its role.
 fn count_at(clients: &mut [ClientRow], offer: &OfferRow)
@@ -27,7 +26,7 @@ fn count_at(clients: &mut [ClientRow], offer: &OfferRow)
 }
 
 /// Counts an offer at its client.
-fn count_offer(frameworks: &mut IndexMap<Name, Vec<ClientRow>>, offer: &OfferRow)
+fn count_offer(frameworks: &mut ByName<Vec<ClientRow>>, offer: &OfferRow)
     requires names { are_distinct (map (λ f. f.name) (framework_rows frameworks.old.entries)) ≡ true }
     requires fits { CanCountAll 1 (framework_rows frameworks.old.entries) }
     ensures { framework_rows frameworks.new.entries ≡ counting (framework_rows frameworks.old.entries) offer.now }
@@ -48,10 +47,7 @@ pub(crate) fn first_number(offers: &[OfferRow], next: u64) -> u64
 }
 
 /// Counts each offer at its client.
-pub(crate) fn count_offers(
-    frameworks: &mut IndexMap<Name, Vec<ClientRow>>,
-    offers: InOrder<'_, OfferRow>,
-)
+pub(crate) fn count_offers(frameworks: &mut ByName<Vec<ClientRow>>, offers: InOrder<'_, OfferRow>)
     requires names { are_distinct (map (λ f. f.name) (framework_rows frameworks.old.entries)) ≡ true }
     requires fits { CanCountAll (length offers) (framework_rows frameworks.old.entries) }
     ensures { framework_rows frameworks.new.entries ≡ counting_all (framework_rows frameworks.old.entries) offers.entry }

@@ -15,6 +15,7 @@ pub(crate) mod settling;
 use crate::registry::free_part::FreePart;
 use crate::registry::gaps::{close_gaps, ranked};
 use crate::tables::Agent;
+use drf_hash::{ByName, HashKey};
 use drf_role::Name;
 use indexmap::IndexMap;
 use std::alloc::{AllocError, Global};
@@ -26,7 +27,7 @@ use std::marker::Model;
 pub(crate) struct Registry {
     pub(crate) slots: Vec<Option<(Name, Agent)>>,
     // In which slot each name stands.
-    pub(crate) places: IndexMap<Name, usize>,
+    pub(crate) places: ByName<usize>,
     // How many are no gaps.
     pub(crate) live: usize,
 }
@@ -68,18 +69,23 @@ pub(crate) fn put(slot: &mut Option<(Name, Agent)>, agent: Agent)
 
 impl Registry {
     /// No agents.
-    pub(crate) fn new(alloc: Global) -> Registry
+    pub(crate) fn new(alloc: Global, key: HashKey) -> Registry
         ensures { result.entries ≡ [] }
     {
         Registry {
             slots: Vec::new(alloc),
-            places: IndexMap::new(alloc),
+            places: IndexMap::with_hasher(alloc, key),
             live: 0,
         }
     }
 
     pub(crate) fn allocator(&self) -> &Global {
         self.slots.allocator()
+    }
+
+    /// With what the hashes of names begin.
+    pub(crate) fn key(&self) -> HashKey {
+        *self.places.hasher()
     }
 
     pub(crate) fn len(&self) -> usize

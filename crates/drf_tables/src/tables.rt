@@ -33,6 +33,7 @@ use crate::tables::listing::{agent_rows, framework_rows, weight_rows};
 use drf_amount::Algebra;
 use drf_bundle::{Bundle, Quantities};
 use drf_gates::{Consumption, FilterTable, QuotaLimits};
+use drf_hash::{ByName, ByRole, HashKey};
 use drf_holdings::Holdings;
 use drf_role::{Name, Role};
 use drf_rows::{ClientRow, OfferRow, Rows, Table};
@@ -59,10 +60,10 @@ pub struct Left {
 /// The rows of the allocator. Agents and frameworks are found by their names.
 pub struct Tables {
     pub(crate) agents: Registry,
-    pub(crate) frameworks: IndexMap<Name, Vec<ClientRow>>,
+    pub(crate) frameworks: ByName<Vec<ClientRow>>,
     pub(crate) holdings: Holdings,
     pub(crate) filters: FilterTable,
-    pub(crate) weights: IndexMap<Role, u64>,
+    pub(crate) weights: ByRole<u64>,
     pub(crate) clock: u64,
     pub(crate) next_offer: u64,
     pub(crate) events: u64,
@@ -123,24 +124,24 @@ fn recall_roles(clients: &[ClientRow])
 }
 
 impl Tables {
-    /// Tables with no rows.
-    pub fn new(alloc: Global) -> Tables
+    /// Tables with no rows. What goes by names or roles is found by hashes that begin with a key, and so in copies.
+    pub fn new(alloc: Global, key: HashKey) -> Tables
         ensures rows { result.rows ≡ opening }
         ensures settled { result.settled ≡ true }
         ensures counted { result.counted ≡ false }
     {
         Tables {
-            agents: Registry::new(alloc),
-            frameworks: IndexMap::new(alloc),
-            holdings: Holdings::new(alloc),
-            filters: FilterTable::new(alloc),
-            weights: IndexMap::new(alloc),
+            agents: Registry::new(alloc, key),
+            frameworks: IndexMap::with_hasher(alloc, key),
+            holdings: Holdings::new(alloc, key),
+            filters: FilterTable::new(alloc, key),
+            weights: IndexMap::with_hasher(alloc, key),
             clock: 0,
             next_offer: 1,
             events: 0,
             total: Quantities::empty(alloc),
             clients: 0,
-            limits: QuotaLimits::new(alloc),
+            limits: QuotaLimits::new(alloc, key),
             consumption: None,
             sweep: Sweep::first(),
         }
@@ -151,6 +152,11 @@ impl Tables {
         ensures { IsConsistent self.now.rows }
     {
         let _ = &self.clock;
+    }
+
+    /// With what the hashes of names begin, for tables of the same names. No clause says anything of it.
+    pub fn key(&self) -> HashKey {
+        self.agents.key()
     }
 
     /// The greatest moment of all accepted cycles, accepts and declines, in milliseconds.

@@ -2,6 +2,7 @@
 use crate::tree::{ROOT, Tree};
 use crate::walk::Walk;
 use drf_bundle::Quantities;
+use drf_hash::HashKey;
 use drf_role::{ClientPath, NodePath, Role};
 use drf_rows::NodeLine;
 use drf_sorter::{DEFAULT_WEIGHT, PlainSorter, Share, Sorter};
@@ -54,9 +55,9 @@ impl Sorter for TreeSorter {
 
     const COUNTED: bool = true;
 
-    fn open(alloc: Global) -> Result<Self, AllocError> {
+    fn open(alloc: Global, key: HashKey) -> Result<Self, AllocError> {
         Ok(TreeSorter {
-            ledger: PlainSorter::open(alloc)?,
+            ledger: PlainSorter::open(alloc, key)?,
             tree: Tree::open(alloc)?,
             leaves: Vec::new(alloc),
             walk: Walk::open(alloc)?,

@@ -15,6 +15,7 @@ ghost use Rattle.drf_why.specs.Written.{HasWritten, output_of};
 
 use drf_core::{Core, Telling};
 use drf_explain::{suppressed, write_explained_lines};
+use drf_hash::HashKey;
 use drf_journal::{Device, ProgramSorter, RunFault, advance, write_whole};
 use drf_rows::Rows;
 use drf_summary::{Tally, take_turn, tallies, write_tallies};
@@ -24,12 +25,13 @@ use std::io::{Read, Write};
 /// Counts what is told of each client on each agent.
 fn count_agents(
     telling: &mut Telling<ProgramSorter>,
+    key: HashKey,
     tallies: &mut [Tally],
 ) -> Result<(), AllocError>
     ensures { OnOk result ((rows : Rows) (turns : List Turn) → tallies.old ≡ tallies_of rows turns → tallies.new ≡ tallies_of rows (turns ++ telling.old)) }
 {
     while let Some(turn) = telling.next_turn()? {
-        take_turn(tallies, &turn)?;
+        take_turn(tallies, key, &turn)?;
     }
     Ok(())
 }
@@ -45,9 +47,9 @@ fn tallies_at(
     requires early { at ≤ LATEST_MOMENT }
     ensures { IfOk result (λ tallies. tallies.items ≡ tallies_of rows.now (turns_by_agent rows.now at)) }
 {
-    let mut found = tallies(alloc, rows)?;
+    let mut found = tallies(alloc, core.key(), rows)?;
     let mut telling = core.telling(at)?;
-    count_agents(&mut telling, found.as_mut_slice())?;
+    count_agents(&mut telling, core.key(), found.as_mut_slice())?;
     Ok(found)
 }
 
@@ -61,7 +63,7 @@ fn summary(alloc: Global, core: &Core<ProgramSorter>, at: u64) -> Result<Vec<u8>
     let tallies = tallies_at(alloc, core, &rows, at)?;
     let report = core.report()?;
     let mut text = write_explained_lines(alloc, &silent)?;
-    write_tallies(alloc, &report, &tallies, &mut text)?;
+    write_tallies(alloc, core.key(), &report, &tallies, &mut text)?;
     Ok(text)
 }
 

@@ -1,6 +1,6 @@
 -- Chains of places.
-use Rattle.std.proofs.Common.{Bool, true, false, map, ◌≡◌, ◌≢◌, ◌+◌, ◌<◌, ◌≤◌, ℕ, List, [], ◌∷◌, ◌++◌, length, get_or, set, sym, subst, ap, ◌∙◌, inl, inr, arith, length-append}
-use Rattle.std.proofs.lemmas.List.{get_or_append_left, get_or-set_same, get_or-set_other, length-set, get_or-map, get_or_default}
+use Rattle.std.proofs.Common.{Bool, true, false, ◌≡◌, ◌≢◌, ◌+◌, ◌<◌, ◌≤◌, ℕ, List, [], ◌∷◌, ◌++◌, length, get_or, set, take, sym, subst, ap, ◌∙◌, inl, inr, arith, length-append}
+use Rattle.std.proofs.lemmas.List.{get_or_append_left, get_or-set_same, get_or-set_other, length-set, length-take, take_more, take_more_set}
 use Rattle.std.proofs.Math.Seq.{get_or-append_seam}
 use Rattle.std.proofs.lemmas.Bool.{cases_eq, cases_lt, false_from_ne_true}
 use Rattle.drf_gates.specs.filters.Chains.{IsLast, IsChained}
@@ -80,13 +80,13 @@ chained-more buckets heads links bucket next below is_next is =
     }
 
 -- one more place in no bucket
-pub chained-gap : (buckets heads links : List ℕ) (bucket : ℕ) → length heads ≤ bucket → IsChained buckets heads links
-    → IsChained (buckets ++ bucket ∷ []) heads (links ++ 0 ∷ [])
-chained-gap buckets heads links bucket none is =
+pub chained-gap : (buckets heads links : List ℕ) (bucket next : ℕ) → length heads ≤ bucket → IsChained buckets heads links
+    → IsChained (buckets ++ bucket ∷ []) heads (links ++ next ∷ [])
+chained-gap buckets heads links bucket next none is =
     let more : List ℕ = buckets ++ bucket ∷ [] in
     let longer : length more ≡ length buckets + 1 = length-append buckets (bucket ∷ []) in
     record {
-      number = length-append links (0 ∷ []) ∙ ap (λ (n : ℕ). n + 1) is.number ∙ sym longer;
+      number = length-append links (next ∷ []) ∙ ap (λ (n : ℕ). n + 1) is.number ∙ sym longer;
       head = λ other small. subst (λ (n : ℕ). IsLast more other n (get_or heads other 0)) (sym longer)
           (last-other buckets bucket other (get_or heads other 0) (λ e. absurd (omega (arith, none, small, e))) (is.head other small));
       link = λ place small chained. elim (cases_eq place (length buckets)) [
@@ -96,7 +96,7 @@ chained-gap buckets heads links bucket none is =
         | inr past ↦
             let before : place < length buckets = omega (arith, small, past, longer) in
             let own = get_or_append_left buckets (bucket ∷ []) 0 place before in
-            let goes_on = get_or_append_left links (0 ∷ []) 0 place (omega (arith, before, is.number)) in
+            let goes_on = get_or_append_left links (next ∷ []) 0 place (omega (arith, before, is.number)) in
             subst (λ (q : ℕ × ℕ). IsLast more q.0 place q.1) (λ i. (sym own i, sym goes_on i))
             (last-more buckets bucket (get_or buckets place 0) place (get_or links place 0) (omega (arith, before))
             (is.link place before (omega (arith, chained, own))))
@@ -139,60 +139,6 @@ last-drop buckets place none bucket end last next other here small is before = r
 }
 
 module _ (buckets heads links : List ℕ) (place bucket none : ℕ) where
-  -- a walk along the chain of a bucket towards a place of it: where it has come to, and from which place, told as the number after it
-  pub record IsLed (from after : ℕ) : Type 0 where
-    pub at_head : from ≡ 0 → after ≡ get_or heads bucket 0
-    pub small : from ≤ length buckets
-    pub at_link : (p : ℕ) → from ≡ p + 1 → (get_or buckets p 0 ≡ bucket) × (after ≡ get_or links p 0)
-    pub behind : (p : ℕ) → from ≡ p + 1 → place < p
-    pub own : (p : ℕ) → after ≡ p + 1 → get_or buckets p 0 ≡ bucket
-    pub within : after ≤ length buckets
-    pub reached : place + 1 ≤ after
-
-  reached-last : (end last : ℕ) → place < end → get_or buckets place 0 ≡ bucket → IsLast buckets bucket end last → place + 1 ≤ last
-  reached-last end last below own is = elim (cases_lt place last) [
-    | inl reached ↦ omega (arith, reached)
-    | inr past ↦ absurd (is.none_after place past below own)
-  ]
-
-  pub led-start : (after : ℕ) → IsChained buckets heads links → bucket < length heads → place < length buckets → get_or buckets place 0 ≡ bucket
-      → after ≡ get_or heads bucket 0 → IsLed 0 after
-  led-start after is known small own start =
-      let last = subst (λ (n : ℕ). IsLast buckets bucket (length buckets) n) (sym start) (is.head bucket known) in
-      record {
-        at_head = λ e. start;
-        small = omega arith;
-        at_link = λ p e. absurd (omega (arith, e));
-        behind = λ p e. absurd (omega (arith, e));
-        own = last.own;
-        within = last.within;
-        reached = reached-last (length buckets) after small own last;
-      }
-
-  pub led-more : (from after next : ℕ) → IsChained buckets heads links → bucket < length heads → get_or buckets place 0 ≡ bucket
-      → place + 1 < after → (p : ℕ) → after ≡ p + 1 → next ≡ get_or links p 0 → IsLed from after → IsLed after next
-  led-more from after next is known own further p at goes_on led =
-      let here : get_or buckets p 0 ≡ bucket = led.own p at in
-      let last : IsLast buckets bucket p next =
-      subst (λ (q : ℕ × ℕ). IsLast buckets q.0 p q.1) (λ i. (here i, sym goes_on i)) (is.link p (omega (arith, at, led.within)) (omega (arith, here, known)))
-      in
-      record {
-        at_head = λ e. absurd (omega (arith, e, at));
-        small = led.within;
-        at_link = λ q e. subst (λ (r : ℕ). (get_or buckets r 0 ≡ bucket) × (next ≡ get_or links r 0)) (omega (arith, e, at)) (here, goes_on);
-        behind = λ q e. omega (arith, e, further);
-        own = last.own;
-        within = omega (arith, last.within, at, led.within);
-        reached = reached-last p next (omega (arith, at, further)) own last;
-      }
-
-  pub led-less : (from after next : ℕ) → IsChained buckets heads links → bucket < length heads → (p : ℕ) → after ≡ p + 1 → next ≡ get_or links p 0
-      → IsLed from after → next < after
-  led-less from after next is known p at goes_on led =
-      let here : get_or buckets p 0 ≡ bucket = led.own p at in
-      let last = is.link p (omega (arith, at, led.within)) (omega (arith, here, known)) in
-      omega (arith, last.within, goes_on, at)
-
   -- a chain that goes on at the place is the bucket's, and goes on so from nowhere else
   module _ (is : IsChained buckets heads links) (known : bucket < length heads) (small : place < length buckets)
       (own : get_or buckets place 0 ≡ bucket) (is_none : none ≡ length heads) where
@@ -300,24 +246,59 @@ module _ (buckets heads links : List ℕ) (place bucket none : ℕ) where
       ];
     }
 
+-- where a place in no bucket goes on does not matter
+pub chained-any : (buckets heads links : List ℕ) (place next : ℕ) → length heads ≤ get_or buckets place 0 → IsChained buckets heads links
+    → IsChained buckets heads (set links place next)
+chained-any buckets heads links place next none is = record {
+  number = length-set links place next ∙ is.number;
+  head = is.head;
+  link = λ p below chained. elim (cases_eq p place) [
+    | inl here ↦ absurd (omega (arith, none, chained, ap (λ (q : ℕ). get_or buckets q 0) here))
+    | inr apart ↦
+        subst (λ (last : ℕ). IsLast buckets (get_or buckets p 0) p last) (sym (get_or-set_other links place p next 0 apart)) (is.link p below chained)
+  ];
+}
+
+-- ---- chains up to a place
+
+pub chained-next : (buckets heads links : List ℕ) (place bucket next head : ℕ) → place < length buckets → length links ≡ length buckets
+    → get_or buckets place 0 ≡ bucket → bucket < length heads → next ≡ place + 1 → head ≡ get_or heads bucket 0
+    → IsChained (take place buckets) heads (take place links)
+    → IsChained (take (place + 1) buckets) (set heads bucket next) (take (place + 1) (set links place head))
+chained-next buckets heads links place bucket next head small number own known is_next is_head is =
+    let long : length (take place buckets) ≡ place = omega (arith, length-take place buckets, small) in
+    let own_last : take place buckets ++ bucket ∷ [] ≡ take (place + 1) buckets =
+    ap (λ (b : ℕ). take place buckets ++ b ∷ []) (sym own) ∙ sym (take_more buckets place 0 small)
+    in
+    let its_last : take place links ++ get_or heads bucket 0 ∷ [] ≡ take (place + 1) (set links place head) =
+    ap (λ (h : ℕ). take place links ++ h ∷ []) (sym is_head) ∙ sym (take_more_set links place head (omega (arith, small, number)))
+    in
+    subst (λ (q : List ℕ × List ℕ). IsChained q.0 (set heads bucket next) q.1) (λ i. (own_last i, its_last i))
+    (chained-more (take place buckets) heads (take place links) bucket next known (omega (arith, is_next, long)) is)
+
+pub chained-next_gap : (buckets heads links : List ℕ) (place : ℕ) → place < length buckets → length links ≡ length buckets
+    → length heads ≤ get_or buckets place 0 → IsChained (take place buckets) heads (take place links)
+    → IsChained (take (place + 1) buckets) heads (take (place + 1) links)
+chained-next_gap buckets heads links place small number none is =
+    subst (λ (q : List ℕ × List ℕ). IsChained q.0 heads q.1)
+    (λ i. (sym (take_more buckets place 0 small) i, sym (take_more links place 0 (omega (arith, small, number))) i))
+    (chained-gap (take place buckets) heads (take place links) (get_or buckets place 0) (get_or links place 0) none is)
+
 -- what lies behind the last place of a bucket does not pass a test that others of the bucket alone pass
-pub passed-last : {X : Type 0} (test : X → Bool) (bucket_of : X → ℕ) (xs : List X) (bucket end last : ℕ)
-    → ((x : X) → test x ≡ true → bucket_of x ≡ bucket) → end ≤ length xs → IsLast (map bucket_of xs) bucket end last
+pub passed-last : {X : Type 0} (test : X → Bool) (buckets : List ℕ) (xs : List X) (bucket end last : ℕ)
+    → ((place : ℕ) (d : X) → place < length xs → test (get_or xs place d) ≡ true → get_or buckets place 0 ≡ bucket) → IsLast buckets bucket end last
     → ((place : ℕ) (d : X) → end ≤ place → place < length xs → test (get_or xs place d) ≡ false)
     → (place : ℕ) (d : X) → last ≤ place → place < length xs → test (get_or xs place d) ≡ false
-passed-last test bucket_of xs bucket end last own small is passed place d after below = elim (cases_lt place end) [
-  | inl before ↦ false_from_ne_true (test (get_or xs place d))
-      (λ passes. is.none_after place after before (get_or-map bucket_of xs place d 0 below ∙ own (get_or xs place d) passes))
+passed-last test buckets xs bucket end last own is passed place d after below = elim (cases_lt place end) [
+  | inl before ↦ false_from_ne_true (test (get_or xs place d)) (λ passes. is.none_after place after before (own place d below passes))
   | inr behind ↦ passed place d behind below
 ]
 
 -- one more place is looked at
-pub passed-more : {X : Type 0} (test : X → Bool) (xs : List X) (end place : ℕ) (x : X)
-    → end ≡ place + 1 → x ≡ get_or xs place x → place < length xs → test x ≡ false
+pub passed-more : {X : Type 0} (test : X → Bool) (xs : List X) (end place : ℕ) → end ≡ place + 1 → ((d : X) → test (get_or xs place d) ≡ false)
     → ((p : ℕ) (d : X) → end ≤ p → p < length xs → test (get_or xs p d) ≡ false)
     → (p : ℕ) (d : X) → place ≤ p → p < length xs → test (get_or xs p d) ≡ false
-passed-more test xs end place x is_end read small fails passed p d after below = elim (cases_eq p place) [
-  | inl here ↦
-      ap test (ap (λ (q : ℕ). get_or xs q d) here ∙ get_or_default xs place d x small ∙ sym read) ∙ fails
+passed-more test xs end place is_end fails passed p d after below = elim (cases_eq p place) [
+  | inl here ↦ ap (λ (q : ℕ). test (get_or xs q d)) here ∙ fails d
   | inr past ↦ passed p d (omega (arith, past, after, is_end)) below
 ]

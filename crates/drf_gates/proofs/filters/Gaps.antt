@@ -1,20 +1,12 @@
 -- Lists with gaps.
-use Rattle.std.proofs.Common.{◌≡◌, ◌≢◌, ◌+◌, ◌<◌, ◌≤◌, ℕ, zero, suc, Bool, true, false, cond, not, inl, inr, refl, List, [], ◌∷◌, ◌++◌, Option, None, Some, is_some, map, filter, length, get_or, set, take, min, count_by, ap, ◌∙◌, sym, arith, length-append}
+use Rattle.std.proofs.Common.{◌≡◌, ◌≢◌, ◌+◌, ◌<◌, ◌≤◌, ℕ, zero, suc, Bool, true, false, cond, if◌then◌else◌, not, inl, inr, refl, List, [], ◌∷◌, ◌++◌, Option, None, Some, is_some, map, filter, length, get_or, set, take, min, count_by, ap, ◌∙◌, sym, arith, length-append}
 use Rattle.std.proofs.lemmas.Bool.{cases_Bool}
 use Rattle.std.proofs.lemmas.List.{length-map, length-set, length-take, take_all, take_more, get_or-set_same, get_or-set_other, get_or_default}
 use Rattle.std.proofs.lemmas.List.Sums.{length-filter}
 use Rattle.std.proofs.lemmas.List.Elements.{filter-append, filter_map-append}
 use Rattle.std.specs.List.{list_any}
-use Rattle.drf_bundle.specs.ListLaws.{length-filter_le}
+use Rattle.std.specs.Option.{option_map_or}
 use Rattle.drf_gates.specs.filters.Slots.{filled, slot_passes, without_one}
-
--- a filter that leaves as many leaves all
-filter_as_many : {X : Type 0} (p : X → Bool) (xs : List X) → length (filter p xs) ≡ length xs → filter p xs ≡ xs
-filter_as_many p [] same = refl
-filter_as_many {X} p (x ∷ xs) same = elim (cases_Bool (p x)) [
-  | inl kept ↦ rw kept (ap (λ (ys : List X). x ∷ ys) (filter_as_many p xs (omega (arith, rw kept at same))))
-  | inr gone ↦ absurd (omega (arith, rw gone at same, length-filter_le p xs))
-]
 
 pub filled-short : {X : Type 0} (slots : List (Option X)) → length (filled slots) ≤ length slots
 filled-short [] = omega arith
@@ -72,6 +64,19 @@ set-one {X} (s ∷ slots) zero x one = rw one (omega arith)
 set-one (None ∷ slots) (suc place) x one = set-one slots place x one
 set-one (Some y ∷ slots) (suc place) x one = omega (arith, set-one slots place x one)
 
+-- one fewer where something is taken, and as many where nothing is
+pub taken-one : {X : Type 0} (slots : List (Option X)) (place : ℕ) (slot read : Option X) → place < length slots → slot ≡ get_or slots place slot
+    → read ≡ slot → is_some read ≡ true → length (filled (set slots place None)) + 1 ≡ length (filled slots)
+taken-one slots place slot None small at same some = cc
+taken-one slots place slot (Some x) small at same some =
+    set-one slots place x (get_or_default slots place None slot small ∙ sym at ∙ sym same)
+
+pub taken-none : {X : Type 0} (slots : List (Option X)) (place : ℕ) (slot read : Option X) → place < length slots → slot ≡ get_or slots place slot
+    → read ≡ slot → is_some read ≡ false → length (filled (set slots place None)) ≡ length (filled slots)
+taken-none {X} slots place slot None small at same none =
+    ap (λ (ss : List (Option X)). length (filled ss)) (set-gap slots place (get_or_default slots place None slot small ∙ sym at ∙ sym same))
+taken-none slots place slot (Some x) small at same none = cc
+
 -- what others keep
 pub set-others : {X : Type 0} (p : X → Bool) (slots : List (Option X)) (place : ℕ) (x : X) → get_or slots place None ≡ Some x → p x ≡ false
     → filter p (filled (set slots place None)) ≡ filter p (filled slots)
@@ -111,9 +116,6 @@ left-less {X} slots left xs is small all =
           let full : length (filled slots) ≡ length slots = omega (arith, long, small, same, filled-short slots) in
           is ∙ ap (λ (ys : List X). map Some ys) (all (omega (arith, long, same, full))) ∙ filled-as_many slots full;
     }
-
-pub filter-less : {X : Type 0} (p : X → Bool) (slots left : List (Option X)) → left ≡ map Some (filter p (filled slots)) → IsLess slots left
-filter-less p slots left is = left-less slots left (filter p (filled slots)) is (length-filter_le p (filled slots)) (filter_as_many p (filled slots))
 
 pub all-less : {X : Type 0} (slots left : List (Option X)) → left ≡ map Some (filled slots) → IsLess slots left
 all-less slots left is = left-less slots left (filled slots) is (omega arith) (λ same. refl)
@@ -200,7 +202,18 @@ module _ {X : Type 0} (p : X → Bool) (slots : List (Option X)) (place : ℕ) (
     | inr fails ↦ ap (λ (ss : List (Option X)). filter (λ x. not (p x)) (filled ss)) (left fails)
   ]
 
--- a slot that was read
-pub read-filled : {X : Type 0} (slots : List (Option X)) (place : ℕ) (slot read : Option X) (x : X) → place < length slots → slot ≡ get_or slots place slot
-    → read ≡ slot → read ≡ Some x → get_or slots place None ≡ Some x
-read-filled slots place slot read x small at same one = get_or_default slots place None slot small ∙ sym at ∙ sym same ∙ one
+-- what is taken if it passes
+pub without-if : {X : Type 0} (p : X → Bool) (slots left : List (Option X)) (place : ℕ) (slot : Option X) (leaves : Bool) → place < length slots
+    → slot ≡ get_or slots place slot → leaves ≡ slot_passes p slot → left ≡ (if leaves then set slots place None else slots) → left ≡ without_one p slots place
+without-if {X} p slots left place slot leaves small read is is_left =
+    is_left
+    ∙ ap (λ (b : Bool). if b then set slots place None else slots)
+    (is ∙ ap (λ (s : Option X). slot_passes p s) (read ∙ get_or_default slots place slot None small))
+
+-- or is nothing
+pub without-or_gap : {X : Type 0} (p : X → Bool) (slots left : List (Option X)) (place : ℕ) (slot : Option X) (leaves : Bool) → place < length slots
+    → slot ≡ get_or slots place slot → leaves ≡ option_map_or p slot true → left ≡ (if leaves then set slots place None else slots) → left ≡ without_one p slots place
+without-or_gap {X} p slots left place None leaves small read is is_left =
+    is_left ∙ ap (λ (b : Bool). if b then set slots place None else slots) is ∙ set-gap slots place (sym read)
+    ∙ sym (ap (λ (s : Option X). if slot_passes p s then set slots place None else slots) (sym read))
+without-or_gap p slots left place (Some x) leaves small read is is_left = without-if p slots left place (Some x) leaves small read is is_left

@@ -1,9 +1,11 @@
 -- Laws of filters.
-use Rattle.std.proofs.Common.{◌≡◌, ◌≢◌, ◌+◌, ◌-◌, ◌%◌, ◌<◌, ◌≤◌, ◌&&◌, ℕ, suc, Bool, true, false, inl, inr, map, filter, refl, List, [], ◌∷◌, ◌++◌, Option, None, Some, nat_lt, length, get_or, set, take, ap, ◌∙◌, sym, subst, min, arith, length-append}
+use Rattle.std.proofs.Common.{◌≡◌, ◌≢◌, ◌+◌, ◌%◌, ◌<◌, ◌≤◌, ◌&&◌, ◌==◌, if◌then◌else◌, ℕ, zero, suc, Bool, true, false, not, inl, inr, map, filter, refl, List, [], ◌∷◌, ◌++◌, Option, None, Some, nat_lt, length, get_or, set, take, replicate, ap, ◌∙◌, sym, subst, min, mod-lt, arith, length-append}
 use Rattle.std.specs.declared.hash.FoldHasher.{FoldHasher}
 use Rattle.std.specs.List.{list_any}
-use Rattle.std.proofs.lemmas.Bool.{cases_eq, cases_lt, false_from_ne_true, and_parts, and_from, lt-ltb, ltb-true}
-use Rattle.std.proofs.lemmas.List.{map-append, map-set, length-map, length-set, get_or-map, get_or_default}
+use Rattle.std.proofs.Math.Seq.{get_or-append_seam}
+use Rattle.std.proofs.lemmas.Bool.{cases_Bool, cases_eq, cases_lt, false_from_ne_true, and_parts, and_from, lt-ltb, ltb-true}
+use Rattle.std.proofs.lemmas.Bool.Decides.{nat_tests}
+use Rattle.std.proofs.lemmas.List.{map-append, map-set, length-map, length-set, length-replicate, get_or-replicate, take_all, set_comm, get_or-map, get_or-set_same, get_or-set_other, get_or_append_left, get_or_default}
 use Rattle.std.proofs.lemmas.List.Elements.{All-nil, All-cons, All-append, All-filter, All-push, All-take}
 use Rattle.std.proofs.lemmas.List.Folds.{Any-from_list_any, list_any-from_Any, list_any_none}
 use Rattle.drf_role.specs.TextLaws.{same_itself, same_from_test}
@@ -18,14 +20,15 @@ use Rattle.drf_rows.specs.Filters.{is_in_force, in_force, is_of_client, is_on_ag
 use Rattle.drf_rows.specs.declared.rows.FilterRow.{FilterRow}
 use Rattle.drf_gates.specs.filters.Laws.{LessIsHeldBack, HeldBackIsRefused}
 use Rattle.drf_gates.specs.filters.Chains.{IsLast, IsChained}
-use Rattle.drf_gates.specs.filters.Index.{client_hash, pair_hash, row_hash, slot_bucket, buckets_of, IsChainedBy, IsIndexed, IsLeft, HasRoom, NoneEndsBefore}
+use Rattle.drf_gates.specs.filters.Index.{client_hash, pair_hash, row_hash, slot_hash, link_hash, hashes_in, befores, bucket_of, buckets_in, IsTidy, IsTidyTo, IsLedTo, IsSameBut, IsIndexed, IsLeft, HasRoom, NoneEndsBefore}
 use Rattle.drf_gates.specs.filters.Slots.{filled, slot_passes, without_one, filters_in, IsSlots, IsClosed, IsFilterTable}
 use Rattle.drf_gates.specs.declared.filters.index.Index.{Index}
+use Rattle.drf_gates.specs.declared.filters.index.Link.{Link}
 use Rattle.drf_gates.specs.declared.filters.index.Key.{Key}
 use Rattle.drf_gates.specs.declared.filters.index.Key.TheVariants.{Client as ByClient, ClientAndAgent}
 use Rattle.drf_gates.specs.declared.filters.slots.Slots.{Slots}
-use Rattle.drf_gates.proofs.filters.Chains.{chained-more, chained-gap, IsLed, led-start, chained-drop_head, chained-drop_link, passed-last, passed-more}
-use Rattle.drf_gates.proofs.filters.Gaps.{filled-all, filled-more, any-filled, set-one, without-length, without-other, without-here, place-below, IsLess, filter-less, all-less, take-less}
+use Rattle.drf_gates.proofs.filters.Chains.{chained-more, chained-gap, chained-any, chained-next, chained-next_gap, chained-drop_head, chained-drop_link, passed-last, passed-more}
+use Rattle.drf_gates.proofs.filters.Gaps.{filled-all, filled-more, any-filled, no_slot, without-length, without-other, without-here, without-others, without-if, place-below, IsLess, all-less, take-less}
 
 pub less_is_held_back : LessIsHeldBack
 less_is_held_back filters f clock bundle is_there before is_bundle is_part below =
@@ -53,22 +56,22 @@ held_back_is_refused filters clock client agent bundle held are_bundles is_part 
       (covers_by_units f.bundle bundle is_bundle is_part).0 on.1,
     )
 
--- ---- what is found is in its bucket
+-- ---- what is found has its hash
 
-pub of_client_in_bucket : (start : FoldHasher) (number : ℕ) (client : Client) (slot : Option FilterRow) → slot_passes (is_of_client client) slot ≡ true
-    → slot_bucket start ByClient number slot ≡ client_hash start client.role client.framework % number
-of_client_in_bucket start number client None own = cc
-of_client_in_bucket start number client (Some f) own =
+pub of_client_hash : (start : FoldHasher) (client : Client) (slot : Option FilterRow) → slot_passes (is_of_client client) slot ≡ true
+    → slot_hash start ByClient slot ≡ Some (client_hash start client.role client.framework)
+of_client_hash start client None own = cc
+of_client_hash start client (Some f) own =
     let names = and_parts (same_path f.role client.role) (same_text f.framework client.framework) own in
     let role = same_path-true f.role client.role names.0 in
     let framework = same_from_test f.framework client.framework names.1 in
-    λ i. client_hash start (role i) (framework i) % number
+    λ i. Some (client_hash start (role i) (framework i))
 
-pub held_in_bucket : (start : FoldHasher) (number clock : ℕ) (client : Client) (agent : Text) (bundle : List Resource) (slot : Option FilterRow)
+pub held_hash : (start : FoldHasher) (clock : ℕ) (client : Client) (agent : Text) (bundle : List Resource) (slot : Option FilterRow)
     → slot_passes (holds_back clock client agent bundle) slot ≡ true
-    → slot_bucket start ClientAndAgent number slot ≡ pair_hash start client.role client.framework agent % number
-held_in_bucket start number clock client agent bundle None holds = cc
-held_in_bucket start number clock client agent bundle (Some f) holds =
+    → slot_hash start ClientAndAgent slot ≡ Some (pair_hash start client.role client.framework agent)
+held_hash start clock client agent bundle None holds = cc
+held_hash start clock client agent bundle (Some f) holds =
     let parts = and_parts (is_in_force clock f) (is_of_client client f && (is_on_agent agent f && covers f.bundle bundle)) holds in
     let own = and_parts (is_of_client client f) (is_on_agent agent f && covers f.bundle bundle) parts.1 in
     let names = and_parts (same_path f.role client.role) (same_text f.framework client.framework) own.0 in
@@ -76,160 +79,404 @@ held_in_bucket start number clock client agent bundle (Some f) holds =
     let role = same_path-true f.role client.role names.0 in
     let framework = same_from_test f.framework client.framework names.1 in
     let there = same_from_test f.agent agent on.0 in
-    λ i. pair_hash start (role i) (framework i) (there i) % number
+    λ i. Some (pair_hash start (role i) (framework i) (there i))
 
--- ---- one more slot, and the index with it
+-- ---- links
 
-pub chained-push : (start : FoldHasher) (key : Key) (rows : List (Option FilterRow)) (row : FilterRow) (heads links more : List ℕ) (bucket head next : ℕ)
-    → IsChained (buckets_of start key (length heads) rows) heads links
-    → bucket ≡ row_hash start key row % length heads → bucket < length heads → next ≡ length links + 1
-    → head ≡ get_or heads bucket 0 → more ≡ links ++ head ∷ []
-    → IsChained (buckets_of start key (length (set heads bucket next)) (rows ++ Some row ∷ [])) (set heads bucket next) more
-chained-push start key rows row heads links more bucket head next is is_bucket below is_next is_head is_more =
-    let same : buckets_of start key (length heads) rows ++ bucket ∷ [] ≡ buckets_of start key (length (set heads bucket next)) (rows ++ Some row ∷ []) =
-    ap (λ (b : ℕ). buckets_of start key (length heads) rows ++ b ∷ []) is_bucket
-    ∙ sym (map-append (slot_bucket start key (length heads)) rows (Some row ∷ []))
-    ∙ ap (λ (n : ℕ). buckets_of start key n (rows ++ Some row ∷ [])) (sym (length-set heads bucket next))
+pub before-at : (index : Index) (place : ℕ) (link : Link) → place < length index.links.items → link ≡ get_or index.links.items place link
+    → link.before ≡ get_or (befores index) place 0
+before-at index place link small read =
+    ap (λ (l : Link). l.before) read ∙ sym (get_or-map (λ (l : Link). l.before) index.links.items place link 0 small)
+
+pub hash-at : (index : Index) (place : ℕ) (link : Link) → place < length index.links.items → link ≡ get_or index.links.items place link
+    → link_hash link ≡ get_or (hashes_in index) place None
+hash-at index place link small read =
+    ap (λ (l : Link). link_hash l) read ∙ sym (get_or-map link_hash index.links.items place link None small)
+
+-- what is in a chain goes on before the end of all places
+pub hash-linked : (link : Link) → link.before < 18446744073709551615 → link_hash link ≡ Some link.mark
+hash-linked link below =
+    let no : (link.before == 18446744073709551615) ≡ false = grind (arith, nat_tests, below) in
+    rw no refl
+
+hash-cases : (b : Bool) (mark h : ℕ) → (if b then None else Some mark) ≡ Some h → mark ≡ h
+hash-cases true mark h is = cc
+hash-cases false mark h is = cc
+
+pub hash-mark : (link : Link) (h : ℕ) → link_hash link ≡ Some h → link.mark ≡ h
+hash-mark link h is = hash-cases (link.before == 18446744073709551615) link.mark h is
+
+some-cases : (b : Bool) (mark : ℕ) → (if b then None else Some mark) ≢ None → (if b then None else Some mark) ≡ Some mark
+some-cases true mark is = absurd (is refl)
+some-cases false mark is = refl
+
+pub hash-some : (link : Link) → link_hash link ≢ None → link_hash link ≡ Some link.mark
+hash-some link is = some-cases (link.before == 18446744073709551615) link.mark is
+
+pub bucket-at : (index : Index) (place : ℕ) → place < length index.links.items
+    → get_or (buckets_in index) place 0 ≡ bucket_of (length index.heads.items) (get_or (hashes_in index) place None)
+bucket-at index place small =
+    get_or-map (bucket_of (length index.heads.items)) (hashes_in index) place None 0 (omega (arith, small, length-map index.links.items link_hash))
+
+pub buckets-long : (index : Index) → length (buckets_in index) ≡ length index.links.items
+buckets-long index = length-map (hashes_in index) (bucket_of (length index.heads.items)) ∙ length-map index.links.items link_hash
+
+pub befores-long : (index : Index) → length (befores index) ≡ length index.links.items
+befores-long index = length-map index.links.items (λ (l : Link). l.before)
+
+hashed-cases : (number bucket : ℕ) (hash : Option ℕ) → bucket_of number hash ≡ bucket → bucket < number → hash ≢ None
+hashed-cases number bucket None is below = absurd (omega (arith, is, below))
+hashed-cases number bucket (Some h) is below = λ e. cc
+
+-- what is in a bucket has a hash
+pub hashed : (index : Index) (place bucket : ℕ) → place < length index.links.items → get_or (buckets_in index) place 0 ≡ bucket → bucket < length index.heads.items
+    → get_or (hashes_in index) place None ≢ None
+hashed index place bucket small own known =
+    hashed-cases (length index.heads.items) bucket (get_or (hashes_in index) place None) (sym (bucket-at index place small) ∙ own) known
+
+pub gap-hash : (link : Link) → (link.before == 18446744073709551615) ≡ true → link_hash link ≡ None
+gap-hash link is = rw is refl
+
+pub chained-hash : (link : Link) → (link.before == 18446744073709551615) ≡ false → link_hash link ≡ Some link.mark
+chained-hash link is = rw is refl
+
+abbrev pub IsTidyBy : List ℕ → List Link → Type 0
+IsTidyBy heads links = IsChained (map (bucket_of (length heads)) (map link_hash links)) heads (map (λ (l : Link). l.before) links)
+
+-- ---- chains are made anew
+
+pub tidy-gap : (index : Index) (place : ℕ) (link : Link) → IsTidyTo place index → place < length index.links.items
+    → link_hash link ≡ get_or (hashes_in index) place None → (link.before == 18446744073709551615) ≡ true → IsTidyTo (place + 1) index
+tidy-gap index place link tidy small hash none =
+    let gap : get_or (buckets_in index) place 0 ≡ length index.heads.items =
+    bucket-at index place small ∙ ap (λ (h : Option ℕ). bucket_of (length index.heads.items) h) (sym hash ∙ gap-hash link none)
     in
-    let same_links : links ++ get_or heads bucket 0 ∷ [] ≡ more = ap (λ (h : ℕ). links ++ h ∷ []) (sym is_head) ∙ sym is_more in
-    subst (λ (q : List ℕ × List ℕ). IsChained q.0 (set heads bucket next) q.1) (λ i. (same i, same_links i))
-    (chained-more (buckets_of start key (length heads) rows) heads links bucket next below (is_next ∙ ap (λ (n : ℕ). n + 1) is.number) is)
+    chained-next_gap (buckets_in index) index.heads.items (befores index) place (omega (arith, small, buckets-long index))
+    (befores-long index ∙ sym (buckets-long index)) (omega (arith, gap)) tidy
 
-pub chained-push_gap : (start : FoldHasher) (key : Key) (rows : List (Option FilterRow)) (heads links more : List ℕ)
-    → IsChained (buckets_of start key (length heads) rows) heads links → more ≡ links ++ 0 ∷ []
-    → IsChained (buckets_of start key (length heads) (rows ++ None ∷ [])) heads more
-chained-push_gap start key rows heads links more is is_more =
-    subst (λ (q : List ℕ × List ℕ). IsChained q.0 heads q.1)
-    (λ i. (sym (map-append (slot_bucket start key (length heads)) rows (None ∷ [])) i, sym is_more i))
-    (chained-gap (buckets_of start key (length heads) rows) heads links (length heads) (omega arith) is)
+pub tidy-next : (index : Index) (all : List ℕ) (links : List Link) (place bucket head : ℕ) (link : Link) → IsTidyTo place index → place < length index.links.items
+    → link_hash link ≡ get_or (hashes_in index) place None → (link.before == 18446744073709551615) ≡ false
+    → bucket ≡ link.mark % length index.heads.items → bucket < length index.heads.items → head ≡ get_or index.heads.items bucket 0
+    → map link_hash links ≡ hashes_in index → map (λ (l : Link). l.before) links ≡ set (befores index) place head → all ≡ set index.heads.items bucket (place + 1)
+    → IsChained (take (place + 1) (map (bucket_of (length all)) (map link_hash links))) all (take (place + 1) (map (λ (l : Link). l.before) links))
+tidy-next index all links place bucket head link tidy small hash none is_bucket known is_head hashes goes heads =
+    let n = length index.heads.items in
+    let same : length all ≡ n = ap length heads ∙ length-set index.heads.items bucket (place + 1) in
+    let own : get_or (buckets_in index) place 0 ≡ bucket =
+    bucket-at index place small ∙ ap (λ (h : Option ℕ). bucket_of n h) (sym hash ∙ chained-hash link none) ∙ sym is_bucket
+    in
+    let buckets : buckets_in index ≡ map (bucket_of (length all)) (map link_hash links) = λ i. map (bucket_of (sym same i)) (sym hashes i) in
+    subst (λ (q : List ℕ × (List ℕ × List ℕ)). IsChained (take (place + 1) q.0) q.1.0 (take (place + 1) q.1.1)) (λ i. (buckets i, (sym heads i, sym goes i)))
+    (chained-next (buckets_in index) index.heads.items (befores index) place bucket (place + 1) head (omega (arith, small, buckets-long index))
+    (befores-long index ∙ sym (buckets-long index)) own known refl is_head tidy)
 
--- ---- a filter is taken out of its chain
+pub tidy-none : (index : Index) (n : ℕ) → index.heads.items ≡ replicate n 0 → IsTidyTo 0 index
+tidy-none index n heads =
+    subst (λ (hs : List ℕ). IsChained [] hs []) (sym heads) (record {
+      number = refl;
+      head = λ bucket below.
+          let zeros : ℕ = 0 in
+          let none : get_or (replicate n 0) bucket 0 ≡ 0 = get_or-replicate n bucket zeros 0 (omega (arith, below, length-replicate n zeros)) in
+          record {
+            within = omega (arith, none);
+            own = λ place at. absurd (omega (arith, at, none));
+            none_after = λ place after before. absurd (omega (arith, before));
+          };
+      link = λ place small chained. absurd (omega (arith, small));
+    })
 
-pub bucket-here : (start : FoldHasher) (key : Key) (rows : List (Option FilterRow)) (number place : ℕ) (row : FilterRow) → get_or rows place None ≡ Some row
-    → get_or (buckets_of start key number rows) place 0 ≡ row_hash start key row % number
-bucket-here start key rows number place row here =
-    get_or-map (slot_bucket start key number) rows place None 0 (place-below rows place row here) ∙ ap (λ (s : Option FilterRow). slot_bucket start key number s) here
+pub tidy-all : (index : Index) (place : ℕ) → length index.links.items ≤ place → IsTidyTo place index → IsTidy index
+tidy-all index place all tidy =
+    subst (λ (q : List ℕ × List ℕ). IsChained q.0 index.heads.items q.1)
+    (λ i. (take_all place (buckets_in index) (omega (arith, all, buckets-long index)) i, take_all place (befores index) (omega (arith, all, befores-long index)) i)) tidy
 
-pub goes_on : (key : Key) (rows : List (Option FilterRow)) (index : Index) (place next : ℕ) → IsIndexed key rows index
-    → place + 1 ≤ length (buckets_of index.start key (length index.heads.items) rows) → next ≡ get_or index.links.items place next → next ≡ get_or index.links.items place 0
-goes_on key rows index place next indexed below read =
-    read ∙ get_or_default index.links.items place next 0 (omega (arith, below, indexed.chained.number))
+-- ---- a filter is put behind the others
 
--- the walk to it
-pub index-led : (key : Key) (rows : List (Option FilterRow)) (index : Index) (row : FilterRow) (place bucket after : ℕ)
-    → IsIndexed key rows index → get_or rows place None ≡ Some row → bucket ≡ row_hash index.start key row % length index.heads.items
-    → bucket < length index.heads.items → after ≡ get_or index.heads.items bucket 0
-    → IsLed (buckets_of index.start key (length index.heads.items) rows) index.heads.items index.links.items place bucket (length index.heads.items) 0 after
-index-led key rows index row place bucket after indexed here is_bucket known start =
-    led-start (buckets_of index.start key (length index.heads.items) rows) index.heads.items index.links.items place bucket (length index.heads.items) after
-    indexed.chained known (omega (arith, place-below rows place row here, length-map rows (slot_bucket index.start key (length index.heads.items))))
-    (bucket-here index.start key rows (length index.heads.items) place row here ∙ sym is_bucket) start
+pub tidy-push : (index : Index) (all : List ℕ) (links : List Link) (mark bucket head next : ℕ) → IsTidy index → bucket ≡ mark % length index.heads.items
+    → bucket < length index.heads.items → next ≡ length index.links.items + 1 → head ≡ get_or index.heads.items bucket 0
+    → map link_hash links ≡ hashes_in index ++ Some mark ∷ [] → map (λ (l : Link). l.before) links ≡ befores index ++ head ∷ []
+    → all ≡ set index.heads.items bucket next → IsTidyBy all links
+tidy-push index all links mark bucket head next tidy is_bucket known is_next is_head hashes goes heads =
+    let n = length index.heads.items in
+    let same : length all ≡ n = ap length heads ∙ length-set index.heads.items bucket next in
+    let buckets : buckets_in index ++ bucket ∷ [] ≡ map (bucket_of (length all)) (map link_hash links) =
+    ap (λ (b : ℕ). buckets_in index ++ b ∷ []) is_bucket
+    ∙ sym (map-append (bucket_of n) (hashes_in index) (Some mark ∷ []))
+    ∙ (λ i. map (bucket_of (sym same i)) (sym hashes i))
+    in
+    let goes_on : befores index ++ get_or index.heads.items bucket 0 ∷ [] ≡ map (λ (l : Link). l.before) links = ap (λ (h : ℕ). befores index ++ h ∷ []) (sym is_head) ∙ sym goes in
+    subst (λ (q : List ℕ × (List ℕ × List ℕ)). IsChained q.0 q.1.0 q.1.1) (λ i. (buckets i, (sym heads i, goes_on i)))
+    (chained-more (buckets_in index) index.heads.items (befores index) bucket next known (omega (arith, is_next, buckets-long index)) tidy)
 
-indexed-set : (key : Key) (rows : List (Option FilterRow)) (index after : Index) (place : ℕ) → after.start ≡ index.start
-    → IsChained (set (buckets_of index.start key (length index.heads.items) rows) place (length index.heads.items)) after.heads.items after.links.items
-    → length after.heads.items ≡ length index.heads.items → length rows ≤ length index.heads.items
-    → IsIndexed key (set rows place None) after
-indexed-set key rows index after place begins chained same enough = record {
-  chained = subst (λ (bs : List ℕ). IsChained bs after.heads.items after.links.items)
-      (sym (map-set (slot_bucket index.start key (length index.heads.items)) rows place None)
-      ∙ (λ i. buckets_of (sym begins i) key (sym same i) (set rows place None))) chained;
-  enough = omega (arith, length-set rows place None, same, enough);
+pub tidy-push_gap : (index : Index) (links : List Link) (next : ℕ) → IsTidy index → map link_hash links ≡ hashes_in index ++ None ∷ []
+    → map (λ (l : Link). l.before) links ≡ befores index ++ next ∷ [] → IsTidyBy index.heads.items links
+tidy-push_gap index links next tidy hashes goes =
+    let n = length index.heads.items in
+    let buckets : buckets_in index ++ n ∷ [] ≡ map (bucket_of n) (map link_hash links) =
+    sym (map-append (bucket_of n) (hashes_in index) (None ∷ [])) ∙ (λ i. map (bucket_of n) (sym hashes i))
+    in
+    subst (λ (q : List ℕ × List ℕ). IsChained q.0 index.heads.items q.1) (λ i. (buckets i, sym goes i))
+    (chained-gap (buckets_in index) index.heads.items (befores index) n next (omega arith) tidy)
+
+pub hashes-push : (links more : List Link) (link : Link) (hash : Option ℕ) → more ≡ links ++ link ∷ [] → link_hash link ≡ hash
+    → map link_hash more ≡ map link_hash links ++ hash ∷ []
+hashes-push links more link hash is is_hash =
+    ap (λ (ls : List Link). map link_hash ls) is ∙ map-append link_hash links (link ∷ []) ∙ ap (λ (h : Option ℕ). map link_hash links ++ h ∷ []) is_hash
+
+pub befores-push : (links more : List Link) (link : Link) → more ≡ links ++ link ∷ []
+    → map (λ (l : Link). l.before) more ≡ map (λ (l : Link). l.before) links ++ link.before ∷ []
+befores-push links more link is = ap (λ (ls : List Link). map (λ (l : Link). l.before) ls) is ∙ map-append (λ (l : Link). l.before) links (link ∷ [])
+
+found-slot : (start : FoldHasher) (key : Key) (slot : Option FilterRow) (f : FilterRow) → slot ≡ Some f → slot_hash start key slot ≡ Some (row_hash start key f)
+found-slot start key slot f is = ap (λ (s : Option FilterRow). slot_hash start key s) is
+
+-- links of just these filters
+pub indexed-anew : (start : FoldHasher) (key : Key) (rows : List (Option FilterRow)) (index : Index) → IsTidy index
+    → hashes_in index ≡ map (slot_hash start key) rows → index.start ≡ start → length rows ≤ length index.heads.items → IsIndexed key rows index
+indexed-anew start key rows index tidy hashes begins enough = record {
+  tidy = tidy;
+  number = sym (length-map index.links.items link_hash) ∙ ap length hashes ∙ length-map rows (slot_hash start key);
+  found = λ place f here.
+      ap (λ (hs : List (Option ℕ)). get_or hs place None) hashes
+      ∙ get_or-map (slot_hash start key) rows place None None (place-below rows place f here)
+      ∙ found-slot start key (get_or rows place None) f here
+      ∙ ap (λ (s : FoldHasher). Some (row_hash s key f)) (sym begins);
+  enough = enough;
 }
 
-module _ (key : Key) (rows : List (Option FilterRow)) (index after : Index) (row : FilterRow) (place bucket from at next : ℕ)
-    (indexed : IsIndexed key rows index) (here : get_or rows place None ≡ Some row)
-    (is_bucket : bucket ≡ row_hash index.start key row % length index.heads.items) (known : bucket < length index.heads.items)
-    (is_next : next ≡ get_or index.links.items place 0)
-    (led : IsLed (buckets_of index.start key (length index.heads.items) rows) index.heads.items index.links.items place bucket (length index.heads.items) from at)
-    (arrived : at ≤ place + 1) where
-  small : place < length (buckets_of index.start key (length index.heads.items) rows)
-  small = omega (arith, place-below rows place row here, length-map rows (slot_bucket index.start key (length index.heads.items)))
+-- the same filters in other chains
+pub indexed-again : (key : Key) (rows : List (Option FilterRow)) (index after : Index) → IsIndexed key rows index → IsTidy after
+    → hashes_in after ≡ hashes_in index → length index.heads.items ≤ length after.heads.items → after.start ≡ index.start → IsIndexed key rows after
+indexed-again key rows index after indexed tidy hashes enough begins = record {
+  tidy = tidy;
+  number = sym (length-map after.links.items link_hash) ∙ ap length hashes ∙ length-map index.links.items link_hash ∙ indexed.number;
+  found = λ place f here.
+      ap (λ (hs : List (Option ℕ)). get_or hs place None) hashes ∙ indexed.found place f here ∙ ap (λ (s : FoldHasher). Some (row_hash s key f)) (sym begins);
+  enough = omega (arith, enough, indexed.enough);
+}
 
-  own : get_or (buckets_of index.start key (length index.heads.items) rows) place 0 ≡ bucket
-  own = bucket-here index.start key rows (length index.heads.items) place row here ∙ sym is_bucket
+pub indexed-kept : (key : Key) (rows : List (Option FilterRow)) (index after : Index) → after.links.items ≡ index.links.items
+    → after.heads.items ≡ index.heads.items → after.start ≡ index.start → IsIndexed key rows index → IsIndexed key rows after
+indexed-kept key rows index after links heads begins is = record {
+  tidy = subst (λ (q : List Link × List ℕ). IsTidyBy q.1 q.0) (λ i. (sym links i, sym heads i)) is.tidy;
+  number = ap length links ∙ is.number;
+  found = λ place f here.
+      ap (λ (ls : List Link). get_or (map link_hash ls) place None) links ∙ is.found place f here ∙ ap (λ (s : FoldHasher). Some (row_hash s key f)) (sym begins);
+  enough = omega (arith, ap length heads, is.enough);
+}
 
-  pub indexed-drop_head : from ≡ 0 → after.start ≡ index.start → after.heads.items ≡ set index.heads.items bucket next → after.links.items ≡ index.links.items
-      → IsIndexed key (set rows place None) after
-  indexed-drop_head none begins heads links =
-      indexed-set key rows index after place begins
-      (subst (λ (q : List ℕ × List ℕ). IsChained (set (buckets_of index.start key (length index.heads.items) rows) place (length index.heads.items)) q.0 q.1)
-      (λ i. (sym heads i, sym links i))
-      (chained-drop_head (buckets_of index.start key (length index.heads.items) rows) index.heads.items index.links.items place bucket (length index.heads.items)
-      indexed.chained known small own refl next is_next (sym (led.at_head none) ∙ omega (arith, led.reached, arrived))))
-      (ap length heads ∙ length-set index.heads.items bucket next) indexed.enough
+-- room is made for one more
+pub slots-room : (s after : Slots) → after.rows.items ≡ s.rows.items → IsSlots s
+    → ((key : Key) (rows : List (Option FilterRow)) → IsIndexed key rows s.pairs → IsIndexed key rows after.pairs)
+    → ((key : Key) (rows : List (Option FilterRow)) → IsIndexed key rows s.clients → IsIndexed key rows after.clients)
+    → after.live ≡ s.live → IsSlots after
+slots-room s after rows slots pairs clients live = record {
+  pairs = subst (λ (fs : List (Option FilterRow)). IsIndexed ClientAndAgent fs after.pairs) (sym rows) (pairs ClientAndAgent s.rows.items slots.pairs);
+  clients = subst (λ (fs : List (Option FilterRow)). IsIndexed ByClient fs after.clients) (sym rows) (clients ByClient s.rows.items slots.clients);
+  live = live ∙ slots.live ∙ ap (λ (fs : List (Option FilterRow)). length (filled fs)) (sym rows);
+}
 
-  pub indexed-drop_link : (p : ℕ) → from ≡ p + 1 → after.start ≡ index.start → after.heads.items ≡ index.heads.items → after.links.items ≡ set index.links.items p next
-      → IsIndexed key (set rows place None) after
-  indexed-drop_link p is_from begins heads links =
-      indexed-set key rows index after place begins
-      (subst (λ (q : List ℕ × List ℕ). IsChained (set (buckets_of index.start key (length index.heads.items) rows) place (length index.heads.items)) q.0 q.1)
-      (λ i. (sym heads i, sym links i))
-      (chained-drop_link (buckets_of index.start key (length index.heads.items) rows) index.heads.items index.links.items place bucket (length index.heads.items)
-      indexed.chained known small own refl p next is_next (led.behind p is_from) (omega (arith, led.small, is_from)) (led.at_link p is_from).0
-      (sym (led.at_link p is_from).1 ∙ omega (arith, led.reached, arrived))))
-      (ap length heads) indexed.enough
+-- ---- what is at a place is taken out of its chain
+
+pub led-within : (index : Index) (bucket from after : ℕ) → IsTidy index → bucket < length index.heads.items → IsLedTo index bucket from after
+    → after ≤ length index.links.items
+led-within index bucket zero after tidy known led = omega (arith, (tidy.head bucket known).within, led.at_head refl, buckets-long index)
+led-within index bucket (suc p) after tidy known led =
+    let its = led.at_link p (omega arith) in
+    let last = tidy.link p (omega (arith, led.small, buckets-long index)) (omega (arith, its.0, known)) in
+    omega (arith, last.within, its.1, led.small)
+
+pub led-own : (index : Index) (bucket from after p : ℕ) → IsTidy index → bucket < length index.heads.items → IsLedTo index bucket from after → after ≡ p + 1
+    → get_or (buckets_in index) p 0 ≡ bucket
+led-own index bucket zero after p tidy known led at = (tidy.head bucket known).own p (sym (led.at_head refl) ∙ at)
+led-own index bucket (suc q) after p tidy known led at =
+    let its = led.at_link q (omega arith) in
+    (tidy.link q (omega (arith, led.small, buckets-long index)) (omega (arith, its.0, known))).own p (sym its.1 ∙ at) ∙ its.0
+
+pub led-start : (index : Index) (bucket after : ℕ) → after ≡ get_or index.heads.items bucket 0 → IsLedTo index bucket 0 after
+led-start index bucket after is = record { at_head = λ e. is; at_link = λ p e. absurd (omega (arith, e)); small = omega arith }
+
+pub led-more : (index : Index) (bucket from after p next : ℕ) → IsTidy index → bucket < length index.heads.items → IsLedTo index bucket from after
+    → after ≡ p + 1 → next ≡ get_or (befores index) p 0 → IsLedTo index bucket after next
+led-more index bucket from after p next tidy known led at is = record {
+  at_head = λ e. absurd (omega (arith, e, at));
+  at_link = λ q e. subst (λ (r : ℕ). (get_or (buckets_in index) r 0 ≡ bucket) × (next ≡ get_or (befores index) r 0)) (omega (arith, e, at))
+      (led-own index bucket from after p tidy known led at, is);
+  small = led-within index bucket from after tidy known led;
+}
+
+module _ (index : Index) (links : List Link) (bucket from place next : ℕ) (tidy : IsTidy index) (known : bucket < length index.heads.items)
+    (led : IsLedTo index bucket from (place + 1)) (is_next : next ≡ get_or (befores index) place 0)
+    (hashes : map link_hash links ≡ set (hashes_in index) place None) where
+  abbrev all : ℕ
+  all = length index.heads.items
+
+  small : place < length (buckets_in index)
+  small = omega (arith, led-within index bucket from (place + 1) tidy known led, buckets-long index)
+
+  own : get_or (buckets_in index) place 0 ≡ bucket
+  own = led-own index bucket from (place + 1) place tidy known led refl
+
+  buckets : (heads : List ℕ) → length heads ≡ all → set (buckets_in index) place all ≡ map (bucket_of (length heads)) (map link_hash links)
+  buckets heads same = sym (map-set (bucket_of all) (hashes_in index) place None) ∙ (λ i. map (bucket_of (sym same i)) (sym hashes i))
+
+  gone : all ≤ get_or (set (buckets_in index) place all) place 0
+  gone = omega (arith, get_or-set_same (buckets_in index) place all 0 small)
+
+  pub passed-head : (after : List ℕ) → from ≡ 0 → after ≡ set index.heads.items bucket next
+      → map (λ (l : Link). l.before) links ≡ set (befores index) place 18446744073709551615 → IsTidyBy after links
+  passed-head after none heads goes =
+      let same : length after ≡ all = ap length heads ∙ length-set index.heads.items bucket next in
+      subst (λ (q : List ℕ × (List ℕ × List ℕ)). IsChained q.0 q.1.0 q.1.1) (λ i. (buckets after same i, (sym heads i, sym goes i)))
+      (chained-any (set (buckets_in index) place all) (set index.heads.items bucket next) (befores index) place 18446744073709551615
+      (omega (arith, gone, length-set index.heads.items bucket next))
+      (chained-drop_head (buckets_in index) index.heads.items (befores index) place bucket all tidy known small own refl next is_next (sym (led.at_head none))))
+
+  pub passed-link : (after : List ℕ) (p : ℕ) → from ≡ p + 1 → after ≡ index.heads.items
+      → map (λ (l : Link). l.before) links ≡ set (set (befores index) place 18446744073709551615) p next → IsTidyBy after links
+  passed-link after p is_from heads goes =
+      let its = led.at_link p is_from in
+      let inside : p < length (buckets_in index) = omega (arith, led.small, is_from, buckets-long index) in
+      let behind : place < p = omega (arith, (tidy.link p inside (omega (arith, its.0, known))).within, its.1) in
+      let order : set (set (befores index) p next) place 18446744073709551615 ≡ map (λ (l : Link). l.before) links =
+      set_comm (befores index) p place next 18446744073709551615 (λ e. absurd (omega (arith, e, behind))) ∙ sym goes
+      in
+      subst (λ (q : List ℕ × (List ℕ × List ℕ)). IsChained q.0 q.1.0 q.1.1) (λ i. (buckets after (ap length heads) i, (sym heads i, order i)))
+      (chained-any (set (buckets_in index) place all) index.heads.items (set (befores index) p next) place 18446744073709551615 gone
+      (chained-drop_link (buckets_in index) index.heads.items (befores index) place bucket all tidy known small own refl p next is_next behind inside its.0 (sym its.1)))
+
+  -- the place from which the chain came has a hash still
+  pub passed-from : (p : ℕ) → from ≡ p + 1 → get_or (map link_hash links) p None ≢ None
+  passed-from p is_from =
+      let its = led.at_link p is_from in
+      let inside : p < length index.links.items = omega (arith, led.small, is_from) in
+      let behind : place < p = omega (arith, (tidy.link p (omega (arith, inside, buckets-long index)) (omega (arith, its.0, known))).within, its.1) in
+      λ e. hashed index p bucket inside its.0 known
+      (sym (ap (λ (hs : List (Option ℕ)). get_or hs p None) hashes ∙ get_or-set_other (hashes_in index) place p None None (λ at. absurd (omega (arith, at, behind)))) ∙ e)
+
+-- where a chain goes on is before the place
+pub goes-before : (index : Index) (place bucket : ℕ) → IsTidy index → place < length index.links.items → get_or (buckets_in index) place 0 ≡ bucket
+    → bucket < length index.heads.items → get_or (befores index) place 0 ≤ place
+goes-before index place bucket tidy small own known =
+    (tidy.link place (omega (arith, small, buckets-long index)) (omega (arith, own, known))).within
+
+pub same-passed : (place : ℕ) (index after : Index) → hashes_in after ≡ set (hashes_in index) place None → length after.heads.items ≡ length index.heads.items
+    → after.start ≡ index.start → IsSameBut place index after
+same-passed place index after hashes heads begins = record {
+  others = λ q apart. ap (λ (hs : List (Option ℕ)). get_or hs q None) hashes ∙ get_or-set_other (hashes_in index) place q None None apart;
+  number = sym (length-map after.links.items link_hash) ∙ ap length hashes ∙ length-set (hashes_in index) place None ∙ length-map index.links.items link_hash;
+  heads = heads;
+  start = begins;
+}
+
+same-hash : (start : FoldHasher) (key : Key) (rows : List (Option FilterRow)) (index after : Index) (place : ℕ) (q : ℕ) (f : FilterRow)
+    → IsIndexed key rows index → IsSameBut place index after → place < length rows → get_or (set rows place None) q None ≡ Some f
+    → get_or (hashes_in after) q None ≡ Some (row_hash after.start key f)
+same-hash start key rows index after place q f indexed same small here = elim (cases_eq q place) [
+  | inl at ↦
+      let gap : None ≡ Some f = sym (get_or-set_same rows place None None small) ∙ ap (λ (r : ℕ). get_or (set rows place None) r None) (sym at) ∙ here in
+      cc
+  | inr apart ↦
+      same.others q apart ∙ indexed.found q f (sym (get_or-set_other rows place q None None apart) ∙ here)
+      ∙ ap (λ (s : FoldHasher). Some (row_hash s key f)) (sym same.start)
+]
+
+pub indexed-without : (key : Key) (rows : List (Option FilterRow)) (index after : Index) (place : ℕ) → IsIndexed key rows index → IsTidy after
+    → IsSameBut place index after → place < length rows → IsIndexed key (set rows place None) after
+indexed-without key rows index after place indexed tidy same small = record {
+  tidy = tidy;
+  number = same.number ∙ indexed.number ∙ sym (length-set rows place None);
+  found = λ q f here. same-hash index.start key rows index after place q f indexed same small here;
+  enough = omega (arith, indexed.enough, length-set rows place None, same.heads);
+}
+
+pub same-itself : (place : ℕ) (index : Index) → IsSameBut place index index
+same-itself place index = record { others = λ q apart. refl; number = refl; heads = refl; start = refl }
 
 -- ---- a walk along a chain
 
-module _ (key : Key) (rows : List (Option FilterRow)) (index : Index) (test : Option FilterRow → Bool) (bucket : ℕ) where
+module _ (rows : List (Option FilterRow)) (index : Index) (test : Option FilterRow → Bool) (hash : ℕ) where
   -- it has come to a place of the bucket, or has ended, and no slot behind passes the test
   pub record IsWalked (after : ℕ) : Type 0 where
     pub within : after ≤ length rows
-    pub own : (place : ℕ) → after ≡ place + 1 → get_or (buckets_of index.start key (length index.heads.items) rows) place 0 ≡ bucket
+    pub own : (place : ℕ) → after ≡ place + 1 → get_or (buckets_in index) place 0 ≡ hash % length index.heads.items
     pub passed : (place : ℕ) (d : Option FilterRow) → after ≤ place → place < length rows → test (get_or rows place d) ≡ false
 
-  module _ (chained : IsChainedBy key rows index) (in_bucket : (s : Option FilterRow) → test s ≡ true → slot_bucket index.start key (length index.heads.items) s ≡ bucket)
-      (known : bucket < length index.heads.items) where
-    number : length (buckets_of index.start key (length index.heads.items) rows) ≡ length rows
-    number = length-map rows (slot_bucket index.start key (length index.heads.items))
+  module _ (key : Key) (indexed : IsIndexed key rows index) (its : (s : Option FilterRow) → test s ≡ true → slot_hash index.start key s ≡ Some hash)
+      (known : 0 < length index.heads.items) where
+    abbrev bucket : ℕ
+    bucket = hash % length index.heads.items
 
-    walk-last : (end after : ℕ) → end ≤ length rows → IsLast (buckets_of index.start key (length index.heads.items) rows) bucket end after
+    below : bucket < length index.heads.items
+    below = mod-lt hash known
+
+    number : length (buckets_in index) ≡ length rows
+    number = buckets-long index ∙ indexed.number
+
+    found-hash : (place : ℕ) (s : Option FilterRow) → get_or rows place None ≡ s → slot_hash index.start key s ≡ Some hash → get_or (hashes_in index) place None ≡ Some hash
+    found-hash place None here is = cc
+    found-hash place (Some f) here is = indexed.found place f here ∙ is
+
+    its-hash : (place : ℕ) (d : Option FilterRow) → place < length rows → test (get_or rows place d) ≡ true → get_or (hashes_in index) place None ≡ Some hash
+    its-hash place d small passes =
+        found-hash place (get_or rows place d) (get_or_default rows place None d small) (its (get_or rows place d) passes)
+
+    in_bucket : (place : ℕ) (d : Option FilterRow) → place < length rows → test (get_or rows place d) ≡ true → get_or (buckets_in index) place 0 ≡ bucket
+    in_bucket place d small passes =
+        bucket-at index place (omega (arith, small, indexed.number))
+        ∙ ap (λ (h : Option ℕ). bucket_of (length index.heads.items) h) (its-hash place d small passes)
+
+    -- a slot with another hash does not pass
+    pub walk-marked : (place : ℕ) (d : Option FilterRow) (link : Link) → place < length rows → link_hash link ≡ get_or (hashes_in index) place None
+        → link.mark ≢ hash → test (get_or rows place d) ≡ false
+    walk-marked place d link small read differs =
+        false_from_ne_true (test (get_or rows place d)) (λ passes. differs (hash-mark link hash (read ∙ its-hash place d small passes)))
+
+    walk-last : (end after : ℕ) → end ≤ length rows → IsLast (buckets_in index) bucket end after
         → ((place : ℕ) (d : Option FilterRow) → end ≤ place → place < length rows → test (get_or rows place d) ≡ false)
         → IsWalked after
     walk-last end after small is passed = record {
-      within = omega (arith, is.within);
+      within = omega (arith, is.within, small);
       own = is.own;
-      passed = passed-last test (slot_bucket index.start key (length index.heads.items)) rows bucket end after in_bucket small is passed;
+      passed = passed-last test (buckets_in index) rows bucket end after in_bucket is passed;
     }
 
     -- where the chain begins
     pub walk-start : (after : ℕ) → after ≡ get_or index.heads.items bucket 0 → IsWalked after
     walk-start after is_after =
-        walk-last (length (buckets_of index.start key (length index.heads.items) rows)) after (omega (arith, number))
-        (subst (λ (last : ℕ). IsLast (buckets_of index.start key (length index.heads.items) rows) bucket (length (buckets_of index.start key (length index.heads.items) rows)) last) (sym is_after)
-        (chained.head bucket known))
-        (λ place d behind below. absurd (omega (arith, number, behind, below)))
+        walk-last (length (buckets_in index)) after (omega (arith, number))
+        (subst (λ (last : ℕ). IsLast (buckets_in index) bucket (length (buckets_in index)) last) (sym is_after) (indexed.tidy.head bucket below))
+        (λ place d behind small. absurd (omega (arith, number, behind, small)))
 
-    pub walk-less : (after place next : ℕ) → after ≡ place + 1 → next ≡ get_or index.links.items place 0 → IsWalked after → next < after
+    pub walk-less : (after place next : ℕ) → after ≡ place + 1 → next ≡ get_or (befores index) place 0 → IsWalked after → next < after
     walk-less after place next is_after is_next walked =
-        let below : place < length rows = omega (arith, walked.within, is_after) in
-        let its : get_or (buckets_of index.start key (length index.heads.items) rows) place 0 ≡ bucket = walked.own place is_after in
-        let last = chained.link place (omega (arith, below, number)) (omega (arith, its, known)) in
+        let small : place < length rows = omega (arith, walked.within, is_after) in
+        let is : get_or (buckets_in index) place 0 ≡ bucket = walked.own place is_after in
+        let last = indexed.tidy.link place (omega (arith, small, number)) (omega (arith, is, below)) in
         omega (arith, last.within, is_next, is_after)
 
     -- and where it goes on
-    pub walk-next : (after place next : ℕ) (slot : Option FilterRow) → after ≡ place + 1 → next ≡ get_or index.links.items place 0
-        → slot ≡ get_or rows place slot → test slot ≡ false → IsWalked after → IsWalked next
-    walk-next after place next slot is_after is_next read fails walked =
-        let below : place < length rows = omega (arith, walked.within, is_after) in
-        let its : get_or (buckets_of index.start key (length index.heads.items) rows) place 0 ≡ bucket = walked.own place is_after in
-        walk-last place next (omega (arith, below))
-        (subst (λ (q : ℕ × ℕ). IsLast (buckets_of index.start key (length index.heads.items) rows) q.0 place q.1) (λ i. (its i, sym is_next i))
-        (chained.link place (omega (arith, below, number)) (omega (arith, its, known))))
-        (passed-more test rows after place slot is_after read below fails walked.passed)
+    pub walk-next : (after place next : ℕ) → after ≡ place + 1 → next ≡ get_or (befores index) place 0
+        → ((d : Option FilterRow) → test (get_or rows place d) ≡ false) → IsWalked after → IsWalked next
+    walk-next after place next is_after is_next fails walked =
+        let small : place < length rows = omega (arith, walked.within, is_after) in
+        let is : get_or (buckets_in index) place 0 ≡ bucket = walked.own place is_after in
+        walk-last place next (omega (arith, small))
+        (subst (λ (q : ℕ × ℕ). IsLast (buckets_in index) q.0 place q.1) (λ i. (is i, sym is_next i))
+        (indexed.tidy.link place (omega (arith, small, number)) (omega (arith, is, below))))
+        (passed-more test rows after place is_after fails walked.passed)
 
--- a filter is taken
-pub slots-taken : (s after : Slots) (place : ℕ) (row : FilterRow) → IsSlots s → get_or s.rows.items place None ≡ Some row
-    → after.rows.items ≡ set s.rows.items place None
-    → IsIndexed ClientAndAgent (set s.rows.items place None) after.pairs → IsIndexed ByClient (set s.rows.items place None) after.clients
-    → after.live ≡ s.live - 1 → IsSlots after
-slots-taken s after place row slots here rows pairs clients less =
-    let one = set-one s.rows.items place row here in
-    record {
-      pairs = subst (λ (fs : List (Option FilterRow)). IsIndexed ClientAndAgent fs after.pairs) (sym rows) pairs;
-      clients = subst (λ (fs : List (Option FilterRow)). IsIndexed ByClient fs after.clients) (sym rows) clients;
-      live = omega (arith, less, slots.live, one, ap (λ (fs : List (Option FilterRow)). length (filled fs)) rows);
-    }
+-- what is at a place is taken
+pub slots-taken : (s after : Slots) (place : ℕ) → IsSlots s → place < length s.rows.items → after.rows.items ≡ set s.rows.items place None
+    → IsTidy after.pairs → IsSameBut place s.pairs after.pairs → IsTidy after.clients → IsSameBut place s.clients after.clients
+    → after.live ≡ length (filled (set s.rows.items place None)) → IsSlots after
+slots-taken s after place slots small rows pairs same_pairs clients same_clients live = record {
+  pairs = subst (λ (fs : List (Option FilterRow)). IsIndexed ClientAndAgent fs after.pairs) (sym rows)
+      (indexed-without ClientAndAgent s.rows.items s.pairs after.pairs place slots.pairs pairs same_pairs small);
+  clients = subst (λ (fs : List (Option FilterRow)). IsIndexed ByClient fs after.clients) (sym rows)
+      (indexed-without ByClient s.rows.items s.clients after.clients place slots.clients clients same_clients small);
+  live = live ∙ ap (λ (fs : List (Option FilterRow)). length (filled fs)) (sym rows);
+}
 
 pub held_by : (p : FilterRow → Bool) (slots : List (Option FilterRow)) (place : ℕ) (slot : Option FilterRow) → place < length slots → slot ≡ get_or slots place slot
     → slot_passes p slot ≡ true → list_any p (filled slots) ≡ true
@@ -239,15 +486,24 @@ pub held_by_none : (p : FilterRow → Bool) (slots : List (Option FilterRow))
     → ((place : ℕ) (d : Option FilterRow) → 0 ≤ place → place < length slots → slot_passes p (get_or slots place d) ≡ false) → list_any p (filled slots) ≡ false
 held_by_none p slots none = sym (any-filled p slots) ∙ list_any_none (slot_passes p) slots (λ k d below. none k d (omega arith) below)
 
+client-slot : (index : Index) (rows : List (Option FilterRow)) (client : Client) (q : ℕ) (s : Option FilterRow) → IsIndexed ByClient rows index
+    → get_or rows q None ≡ s → slot_passes (is_of_client client) s ≡ true → get_or (hashes_in index) q None ≡ Some (client_hash index.start client.role client.framework)
+client-slot index rows client q None indexed here passes = cc
+client-slot index rows client q (Some f) indexed here passes = indexed.found q f here ∙ of_client_hash index.start client (Some f) passes
+
+client-found : (index : Index) (rows : List (Option FilterRow)) (client : Client) → IsIndexed ByClient rows index → (q : ℕ) (d : Option FilterRow) → q < length rows
+    → slot_passes (is_of_client client) (get_or rows q d) ≡ true → get_or (hashes_in index) q None ≡ Some (client_hash index.start client.role client.framework)
+client-found index rows client indexed q d below passes =
+    client-slot index rows client q (get_or rows q d) indexed (get_or_default rows q None d below) passes
+
 -- a walk along the chain of a client, whose filters are taken
 module _ (client : Client) (s t : Slots) (place next : ℕ) (slots : IsSlots s) (small : place < length s.rows.items)
-    (is_rows : t.rows.items ≡ without_one (is_of_client client) s.rows.items place)
-    (is_heads : length t.clients.heads.items ≡ length s.clients.heads.items) (is_start : t.clients.start ≡ s.clients.start) where
-  abbrev n : ℕ
-  n = length s.clients.heads.items
+    (is_rows : t.rows.items ≡ without_one (is_of_client client) s.rows.items place) (same : IsSameBut place s.clients t.clients) where
+  abbrev its_hash : ℕ
+  its_hash = client_hash s.clients.start client.role client.framework
 
-  abbrev bucket : ℕ
-  bucket = client_hash s.clients.start client.role client.framework % n
+  abbrev its_bucket : ℕ
+  its_bucket = its_hash % length s.clients.heads.items
 
   elsewhere : (q : ℕ) (d : Option FilterRow) → q ≢ place → get_or t.rows.items q d ≡ get_or s.rows.items q d
   elsewhere q d apart =
@@ -256,29 +512,32 @@ module _ (client : Client) (s t : Slots) (place next : ℕ) (slots : IsSlots s) 
   long : length t.rows.items ≡ length s.rows.items
   long = ap length is_rows ∙ without-length (is_of_client client) s.rows.items place small
 
-  own-elsewhere : (q : ℕ) → q ≢ place → q < length s.rows.items
-      → get_or (buckets_of t.clients.start ByClient (length t.clients.heads.items) t.rows.items) q 0 ≡ get_or (buckets_of s.clients.start ByClient n s.rows.items) q 0
+  own-elsewhere : (q : ℕ) → q ≢ place → q < length s.rows.items → get_or (buckets_in t.clients) q 0 ≡ get_or (buckets_in s.clients) q 0
   own-elsewhere q apart below =
-      (λ i. get_or (buckets_of (is_start i) ByClient (is_heads i) t.rows.items) q 0)
-      ∙ get_or-map (slot_bucket s.clients.start ByClient n) t.rows.items q None 0 (omega (arith, below, long))
-      ∙ ap (λ (slot : Option FilterRow). slot_bucket s.clients.start ByClient n slot) (elsewhere q None apart)
-      ∙ sym (get_or-map (slot_bucket s.clients.start ByClient n) s.rows.items q None 0 below)
+      bucket-at t.clients q (omega (arith, below, slots.clients.number, same.number))
+      ∙ (λ i. bucket_of (same.heads i) (same.others q apart i))
+      ∙ sym (bucket-at s.clients q (omega (arith, below, slots.clients.number)))
 
-  pub walk-taken : bucket < n → next ≡ get_or s.clients.links.items place 0
-      → IsWalked ByClient s.rows.items s.clients (slot_passes (is_of_client client)) bucket (place + 1)
-      → IsWalked ByClient t.rows.items t.clients (slot_passes (is_of_client client)) (client_hash t.clients.start client.role client.framework % length t.clients.heads.items) next
+  pub walk-taken : 0 < length s.clients.heads.items → next ≡ get_or (befores s.clients) place 0
+      → IsWalked s.rows.items s.clients (slot_passes (is_of_client client)) its_hash (place + 1)
+      → IsWalked t.rows.items t.clients (slot_passes (is_of_client client)) (client_hash t.clients.start client.role client.framework) next
   walk-taken known is_next walked =
-      let number : length (buckets_of s.clients.start ByClient n s.rows.items) ≡ length s.rows.items = length-map s.rows.items (slot_bucket s.clients.start ByClient n) in
-      let its : get_or (buckets_of s.clients.start ByClient n s.rows.items) place 0 ≡ bucket = walked.own place refl in
-      let last : IsLast (buckets_of s.clients.start ByClient n s.rows.items) bucket place next =
-      subst (λ (q : ℕ × ℕ). IsLast (buckets_of s.clients.start ByClient n s.rows.items) q.0 place q.1) (λ i. (its i, sym is_next i))
-      (slots.clients.chained.link place (omega (arith, small, number)) (omega (arith, its, known)))
+      let number : length (buckets_in s.clients) ≡ length s.rows.items = buckets-long s.clients ∙ slots.clients.number in
+      let its : get_or (buckets_in s.clients) place 0 ≡ its_bucket = walked.own place refl in
+      let last : IsLast (buckets_in s.clients) its_bucket place next =
+      subst (λ (q : ℕ × ℕ). IsLast (buckets_in s.clients) q.0 place q.1) (λ i. (its i, sym is_next i))
+      (slots.clients.tidy.link place (omega (arith, small, number)) (omega (arith, its, mod-lt its_hash known)))
+      in
+      let own_bucket : (q : ℕ) (d : Option FilterRow) → q < length s.rows.items → slot_passes (is_of_client client) (get_or s.rows.items q d) ≡ true
+      → get_or (buckets_in s.clients) q 0 ≡ its_bucket = λ q d below passes.
+      bucket-at s.clients q (omega (arith, below, slots.clients.number))
+      ∙ ap (λ (h : Option ℕ). bucket_of (length s.clients.heads.items) h) (client-found s.clients s.rows.items client slots.clients q d below passes)
       in
       record {
         within = omega (arith, last.within, small, long);
         own = λ q at.
             own-elsewhere q (λ e. absurd (omega (arith, at, e, last.within))) (omega (arith, at, last.within, small)) ∙ last.own q at
-            ∙ (λ i. client_hash (sym is_start i) client.role client.framework % sym is_heads i);
+            ∙ (λ i. client_hash (sym same.start i) client.role client.framework % sym same.heads i);
         passed = λ q d after below. elim (cases_eq q place) [
           | inl here ↦
               ap (λ (k : ℕ). slot_passes (is_of_client client) (get_or t.rows.items k d)) here
@@ -288,12 +547,55 @@ module _ (client : Client) (s t : Slots) (place next : ℕ) (slots : IsSlots s) 
               ap (λ (slot : Option FilterRow). slot_passes (is_of_client client) slot) (elsewhere q d apart)
               ∙ elim (cases_lt q place) [
                 | inl early ↦ false_from_ne_true (slot_passes (is_of_client client) (get_or s.rows.items q d))
-                    (λ passes. last.none_after q after early
-                    (get_or-map (slot_bucket s.clients.start ByClient n) s.rows.items q d 0 (omega (arith, below, long)) ∙ of_client_in_bucket s.clients.start n client (get_or s.rows.items q d) passes))
+                    (λ passes. last.none_after q after early (own_bucket q d (omega (arith, below, long)) passes))
                 | inr late ↦ walked.passed q d (omega (arith, late, apart)) (omega (arith, below, long))
               ]
         ];
       }
+
+-- ---- a walk over all slots, of which those that pass are taken
+
+pub record IsSwept (p : FilterRow → Bool) (s t : Slots) (place : ℕ) : Type 0 where
+  pub slots : IsSlots t
+  pub within : place ≤ length t.rows.items
+  pub others : filter (λ f. not (p f)) (filters_in t) ≡ filter (λ f. not (p f)) (filters_in s)
+  pub passed : (q : ℕ) (d : Option FilterRow) → place ≤ q → q < length t.rows.items → slot_passes p (get_or t.rows.items q d) ≡ false
+
+pub swept-start : (p : FilterRow → Bool) (s : Slots) (place : ℕ) → IsSlots s → place ≡ length s.rows.items → IsSwept p s s place
+swept-start p s place slots is = record { slots = slots; within = omega (arith, is); others = refl; passed = λ q d after below. absurd (omega (arith, is, after, below)) }
+
+pub swept-more : (p : FilterRow → Bool) (s t u : Slots) (before place : ℕ) (slot : Option FilterRow) (leaves : Bool) → before ≡ place + 1 → IsSwept p s t before
+    → slot ≡ get_or t.rows.items place slot → leaves ≡ slot_passes p slot
+    → u.rows.items ≡ (if leaves then set t.rows.items place None else t.rows.items) → IsSlots u → IsSwept p s u place
+swept-more p s t u before place slot leaves at swept read is is_rows slots =
+    let small : place < length t.rows.items = omega (arith, at, swept.within) in
+    let rows : u.rows.items ≡ without_one p t.rows.items place = without-if p t.rows.items u.rows.items place slot leaves small read is is_rows in
+    let long : length u.rows.items ≡ length t.rows.items = ap length rows ∙ without-length p t.rows.items place small in
+    record {
+      slots = slots;
+      within = omega (arith, long, small);
+      others = ap (λ (ss : List (Option FilterRow)). filter (λ f. not (p f)) (filled ss)) rows ∙ without-others p t.rows.items place small ∙ swept.others;
+      passed = λ q d after below. elim (cases_eq q place) [
+        | inl here ↦
+            ap (λ (k : ℕ). slot_passes p (get_or u.rows.items k d)) here
+            ∙ ap (λ (ss : List (Option FilterRow)). slot_passes p (get_or ss place d)) rows ∙ without-here p t.rows.items place small d
+        | inr apart ↦
+            ap (λ (slot : Option FilterRow). slot_passes p slot)
+            (ap (λ (ss : List (Option FilterRow)). get_or ss q d) rows ∙ without-other p t.rows.items place small q d apart)
+            ∙ swept.passed q d (omega (arith, at, after, apart)) (omega (arith, below, long))
+      ];
+    }
+
+pub swept-all : (p : FilterRow → Bool) (s t : Slots) (place : ℕ) → place ≡ 0 → IsSwept p s t place → filters_in t ≡ filter (λ f. not (p f)) (filters_in s)
+swept-all p s t place none swept =
+    sym (no_slot p t.rows.items (λ q d below. swept.passed q d (omega (arith, none)) below)) ∙ swept.others
+
+pub not_not : (p : FilterRow → Bool) (xs : List FilterRow) → filter (λ f. not (not (p f))) xs ≡ filter p xs
+not_not p [] = refl
+not_not p (x ∷ xs) = elim (cases_Bool (p x)) [
+  | inl holds ↦ rw holds (ap (λ (ys : List FilterRow). x ∷ ys) (not_not p xs))
+  | inr fails ↦ rw fails (not_not p xs)
+]
 
 -- ---- what is left of slots
 
@@ -309,10 +611,6 @@ closed-of s t xs is less same_pairs same_clients slots = record {
       (subst (λ (i : Index). IsIndexed ByClient s.rows.items i) (sym same_clients) slots.clients);
   closed = is ∙ ap (λ (ys : List FilterRow). map Some ys) (sym (ap (λ (ys : List (Option FilterRow)). filled ys) is ∙ filled-all xs));
 }
-
-pub closed-filter : (p : FilterRow → Bool) (s t : Slots) → t.rows.items ≡ map Some (filter p (filters_in s)) → t.pairs ≡ s.pairs → t.clients ≡ s.clients
-    → IsSlots s → IsClosed t
-closed-filter p s t is = closed-of s t (filter p (filters_in s)) is (filter-less p s.rows.items t.rows.items is)
 
 pub closed-take : (n : ℕ) (s t : Slots) → t.rows.items ≡ map Some (take n (filters_in s)) → t.pairs ≡ s.pairs → t.clients ≡ s.clients
     → IsSlots s → IsClosed t
@@ -338,15 +636,34 @@ table-take n s after soonest is slots table = record {
   none_before = subst (λ (fs : List FilterRow). NoneEndsBefore soonest fs) (sym is) (All-take (λ f. soonest ≤ f.until) n (filters_in s) table.none_before);
 }
 
-pub indexed-push : (key : Key) (rows shown more : List (Option FilterRow)) (row : FilterRow) (index after : Index)
-    → shown ≡ rows → more ≡ rows ++ Some row ∷ [] → IsIndexed key shown index → HasRoom shown index
-    → ((fs : List (Option FilterRow)) → IsChainedBy key fs index → IsChainedBy key (fs ++ Some row ∷ []) after)
-    → length after.heads.items ≡ length index.heads.items → IsIndexed key more after
-indexed-push key rows shown more row index after is_shown is_more indexed room pushed same =
+pub indexed-push : (key : Key) (rows more : List (Option FilterRow)) (row : FilterRow) (index after : Index) → more ≡ rows ++ Some row ∷ []
+    → IsIndexed key rows index → HasRoom index → IsTidy after → hashes_in after ≡ hashes_in index ++ Some (row_hash index.start key row) ∷ []
+    → length after.heads.items ≡ length index.heads.items → after.start ≡ index.start → IsIndexed key more after
+indexed-push key rows more row index after is_more indexed room tidy hashes same begins =
     let longer : length (rows ++ Some row ∷ []) ≡ length rows + 1 = length-append rows (Some row ∷ []) in
+    let hashes_long : length (hashes_in index) ≡ length rows = length-map index.links.items link_hash ∙ indexed.number in
     let all : IsIndexed key (rows ++ Some row ∷ []) after = record {
-      chained = subst (λ (fs : List (Option FilterRow)). IsChainedBy key (fs ++ Some row ∷ []) after) is_shown (pushed shown indexed.chained);
-      enough = omega (arith, longer, same, room.heads, ap length is_shown);
+      tidy = tidy;
+      number = sym (length-map after.links.items link_hash) ∙ ap length hashes ∙ length-append (hashes_in index) (Some (row_hash index.start key row) ∷ [])
+          ∙ ap (λ (k : ℕ). k + 1) hashes_long ∙ sym longer;
+      found = λ q f here. elim (cases_lt q (length rows)) [
+        | inl early ↦
+            ap (λ (hs : List (Option ℕ)). get_or hs q None) hashes
+            ∙ get_or_append_left (hashes_in index) (Some (row_hash index.start key row) ∷ []) None q (omega (arith, early, hashes_long))
+            ∙ indexed.found q f (sym (get_or_append_left rows (Some row ∷ []) None q early) ∙ here)
+            ∙ ap (λ (s : FoldHasher). Some (row_hash s key f)) (sym begins)
+        | inr late ↦
+            let at : length rows ≡ q = omega (arith, late, place-below (rows ++ Some row ∷ []) q f here, longer) in
+            let its : Some row ≡ Some f =
+            sym (get_or-append_seam rows (Some row) [] None) ∙ ap (λ (k : ℕ). get_or (rows ++ Some row ∷ []) k None) at ∙ here
+            in
+            ap (λ (hs : List (Option ℕ)). get_or hs q None) hashes
+            ∙ ap (λ (k : ℕ). get_or (hashes_in index ++ Some (row_hash index.start key row) ∷ []) k None) (sym at ∙ sym hashes_long)
+            ∙ get_or-append_seam (hashes_in index) (Some (row_hash index.start key row)) [] None
+            ∙ found-slot index.start key (Some row) f its
+            ∙ ap (λ (s : FoldHasher). Some (row_hash s key f)) (sym begins)
+      ];
+      enough = omega (arith, longer, same, room.heads, indexed.number);
     } in
     subst (λ (fs : List (Option FilterRow)). IsIndexed key fs after) (sym is_more) all
 

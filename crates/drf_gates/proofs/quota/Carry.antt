@@ -1,13 +1,15 @@
 -- The totals of the fronts of a role, one front after another, when the role consumes something else.
 use Rattle.std.proofs.Common.{◌≡◌, ℕ, ◌+◌, ◌<◌, ◌≤◌, Bool, true, false, ◌&&◌, cond, nat_lt, List, [], ◌∷◌, length, take, None, Some, refl, sym, ap, subst, ◌∙◌, inl, inr, arith, length-take-le, true≢false}
-use Rattle.std.specs.Prelude.{IsTrue}
+use Rattle.std.specs.Prelude.{IsTrue, All}
 use Rattle.std.specs.List.{AllByRecursion, IsDistinct}
 use Rattle.std.specs.Map.{keys_of, lookup, remove_entry, set_value}
 use Rattle.std.proofs.lemmas.Bool.{cases_Bool}
 use Rattle.std.proofs.lemmas.Bool.Decides.{nat_tests}
 use Rattle.std.proofs.lemmas.List.Elements.{All-cons, All-head, All-nil, All-tail, All-weaker}
+use Rattle.std.proofs.lemmas.List.Sorted.{All-permutation}
+use Rattle.std.proofs.lemmas.Map.{length-set_value}
 use Rattle.std.proofs.lemmas.Map.Keys.{IsDistinct-head, IsDistinct-tail}
-use Rattle.indexmap.specs.IndexMap.{insert_entry}
+use Rattle.indexmap.specs.IndexMap.{insert_entry, swap_remove_entry}
 use Rattle.drf_role.specs.Text.{Text}
 use Rattle.drf_role.specs.Path.{Path, same_path}
 use Rattle.drf_role.specs.PathLaws.{same_path-true}
@@ -19,6 +21,7 @@ use Rattle.drf_gates.specs.quota.Totals.{AreCarried, AreExact, IsExact, is_front
 use Rattle.drf_gates.specs.declared.quota.totals.Total.{Total}
 use Rattle.drf_gates.proofs.quota.Leave.{front_few, front_there, front_within}
 use Rattle.drf_gates.proofs.quota.Gone.{no_role}
+use Rattle.drf_gates.proofs.quota.Swapped.{swapped}
 
 -- ---- which roles are fronts
 
@@ -52,6 +55,9 @@ front_past role outer n other = elim (cases_Bool (is_within outer role)) [
       ∙ sym (ap (λ (b : Bool). nat_lt (length outer) (n + 1) && b) past ∙ and_none (nat_lt (length outer) (n + 1)))
 ]
 
+abbrev Exact : List Usage → Path × Total → Type 0
+Exact used e = IsExact used e.0 e.1
+
 module _ (old new : List Usage) (role : Path) where
   abbrev At : ℕ → Path × Total → Type 0
   At n e = IsExact (cond (is_front_before role n e.0) new old) e.0 e.1
@@ -61,13 +67,13 @@ module _ (old new : List Usage) (role : Path) where
 
   -- where no total is that of the front
   carried_past : (n : ℕ) (totals : List (Path × Total)) → AllByRecursion (λ y. same_path (take n role) y ≡ false) (keys_of totals)
-      → AreCarried old new role n totals → AreCarried old new role (n + 1) totals
+      → All (At n) totals → All (At (n + 1)) totals
   carried_past n [] none all = All-nil (At (n + 1))
   carried_past n (e ∷ es) none all =
       All-cons (At (n + 1)) e es (one_past n e none.0 (All-head (At n) e es all)) (carried_past n es none.1 (All-tail (At n) e es all))
 
   carried_none : (n : ℕ) (totals : List (Path × Total)) → lookup (same_path (take n role)) totals ≡ None
-      → AreCarried old new role n totals → AreCarried old new role (n + 1) totals
+      → All (At n) totals → All (At (n + 1)) totals
   carried_none n [] none all = All-nil (At (n + 1))
   carried_none n (e ∷ es) none all = elim (cases_Bool (same_path (take n role) e.0)) [
     | inl here ↦ absurd (let bad = rw here at none in cc)
@@ -79,7 +85,7 @@ module _ (old new : List Usage) (role : Path) where
   carried_found : (n : ℕ) → n ≤ length role → (totals : List (Path × Total)) → IsDistinct same_path (keys_of totals) → (t u : Total)
       → lookup (same_path (take n role)) totals ≡ Some t
       → ((outer : Path) → is_within outer role ≡ true → IsExact old outer t → IsExact new outer u)
-      → AreCarried old new role n totals → AreCarried old new role (n + 1) (set_value (same_path (take n role)) totals u)
+      → All (At n) totals → All (At (n + 1)) (set_value (same_path (take n role)) totals u)
   carried_found n few [] apart t u found step all = cc
   carried_found n few (e ∷ es) apart t u found step all = elim (cases_Bool (same_path (take n role) e.0)) [
     | inl here ↦
@@ -101,15 +107,20 @@ module _ (old new : List Usage) (role : Path) where
 
   pub carried_unkept : (n : ℕ) (p : Path) → p ≡ take n role → (totals : List (Path × Total)) → lookup (same_path p) totals ≡ None
       → AreCarried old new role n totals → AreCarried old new role (n + 1) totals
-  carried_unkept n p is totals none = carried_none n totals (ap (λ (q : Path). lookup (same_path q) totals) (sym is) ∙ none)
+  carried_unkept n p is totals none kept = record {
+    few = kept.few;
+    exact = carried_none n totals (ap (λ (q : Path). lookup (same_path q) totals) (sym is) ∙ none) kept.exact;
+  }
 
   pub carried_written : (n : ℕ) → n ≤ length role → (p : Path) → p ≡ take n role → (totals : List (Path × Total)) → IsDistinct same_path (keys_of totals)
       → (t u : Total) → lookup (same_path p) totals ≡ Some t
       → ((outer : Path) → is_within outer role ≡ true → IsExact old outer t → IsExact new outer u)
       → AreCarried old new role n totals → AreCarried old new role (n + 1) (set_value (same_path p) totals u)
-  carried_written n few p is totals apart t u found step all =
-      subst (λ (q : Path). AreCarried old new role (n + 1) (set_value (same_path q) totals u)) (sym is)
-      (carried_found n few totals apart t u (ap (λ (q : Path). lookup (same_path q) totals) (sym is) ∙ found) step all)
+  carried_written n few p is totals apart t u found step kept = record {
+    few = omega (arith, length-set_value (same_path p) totals u, kept.few);
+    exact = subst (λ (q : Path). All (At (n + 1)) (set_value (same_path q) totals u)) (sym is)
+        (carried_found n few totals apart t u (ap (λ (q : Path). lookup (same_path q) totals) (sym is) ∙ found) step kept.exact);
+  }
 
   -- ---- all fronts
 
@@ -121,22 +132,28 @@ module _ (old new : List Usage) (role : Path) where
       subst (λ (b : Bool). IsExact (cond b new old) (part ∷ parts) t) (sym (ap (λ (b : Bool). b && is_within (part ∷ parts) role) none)) its
 
   pub carried_start : (totals : List (Path × Total)) → AreExact old totals → AreCarried old new role 1 totals
-  carried_start totals = All-weaker (λ (e : Path × Total). IsExact old e.0 e.1) (At 1) (λ e its. start_one e.0 e.1 its) totals
+  carried_start totals kept = record {
+    few = kept.few;
+    exact = All-weaker (Exact old) (At 1) (λ e its. start_one e.0 e.1 its) totals kept.exact;
+  }
 
   pub carried_end : (n : ℕ) → length role < n → (totals : List (Path × Total))
       → ((outer : Path) → is_within outer role ≡ false → (label : Text) → used_at new outer label ≡ used_at old outer label)
       → AreCarried old new role n totals → AreExact new totals
-  carried_end n all totals same = All-weaker (At n) (λ (e : Path × Total). IsExact new e.0 e.1) (λ e its. elim (cases_Bool (is_within e.0 role)) [
-    | inl within ↦
-        let few = front_few e.0 role within in
-        let below : nat_lt (length e.0) n ≡ true = grind (arith, nat_tests) in
-        let is : is_front_before role n e.0 ≡ true = (λ i. below i && within i) in
-        subst (λ (b : Bool). IsExact (cond b new old) e.0 e.1) is its
-    | inr past ↦
-        let is : is_front_before role n e.0 ≡ false = ap (λ (b : Bool). nat_lt (length e.0) n && b) past ∙ and_none (nat_lt (length e.0) n) in
-        let was = subst (λ (b : Bool). IsExact (cond b new old) e.0 e.1) is its in
-        record { known = λ known right label. was.known known right label ∙ sym (same e.0 past label) }
-  ]) totals
+  carried_end n all totals same kept = record {
+    few = kept.few;
+    exact = All-weaker (At n) (Exact new) (λ e its. elim (cases_Bool (is_within e.0 role)) [
+      | inl within ↦
+          let few = front_few e.0 role within in
+          let below : nat_lt (length e.0) n ≡ true = grind (arith, nat_tests) in
+          let is : is_front_before role n e.0 ≡ true = (λ i. below i && within i) in
+          subst (λ (b : Bool). IsExact (cond b new old) e.0 e.1) is its
+      | inr past ↦
+          let is : is_front_before role n e.0 ≡ false = ap (λ (b : Bool). nat_lt (length e.0) n && b) past ∙ and_none (nat_lt (length e.0) n) in
+          let was = subst (λ (b : Bool). IsExact (cond b new old) e.0 e.1) is its in
+          record { known = λ known right label. was.known known right label ∙ sym (same e.0 past label) }
+    ]) totals kept.exact;
+  }
 
 -- ---- a role that consumes more, or less
 
@@ -165,23 +182,32 @@ module _ (old new : List Usage) (role : Path) (amounts : List Entry) (raised : A
 
 -- ---- totals that come and go
 
-pub exact_put : (used : List Usage) (role : Path) (t : Total) (totals : List (Path × Total)) → IsExact used role t → AreExact used totals
-    → AreExact used (insert_entry same_path totals role t)
-exact_put used role t [] its all = All-cons (λ (e : Path × Total). IsExact used e.0 e.1) (role, t) [] its (All-nil (λ (e : Path × Total). IsExact used e.0 e.1))
-exact_put used role t (e ∷ es) its all = elim (cases_Bool (same_path role e.0)) [
-  | inl here ↦
-      rw here (All-cons (λ (x : Path × Total). IsExact used x.0 x.1) (e.0, t) es (subst (λ (r : Path). IsExact used r t) (same_path-true role e.0 here) its)
-      (All-tail (λ (x : Path × Total). IsExact used x.0 x.1) e es all))
-  | inr other ↦
-      rw other (All-cons (λ (x : Path × Total). IsExact used x.0 x.1) e (insert_entry same_path es role t) (All-head (λ (x : Path × Total). IsExact used x.0 x.1) e es all)
-      (exact_put used role t es its (All-tail (λ (x : Path × Total). IsExact used x.0 x.1) e es all)))
-]
+module _ (used : List Usage) where
+  pub exact_put : (role : Path) (t : Total) (totals : List (Path × Total)) → IsExact used role t → All (Exact used) totals
+      → All (Exact used) (insert_entry same_path totals role t)
+  exact_put role t [] its all = All-cons (Exact used) (role, t) [] its (All-nil (Exact used))
+  exact_put role t (e ∷ es) its all = elim (cases_Bool (same_path role e.0)) [
+    | inl here ↦
+        rw here (All-cons (Exact used) (e.0, t) es (subst (λ (r : Path). IsExact used r t) (same_path-true role e.0 here) its) (All-tail (Exact used) e es all))
+    | inr other ↦
+        rw other (All-cons (Exact used) e (insert_entry same_path es role t) (All-head (Exact used) e es all)
+        (exact_put role t es its (All-tail (Exact used) e es all)))
+  ]
 
-pub exact_without : (used : List Usage) (test : Path → Bool) (totals : List (Path × Total)) → AreExact used totals → AreExact used (remove_entry test totals)
-exact_without used test [] all = all
-exact_without used test (e ∷ es) all = elim (cases_Bool (test e.0)) [
-  | inl here ↦ rw here (All-tail (λ (x : Path × Total). IsExact used x.0 x.1) e es all)
-  | inr other ↦
-      rw other (All-cons (λ (x : Path × Total). IsExact used x.0 x.1) e (remove_entry test es) (All-head (λ (x : Path × Total). IsExact used x.0 x.1) e es all)
-      (exact_without used test es (All-tail (λ (x : Path × Total). IsExact used x.0 x.1) e es all)))
-]
+  exact_without : (test : Path → Bool) (totals : List (Path × Total)) → All (Exact used) totals → All (Exact used) (remove_entry test totals)
+  exact_without test [] all = all
+  exact_without test (e ∷ es) all = elim (cases_Bool (test e.0)) [
+    | inl here ↦ rw here (All-tail (Exact used) e es all)
+    | inr other ↦
+        rw other (All-cons (Exact used) e (remove_entry test es) (All-head (Exact used) e es all)
+        (exact_without test es (All-tail (Exact used) e es all)))
+  ]
+
+  -- no more are kept than stood there, and the last may be in the place of one that goes
+  pub exact_dropped : (test : Path → Bool) (totals new : List (Path × Total)) → new ≡ swap_remove_entry test totals → length new ≤ length totals
+      → AreExact used totals → AreExact used new
+  exact_dropped test totals new is fewer kept = record {
+    few = omega (arith, fewer, kept.few);
+    exact = subst (All (Exact used)) (sym is)
+        (All-permutation (Exact used) _ _ (swapped test totals) (exact_without test totals kept.exact));
+  }

@@ -1,18 +1,20 @@
 -- Rows that are for something, after a change of one.
-use Rattle.std.specs.Prelude.{◌≡◌, ℕ, ◌+◌, ◌<◌, nat_lt, Bool, true, false, ◌||◌, List, [], ◌∷◌, All, IfSome, IsTrue, Option, Some}
+use Rattle.std.specs.Prelude.{◌≡◌, ℕ, ◌+◌, nat_lt, Bool, true, false, ◌||◌, List, [], ◌∷◌, IfSome, IsTrue, Option, Some}
 use Rattle.std.specs.List.{list_all, list_any}
 use Rattle.std.specs.Map.{lookup, remove_entry, set_value}
 use Rattle.std.proofs.Common.{refl, subst, inl, inr, cond, arith}
 use Rattle.std.proofs.lemmas.Bool.{and_parts, cases_Bool, ltb-false, ltb-true}
 use Rattle.std.proofs.lemmas.List.Elements.{All-cons, All-head, All-nil, All-tail}
+use Rattle.std.proofs.lemmas.List.Sorted.{All-permutation}
 use Rattle.std.proofs.lemmas.Map.Entries.{All-lookup}
-use Rattle.indexmap.specs.IndexMap.{insert_entry}
+use Rattle.indexmap.specs.IndexMap.{insert_entry, swap_remove_entry}
 use Rattle.drf_role.specs.Text.{Text, same_text}
 use Rattle.drf_role.specs.Path.{Path, same_path}
 use Rattle.drf_bundle.specs.Quantities.{amount_of, is_in_order}
 use Rattle.drf_bundle.specs.laws.QuantitiesLaws.{amount_head, stands_first}
 use Rattle.drf_bundle.specs.declared.quantities.Entry.{Entry}
-use Rattle.drf_gates.specs.quota.Allowance.{Usage, AreRaised, AreSome, IsSomething, counted, one_entry}
+use Rattle.drf_gates.specs.quota.Allowance.{Usage, AreSome, IsSomething, one_entry}
+use Rattle.drf_gates.proofs.quota.Swapped.{swapped}
 use Rattle.drf_gates.proofs.quota.Total.{first_amount}
 
 -- ---- amounts that are for something
@@ -79,13 +81,16 @@ some_set test (u ∷ us) row its all = elim (cases_Bool (test u.0)) [
   | inr other ↦ rw other (All-cons One u (set_value test us row) (All-head One u us all) (some_set test us row its (All-tail One u us all)))
 ]
 
--- a row that is set, and goes
-pub some_left : (test : Path → Bool) (us : List Usage) (row : List Entry) → AreSome us → AreSome (remove_entry test (set_value test us row))
-some_left test [] row all = All-nil One
-some_left test (u ∷ us) row all = elim (cases_Bool (test u.0)) [
+set_gone : (test : Path → Bool) (us : List Usage) (row : List Entry) → AreSome us → AreSome (remove_entry test (set_value test us row))
+set_gone test [] row all = All-nil One
+set_gone test (u ∷ us) row all = elim (cases_Bool (test u.0)) [
   | inl here ↦ rw (here, here) (All-tail One u us all)
-  | inr other ↦ rw (other, other) (All-cons One u (remove_entry test (set_value test us row)) (All-head One u us all) (some_left test us row (All-tail One u us all)))
+  | inr other ↦ rw (other, other) (All-cons One u (remove_entry test (set_value test us row)) (All-head One u us all) (set_gone test us row (All-tail One u us all)))
 ]
+
+-- a row that is set, and goes
+pub some_left : (test : Path → Bool) (us : List Usage) (row : List Entry) → AreSome us → AreSome (swap_remove_entry test (set_value test us row))
+some_left test us row all = All-permutation One _ _ (swapped test (set_value test us row)) (set_gone test us row all)
 
 pub some_put : (role : Path) (us : List Usage) (row : List Entry) → IsSomething row → AreSome us → AreSome (insert_entry same_path us role row)
 some_put role [] row its all = All-cons One (role, row) [] its all

@@ -1,5 +1,5 @@
 -- What is kept of the roles that have a limit, through each change of what roles consume.
-use Rattle.std.specs.Prelude.{◌≡◌, ℕ, ◌+◌, ◌<◌, Bool, true, false, List, [], ◌∷◌, IsTrue, length, drop, Some}
+use Rattle.std.specs.Prelude.{◌≡◌, ℕ, ◌+◌, ◌<◌, Bool, true, false, List, [], ◌∷◌, IsTrue, All, length, drop, Some}
 use Rattle.std.specs.Map.{lookup}
 use Rattle.std.proofs.Common.{refl, sym, ap, subst, ◌∙◌, inl, inr, cond, arith, get_or, set}
 use Rattle.std.proofs.lemmas.Bool.{and_parts, cases_Bool}
@@ -88,13 +88,15 @@ entry_added sum new e amount more set label =
 pub exact_alike : (one other : List Usage) (totals : List (Path × Total))
     → ((test : Path → Bool) (label : Text) → used_where test other label ≡ used_where test one label)
     → AreExact one totals → AreExact other totals
-exact_alike one other totals alike exact =
-    All-weaker (λ (e : Path × Total). IsExact one e.0 e.1) (λ (e : Path × Total). IsExact other e.0 e.1)
-    (λ e its. record { known = λ is right label. its.known is right label ∙ sym (alike (is_within e.0) label) }) totals exact
+exact_alike one other totals alike kept = record {
+  few = kept.few;
+  exact = All-weaker (λ (e : Path × Total). IsExact one e.0 e.1) (λ (e : Path × Total). IsExact other e.0 e.1)
+      (λ e its. record { known = λ is right label. its.known is right label ∙ sym (alike (is_within e.0) label) }) totals kept.exact;
+}
 
 -- what is kept for a role is what it consumes
 pub kept_is : (used : List Usage) (totals : List (Path × Total)) (role : Path) (t : Total) (label : Text)
-    → IsRole role → lookup (same_path role) totals ≡ Some t → IsTrue t.is_known → AreExact used totals
+    → IsRole role → lookup (same_path role) totals ≡ Some t → IsTrue t.is_known → All (λ e. IsExact used e.0 e.1) totals
     → amount_of t.amounts label ≡ used_at used role label
 kept_is used [] role t label right found known exact = cc
 kept_is used (e ∷ es) role t label right found known exact = elim (cases_Bool (same_path role e.0)) [

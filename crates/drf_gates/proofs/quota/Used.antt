@@ -6,11 +6,12 @@ use Rattle.std.specs.Option.{option_map_or}
 use Rattle.std.proofs.Common.{refl, sym, ap, subst, ◌∙◌, inl, inr, cond, arith}
 use Rattle.std.proofs.lemmas.Bool.{cases_Bool}
 use Rattle.std.proofs.lemmas.List.{append-nil}
+use Rattle.std.proofs.lemmas.List.Sorted.{sum_by-IsPermutation}
 use Rattle.std.proofs.lemmas.List.Sums.{sum_by-cons}
 use Rattle.std.proofs.lemmas.Map.Keys.{IsDistinct-head, IsDistinct-tail}
 use Rattle.std.proofs.lemmas.Slice.Eq.{starts_is}
 use Rattle.std.specs.Cmp.Lexicographic.{bytes_decides}
-use Rattle.indexmap.specs.IndexMap.{insert_entry}
+use Rattle.indexmap.specs.IndexMap.{insert_entry, swap_remove_entry}
 use Rattle.drf_role.specs.Text.{Text, same_text}
 use Rattle.drf_role.specs.TextLaws.{same_from_test}
 use Rattle.drf_role.specs.Path.{Path, same_path}
@@ -20,6 +21,7 @@ use Rattle.drf_bundle.specs.Quantities.{amount_of}
 use Rattle.drf_bundle.specs.declared.quantities.Entry.{Entry}
 use Rattle.drf_rows.specs.Quota.{is_within}
 use Rattle.drf_gates.specs.quota.Allowance.{Usage, AreRaised, IsBounded, counted, one_entry, used_where, used_by, used_at, row_of}
+use Rattle.drf_gates.proofs.quota.Swapped.{swapped}
 
 -- the first row, and the others
 used-cons : (test : Path → Bool) (u : Usage) (us : List Usage) (label : Text)
@@ -175,7 +177,7 @@ found_set (u ∷ us) role row left found = elim (cases_Bool (same_path role u.0)
 ]
 
 -- a row with nothing in it can go
-pub empty_leaves : (us : List Usage) (role : Path) → lookup (same_path role) us ≡ Some []
+empty_leaves : (us : List Usage) (role : Path) → lookup (same_path role) us ≡ Some []
     → (test : Path → Bool) (label : Text) → used_where test (remove_entry (same_path role) us) label ≡ used_where test us label
 empty_leaves [] role found = λ test label. refl
 empty_leaves (u ∷ us) role found = by (same_path role u.0) found (empty_leaves us role)
@@ -197,11 +199,13 @@ pub removed_lowers : (us : List Usage) (role : Path) (row left amounts : List En
     → lookup (same_path role) us ≡ Some row
     → ((label : Text) → amount_of left label + amount_of amounts label ≡ amount_of row label)
     → left ≡ []
-    → AreRaised (remove_entry (same_path role) (set_value (same_path role) us left)) us role amounts
+    → AreRaised (swap_remove_entry (same_path role) (set_value (same_path role) us left)) us role amounts
 removed_lowers us role row left amounts found is empty = λ test label.
     let mid : List Usage = set_value (same_path role) us left in
     let gone = empty_leaves mid role (found_set us role row left found ∙ ap (λ (q : List Entry). Some q) empty) test label in
-    omega (arith, gone, set_lowers us role row left amounts found is test label)
+    let moved : used_where test (swap_remove_entry (same_path role) mid) label ≡ used_where test (remove_entry (same_path role) mid) label =
+    sum_by-IsPermutation (λ (u : Usage). counted test u.0 u.1 label) _ _ (swapped (same_path role) mid) in
+    omega (arith, moved, gone, set_lowers us role row left amounts found is test label)
 
 -- nothing is taken from a role that consumes nothing
 pub none_lowers : (us : List Usage) (role : Path) (amounts : List Entry) → lookup (same_path role) us ≡ None

@@ -1,5 +1,6 @@
 -- Where the filters of a client, or of a client on an agent, stand among all.
-use Rattle.std.specs.Prelude.{◌≡◌, ℕ, ◌%◌, ◌<◌, ◌≤◌, List, Option, None, Some, length, map, slice_index_or, All, vec_capacity}
+use Rattle.std.specs.Prelude.{◌≡◌, ◌≢◌, ℕ, ◌+◌, ◌%◌, ◌<◌, ◌≤◌, ◌==◌, if◌then◌else◌, List, Option, None, Some, length, map, take, slice_index, slice_index_or, All, vec_capacity}
+use Rattle.std.specs.Option.{option_map}
 use Rattle.std.specs.Hash.FoldHasher as folding
 use Rattle.std.specs.declared.hash.FoldHasher.{FoldHasher}
 use Rattle.drf_role.specs.Text.{Text}
@@ -8,6 +9,7 @@ use Rattle.drf_role.specs.Path.{Path}
 use Rattle.drf_rows.specs.declared.rows.FilterRow.{FilterRow}
 use Rattle.drf_gates.specs.filters.Chains.{IsChained}
 use Rattle.drf_gates.specs.declared.filters.index.Index.{Index}
+use Rattle.drf_gates.specs.declared.filters.index.Link.{Link}
 use Rattle.drf_gates.specs.declared.filters.index.Key.{Key}
 use Rattle.drf_gates.specs.declared.filters.index.Key.TheVariants.{Client, ClientAndAgent}
 
@@ -27,28 +29,55 @@ abbrev pub row_hash : FoldHasher → Key → FilterRow → ℕ
 row_hash start Client f = client_hash start f.role f.framework
 row_hash start ClientAndAgent f = pair_hash start f.role f.framework f.agent
 
--- the bucket of a filter among so many; a gap is in none of them
-abbrev pub slot_bucket : FoldHasher → Key → ℕ → Option FilterRow → ℕ
-slot_bucket start key number None = number
-slot_bucket start key number (Some f) = row_hash start key f % number
+abbrev pub slot_hash : FoldHasher → Key → Option FilterRow → Option ℕ
+slot_hash start key slot = option_map (row_hash start key) slot
 
-abbrev pub buckets_of : FoldHasher → Key → ℕ → List (Option FilterRow) → List ℕ
-buckets_of start key number rows = map (slot_bucket start key number) rows
+-- the hash in whose chain a link is, if it is in one
+abbrev pub link_hash : Link → Option ℕ
+link_hash link = if link.before == 18446744073709551615 then None else Some link.mark
 
--- the filters are chained by their buckets
-abbrev pub IsChainedBy : Key → List (Option FilterRow) → Index → Type 0
-IsChainedBy key rows index = IsChained (buckets_of index.start key (length index.heads.items) rows) index.heads.items index.links.items
+abbrev pub hashes_in : Index → List (Option ℕ)
+hashes_in index = map link_hash index.links.items
 
--- and there are at least as many buckets as filters and gaps
+-- where chains go on
+abbrev pub befores : Index → List ℕ
+befores index = map (λ (link : Link). link.before) index.links.items
+
+-- the bucket of a hash among so many; without a hash it is none of them
+abbrev pub bucket_of : ℕ → Option ℕ → ℕ
+bucket_of number None = number
+bucket_of number (Some hash) = hash % number
+
+abbrev pub buckets_in : Index → List ℕ
+buckets_in index = map (bucket_of (length index.heads.items)) (hashes_in index)
+
+-- what is in a chain is in that of its hash
+abbrev pub IsTidy : Index → Type 0
+IsTidy index = IsChained (buckets_in index) index.heads.items (befores index)
+
+-- so are the places before one, and others are in no chain yet
+abbrev pub IsTidyTo : ℕ → Index → Type 0
+IsTidyTo place index = IsChained (take place (buckets_in index)) index.heads.items (take place (befores index))
+
+-- the chain of a bucket leads to a place, or to its end, from its beginning or from a place, each told as the number after it
+pub record IsLedTo (index : Index) (bucket from after : ℕ) : Type 0 where
+  pub at_head : from ≡ 0 → after ≡ slice_index index.heads.items bucket
+  pub at_link : (p : ℕ) → from ≡ p + 1 → (slice_index (buckets_in index) p ≡ bucket) × (after ≡ slice_index (befores index) p)
+  pub small : from ≤ length index.links.items
+
+-- an index that differs at a place alone
+pub record IsSameBut (place : ℕ) (old new : Index) : Type 0 where
+  pub others : (q : ℕ) → q ≢ place → slice_index_or (hashes_in new) q None ≡ slice_index_or (hashes_in old) q None
+  pub number : length new.links.items ≡ length old.links.items
+  pub heads : length new.heads.items ≡ length old.heads.items
+  pub start : new.start ≡ old.start
+
+-- there is a link for each filter and gap, each filter is in the chain of its hash, and there are at least as many buckets
 pub record IsIndexed (key : Key) (rows : List (Option FilterRow)) (index : Index) : Type 0 where
-  pub chained : IsChainedBy key rows index
+  pub tidy : IsTidy index
+  pub number : length index.links.items ≡ length rows
+  pub found : (place : ℕ) (f : FilterRow) → slice_index_or rows place None ≡ Some f → slice_index_or (hashes_in index) place None ≡ Some (row_hash index.start key f)
   pub enough : length rows ≤ length index.heads.items
-
--- a filter is at a place among those that the index has
-pub record IsAt (key : Key) (index : Index) (row : FilterRow) (place : ℕ) : Type 0 where
-  pub rows : List (Option FilterRow)
-  pub indexed : IsIndexed key rows index
-  pub here : slice_index_or rows place None ≡ Some row
 
 -- the filters are left of those that the index has
 pub record IsLeft (key : Key) (rows : List (Option FilterRow)) (index : Index) : Type 0 where
@@ -58,8 +87,8 @@ pub record IsLeft (key : Key) (rows : List (Option FilterRow)) (index : Index) :
   pub or_all : length rows ≡ length all → rows ≡ all
 
 -- one more filter can be put in without memory
-pub record HasRoom (rows : List (Option FilterRow)) (index : Index) : Type 0 where
-  pub heads : length rows < length index.heads.items
+pub record HasRoom (index : Index) : Type 0 where
+  pub heads : length index.links.items < length index.heads.items
   pub links : length index.links.items < vec_capacity index.links
 
 -- no filter ends before the moment

@@ -1,15 +1,18 @@
 //! Where the filters of a client, or of a client on an agent, stand among all.
-ghost use Rattle.std.specs.Prelude.{◌≡◌, ◌+◌, ◌%◌, ◌<◌, ◌≤◌, [], ◌∷◌, ◌++◌, List, Option, None, Some, length, slice_index, slice_index_or, set, replicate, vec_capacity, OnOk};
+ghost use Rattle.std.specs.Prelude.{◌≡◌, ◌≢◌, ◌+◌, ◌%◌, ◌<◌, ◌≤◌, ℕ, [], ◌∷◌, ◌++◌, List, Option, None, Some, length, slice_index, slice_index_or, set, replicate, vec_capacity, OnOk};
 ghost use Rattle.drf_rows.specs.declared.rows.FilterRow.{FilterRow};
-ghost use Rattle.drf_gates.specs.filters.Index.{client_hash, client_read, pair_hash, row_hash, IsChainedBy, IsIndexed, IsAt, IsLeft, HasRoom};
+ghost use Rattle.drf_gates.specs.filters.Index.{client_hash, client_read, pair_hash, row_hash, slot_hash, link_hash, hashes_in, befores, IsTidy, IsTidyTo, IsLedTo, IsSameBut, IsIndexed, IsLeft, HasRoom};
 
 use drf_role::{Name, Role};
 use drf_rows::FilterRow;
 use std::alloc::{AllocError, Global};
 use std::hash::{FoldHasher, Hasher};
 
-/// After how many filters a chain is longer than by chance.
-const LONG: usize = 64;
+/// How many places of a chain are looked at in order to take one out.
+const NEAR: usize = 16;
+
+/// Where what is in no chain goes on.
+const APART: usize = usize::MAX;
 
 /// A hash that has read a client, after what it began with.
 fn client_read(start: FoldHasher, role: &Role, framework: &Name) -> FoldHasher
@@ -63,30 +66,35 @@ fn cut(heads: &mut [usize])
     heads.fill(0);
 }
 
+/// Where a filter stands in its chain.
+#[derive(Clone, Copy)]
+pub(crate) struct Link {
+    /// The hash by which it is chained.
+    pub(crate) mark: u64,
+    /// Where the chain goes on, or `APART`.
+    pub(crate) before: usize,
+}
+
 /// Chains of filters, one for each bucket, from the last to the first. A filter's place is written as the number after
-/// it, and 0 ends a chain. Filters with the same key are in one bucket, and gaps between filters in none.
+/// it, and 0 ends a chain. Filters with the same key are in one bucket. A gap is in a chain only where it stands far back.
 #[derive(Drop)]
 pub(crate) struct Index {
     /// Where the chain of each bucket begins.
     pub(crate) heads: Vec<usize>,
-    /// Where the chain of each filter goes on.
-    pub(crate) links: Vec<usize>,
-    /// With what each hash begins. Names whose hashes are the same can be chosen: that is slow, and never wrong.
+    pub(crate) links: Vec<Link>,
+    /// With what each hash begins.
     pub(crate) start: FoldHasher,
-    // How many filters there have to be before hashes begin otherwise.
-    calm: usize,
 }
 
 impl Index {
     /// The index of no filters.
-    pub(crate) fn new(alloc: Global) -> Index
+    pub(crate) fn new(alloc: Global, start: FoldHasher) -> Index
         ensures { (key : Key) → IsIndexed key [] result }
     {
         Index {
             heads: Vec::new(alloc),
             links: Vec::new(alloc),
-            start: FoldHasher::default(),
-            calm: 0,
+            start,
         }
     }
 
@@ -111,42 +119,85 @@ impl Index {
         self.heads[self.bucket(hash)]
     }
 
-    /// Where the chain goes on after a place.
-    pub(crate) fn before(&self, place: usize) -> usize
+    pub(crate) fn link(&self, place: usize) -> Link
         requires { place < length self.now.links.items }
-        ensures { result ≡ slice_index self.now.links.items place }
+        ensures before { result.before ≡ slice_index (befores self.now) place }
+        ensures hash { link_hash result ≡ slice_index_or (hashes_in self.now) place None }
     {
         self.links[place]
     }
 
-    /// Puts a filter behind those that are there.
-    pub(crate) fn push(&mut self, key: Key, row: &FilterRow)
-        requires heads { 0 < length self.old.heads.items }
-        requires links { length self.old.links.items < vec_capacity self.old.links }
-        ensures chained { (rows : List (Option FilterRow)) → IsChainedBy key rows self.old → IsChainedBy key (rows ++ Some row.now ∷ []) self.new }
-        ensures heads { length self.new.heads.items ≡ length self.old.heads.items }
+    /// Lets the chain in which a place is go on elsewhere.
+    fn set_before(&mut self, place: usize, before: usize)
+        requires within { place < length self.old.links.items }
+        requires chained { slice_index_or (hashes_in self.old) place None ≢ None }
+        requires before { before < 18446744073709551615 }
+        ensures befores { befores self.new ≡ set (befores self.old) place before }
+        ensures hashes { hashes_in self.new ≡ hashes_in self.old }
+        ensures heads { self.new.heads ≡ self.old.heads }
+        ensures start { self.new.start ≡ self.old.start }
         ensures capacity { vec_capacity self.new.links ≡ vec_capacity self.old.links }
     {
-        let bucket = self.bucket(row_hash(self.start, key, row));
-        let head = self.heads[bucket];
-        self.links.push_reserved(head);
+        let mark = self.link(place).mark;
+        self.links[place] = Link { mark, before };
+    }
+
+    /// Notes that a place is in no chain.
+    fn part(&mut self, place: usize)
+        requires { place < length self.old.links.items }
+        ensures befores { befores self.new ≡ set (befores self.old) place 18446744073709551615 }
+        ensures hashes { hashes_in self.new ≡ set (hashes_in self.old) place None }
+        ensures heads { self.new.heads ≡ self.old.heads }
+        ensures start { self.new.start ≡ self.old.start }
+    {
+        let mark = self.link(place).mark;
+        self.links[place] = Link {
+            mark,
+            before: APART,
+        };
+    }
+
+    /// Puts a filter behind those that are there.
+    pub(crate) fn push(&mut self, key: Key, row: &FilterRow)
+        requires chained { IsTidy self.old }
+        requires heads { 0 < length self.old.heads.items }
+        requires links { length self.old.links.items < vec_capacity self.old.links }
+        ensures chained { IsTidy self.new }
+        ensures hashes { hashes_in self.new ≡ hashes_in self.old ++ Some (row_hash self.old.start key row.now) ∷ [] }
+        ensures heads { length self.new.heads.items ≡ length self.old.heads.items }
+        ensures start { self.new.start ≡ self.old.start }
+        ensures capacity { vec_capacity self.new.links ≡ vec_capacity self.old.links }
+    {
+        let mark = row_hash(self.start, key, row);
+        let bucket = self.bucket(mark);
+        let before = self.heads[bucket];
+        self.links.push_reserved(Link { mark, before });
         self.heads[bucket] = self.links.len();
     }
 
     fn push_gap(&mut self)
+        requires chained { IsTidy self.old }
         requires links { length self.old.links.items < vec_capacity self.old.links }
-        ensures chained { (key : Key) (rows : List (Option FilterRow)) → IsChainedBy key rows self.old → IsChainedBy key (rows ++ None ∷ []) self.new }
+        ensures chained { IsTidy self.new }
+        ensures hashes { hashes_in self.new ≡ hashes_in self.old ++ None ∷ [] }
         ensures heads { length self.new.heads.items ≡ length self.old.heads.items }
+        ensures start { self.new.start ≡ self.old.start }
         ensures capacity { vec_capacity self.new.links ≡ vec_capacity self.old.links }
     {
-        self.links.push_reserved(0);
+        self.links.push_reserved(Link {
+            mark: 0,
+            before: APART,
+        });
     }
 
     fn push_slot(&mut self, key: Key, slot: &Option<FilterRow>)
+        requires chained { IsTidy self.old }
         requires heads { 0 < length self.old.heads.items }
         requires links { length self.old.links.items < vec_capacity self.old.links }
-        ensures chained { (rows : List (Option FilterRow)) → IsChainedBy key rows self.old → IsChainedBy key (rows ++ slot.now ∷ []) self.new }
+        ensures chained { IsTidy self.new }
+        ensures hashes { hashes_in self.new ≡ hashes_in self.old ++ slot_hash self.old.start key slot.now ∷ [] }
         ensures heads { length self.new.heads.items ≡ length self.old.heads.items }
+        ensures start { self.new.start ≡ self.old.start }
         ensures capacity { vec_capacity self.new.links ≡ vec_capacity self.old.links }
     {
         match slot {
@@ -155,102 +206,111 @@ impl Index {
         }
     }
 
-    /// Takes a filter that is at a place out of its chain. Looks at those alone that stand before it in the chain.
-    pub(crate) fn unlink(&mut self, key: Key, row: &FilterRow, place: usize)
-        requires { IsAt key self.old row.now place }
-        ensures indexed { (rows : List (Option FilterRow)) → IsIndexed key rows self.old → slice_index_or rows place None ≡ Some row.now
-            → IsIndexed key (set rows place None) self.new }
-        ensures heads { length self.new.heads.items ≡ length self.old.heads.items }
-        ensures start { self.new.start ≡ self.old.start }
-    {
-        let bucket = self.bucket(row_hash(self.start, key, row));
-        let mut after = self.heads[bucket];
-        let mut from = 0;
-        while place + 1 < after {
-            from = after;
-            after = self.links[from - 1];
-        }
-        let next = self.links[place];
-        if from == 0 {
-            self.heads[bucket] = next;
-            return;
-        }
-        self.links[from - 1] = next;
-    }
-
-    /// Makes it the index of these filters.
-    fn rebuild(&mut self, key: Key, rows: &[Option<FilterRow>])
-        requires heads { length rows.now ≤ length self.old.heads.items }
-        requires links { length rows.now ≤ vec_capacity self.old.links }
-        ensures indexed { IsIndexed key rows.now self.new }
-        ensures heads { length self.new.heads.items ≡ length self.old.heads.items }
-        ensures capacity { vec_capacity self.new.links ≡ vec_capacity self.old.links }
-    {
-        cut(&mut self.heads);
-        self.links.clear();
-        self.calm = 0;
-        for slot in rows {
-            self.push_slot(key, slot);
-        }
-    }
-
     /// Makes it the index of these filters, which are left of those that it has.
     pub(crate) fn rebuild_if_less(&mut self, key: Key, rows: &[Option<FilterRow>])
         requires { IsLeft key rows.now self.old }
         ensures { IsIndexed key rows.now self.new }
     {
-        if rows.len() < self.links.len() {
-            self.rebuild(key, rows);
-        }
-    }
-
-    /// Whether the chain of the last filter is longer than by chance. No clause says so.
-    fn is_crowded(&self) -> bool {
-        let Some(last) = self.links.last() else {
-            return false;
-        };
-        let mut after = *last;
-        for _ in 0..LONG {
-            if after == 0 {
-                return false;
-            }
-            let Some(next) = self.links.get(after - 1) else {
-                return false;
-            };
-            after = *next;
-        }
-        true
-    }
-
-    /// Lets hashes begin otherwise where a chain is longer than by chance, unless that was done before a quarter of the filters came.
-    pub(crate) fn spread(&mut self, key: Key, rows: &[Option<FilterRow>])
-        requires { IsIndexed key rows.now self.old }
-        ensures { IsIndexed key rows.now self.new }
-    {
-        if rows.len() < self.calm || !self.is_crowded() {
+        if rows.len() >= self.links.len() {
             return;
         }
-        self.start.write(&[1]);
-        self.rebuild(key, rows);
-        self.calm = rows.len().saturating_add(rows.len() / 4 + LONG);
+        cut(&mut self.heads);
+        self.links.clear();
+        for slot in rows {
+            self.push_slot(key, slot);
+        }
+    }
+
+    /// Takes what is at a place out of its chain, unless many stand before it there.
+    pub(crate) fn unlink(&mut self, place: usize)
+        requires chained { IsTidy self.old }
+        requires heads { 0 < length self.old.heads.items }
+        requires within { place < length self.old.links.items }
+        ensures chained { IsTidy self.new }
+        ensures others { IsSameBut place self.old self.new }
+    {
+        let link = self.link(place);
+        let bucket = self.bucket(link.mark);
+        let mut after = self.heads[bucket];
+        let mut from = 0;
+        let mut left = NEAR;
+        while left > 0 && place + 1 < after {
+            left -= 1;
+            from = after;
+            after = self.link(from - 1).before;
+        }
+        if after == place + 1 {
+            self.pass(bucket, from, place);
+        }
+    }
+
+    /// Lets the chain of a bucket pass a place at which it goes on, from its beginning or after a place.
+    fn pass(&mut self, bucket: usize, from: usize, place: usize)
+        requires chained { IsTidy self.old }
+        requires known { bucket < length self.old.heads.items }
+        requires led { IsLedTo self.old bucket from (place + 1) }
+        ensures chained { IsTidy self.new }
+        ensures hashes { hashes_in self.new ≡ set (hashes_in self.old) place None }
+        ensures heads { length self.new.heads.items ≡ length self.old.heads.items }
+        ensures start { self.new.start ≡ self.old.start }
+    {
+        let next = self.link(place).before;
+        self.part(place);
+        if from == 0 {
+            self.heads[bucket] = next;
+            return;
+        }
+        self.set_before(from - 1, next);
+    }
+
+    /// Puts a place in front of the chain of its hash, if it is in a chain.
+    fn chain(&mut self, place: usize)
+        requires chained { IsTidyTo place self.old }
+        requires heads { 0 < length self.old.heads.items }
+        requires within { place < length self.old.links.items }
+        ensures chained { IsTidyTo (place + 1) self.new }
+        ensures hashes { hashes_in self.new ≡ hashes_in self.old }
+        ensures heads { length self.new.heads.items ≡ length self.old.heads.items }
+        ensures start { self.new.start ≡ self.old.start }
+        ensures capacity { vec_capacity self.new.links ≡ vec_capacity self.old.links }
+    {
+        let link = self.link(place);
+        if link.before == APART {
+            return;
+        }
+        let bucket = self.bucket(link.mark);
+        let head = self.heads[bucket];
+        self.set_before(place, head);
+        self.heads[bucket] = place + 1;
+    }
+
+    /// Makes the chains anew, whatever they were.
+    fn chain_all(&mut self)
+        requires { length self.old.links.items ≤ length self.old.heads.items }
+        ensures chained { IsTidy self.new }
+        ensures hashes { hashes_in self.new ≡ hashes_in self.old }
+        ensures heads { length self.new.heads.items ≡ length self.old.heads.items }
+        ensures start { self.new.start ≡ self.old.start }
+        ensures capacity { vec_capacity self.new.links ≡ vec_capacity self.old.links }
+    {
+        cut(&mut self.heads);
+        for place in 0..self.links.len() {
+            self.chain(place);
+        }
     }
 
     /// Makes room for one more filter.
-    pub(crate) fn make_room(
-        &mut self,
-        key: Key,
-        rows: &[Option<FilterRow>],
-    ) -> Result<(), AllocError>
-        requires { IsIndexed key rows.now self.old }
-        ensures indexed { IsIndexed key rows.now self.new }
-        ensures room { OnOk result (HasRoom rows.now self.new) }
+    pub(crate) fn make_room(&mut self) -> Result<(), AllocError>
+        requires { IsTidy self.old }
+        ensures indexed { (key : Key) (rows : List (Option FilterRow)) → IsIndexed key rows self.old → IsIndexed key rows self.new }
+        ensures room { OnOk result (HasRoom self.new) }
     {
         self.links.reserve(1)?;
-        if rows.len() < self.heads.len() {
+        if self.links.len() < self.heads.len() {
             return Ok(());
         }
-        self.heads.resize(2 * rows.len() + 8, 0)?;
-        self.rebuild(key, rows);
+        self.heads.resize(2 * self.links.len() + 1, 0)?;
+        self.chain_all();
         Ok(())
     }
 }

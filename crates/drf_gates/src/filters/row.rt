@@ -1,10 +1,12 @@
 //! What is asked of filters one by one, and which of a list with gaps are kept.
-ghost use Rattle.std.specs.Prelude.{◌≡◌, ◌≤◌, [], ◌∷◌, ◌++◌, count_by, map, Some, OnOk};
+ghost use Rattle.std.specs.Prelude.{◌≡◌, ◌≤◌, [], ◌∷◌, ◌++◌, count_by, map, not, true, Some, OnOk};
+ghost use Rattle.std.specs.Option.{option_map_or};
+ghost use Rattle.drf_role.specs.Text.{same_text};
 ghost use Rattle.drf_rows.specs.declared.rows.FilterRow.{FilterRow};
 ghost use Rattle.drf_bundle.specs.Bundle.{covers};
 ghost use Rattle.drf_gates.specs.filters.Index.{NoneEndsBefore};
 ghost use Rattle.drf_gates.specs.filters.Slots.{filled, slot_passes};
-ghost use Rattle.drf_rows.specs.Filters.{is_in_force, is_of_client, holds_back, in_force, filters_without_agent, filters_without_framework};
+ghost use Rattle.drf_rows.specs.Filters.{is_in_force, is_of_client, is_on_agent, holds_back, in_force};
 
 use drf_amount::Algebra;
 use drf_bundle::Bundle;
@@ -52,13 +54,13 @@ fn is_of_client(row: &FilterRow, role: &Role, framework: &Name) -> bool
     row.role == *role && row.framework == *framework
 }
 
-/// Whether there is a filter of the client.
-pub(crate) fn is_slot_of_client(slot: &Option<FilterRow>, role: &Role, framework: &Name) -> bool
-    ensures { result ≡ slot_passes (is_of_client (record { role = role.now; framework = framework.now })) slot.now }
+/// Whether there is a filter of the client, or none at all.
+pub(crate) fn is_slot_of_no_other(slot: &Option<FilterRow>, role: &Role, framework: &Name) -> bool
+    ensures { result ≡ option_map_or (is_of_client (record { role = role.now; framework = framework.now })) slot.now true }
 {
     match slot {
         Some(row) => is_of_client(row, role, framework),
-        None => false,
+        None => true,
     }
 }
 
@@ -142,29 +144,32 @@ pub(crate) fn keep_filled(rows: &mut Vec<Option<FilterRow>>)
     rows.retain(|slot| slot.is_some());
 }
 
-/// Keeps those that are in force.
-pub(crate) fn keep_in_force(rows: &mut Vec<Option<FilterRow>>, now: u64)
-    ensures { rows.new.items ≡ map Some (in_force now (filled rows.old.items)) }
+/// Whether there is a filter whose end is past.
+pub(crate) fn is_slot_spent(slot: &Option<FilterRow>, now: u64) -> bool
+    ensures { result ≡ slot_passes (λ f. not (is_in_force now f)) slot.now }
 {
-    rows.retain(|slot| is_slot_in_force(slot, now));
+    match slot {
+        Some(row) => !is_in_force(row, now),
+        None => false,
+    }
 }
 
-/// Keeps those on other agents.
-pub(crate) fn keep_other_agents(rows: &mut Vec<Option<FilterRow>>, agent: &Name)
-    ensures { rows.new.items ≡ map Some (filters_without_agent agent.now (filled rows.old.items)) }
+/// Whether there is a filter on the agent.
+pub(crate) fn is_slot_on_agent(slot: &Option<FilterRow>, agent: &Name) -> bool
+    ensures { result ≡ slot_passes (is_on_agent agent.now) slot.now }
 {
-    rows.retain(|slot| match slot {
-        Some(row) => row.agent != *agent,
+    match slot {
+        Some(row) => row.agent == *agent,
         None => false,
-    });
+    }
 }
 
-/// Keeps those of other frameworks.
-pub(crate) fn keep_other_frameworks(rows: &mut Vec<Option<FilterRow>>, framework: &Name)
-    ensures { rows.new.items ≡ map Some (filters_without_framework framework.now (filled rows.old.items)) }
+/// Whether there is a filter of the framework.
+pub(crate) fn is_slot_of_framework(slot: &Option<FilterRow>, framework: &Name) -> bool
+    ensures { result ≡ slot_passes (λ f. same_text f.framework framework.now) slot.now }
 {
-    rows.retain(|slot| match slot {
-        Some(row) => row.framework != *framework,
+    match slot {
+        Some(row) => row.framework == *framework,
         None => false,
-    });
+    }
 }

@@ -1,16 +1,22 @@
 //! Filters in the order in which they were added, with gaps where some were taken out.
-ghost use Rattle.std.specs.Prelude.{◌≡◌, ◌<◌, [], ◌∷◌, ◌++◌, None, length, set, OnOk, OnErr};
-ghost use Rattle.drf_rows.specs.Filters.{is_held_back, is_of_client, filters_without_client};
-ghost use Rattle.drf_gates.specs.filters.Slots.{filters_in, without_one, IsSlots, IsClosed};
+ghost use Rattle.std.specs.Prelude.{◌≡◌, ◌<◌, [], ◌∷◌, ◌++◌, None, length, set, if◌then◌else◌, OnOk, OnErr};
+ghost use Rattle.drf_rows.specs.Filters.{is_held_back, in_force, filters_without_client, filters_without_agent, filters_without_framework};
+ghost use Rattle.drf_gates.specs.filters.Index.{IsSameBut};
+ghost use Rattle.drf_gates.specs.filters.Slots.{filters_in, IsSlots, IsClosed};
 
 use crate::filters::index::{Index, Key, client_hash, pair_hash};
-use crate::filters::row::{is_slot_of_client, keep_filled, slot_holds_back};
+use crate::filters::row::{
+    is_slot_of_framework, is_slot_of_no_other, is_slot_on_agent, is_slot_spent, keep_filled,
+    slot_holds_back,
+};
 use drf_bundle::Bundle;
 use drf_role::{Name, Role};
 use drf_rows::FilterRow;
 use std::alloc::{AllocError, Global};
+use std::hash::FoldHasher;
 
-/// Filters, found by their client, and by client and agent. Gaps are closed where filters are added, once a quarter of all are gaps.
+/// Filters, found by their client, and by client and agent. Where a quarter of all are gaps, they are closed when filters
+/// need room or leave, but for a `revive`.
 #[derive(Drop)]
 pub(crate) struct Slots {
     pub(crate) rows: Vec<Option<FilterRow>>,
@@ -22,13 +28,13 @@ pub(crate) struct Slots {
 
 impl Slots {
     /// No filters.
-    pub(crate) fn new(alloc: Global) -> Slots
+    pub(crate) fn new(alloc: Global, start: FoldHasher) -> Slots
         ensures slots { IsSlots result }
         ensures none { filters_in result ≡ [] }
     {
         let rows = Vec::new(alloc);
-        let pairs = Index::new(alloc);
-        let clients = Index::new(alloc);
+        let pairs = Index::new(alloc, start);
+        let clients = Index::new(alloc, start);
         Slots {
             rows,
             pairs,
@@ -48,15 +54,26 @@ impl Slots {
         self.live = self.rows.len();
     }
 
-    /// Closes the gaps where filters need more room and a quarter of all are gaps.
+    /// Closes the gaps where a quarter of all are gaps.
     fn close_gaps_if_many(&mut self)
         requires { IsSlots self.old }
         ensures slots { IsSlots self.new }
         ensures same { filters_in self.new ≡ filters_in self.old }
     {
-        if self.clients.is_full() && self.live < self.rows.len() / 4 * 3 {
+        if self.live < self.rows.len() / 4 * 3 {
             keep_filled(&mut self.rows);
             self.find_again();
+        }
+    }
+
+    /// Closes many gaps where one more filter needs more buckets.
+    fn close_gaps_if_full(&mut self)
+        requires { IsSlots self.old }
+        ensures slots { IsSlots self.new }
+        ensures same { filters_in self.new ≡ filters_in self.old }
+    {
+        if self.clients.is_full() {
+            self.close_gaps_if_many();
         }
     }
 
@@ -67,50 +84,46 @@ impl Slots {
         ensures ok { OnOk result (filters_in self.new ≡ filters_in self.old ++ row ∷ []) }
         ensures err { OnErr result (filters_in self.new ≡ filters_in self.old) }
     {
-        self.close_gaps_if_many();
+        self.close_gaps_if_full();
         self.rows.reserve(1)?;
-        self.pairs.make_room(Key::ClientAndAgent, &self.rows)?;
-        self.clients.make_room(Key::Client, &self.rows)?;
+        self.pairs.make_room()?;
+        self.clients.make_room()?;
         self.pairs.push(Key::ClientAndAgent, &row);
         self.clients.push(Key::Client, &row);
         self.rows.push_reserved(Some(row));
         self.live += 1;
-        self.pairs.spread(Key::ClientAndAgent, &self.rows);
         Ok(())
     }
 
-    /// Takes the filter out that is at a place.
+    /// Takes out what is at a place.
     fn take(&mut self, place: usize)
         requires slots { IsSlots self.old }
         requires within { place < length self.old.rows.items }
         ensures slots { IsSlots self.new }
         ensures rows { self.new.rows.items ≡ set self.old.rows.items place None }
-        ensures heads { length self.new.clients.heads.items ≡ length self.old.clients.heads.items }
-        ensures start { self.new.clients.start ≡ self.old.clients.start }
+        ensures others { IsSameBut place self.old.clients self.new.clients }
     {
-        let Some(row) = self.rows[place].take() else {
-            return;
-        };
-        self.pairs.unlink(Key::ClientAndAgent, &row, place);
-        self.clients.unlink(Key::Client, &row, place);
-        self.live -= 1;
+        self.pairs.unlink(place);
+        self.clients.unlink(place);
+        if self.rows[place].take().is_some() {
+            self.live -= 1;
+        }
     }
 
-    /// Takes the filter out that is at a place, if it is of the client.
-    fn take_if_of_client(&mut self, place: usize, role: &Role, framework: &Name)
+    /// Takes out what is at a place, if it leaves.
+    fn take_if(&mut self, place: usize, leaves: bool)
         requires slots { IsSlots self.old }
         requires within { place < length self.old.rows.items }
         ensures slots { IsSlots self.new }
-        ensures rows { self.new.rows.items ≡ without_one (is_of_client (record { role = role.now; framework = framework.now })) self.old.rows.items place }
-        ensures heads { length self.new.clients.heads.items ≡ length self.old.clients.heads.items }
-        ensures start { self.new.clients.start ≡ self.old.clients.start }
+        ensures rows { self.new.rows.items ≡ (if leaves then set self.old.rows.items place None else self.old.rows.items) }
+        ensures others { IsSameBut place self.old.clients self.new.clients }
     {
-        if is_slot_of_client(&self.rows[place], role, framework) {
+        if leaves {
             self.take(place);
         }
     }
 
-    /// Takes the filters of a client out, on whatever agent. Looks at the client's chain alone.
+    /// Takes the filters of a client out, on whatever agent. Looks at the client's chain alone, and takes near gaps out of it.
     pub(crate) fn drop_client(&mut self, role: &Role, framework: &Name)
         requires { IsSlots self.old }
         ensures slots { IsSlots self.new }
@@ -124,9 +137,55 @@ impl Slots {
             .last(client_hash(self.clients.start, role, framework));
         while after > 0 {
             let place = after - 1;
-            after = self.clients.before(place);
-            self.take_if_of_client(place, role, framework);
+            after = self.clients.link(place).before;
+            let leaves = is_slot_of_no_other(&self.rows[place], role, framework);
+            self.take_if(place, leaves);
         }
+    }
+
+    /// Takes the filters on an agent out. From the last on, since chains begin there; so below.
+    pub(crate) fn drop_agent(&mut self, agent: &Name)
+        requires { IsSlots self.old }
+        ensures slots { IsSlots self.new }
+        ensures others { filters_in self.new ≡ filters_without_agent agent.now (filters_in self.old) }
+    {
+        let mut place = self.rows.len();
+        while place > 0 {
+            place -= 1;
+            let leaves = is_slot_on_agent(&self.rows[place], agent);
+            self.take_if(place, leaves);
+        }
+        self.close_gaps_if_many();
+    }
+
+    /// Takes the filters of a framework out in all its roles.
+    pub(crate) fn drop_framework(&mut self, framework: &Name)
+        requires { IsSlots self.old }
+        ensures slots { IsSlots self.new }
+        ensures others { filters_in self.new ≡ filters_without_framework framework.now (filters_in self.old) }
+    {
+        let mut place = self.rows.len();
+        while place > 0 {
+            place -= 1;
+            let leaves = is_slot_of_framework(&self.rows[place], framework);
+            self.take_if(place, leaves);
+        }
+        self.close_gaps_if_many();
+    }
+
+    /// Takes the filters out that are not in force at `now`, in milliseconds.
+    pub(crate) fn drop_spent(&mut self, now: u64)
+        requires { IsSlots self.old }
+        ensures slots { IsSlots self.new }
+        ensures others { filters_in self.new ≡ in_force now (filters_in self.old) }
+    {
+        let mut place = self.rows.len();
+        while place > 0 {
+            place -= 1;
+            let leaves = is_slot_spent(&self.rows[place], now);
+            self.take_if(place, leaves);
+        }
+        self.close_gaps_if_many();
     }
 
     /// Whether a filter of the client on the agent that is in force at `now`, in milliseconds, covers the bundle. Looks at
@@ -145,15 +204,17 @@ impl Slots {
         if self.rows.is_empty() {
             return false;
         }
-        let mut after = self
-            .pairs
-            .last(pair_hash(self.pairs.start, role, framework, agent));
+        let hash = pair_hash(self.pairs.start, role, framework, agent);
+        let mut after = self.pairs.last(hash);
         while after > 0 {
             let place = after - 1;
-            if slot_holds_back(&self.rows[place], role, framework, agent, bundle, now) {
+            let link = self.pairs.link(place);
+            if link.mark == hash
+                && slot_holds_back(&self.rows[place], role, framework, agent, bundle, now)
+            {
                 return true;
             }
-            after = self.pairs.before(place);
+            after = link.before;
         }
         false
     }

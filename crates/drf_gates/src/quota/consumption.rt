@@ -15,6 +15,7 @@ use crate::quota::totals::{
 };
 use crate::quota::usage::{copy_used, lower, raise, used_at};
 use drf_bundle::Quantities;
+use drf_hash::ByRole;
 use drf_role::Role;
 use indexmap::IndexMap;
 use std::alloc::{AllocError, Global};
@@ -22,10 +23,10 @@ use std::marker::Model;
 
 /// What each role consumes, in thousandths. Contracts see what it consumes itself, the roles below it left out.
 pub struct Consumption {
-    pub(crate) used: IndexMap<Role, Quantities>,
-    // What roles with a limit consume together with the roles below them, as far as there was memory. Each is likely to stand
-    // at the place of its limit.
-    pub(crate) totals: IndexMap<Role, Total>,
+    pub(crate) used: ByRole<Quantities>,
+    // What roles with a limit consume together with the roles below them, as far as there was memory. Each stands at the place
+    // of its limit, until one goes.
+    pub(crate) totals: ByRole<Total>,
 }
 
 // Written out, so that the proof of whoever drops it sees one call, and not the drop of each table.
@@ -57,7 +58,7 @@ impl Consumption {
     pub fn new(alloc: Global, limits: &QuotaLimits) -> Consumption
         ensures { result ≡ [] }
     {
-        let used = IndexMap::new(alloc);
+        let used = IndexMap::with_hasher(alloc, *limits.entries().hasher());
         let totals = totals_of(limits, &used);
         Consumption { used, totals }
     }

@@ -8,8 +8,9 @@ ghost use Rattle.drf_gates.specs.quota.FrontLaws.{same_writes};
 ghost use Rattle.drf_gates.specs.quota.Allowance.{limit_row, limit_rows};
 
 use drf_bundle::Quantities;
+use drf_hash::ByRole;
 use drf_role::Role;
-use indexmap::{Equivalent, IndexMap};
+use indexmap::Equivalent;
 
 /// A front of a role's text, by which the role that it names is looked up. An empty one names none.
 #[derive(Clone, Copy, PartialEq, Eq, Hash)]
@@ -55,7 +56,7 @@ pub(crate) fn first_parts(role: &Role, len: usize) -> Front<'_>
 
 /// The limit of the first parts of a role, so many, and its place, if they have one.
 pub(crate) fn limit_above<'a>(
-    limits: &'a IndexMap<Role, Quantities>,
+    limits: &'a ByRole<Quantities>,
     role: &Role,
     len: usize,
 ) -> Option<(usize, &'a Role, &'a Quantities)>

@@ -10,6 +10,7 @@ ghost use Rattle.drf_gates.specs.quota.Allowance.{limit_row, limit_rows};
 
 use crate::quota::fronts::limit_above;
 use drf_bundle::Quantities;
+use drf_hash::{ByRole, HashKey};
 use drf_role::Role;
 use drf_rows::{LimitRow, Table};
 use indexmap::IndexMap;
@@ -19,7 +20,7 @@ use std::marker::Model;
 /// The limits of roles, in the order in which the roles got one. Contracts see the rows.
 #[derive(Drop)]
 pub struct QuotaLimits {
-    limits: IndexMap<Role, Quantities>,
+    limits: ByRole<Quantities>,
 }
 
 impl Model for QuotaLimits {
@@ -43,7 +44,7 @@ impl Model for QuotaLimits {
 
 /// Puts a limit behind the others, or in the place of the role's former one. An `Err` changes nothing.
 fn put_limit(
-    limits: &mut IndexMap<Role, Quantities>,
+    limits: &mut ByRole<Quantities>,
     role: &Role,
     limit: Quantities,
 ) -> Result<(), AllocError>
@@ -56,12 +57,14 @@ fn put_limit(
 }
 
 /// Limits, copied in their order.
-fn copy_limits(
-    limits: &IndexMap<Role, Quantities>,
-) -> Result<IndexMap<Role, Quantities>, AllocError>
+fn copy_limits(limits: &ByRole<Quantities>) -> Result<ByRole<Quantities>, AllocError>
     ensures { IfOk result (λ copy. copy.entries ≡ limits.now.entries) }
 {
-    let mut copy = IndexMap::with_capacity(*limits.allocator(), limits.len())?;
+    let mut copy = IndexMap::with_capacity_and_hasher(
+        *limits.allocator(),
+        limits.len(),
+        *limits.hasher(),
+    )?;
     for (role, limit) in limits {
         put_limit(&mut copy, role, limit.copy()?)?;
     }
@@ -69,12 +72,12 @@ fn copy_limits(
 }
 
 impl QuotaLimits {
-    /// No limit.
-    pub fn new(alloc: Global) -> QuotaLimits
+    /// No limit. Roles are found by hashes that begin with a key.
+    pub fn new(alloc: Global, key: HashKey) -> QuotaLimits
         ensures { result ≡ [] }
     {
         QuotaLimits {
-            limits: IndexMap::new(alloc),
+            limits: IndexMap::with_hasher(alloc, key),
         }
     }
 
@@ -108,7 +111,7 @@ impl QuotaLimits {
     }
 
     /// The roles with their limits.
-    pub(crate) fn entries(&self) -> &IndexMap<Role, Quantities> {
+    pub(crate) fn entries(&self) -> &ByRole<Quantities> {
         &self.limits
     }
 

@@ -10,7 +10,9 @@ ghost use Rattle.drf_gates.specs.quota.Totals.{IsExact, AreExact, AreCarried};
 use crate::quota::fronts::first_parts;
 use crate::quota::limits::QuotaLimits;
 use drf_bundle::{Entry, Quantities};
+use drf_hash::ByRole;
 use drf_role::{Label, Role};
+use drf_rows::Limits;
 use indexmap::IndexMap;
 use std::alloc::{AllocError, Global};
 
@@ -118,7 +120,7 @@ fn reduce_total(total: &mut Total, label: &Label, thousandths: u64)
 }
 
 /// A role consumes so much more, and with it the role of its first parts, so many, whose total is raised.
-fn raise_front(totals: &mut IndexMap<Role, Total>, role: &Role, len: usize, amounts: &Quantities)
+fn raise_front(totals: &mut ByRole<Total>, role: &Role, len: usize, amounts: &Quantities)
     requires { len ≤ length role.now }
     ensures { (old new : List Usage) → AreRaised old new role.now amounts.now
         → AreCarried old new role.now len totals.old.entries → AreCarried old new role.now (len + 1) totals.new.entries }
@@ -130,7 +132,7 @@ fn raise_front(totals: &mut IndexMap<Role, Total>, role: &Role, len: usize, amou
 }
 
 /// A role consumes so much less, and with it the role of its first parts, so many, whose total is lowered.
-fn lower_front(totals: &mut IndexMap<Role, Total>, role: &Role, len: usize, amounts: &Quantities)
+fn lower_front(totals: &mut ByRole<Total>, role: &Role, len: usize, amounts: &Quantities)
     requires { len ≤ length role.now }
     ensures { (old new : List Usage) → AreRaised new old role.now amounts.now
         → AreCarried old new role.now len totals.old.entries → AreCarried old new role.now (len + 1) totals.new.entries }
@@ -143,7 +145,7 @@ fn lower_front(totals: &mut IndexMap<Role, Total>, role: &Role, len: usize, amou
 
 /// A role consumes so much less of a scalar, and with it the role of its first parts, so many, whose total is lowered.
 fn reduce_front(
-    totals: &mut IndexMap<Role, Total>,
+    totals: &mut ByRole<Total>,
     role: &Role,
     len: usize,
     label: &Label,
@@ -160,7 +162,7 @@ fn reduce_front(
 }
 
 /// A role consumes so much more, and with it the roles above it.
-pub(crate) fn raise_totals(totals: &mut IndexMap<Role, Total>, role: &Role, amounts: &Quantities)
+pub(crate) fn raise_totals(totals: &mut ByRole<Total>, role: &Role, amounts: &Quantities)
     ensures { (old new : List Usage) → AreRaised old new role.now amounts.now → AreExact old totals.old.entries → AreExact new totals.new.entries }
 {
     let fronts = role.len() + 1;
@@ -170,7 +172,7 @@ pub(crate) fn raise_totals(totals: &mut IndexMap<Role, Total>, role: &Role, amou
 }
 
 /// A role consumes so much less, and with it the roles above it. It needs no memory.
-pub(crate) fn lower_totals(totals: &mut IndexMap<Role, Total>, role: &Role, amounts: &Quantities)
+pub(crate) fn lower_totals(totals: &mut ByRole<Total>, role: &Role, amounts: &Quantities)
     ensures { (old new : List Usage) → AreRaised new old role.now amounts.now → AreExact old totals.old.entries → AreExact new totals.new.entries }
 {
     let fronts = role.len() + 1;
@@ -181,7 +183,7 @@ pub(crate) fn lower_totals(totals: &mut IndexMap<Role, Total>, role: &Role, amou
 
 /// A role consumes so much less of a scalar, and with it the roles above it. It needs no memory.
 pub(crate) fn reduce_totals(
-    totals: &mut IndexMap<Role, Total>,
+    totals: &mut ByRole<Total>,
     role: &Role,
     label: &Label,
     thousandths: u64,
@@ -196,7 +198,7 @@ pub(crate) fn reduce_totals(
 }
 
 /// What a role consumes of a scalar together with the roles below it, if that is kept.
-pub(crate) fn kept(totals: &IndexMap<Role, Total>, role: &Role, label: &str) -> Option<u64>
+pub(crate) fn kept(totals: &ByRole<Total>, role: &Role, label: &str) -> Option<u64>
     ensures { IfSome result (λ amount. (used : List Usage) → AreExact used totals.now.entries → amount ≡ used_at used role.now label.now) }
 {
     role.recall();
@@ -208,12 +210,7 @@ pub(crate) fn kept(totals: &IndexMap<Role, Total>, role: &Role, label: &str) -> 
 }
 
 /// The same, if the total of the role stands at that place.
-pub(crate) fn kept_at(
-    totals: &IndexMap<Role, Total>,
-    place: usize,
-    role: &Role,
-    label: &str,
-) -> Option<u64>
+pub(crate) fn kept_at(totals: &ByRole<Total>, place: usize, role: &Role, label: &str) -> Option<u64>
     ensures { IfSome result (λ amount. (used : List Usage) → AreExact used totals.now.entries → amount ≡ used_at used role.now label.now) }
 {
     role.recall();
@@ -225,7 +222,7 @@ pub(crate) fn kept_at(
 }
 
 /// Whether the total of a role is known.
-fn is_kept(totals: &IndexMap<Role, Total>, role: &Role) -> bool {
+fn is_kept(totals: &ByRole<Total>, role: &Role) -> bool {
     match totals.get(role) {
         Some(total) => total.is_known,
         None => false,
@@ -233,14 +230,14 @@ fn is_kept(totals: &IndexMap<Role, Total>, role: &Role) -> bool {
 }
 
 /// Keeps the totals of other roles alone.
-pub(crate) fn drop_total(totals: &mut IndexMap<Role, Total>, role: &Role)
+pub(crate) fn drop_total(totals: &mut ByRole<Total>, role: &Role)
     ensures { (used : List Usage) → AreExact used totals.old.entries → AreExact used totals.new.entries }
 {
-    totals.shift_remove(role);
+    totals.swap_remove(role);
 }
 
 /// Adds to a sum what a role consumes together with the roles below it. Whether it could be done.
-fn add_used(sum: &mut Quantities, outer: &Role, used: &IndexMap<Role, Quantities>) -> bool
+fn add_used(sum: &mut Quantities, outer: &Role, used: &ByRole<Quantities>) -> bool
     ensures { IsTrue result → (label : Text)
         → amount_of sum.new label ≡ amount_of sum.old label + used_at used.now.entries outer.now label }
 {
@@ -252,25 +249,19 @@ fn add_used(sum: &mut Quantities, outer: &Role, used: &IndexMap<Role, Quantities
     true
 }
 
-/// Puts the total of a role in the place of its former one, or behind those that are there.
-fn put_total(
-    totals: &mut IndexMap<Role, Total>,
-    role: &Role,
-    total: Total,
-) -> Result<(), AllocError>
+/// Puts the total of a role in the place of its former one, or behind those that are there, unless these are as many as roles may have
+/// limits.
+fn put_total(totals: &mut ByRole<Total>, role: &Role, total: Total) -> Result<(), AllocError>
     ensures { (used : List Usage) → IsExact used role.now total → AreExact used totals.old.entries → AreExact used totals.new.entries }
 {
     let role = role.copy()?;
     totals.insert(role, total)?;
+    totals.truncate(Limits::full().limits() as usize);
     Ok(())
 }
 
 /// Keeps the total of a role from now on, as far as there is memory.
-pub(crate) fn keep_total(
-    totals: &mut IndexMap<Role, Total>,
-    used: &IndexMap<Role, Quantities>,
-    role: &Role,
-)
+pub(crate) fn keep_total(totals: &mut ByRole<Total>, used: &ByRole<Quantities>, role: &Role)
     ensures { AreExact used.now.entries totals.old.entries → AreExact used.now.entries totals.new.entries }
 {
     if is_kept(totals, role) {
@@ -282,13 +273,10 @@ pub(crate) fn keep_total(
 }
 
 /// The totals of the roles that have a limit, as far as there is memory.
-pub(crate) fn totals_of(
-    limits: &QuotaLimits,
-    used: &IndexMap<Role, Quantities>,
-) -> IndexMap<Role, Total>
+pub(crate) fn totals_of(limits: &QuotaLimits, used: &ByRole<Quantities>) -> ByRole<Total>
     ensures { AreExact used.now.entries result.entries }
 {
-    let mut totals = IndexMap::new(*used.allocator());
+    let mut totals = IndexMap::with_hasher(*used.allocator(), *used.hasher());
     for (role, _) in limits.entries() {
         keep_total(&mut totals, used, role);
     }
@@ -296,7 +284,7 @@ pub(crate) fn totals_of(
 }
 
 /// Puts a copy of a total behind those that are there, if there is memory.
-fn copy_total(copy: &mut IndexMap<Role, Total>, role: &Role, total: &Total)
+fn copy_total(copy: &mut ByRole<Total>, role: &Role, total: &Total)
     ensures { (used : List Usage) → IsExact used role.now total.now → AreExact used copy.old.entries → AreExact used copy.new.entries }
 {
     let Ok(amounts) = total.amounts.copy() else {
@@ -310,10 +298,10 @@ fn copy_total(copy: &mut IndexMap<Role, Total>, role: &Role, total: &Total)
 }
 
 /// The totals, copied as far as there is memory.
-pub(crate) fn copy_totals(totals: &IndexMap<Role, Total>, alloc: Global) -> IndexMap<Role, Total>
+pub(crate) fn copy_totals(totals: &ByRole<Total>, alloc: Global) -> ByRole<Total>
     ensures { (used : List Usage) → AreExact used totals.now.entries → AreExact used result.entries }
 {
-    let mut copy = IndexMap::new(alloc);
+    let mut copy = IndexMap::with_hasher(alloc, *totals.hasher());
     let _ = copy.reserve(totals.len());
     for (role, total) in totals {
         copy_total(&mut copy, role, total);

@@ -7,6 +7,7 @@ ghost use Rattle.drf_rows.specs.Quota.{is_within};
 ghost use Rattle.drf_gates.specs.quota.Allowance.{AreRaised, AreSome, IsBounded, IsSomething, counted, one_entry, used_at, used_by, used_where, row_of};
 
 use drf_bundle::Quantities;
+use drf_hash::ByRole;
 use drf_role::{Label, Role};
 use indexmap::IndexMap;
 use std::alloc::AllocError;
@@ -23,7 +24,7 @@ fn counted(outer: &Role, role: &Role, amounts: &Quantities, label: &str) -> u64
 }
 
 /// What a role consumes of a scalar together with the roles below it, in thousandths.
-pub(crate) fn used_at(used: &IndexMap<Role, Quantities>, outer: &Role, label: &str) -> u64
+pub(crate) fn used_at(used: &ByRole<Quantities>, outer: &Role, label: &str) -> u64
     requires { used_at used.now.entries outer.now label.now < 2 ^ 64 }
     ensures { result ≡ used_at used.now.entries outer.now label.now }
 {
@@ -36,7 +37,7 @@ pub(crate) fn used_at(used: &IndexMap<Role, Quantities>, outer: &Role, label: &s
 
 /// What a role consumes itself, with so much more.
 fn row_with(
-    used: &IndexMap<Role, Quantities>,
+    used: &ByRole<Quantities>,
     role: &Role,
     amounts: &Quantities,
 ) -> Result<Quantities, AllocError>
@@ -77,7 +78,7 @@ fn is_something(amounts: &Quantities) -> bool
 }
 
 /// Adds to what a role consumes, if it consumes something of each label. Whether it could be done. It needs no memory.
-fn raise_there(used: &mut IndexMap<Role, Quantities>, role: &Role, amounts: &Quantities) -> bool
+fn raise_there(used: &mut ByRole<Quantities>, role: &Role, amounts: &Quantities) -> bool
     requires { (label : Text) → used_by used.old.entries role.now label + amount_of amounts.now label < 2 ^ 64 }
     ensures done { IsTrue result → AreRaised used.old.entries used.new.entries role.now amounts.now }
     ensures not { result ≡ false → used.new.entries ≡ used.old.entries }
@@ -91,7 +92,7 @@ fn raise_there(used: &mut IndexMap<Role, Quantities>, role: &Role, amounts: &Qua
 
 /// Adds to what a role consumes. An `Err` changes nothing.
 pub(crate) fn raise(
-    used: &mut IndexMap<Role, Quantities>,
+    used: &mut ByRole<Quantities>,
     role: &Role,
     amounts: &Quantities,
 ) -> Result<(), AllocError>
@@ -144,7 +145,7 @@ fn reduce_row(row: &mut Quantities, label: &Label, thousandths: u64) -> bool
 }
 
 /// Takes away from what a role consumes. A role that consumes nothing more leaves. It needs no memory.
-pub(crate) fn lower(used: &mut IndexMap<Role, Quantities>, role: &Role, amounts: &Quantities)
+pub(crate) fn lower(used: &mut ByRole<Quantities>, role: &Role, amounts: &Quantities)
     requires { (label : Text) → amount_of amounts.now label ≤ used_by used.old.entries role.now label }
     ensures lowered { AreRaised used.new.entries used.old.entries role.now amounts.now }
     ensures some { AreSome used.old.entries → AreSome used.new.entries }
@@ -153,17 +154,12 @@ pub(crate) fn lower(used: &mut IndexMap<Role, Quantities>, role: &Role, amounts:
         return;
     };
     if lower_row(row, amounts) {
-        used.shift_remove(role);
+        used.swap_remove(role);
     }
 }
 
 /// Takes so much of a scalar away from what a role consumes. A role that consumes nothing more leaves. It needs no memory.
-pub(crate) fn reduce(
-    used: &mut IndexMap<Role, Quantities>,
-    role: &Role,
-    label: &Label,
-    thousandths: u64,
-)
+pub(crate) fn reduce(used: &mut ByRole<Quantities>, role: &Role, label: &Label, thousandths: u64)
     requires { thousandths ≤ used_by used.old.entries role.now label.now }
     ensures lowered { AreRaised used.new.entries used.old.entries role.now (one_entry label.now thousandths) }
     ensures some { AreSome used.old.entries → AreSome used.new.entries }
@@ -172,20 +168,22 @@ pub(crate) fn reduce(
         return;
     };
     if reduce_row(row, label, thousandths) {
-        used.shift_remove(role);
+        used.swap_remove(role);
     }
 }
 
 /// What each role consumes, copied.
-pub(crate) fn copy_used(
-    used: &IndexMap<Role, Quantities>,
-) -> Result<IndexMap<Role, Quantities>, AllocError>
+pub(crate) fn copy_used(used: &ByRole<Quantities>) -> Result<ByRole<Quantities>, AllocError>
     requires { IsBounded used.now.entries }
     ensures same { IfOk result (λ copy. (test : Path → Bool) (label : Text)
         → used_where test copy.entries label ≡ used_where test used.now.entries label) }
     ensures some { IfOk result (λ copy. AreSome copy.entries) }
 {
-    let mut copy = IndexMap::with_capacity(*used.allocator(), used.len())?;
+    let mut copy = IndexMap::with_capacity_and_hasher(
+        *used.allocator(),
+        used.len(),
+        *used.hasher(),
+    )?;
     for (role, amounts) in used {
         role.recall();
         raise(&mut copy, role, amounts)?;

@@ -4,8 +4,8 @@ ghost use Rattle.drf_gates.specs.filters.Slots.{filled};
 ghost use Rattle.drf_tables.specs.registry.Registered.{ranks_of, IsRanked, IsRegistry};
 
 use crate::tables::Agent;
+use drf_hash::ByName;
 use drf_role::Name;
-use indexmap::IndexMap;
 use std::alloc::{AllocError, Global};
 
 /// The slot of an agent, by registration, where there may be gaps.
@@ -65,7 +65,7 @@ fn moved(ranks: &[usize], place: usize) -> usize
 }
 
 /// Puts new places in the stead of the old ones.
-fn move_all(places: &mut IndexMap<Name, usize>, ranks: &[usize])
+fn move_all(places: &mut ByName<usize>, ranks: &[usize])
     ensures { places.new.entries ≡ map (λ e. (e.0, get_or ranks.now e.1 0)) places.old.entries }
 {
     for at in 0..places.len() {
@@ -84,7 +84,7 @@ fn keep_filled(slots: &mut Vec<Option<(Name, Agent)>>)
 /// Closes the gaps. An `Err` changes nothing.
 pub(crate) fn close_gaps(
     slots: &mut Vec<Option<(Name, Agent)>>,
-    places: &mut IndexMap<Name, usize>,
+    places: &mut ByName<usize>,
     live: usize,
 ) -> Result<(), AllocError>
     requires { IsRegistry slots.old.items places.old.entries live }

@@ -18,9 +18,9 @@ use crate::registry::{Registry, put_free};
 use crate::tables::Agent;
 use drf_amount::Algebra;
 use drf_bundle::Bundle;
+use drf_hash::ByName;
 use drf_role::{Name, Role};
 use drf_rows::ClientRow;
-use indexmap::IndexMap;
 
 /// What was free with a part that comes back. Where memory ends, it is not known.
 fn freed(free: &Option<FreePart>, part: &Bundle) -> Option<FreePart>
@@ -90,7 +90,7 @@ fn suppress_at(clients: &mut [ClientRow], role: &Role, suppressed: bool)
 
 /// Suppresses a client, or ends that.
 pub(crate) fn suppress(
-    frameworks: &mut IndexMap<Name, Vec<ClientRow>>,
+    frameworks: &mut ByName<Vec<ClientRow>>,
     framework: &Name,
     role: &Role,
     suppressed: bool,
@@ -105,10 +105,7 @@ pub(crate) fn suppress(
 }
 
 /// Takes a framework out. How many clients it had.
-pub(crate) fn take_framework(
-    frameworks: &mut IndexMap<Name, Vec<ClientRow>>,
-    framework: &Name,
-) -> usize
+pub(crate) fn take_framework(frameworks: &mut ByName<Vec<ClientRow>>, framework: &Name) -> usize
     requires { are_distinct (map (λ f. f.name) (framework_rows frameworks.old.entries)) ≡ true }
     ensures rows { framework_rows frameworks.new.entries
         ≡ filter (λ f. not (same_text f.name framework.now)) (framework_rows frameworks.old.entries) }

@@ -17,6 +17,7 @@ use crate::tables::{Agent, Tables};
 use drf_amount::Algebra;
 use drf_bundle::Quantities;
 use drf_gates::{Consumption, FilterTable, QuotaLimits};
+use drf_hash::{ByName, ByRole};
 use drf_holdings::Holdings;
 use drf_role::{Name, Role};
 use drf_rows::{ClientRow, copy_all};
@@ -44,14 +45,14 @@ fn copy_agent(agent: &Agent) -> Result<Agent, AllocError>
 }
 
 /// Puts what goes by a name, in the place of what went by it before.
-fn put<V: Drop>(map: &mut IndexMap<Name, V>, name: Name, value: V) -> Result<(), AllocError>
+fn put<V: Drop>(map: &mut ByName<V>, name: Name, value: V) -> Result<(), AllocError>
     ensures { OnOk result (map.new.entries ≡ insert_entry same_text map.old.entries name value) }
 {
     map.insert(name, value)?;
     Ok(())
 }
 
-fn put_weight(weights: &mut IndexMap<Role, u64>, role: Role, weight: u64) -> Result<(), AllocError>
+fn put_weight(weights: &mut ByRole<u64>, role: Role, weight: u64) -> Result<(), AllocError>
     ensures { OnOk result (weights.new.entries ≡ insert_entry same_path weights.old.entries role weight) }
 {
     weights.insert(role, weight)?;
@@ -78,7 +79,7 @@ fn copy_slot(copy: &mut Registry, slot: &Option<(Name, Agent)>) -> Result<(), Al
 fn copy_agents(agents: &Registry) -> Result<Registry, AllocError>
     ensures { IfOk result (λ copy. copy.entries ≡ agents.now.entries) }
 {
-    let mut copy = Registry::new(*agents.allocator());
+    let mut copy = Registry::new(*agents.allocator(), agents.key());
     for slot in agents.slots() {
         copy_slot(&mut copy, slot)?;
     }
@@ -87,14 +88,14 @@ fn copy_agents(agents: &Registry) -> Result<Registry, AllocError>
 
 /// The frameworks with their clients, copied in their order.
 fn copy_frameworks(
-    frameworks: &IndexMap<Name, Vec<ClientRow>>,
-) -> Result<IndexMap<Name, Vec<ClientRow>>, AllocError>
+    frameworks: &ByName<Vec<ClientRow>>,
+) -> Result<ByName<Vec<ClientRow>>, AllocError>
     ensures { IfOk result (λ copy. framework_rows copy.entries ≡ framework_rows frameworks.now.entries) }
 {
     // The proof learns that no two have one name by this call alone.
     let _ = frameworks.len();
     let alloc = *frameworks.allocator();
-    let mut copy = IndexMap::new(alloc);
+    let mut copy = IndexMap::with_hasher(alloc, *frameworks.hasher());
     for (name, clients) in frameworks {
         let name = name.copy()?;
         let clients = copy_all(alloc, clients)?;
@@ -104,12 +105,12 @@ fn copy_frameworks(
 }
 
 /// The weights of roles, copied in their order.
-fn copy_weights(weights: &IndexMap<Role, u64>) -> Result<IndexMap<Role, u64>, AllocError>
+fn copy_weights(weights: &ByRole<u64>) -> Result<ByRole<u64>, AllocError>
     ensures { IfOk result (λ copy. copy.entries ≡ weights.now.entries) }
 {
     // The proof learns that no role has two weights by this call alone.
     let _ = weights.len();
-    let mut copy = IndexMap::new(*weights.allocator());
+    let mut copy = IndexMap::with_hasher(*weights.allocator(), *weights.hasher());
     for (role, weight) in weights {
         let role = role.copy()?;
         put_weight(&mut copy, role, *weight)?;
@@ -122,8 +123,8 @@ fn copy_weights(weights: &IndexMap<Role, u64>) -> Result<IndexMap<Role, u64>, Al
 /// Agents and frameworks, copied.
 fn copy_members(
     agents: &Registry,
-    frameworks: &IndexMap<Name, Vec<ClientRow>>,
-) -> Result<(Registry, IndexMap<Name, Vec<ClientRow>>), AllocError>
+    frameworks: &ByName<Vec<ClientRow>>,
+) -> Result<(Registry, ByName<Vec<ClientRow>>), AllocError>
     ensures agents { IfOk result (λ copy. copy.0.entries ≡ agents.now.entries) }
     ensures frameworks { IfOk result (λ copy. framework_rows copy.1.entries ≡ framework_rows frameworks.now.entries) }
 {
@@ -147,9 +148,9 @@ fn copy_held(
 
 /// Weights and the total, copied.
 fn copy_amounts(
-    weights: &IndexMap<Role, u64>,
+    weights: &ByRole<u64>,
     total: &Quantities,
-) -> Result<(IndexMap<Role, u64>, Quantities), AllocError>
+) -> Result<(ByRole<u64>, Quantities), AllocError>
     ensures weights { IfOk result (λ copy. copy.0.entries ≡ weights.now.entries) }
     ensures total { IfOk result (λ copy. copy.1 ≡ total.now) }
 {

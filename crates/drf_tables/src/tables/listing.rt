@@ -8,9 +8,9 @@ ghost use Rattle.drf_tables.specs.Inside.{agent_row, framework_rows, weight_rows
 use crate::registry::Registry;
 use crate::tables::Agent;
 use drf_amount::Algebra;
-use drf_role::{Name, Role};
+use drf_hash::{ByName, ByRole};
+use drf_role::Name;
 use drf_rows::{AgentRow, ClientRow, FrameworkRow, Table, WeightRow, copy_all};
-use indexmap::IndexMap;
 use std::alloc::{AllocError, Global};
 
 /// Lists an agent behind others, if there is one.
@@ -40,7 +40,7 @@ pub(crate) fn agent_rows(alloc: Global, agents: &Registry) -> Result<Table<Agent
 
 pub(crate) fn framework_rows(
     alloc: Global,
-    frameworks: &IndexMap<Name, Vec<ClientRow>>,
+    frameworks: &ByName<Vec<ClientRow>>,
 ) -> Result<Table<FrameworkRow>, AllocError>
     ensures { IfOk result (λ rows. rows ≡ framework_rows frameworks.now.entries) }
 {
@@ -56,7 +56,7 @@ pub(crate) fn framework_rows(
 
 pub(crate) fn weight_rows(
     alloc: Global,
-    weights: &IndexMap<Role, u64>,
+    weights: &ByRole<u64>,
 ) -> Result<Table<WeightRow>, AllocError>
     ensures { IfOk result (λ rows. rows ≡ weight_rows weights.now.entries) }
 {

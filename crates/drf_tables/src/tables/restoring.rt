@@ -13,6 +13,7 @@ use crate::registry::free_part::FreePart;
 use crate::tables::Tables;
 use drf_amount::Algebra;
 use drf_bundle::Bundle;
+use drf_hash::HashKey;
 use drf_role::{Name, Role};
 use drf_rows::{ClientRow, OfferRow, TaskRow};
 use drf_saved::Head;
@@ -42,14 +43,14 @@ pub fn offers_with(offers: u64, clients: &[ClientRow]) -> Option<u64>
 
 impl Tables {
     /// Tables with the numbers of a state, and no rows.
-    pub fn begin(alloc: Global, head: Head) -> Tables
+    pub fn begin(alloc: Global, key: HashKey, head: Head) -> Tables
         requires early { head.clock ≤ LATEST_MOMENT }
         requires numbered { 1 ≤ head.next_offer }
         ensures rows { result.rows ≡ begun head }
         ensures settled { result.settled ≡ true }
         ensures counted { result.counted ≡ false }
     {
-        let mut tables = Tables::new(alloc);
+        let mut tables = Tables::new(alloc, key);
         tables.clock = head.clock;
         tables.next_offer = head.next_offer;
         tables.events = head.events;

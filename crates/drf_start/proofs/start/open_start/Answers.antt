@@ -6,8 +6,8 @@ use Rattle.drf_start.proofs.start.open_start.Goals as goal
 
 pub returns-clause-ok : goal.returns-clause-ok
 returns-clause-ok c =
-    let core = c.in_ok-open.field-0 in
-    is_open core (subst (λ (limits : LimitNumbers). IsOpened limits core) c.full.ensures c.in_ok-open.ensures)
+    let core = c.in_ok-open_keyed.field-0 in
+    is_open core (subst (λ (limits : LimitNumbers). IsOpened limits core) c.full.ensures c.in_ok-open_keyed.ensures)
 
 pub returns-clause-limits : goal.returns-clause-limits
-returns-clause-limits c = c.in_ok-open.ensures.limits ∙ c.full.ensures
+returns-clause-limits c = c.in_ok-open_keyed.ensures.limits ∙ c.full.ensures

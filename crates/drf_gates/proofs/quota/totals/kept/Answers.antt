@@ -7,4 +7,4 @@ pub returns : goal.returns
 returns c = λ used exact.
     c.get-2.ensures
     ∙ kept_is used c.args.totals.now.entries c.args.role.now c.in_ok-total.total.now c.args.label.now
-    c.recall.ensures.right (sym c.get.ensures.value ∙ ap option_copied c.in_ok-total.was) c.if-not-total.false exact
+    c.recall.ensures.right (sym c.get.ensures.value ∙ ap option_copied c.in_ok-total.was) c.if-not-total.false exact.exact

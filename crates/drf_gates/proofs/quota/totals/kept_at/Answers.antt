@@ -12,5 +12,5 @@ returns c = λ used exact.
     let outer = c.in_ok-outer.outer.now in
     let same = same_path-true outer c.args.role.now (not-false (same_path outer c.args.role.now) (sym c.ne.ensures ∙ c.if-ne.false)) in
     c.get.ensures
-    ∙ kept_is used c.args.totals.now.entries outer c.in_ok-outer.total.now c.args.label.now (subst IsRole (sym same) c.recall.ensures.right) c.in_ok-outer.ensures.value c.if-not-total.false exact
+    ∙ kept_is used c.args.totals.now.entries outer c.in_ok-outer.total.now c.args.label.now (subst IsRole (sym same) c.recall.ensures.right) c.in_ok-outer.ensures.value c.if-not-total.false exact.exact
     ∙ ap (λ (r : Path). used_at used r c.args.label.now) same

@@ -1,6 +1,7 @@
 use Rattle.std.proofs.Common.{◌≡◌, ◌+◌, List, Some, None, sym, ap, subst, ◌∙◌, arith}
-use Rattle.std.specs.Map.{lookup, remove_entry, set_value}
+use Rattle.std.specs.Map.{lookup, set_value}
 use Rattle.std.specs.Option.{option_copied_mut}
+use Rattle.indexmap.specs.IndexMap.{swap_remove_entry}
 use Rattle.drf_role.specs.Path.{Path, same_path}
 use Rattle.drf_bundle.specs.declared.quantities.Entry.{Entry}
 use Rattle.drf_gates.specs.quota.Allowance.{Usage, AreSome, counted, used_where}
@@ -33,8 +34,8 @@ returns-then-lower_row-clause-lowered c = λ test label.
     let left : List Entry = c.lower_row.new.row in
     let found : lookup (same_path role) old ≡ Some c.in-Some.row.now = sym c.get_mut.ensures.value ∙ ap option_copied_mut c.in-Some.is in
     let wrote : (c.get_mut.follows.lender left).entries ≡ set_value (same_path role) old left = (c.get_mut.follows.holds left).0 in
-    let gone : c.shift_remove.new.self.entries ≡ remove_entry (same_path role) (set_value (same_path role) old left) =
-    c.shift_remove.ensures.entries ∙ ap (remove_entry (same_path role)) wrote in
+    let gone : c.swap_remove.new.self.entries ≡ swap_remove_entry (same_path role) (set_value (same_path role) old left) =
+    c.swap_remove.ensures.entries ∙ ap (swap_remove_entry (same_path role)) wrote in
     removed_lowers old role c.in-Some.row.now left amounts found c.lower_row.ensures.left (c.lower_row.ensures.empty.0 c.if-lower_row.true) test label
     ∙ ap (λ (us : List Usage). used_where test us label + counted test role amounts label) (sym gone)
 
@@ -60,7 +61,7 @@ returns-then-lower_row-clause-some c = λ all.
     let old : List Usage = c.args.used.now.entries in
     let left : List Entry = c.lower_row.new.row in
     let wrote : (c.get_mut.follows.lender left).entries ≡ set_value (same_path role) old left = (c.get_mut.follows.holds left).0 in
-    subst AreSome (sym (c.shift_remove.ensures.entries ∙ ap (remove_entry (same_path role)) wrote)) (some_left (same_path role) old left all)
+    subst AreSome (sym (c.swap_remove.ensures.entries ∙ ap (swap_remove_entry (same_path role)) wrote)) (some_left (same_path role) old left all)
 
 pub returns-else-lower_row-clause-some : goal.returns-else-lower_row-clause-some
 returns-else-lower_row-clause-some c = λ all.

@@ -49,8 +49,8 @@ returns-clause-ok c =
     let updates = c.in_ok-insert-2.ensures.updates in
     let wrote = c.in_ok-insert-3.ensures.updates in
     λ key. named_in (λ m. m.entries) mid c.insert-3.new.self.entries framework w wrote.0 name c.args.serial
-    (λ q. ap option_to_list (updates.0 q) ∙ list_cond (same_text name q) c.args.serial (lookup (same_text q) c.new-tasks.result.entries)
-    ∙ ap (λ es. cond (same_text name q) (c.args.serial ∷ []) (option_to_list (lookup (same_text q) es))) c.new-tasks.ensures.empty
+    (λ q. ap option_to_list (updates.0 q) ∙ list_cond (same_text name q) c.args.serial (lookup (same_text q) c.with_hasher-tasks.result.entries)
+    ∙ ap (λ es. cond (same_text name q) (c.args.serial ∷ []) (option_to_list (lookup (same_text q) es))) c.with_hasher-tasks.ensures.empty
     ∙ ap (λ o. cond (same_text name q) (c.args.serial ∷ []) (at_task (λ m. m.entries) o q)) (sym missing))
     (ap (λ o. at_task (λ m. m.entries) o name) missing) key
     ∙ (λ i. serials_at (λ m. m.entries) (same i).entries key ++ cond (same_text (copied i) key.0 && same_text (named i) key.1) (c.args.serial ∷ []) [])

@@ -1,22 +1,31 @@
-use Rattle.std.proofs.Common.{◌≡◌, List, [], map, filter, drop, flat_map, refl, sym, ap, subst, ◌∙◌, arith}
-use Rattle.std.proofs.lemmas.List.{drop_all}
+use Rattle.std.proofs.Common.{◌≡◌, List, [], map, filter, flat_map, refl, ap, subst, ◌∙◌, IfOk}
 use Rattle.drf_bundle.specs.Taken.{rest_of_all}
-use Rattle.drf_rows.specs.Holdings.{of_offer}
+use Rattle.drf_bundle.specs.declared.resource.Resource.{Resource}
+use Rattle.drf_rows.specs.Holdings.{of_offer, parts_on}
 use Rattle.drf_rows.specs.declared.rows.OfferRow.{OfferRow}
 use Rattle.drf_holdings.specs.Listed.{offer_number, offer_on, bundles_at}
 use Rattle.drf_holdings.specs.Rising.{IsRising}
 use Rattle.drf_holdings.proofs.Parts.{parts_listed}
 use Rattle.drf_holdings.proofs.offers.OfferTable.left_of.Goals as goal
 
-pub returns : goal.returns
-returns c =
+pub returns-in-Some : goal.returns-in-Some
+returns-in-Some c =
     let rows = c.args.self.now in
     let agent = c.args.agent.now in
-    let numbers = c.list-number-items.result.now in
-    let listed = c.list-number-items.ensures ∙ c.self.invariant.listed.agents agent
+    let numbers = c.in-Some.numbers.now.items in
+    let listed = c.in-Some.ensures ∙ c.self.invariant.listed.agents agent
     ∙ ap (λ (os : List OfferRow). map offer_number (filter (offer_on agent) os)) c.self.view_is in
     let rising : IsRising (map offer_number rows) = subst (λ (os : List OfferRow). IsRising (map offer_number os)) c.self.view_is c.self.invariant.rising in
-    let over : drop c.loop-number.number-index numbers ≡ [] = drop_all c.loop-number.number-index numbers (omega (arith, c.loop-number-test.false)) in
-    sym (ap (λ ns. rest_of_all c.loop-number.left (flat_map (bundles_at offer_number (λ o. o.bundle) rows) ns)) over)
-    ∙ c.loop-number.invariant
-    ∙ ap (rest_of_all c.args.whole.now) (parts_listed offer_number (λ o. o.bundle) of_offer agent (λ o. refl) rows numbers rising listed)
+    let parts : flat_map (bundles_at offer_number (λ o. o.bundle) rows) numbers ≡ parts_on agent (map of_offer rows) =
+    parts_listed offer_number (λ o. o.bundle) of_offer agent (λ o. refl) rows numbers rising listed in
+    subst (λ (w : List Resource). IfOk c.less.result (λ left. left ≡ rest_of_all w (parts_on agent (map of_offer rows)))) c.in_ok-whole.ensures.same
+    (subst (λ (ps : List (List Resource)). IfOk c.less.result (λ left. left ≡ rest_of_all c.in_ok-whole.whole ps)) parts c.less.ensures)
+
+pub returns-in-None : goal.returns-in-None
+returns-in-None c =
+    let rows = c.args.self.now in
+    let agent = c.args.agent.now in
+    let listed = c.in-None.ensures ∙ c.self.invariant.listed.agents agent
+    ∙ ap (λ (os : List OfferRow). map offer_number (filter (offer_on agent) os)) c.self.view_is in
+    let rising : IsRising (map offer_number rows) = subst (λ (os : List OfferRow). IsRising (map offer_number os)) c.self.view_is c.self.invariant.rising in
+    c.in_ok-whole.ensures.same ∙ ap (rest_of_all c.args.whole.now) (parts_listed offer_number (λ o. o.bundle) of_offer agent (λ o. refl) rows [] rising listed)

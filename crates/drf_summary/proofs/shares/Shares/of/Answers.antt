@@ -15,7 +15,7 @@ use Rattle.drf_summary.proofs.shares.Shares.of.Goals as goal
 pub loop-i-init : goal.loop-i-init
 loop-i-init c = λ node.
     let nodes = c.as_slice-nodes.result.now in
-    ap (λ entries. option_map string_bytes (lookup (λ key. bytes_eq node (string_bytes key)) entries)) c.new-by_node.ensures.empty
+    ap (λ entries. option_map string_bytes (lookup (λ key. bytes_eq node (string_bytes key)) entries)) c.with_hasher-by_node.ensures.empty
     ∙ sym (ap (λ (lines : List NodeLine). told_share lines node) (drop_all (length nodes) nodes (omega arith)))
 
 pub loop-i-preserved : goal.loop-i-preserved

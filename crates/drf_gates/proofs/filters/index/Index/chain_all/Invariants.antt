@@ -1,0 +1,12 @@
+use Rattle.std.proofs.Common.{◌≡◌, length, vec_capacity}
+use Rattle.drf_gates.specs.filters.Index.{hashes_in, IsTidyTo}
+use Rattle.drf_gates.proofs.filters.index.Index.chain_all.Given as goal
+
+abbrev pub invariant-loop-place : goal.invariant-loop-place
+invariant-loop-place l = record {
+  tidy : IsTidyTo l.place l.self;
+  hashes : hashes_in l.self ≡ hashes_in l.fn.self;
+  heads : length l.self.heads.items ≡ length l.fn.self.heads.items;
+  start : l.self.start ≡ l.fn.self.start;
+  capacity : vec_capacity l.self.links ≡ vec_capacity l.fn.self.links;
+}

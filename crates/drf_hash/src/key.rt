@@ -2,6 +2,7 @@
 ghost use Rattle.std.specs.Prelude.{◌≡◌};
 ghost use Rattle.std.specs.Hash.FoldHasher as folding;
 
+use crate::name_hasher::NameHasher;
 use drf_role::{Name, Role};
 use indexmap::IndexMap;
 use std::hash::{BuildHasher, FoldHasher, Hasher};
@@ -10,35 +11,41 @@ use std::hash::{BuildHasher, FoldHasher, Hasher};
 /// how long a call takes, and never an answer.
 #[derive(Clone, Copy)]
 pub struct HashKey {
-    pub start: FoldHasher,
+    pub start: NameHasher,
 }
 
 impl HashKey {
     /// The same key each time, for names that nobody chose in order to slow a call down.
     pub fn known() -> HashKey
-        ensures { result.start ≡ folding.initial }
+        ensures { result.start.fold ≡ folding.initial }
+    {
+        HashKey::of(FoldHasher::default())
+    }
+
+    fn of(fold: FoldHasher) -> HashKey
+        ensures { result.start.fold ≡ fold }
     {
         HashKey {
-            start: FoldHasher::default(),
+            start: NameHasher { fold },
         }
     }
 
     /// The key that is read from bytes, of which 16 or more should be random.
     pub fn from_bytes(bytes: &[u8]) -> HashKey
-        ensures { result.start ≡ folding.write folding.initial bytes.now }
+        ensures { result.start.fold ≡ folding.write folding.initial bytes.now }
     {
-        let mut start = FoldHasher::default();
-        start.write(bytes);
-        HashKey { start }
+        let mut fold = FoldHasher::default();
+        fold.write(bytes);
+        HashKey::of(fold)
     }
 }
 
 impl BuildHasher for HashKey {
-    type Hasher = FoldHasher;
+    type Hasher = NameHasher;
 
     ghost build_hasher = { λ key. key.start };
 
-    fn build_hasher(&self) -> FoldHasher {
+    fn build_hasher(&self) -> NameHasher {
         self.start
     }
 }

@@ -2,5 +2,7 @@
 #![tactic(auto)]
 
 mod key;
+mod name_hasher;
 
 pub use key::{ByName, ByRole, HashKey};
+pub use name_hasher::NameHasher;

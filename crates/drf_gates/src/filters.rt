@@ -162,7 +162,7 @@ impl FilterTable {
     pub fn copy(&self) -> Result<FilterTable, AllocError>
         ensures { IfOk result (λ table. table ≡ self.now) }
     {
-        // The hashes of clients begin with the key as it was given.
+        // All hashes begin with the key.
         let key = HashKey {
             start: self.slots.clients.start,
         };

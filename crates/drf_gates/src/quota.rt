@@ -1,5 +1,5 @@
 //! Limits of roles beside what roles consume (Mesos: quota limits).
-ghost use Rattle.std.specs.Prelude.{◌≡◌, ◌≢◌, ℕ, ◌+◌, ◌-◌, ◌<◌, ◌≤◌, ◌↔◌, true, nat_le, IsTrue, filter, length, take, None, false, OnOk, IfOk, IfSome, [], option_copied};
+ghost use Rattle.std.specs.Prelude.{◌≡◌, ◌≢◌, ℕ, ◌+◌, ◌-◌, ◌<◌, ◌≤◌, ◌↔◌, true, nat_le, IsTrue, filter, length, take, None, false, OnOk, IfOk, IfSome, []};
 ghost use Rattle.std.specs.List.{list_all};
 ghost use Rattle.std.specs.Option.{option_map_or};
 ghost use Rattle.drf_role.specs.Text.{Text};

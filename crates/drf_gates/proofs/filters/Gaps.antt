@@ -5,7 +5,6 @@ use Rattle.std.proofs.lemmas.List.{length-map, length-set, length-take, take_all
 use Rattle.std.proofs.lemmas.List.Sums.{length-filter}
 use Rattle.std.proofs.lemmas.List.Elements.{filter-append, filter_map-append}
 use Rattle.std.specs.List.{list_any}
-use Rattle.std.specs.Option.{option_map_or}
 use Rattle.drf_gates.specs.filters.Slots.{filled, slot_passes, without_one}
 
 pub filled-short : {X : Type 0} (slots : List (Option X)) → length (filled slots) ≤ length slots
@@ -125,12 +124,6 @@ take-less n slots left is =
     let long : length (take n (filled slots)) ≡ min n (length (filled slots)) = length-take n (filled slots) in
     left-less slots left (take n (filled slots)) is (omega (arith, long)) (λ same. take_all n (filled slots) (omega (arith, long, same)))
 
--- a slot that is filled is one of them
-pub place-below : {X : Type 0} (slots : List (Option X)) (place : ℕ) (x : X) → get_or slots place None ≡ Some x → place < length slots
-place-below [] place x one = cc
-place-below (s ∷ slots) zero x one = omega arith
-place-below (s ∷ slots) (suc place) x one = omega (arith, place-below slots place x one)
-
 -- ---- the slots are gone over
 
 pub filled-more : {X : Type 0} (slots : List (Option X)) (i : ℕ) (slot : Option X) → i < length slots → slot ≡ get_or slots i slot
@@ -209,11 +202,3 @@ without-if {X} p slots left place slot leaves small read is is_left =
     is_left
     ∙ ap (λ (b : Bool). if b then set slots place None else slots)
     (is ∙ ap (λ (s : Option X). slot_passes p s) (read ∙ get_or_default slots place slot None small))
-
--- or is nothing
-pub without-or_gap : {X : Type 0} (p : X → Bool) (slots left : List (Option X)) (place : ℕ) (slot : Option X) (leaves : Bool) → place < length slots
-    → slot ≡ get_or slots place slot → leaves ≡ option_map_or p slot true → left ≡ (if leaves then set slots place None else slots) → left ≡ without_one p slots place
-without-or_gap {X} p slots left place None leaves small read is is_left =
-    is_left ∙ ap (λ (b : Bool). if b then set slots place None else slots) is ∙ set-gap slots place (sym read)
-    ∙ sym (ap (λ (s : Option X). if slot_passes p s then set slots place None else slots) (sym read))
-without-or_gap p slots left place (Some x) leaves small read is is_left = without-if p slots left place (Some x) leaves small read is is_left

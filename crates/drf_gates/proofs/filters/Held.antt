@@ -1,6 +1,6 @@
 -- Laws of filters.
-use Rattle.std.proofs.Common.{◌≡◌, ◌≢◌, ◌+◌, ◌%◌, ◌<◌, ◌≤◌, ◌&&◌, ◌==◌, if◌then◌else◌, ℕ, zero, suc, Bool, true, false, not, inl, inr, map, filter, refl, List, [], ◌∷◌, ◌++◌, Option, None, Some, nat_lt, length, get_or, set, take, replicate, ap, ◌∙◌, sym, subst, min, mod-lt, arith, length-append}
-use Rattle.std.specs.declared.hash.FoldHasher.{FoldHasher}
+use Rattle.std.proofs.Common.{◌≡◌, ◌≢◌, ◌+◌, ◌%◌, ◌<◌, ◌≤◌, ◌&&◌, ◌==◌, if◌then◌else◌, ℕ, zero, suc, Bool, true, false, not, inl, inr, map, filter, refl, List, [], ◌∷◌, ◌++◌, Option, None, Some, is_some, nat_lt, length, get_or, set, take, replicate, ap, ◌∙◌, sym, subst, min, mod-lt, arith, length-append}
+use Rattle.drf_hash.specs.declared.name_hasher.NameHasher.{NameHasher}
 use Rattle.std.specs.List.{list_any}
 use Rattle.std.proofs.Math.Seq.{get_or-append_seam}
 use Rattle.std.proofs.lemmas.Bool.{cases_Bool, cases_eq, cases_lt, false_from_ne_true, and_parts, and_from, lt-ltb, ltb-true}
@@ -20,15 +20,15 @@ use Rattle.drf_rows.specs.Filters.{is_in_force, in_force, is_of_client, is_on_ag
 use Rattle.drf_rows.specs.declared.rows.FilterRow.{FilterRow}
 use Rattle.drf_gates.specs.filters.Laws.{LessIsHeldBack, HeldBackIsRefused}
 use Rattle.drf_gates.specs.filters.Chains.{IsLast, IsChained}
-use Rattle.drf_gates.specs.filters.Index.{client_hash, pair_hash, row_hash, slot_hash, link_hash, hashes_in, befores, bucket_of, buckets_in, IsTidy, IsTidyTo, IsLedTo, IsSameBut, IsIndexed, IsLeft, HasRoom, NoneEndsBefore}
-use Rattle.drf_gates.specs.filters.Slots.{filled, slot_passes, without_one, filters_in, IsSlots, IsClosed, IsFilterTable}
+use Rattle.drf_gates.specs.filters.Index.{client_hash, pair_hash, row_hash, slot_hash, link_hash, hashes_in, befores, bucket_of, buckets_in, IsTidy, IsTidyTo, IsLedTo, IsMarked, IsIndexed, IsLeft, HasRoom, NoneEndsBefore}
+use Rattle.drf_gates.specs.filters.Slots.{filled, slot_passes, without_one, filters_in, AreMarked, AreTidy, IsSlots, IsClosed, IsFilterTable}
 use Rattle.drf_gates.specs.declared.filters.index.Index.{Index}
 use Rattle.drf_gates.specs.declared.filters.index.Link.{Link}
 use Rattle.drf_gates.specs.declared.filters.index.Key.{Key}
 use Rattle.drf_gates.specs.declared.filters.index.Key.TheVariants.{Client as ByClient, ClientAndAgent}
 use Rattle.drf_gates.specs.declared.filters.slots.Slots.{Slots}
 use Rattle.drf_gates.proofs.filters.Chains.{chained-more, chained-gap, chained-any, chained-next, chained-next_gap, chained-drop_head, chained-drop_link, passed-last, passed-more}
-use Rattle.drf_gates.proofs.filters.Gaps.{filled-all, filled-more, any-filled, no_slot, without-length, without-other, without-here, without-others, without-if, place-below, IsLess, all-less, take-less}
+use Rattle.drf_gates.proofs.filters.Gaps.{filled-all, filled-more, any-filled, no_slot, without-length, without-other, without-here, without-others, without-if, IsLess, all-less, take-less}
 
 pub less_is_held_back : LessIsHeldBack
 less_is_held_back filters f clock bundle is_there before is_bundle is_part below =
@@ -58,7 +58,7 @@ held_back_is_refused filters clock client agent bundle held are_bundles is_part 
 
 -- ---- what is found has its hash
 
-pub of_client_hash : (start : FoldHasher) (client : Client) (slot : Option FilterRow) → slot_passes (is_of_client client) slot ≡ true
+pub of_client_hash : (start : NameHasher) (client : Client) (slot : Option FilterRow) → slot_passes (is_of_client client) slot ≡ true
     → slot_hash start ByClient slot ≡ Some (client_hash start client.role client.framework)
 of_client_hash start client None own = cc
 of_client_hash start client (Some f) own =
@@ -67,7 +67,7 @@ of_client_hash start client (Some f) own =
     let framework = same_from_test f.framework client.framework names.1 in
     λ i. Some (client_hash start (role i) (framework i))
 
-pub held_hash : (start : FoldHasher) (clock : ℕ) (client : Client) (agent : Text) (bundle : List Resource) (slot : Option FilterRow)
+pub held_hash : (start : NameHasher) (clock : ℕ) (client : Client) (agent : Text) (bundle : List Resource) (slot : Option FilterRow)
     → slot_passes (holds_back clock client agent bundle) slot ≡ true
     → slot_hash start ClientAndAgent slot ≡ Some (pair_hash start client.role client.framework agent)
 held_hash start clock client agent bundle None holds = cc
@@ -227,42 +227,56 @@ pub befores-push : (links more : List Link) (link : Link) → more ≡ links ++ 
     → map (λ (l : Link). l.before) more ≡ map (λ (l : Link). l.before) links ++ link.before ∷ []
 befores-push links more link is = ap (λ (ls : List Link). map (λ (l : Link). l.before) ls) is ∙ map-append (λ (l : Link). l.before) links (link ∷ [])
 
-found-slot : (start : FoldHasher) (key : Key) (slot : Option FilterRow) (f : FilterRow) → slot ≡ Some f → slot_hash start key slot ≡ Some (row_hash start key f)
-found-slot start key slot f is = ap (λ (s : Option FilterRow). slot_hash start key s) is
+-- ---- each filter has its hash
 
--- links of just these filters
-pub indexed-anew : (start : FoldHasher) (key : Key) (rows : List (Option FilterRow)) (index : Index) → IsTidy index
-    → hashes_in index ≡ map (slot_hash start key) rows → index.start ≡ start → length rows ≤ length index.heads.items → IsIndexed key rows index
-indexed-anew start key rows index tidy hashes begins enough = record {
-  tidy = tidy;
-  number = sym (length-map index.links.items link_hash) ∙ ap length hashes ∙ length-map rows (slot_hash start key);
-  found = λ place f here.
-      ap (λ (hs : List (Option ℕ)). get_or hs place None) hashes
-      ∙ get_or-map (slot_hash start key) rows place None None (place-below rows place f here)
-      ∙ found-slot start key (get_or rows place None) f here
-      ∙ ap (λ (s : FoldHasher). Some (row_hash s key f)) (sym begins);
+pub marked-long : (key : Key) (rows : List (Option FilterRow)) (index : Index) → IsMarked key rows index → length index.links.items ≡ length rows
+marked-long key rows index marked = sym (length-map index.links.items link_hash) ∙ ap length marked.hashes ∙ length-map rows (slot_hash index.start key)
+
+pub marked-at : (key : Key) (rows : List (Option FilterRow)) (index : Index) (place : ℕ) → IsMarked key rows index → place < length rows
+    → get_or (hashes_in index) place None ≡ slot_hash index.start key (get_or rows place None)
+marked-at key rows index place marked small =
+    ap (λ (hs : List (Option ℕ)). get_or hs place None) marked.hashes ∙ get_or-map (slot_hash index.start key) rows place None None small
+
+-- the same hashes
+pub marked-again : (key : Key) (rows : List (Option FilterRow)) (index after : Index) → IsMarked key rows index → hashes_in after ≡ hashes_in index
+    → length rows ≤ length after.heads.items → after.start ≡ index.start → IsMarked key rows after
+marked-again key rows index after marked hashes enough begins = record {
+  hashes = hashes ∙ marked.hashes ∙ ap (λ (s : NameHasher). map (slot_hash s key) rows) (sym begins);
   enough = enough;
 }
 
--- the same filters in other chains
-pub indexed-again : (key : Key) (rows : List (Option FilterRow)) (index after : Index) → IsIndexed key rows index → IsTidy after
-    → hashes_in after ≡ hashes_in index → length index.heads.items ≤ length after.heads.items → after.start ≡ index.start → IsIndexed key rows after
-indexed-again key rows index after indexed tidy hashes enough begins = record {
+-- and all but that at a place
+pub marked-without : (key : Key) (rows left : List (Option FilterRow)) (index after : Index) (place : ℕ) → left ≡ set rows place None → IsMarked key rows index
+    → hashes_in after ≡ set (hashes_in index) place None → length after.heads.items ≡ length index.heads.items → after.start ≡ index.start → IsMarked key left after
+marked-without key rows left index after place is_left marked hashes heads begins = record {
+  hashes = hashes ∙ ap (λ (hs : List (Option ℕ)). set hs place None) marked.hashes
+      ∙ sym (map-set (slot_hash index.start key) rows place None)
+      ∙ (λ i. map (slot_hash (sym begins i) key) (sym is_left i));
+  enough = omega (arith, marked.enough, ap length is_left, length-set rows place None, heads);
+}
+
+-- links of just these filters
+pub indexed-anew : (start : NameHasher) (key : Key) (rows : List (Option FilterRow)) (index : Index) → IsTidy index
+    → hashes_in index ≡ map (slot_hash start key) rows → index.start ≡ start → length rows ≤ length index.heads.items → IsIndexed key rows index
+indexed-anew start key rows index tidy hashes begins enough = record {
+  marked = record { hashes = hashes ∙ ap (λ (s : NameHasher). map (slot_hash s key) rows) (sym begins); enough = enough };
   tidy = tidy;
-  number = sym (length-map after.links.items link_hash) ∙ ap length hashes ∙ length-map index.links.items link_hash ∙ indexed.number;
-  found = λ place f here.
-      ap (λ (hs : List (Option ℕ)). get_or hs place None) hashes ∙ indexed.found place f here ∙ ap (λ (s : FoldHasher). Some (row_hash s key f)) (sym begins);
-  enough = omega (arith, enough, indexed.enough);
+}
+
+-- the same filters in other chains
+pub indexed-again : (key : Key) (rows : List (Option FilterRow)) (index after : Index) → IsMarked key rows index → IsTidy after
+    → hashes_in after ≡ hashes_in index → length rows ≤ length after.heads.items → after.start ≡ index.start → IsIndexed key rows after
+indexed-again key rows index after marked tidy hashes enough begins = record {
+  marked = marked-again key rows index after marked hashes enough begins;
+  tidy = tidy;
 }
 
 pub indexed-kept : (key : Key) (rows : List (Option FilterRow)) (index after : Index) → after.links.items ≡ index.links.items
     → after.heads.items ≡ index.heads.items → after.start ≡ index.start → IsIndexed key rows index → IsIndexed key rows after
 indexed-kept key rows index after links heads begins is = record {
+  marked = marked-again key rows index after is.marked (ap (λ (ls : List Link). map link_hash ls) links)
+      (omega (arith, ap length heads, is.marked.enough)) begins;
   tidy = subst (λ (q : List Link × List ℕ). IsTidyBy q.1 q.0) (λ i. (sym links i, sym heads i)) is.tidy;
-  number = ap length links ∙ is.number;
-  found = λ place f here.
-      ap (λ (ls : List Link). get_or (map link_hash ls) place None) links ∙ is.found place f here ∙ ap (λ (s : FoldHasher). Some (row_hash s key f)) (sym begins);
-  enough = omega (arith, ap length heads, is.enough);
 }
 
 -- room is made for one more
@@ -292,6 +306,46 @@ led-own index bucket zero after p tidy known led at = (tidy.head bucket known).o
 led-own index bucket (suc q) after p tidy known led at =
     let its = led.at_link q (omega arith) in
     (tidy.link q (omega (arith, led.small, buckets-long index)) (omega (arith, its.0, known))).own p (sym its.1 ∙ at) ∙ its.0
+
+-- a chain that leads past a place of its bucket comes to it
+led-on : (buckets : List ℕ) (bucket end last place : ℕ) → IsLast buckets bucket end last → place < end → get_or buckets place 0 ≡ bucket → place + 1 ≤ last
+led-on buckets bucket end last place is before own = elim (cases_lt place last) [
+  | inl early ↦ omega (arith, early)
+  | inr late ↦ absurd (is.none_after place late before own)
+]
+
+pub led-on_head : (index : Index) (bucket after place : ℕ) → IsTidy index → bucket < length index.heads.items → after ≡ get_or index.heads.items bucket 0
+    → place < length index.links.items → get_or (buckets_in index) place 0 ≡ bucket → place + 1 ≤ after
+led-on_head index bucket after place tidy known is small own =
+    omega (
+      arith,
+      is,
+      led-on (buckets_in index) bucket (length (buckets_in index)) (get_or index.heads.items bucket 0) place (tidy.head bucket known) (omega (arith, small, buckets-long index)) own,
+    )
+
+-- where a chain goes on is the last place of its bucket before
+led-last : (index : Index) (bucket from after p next : ℕ) → IsTidy index → bucket < length index.heads.items → IsLedTo index bucket from after
+    → after ≡ p + 1 → next ≡ get_or (befores index) p 0 → IsLast (buckets_in index) bucket p next
+led-last index bucket from after p next tidy known led at is =
+    let its = led-own index bucket from after p tidy known led at in
+    let small : p < length (buckets_in index) = omega (arith, led-within index bucket from after tidy known led, at, buckets-long index) in
+    subst (λ (q : ℕ × ℕ). IsLast (buckets_in index) q.0 p q.1) (λ i. (its i, sym is i)) (tidy.link p small (omega (arith, its, known)))
+
+pub led-less : (index : Index) (bucket from after p next : ℕ) → IsTidy index → bucket < length index.heads.items → IsLedTo index bucket from after
+    → after ≡ p + 1 → next ≡ get_or (befores index) p 0 → next < after
+led-less index bucket from after p next tidy known led at is = omega (arith, (led-last index bucket from after p next tidy known led at is).within, at)
+
+pub led-on_link : (index : Index) (bucket from after p next place : ℕ) → IsTidy index → bucket < length index.heads.items → IsLedTo index bucket from after
+    → after ≡ p + 1 → next ≡ get_or (befores index) p 0 → place + 1 < after → get_or (buckets_in index) place 0 ≡ bucket → place + 1 ≤ next
+led-on_link index bucket from after p next place tidy known led at is before own =
+    led-on (buckets_in index) bucket p next place (led-last index bucket from after p next tidy known led at is) (omega (arith, before, at)) own
+
+-- the bucket of a link
+pub link-bucket : (index : Index) (place bucket : ℕ) (link : Link) → place < length index.links.items → link_hash link ≡ get_or (hashes_in index) place None
+    → get_or (hashes_in index) place None ≢ None → bucket ≡ link.mark % length index.heads.items → get_or (buckets_in index) place 0 ≡ bucket
+link-bucket index place bucket link small read is is_bucket =
+    bucket-at index place small
+    ∙ ap (λ (h : Option ℕ). bucket_of (length index.heads.items) h) (sym read ∙ hash-some link (λ e. is (sym read ∙ e))) ∙ sym is_bucket
 
 pub led-start : (index : Index) (bucket after : ℕ) → after ≡ get_or index.heads.items bucket 0 → IsLedTo index bucket 0 after
 led-start index bucket after is = record { at_head = λ e. is; at_link = λ p e. absurd (omega (arith, e)); small = omega arith }
@@ -360,39 +414,6 @@ pub goes-before : (index : Index) (place bucket : ℕ) → IsTidy index → plac
 goes-before index place bucket tidy small own known =
     (tidy.link place (omega (arith, small, buckets-long index)) (omega (arith, own, known))).within
 
-pub same-passed : (place : ℕ) (index after : Index) → hashes_in after ≡ set (hashes_in index) place None → length after.heads.items ≡ length index.heads.items
-    → after.start ≡ index.start → IsSameBut place index after
-same-passed place index after hashes heads begins = record {
-  others = λ q apart. ap (λ (hs : List (Option ℕ)). get_or hs q None) hashes ∙ get_or-set_other (hashes_in index) place q None None apart;
-  number = sym (length-map after.links.items link_hash) ∙ ap length hashes ∙ length-set (hashes_in index) place None ∙ length-map index.links.items link_hash;
-  heads = heads;
-  start = begins;
-}
-
-same-hash : (start : FoldHasher) (key : Key) (rows : List (Option FilterRow)) (index after : Index) (place : ℕ) (q : ℕ) (f : FilterRow)
-    → IsIndexed key rows index → IsSameBut place index after → place < length rows → get_or (set rows place None) q None ≡ Some f
-    → get_or (hashes_in after) q None ≡ Some (row_hash after.start key f)
-same-hash start key rows index after place q f indexed same small here = elim (cases_eq q place) [
-  | inl at ↦
-      let gap : None ≡ Some f = sym (get_or-set_same rows place None None small) ∙ ap (λ (r : ℕ). get_or (set rows place None) r None) (sym at) ∙ here in
-      cc
-  | inr apart ↦
-      same.others q apart ∙ indexed.found q f (sym (get_or-set_other rows place q None None apart) ∙ here)
-      ∙ ap (λ (s : FoldHasher). Some (row_hash s key f)) (sym same.start)
-]
-
-pub indexed-without : (key : Key) (rows : List (Option FilterRow)) (index after : Index) (place : ℕ) → IsIndexed key rows index → IsTidy after
-    → IsSameBut place index after → place < length rows → IsIndexed key (set rows place None) after
-indexed-without key rows index after place indexed tidy same small = record {
-  tidy = tidy;
-  number = same.number ∙ indexed.number ∙ sym (length-set rows place None);
-  found = λ q f here. same-hash index.start key rows index after place q f indexed same small here;
-  enough = omega (arith, indexed.enough, length-set rows place None, same.heads);
-}
-
-pub same-itself : (place : ℕ) (index : Index) → IsSameBut place index index
-same-itself place index = record { others = λ q apart. refl; number = refl; heads = refl; start = refl }
-
 -- ---- a walk along a chain
 
 module _ (rows : List (Option FilterRow)) (index : Index) (test : Option FilterRow → Bool) (hash : ℕ) where
@@ -411,19 +432,16 @@ module _ (rows : List (Option FilterRow)) (index : Index) (test : Option FilterR
     below = mod-lt hash known
 
     number : length (buckets_in index) ≡ length rows
-    number = buckets-long index ∙ indexed.number
-
-    found-hash : (place : ℕ) (s : Option FilterRow) → get_or rows place None ≡ s → slot_hash index.start key s ≡ Some hash → get_or (hashes_in index) place None ≡ Some hash
-    found-hash place None here is = cc
-    found-hash place (Some f) here is = indexed.found place f here ∙ is
+    number = buckets-long index ∙ marked-long key rows index indexed.marked
 
     its-hash : (place : ℕ) (d : Option FilterRow) → place < length rows → test (get_or rows place d) ≡ true → get_or (hashes_in index) place None ≡ Some hash
     its-hash place d small passes =
-        found-hash place (get_or rows place d) (get_or_default rows place None d small) (its (get_or rows place d) passes)
+        marked-at key rows index place indexed.marked small
+        ∙ ap (λ (s : Option FilterRow). slot_hash index.start key s) (get_or_default rows place None d small) ∙ its (get_or rows place d) passes
 
     in_bucket : (place : ℕ) (d : Option FilterRow) → place < length rows → test (get_or rows place d) ≡ true → get_or (buckets_in index) place 0 ≡ bucket
     in_bucket place d small passes =
-        bucket-at index place (omega (arith, small, indexed.number))
+        bucket-at index place (omega (arith, small, marked-long key rows index indexed.marked))
         ∙ ap (λ (h : Option ℕ). bucket_of (length index.heads.items) h) (its-hash place d small passes)
 
     -- a slot with another hash does not pass
@@ -466,17 +484,50 @@ module _ (rows : List (Option FilterRow)) (index : Index) (test : Option FilterR
         (indexed.tidy.link place (omega (arith, small, number)) (omega (arith, is, below))))
         (passed-more test rows after place is_after fails walked.passed)
 
--- what is at a place is taken
-pub slots-taken : (s after : Slots) (place : ℕ) → IsSlots s → place < length s.rows.items → after.rows.items ≡ set s.rows.items place None
-    → IsTidy after.pairs → IsSameBut place s.pairs after.pairs → IsTidy after.clients → IsSameBut place s.clients after.clients
-    → after.live ≡ length (filled (set s.rows.items place None)) → IsSlots after
-slots-taken s after place slots small rows pairs same_pairs clients same_clients live = record {
-  pairs = subst (λ (fs : List (Option FilterRow)). IsIndexed ClientAndAgent fs after.pairs) (sym rows)
-      (indexed-without ClientAndAgent s.rows.items s.pairs after.pairs place slots.pairs pairs same_pairs small);
-  clients = subst (λ (fs : List (Option FilterRow)). IsIndexed ByClient fs after.clients) (sym rows)
-      (indexed-without ByClient s.rows.items s.clients after.clients place slots.clients clients same_clients small);
+-- ---- what is at a place is taken
+
+pub slots-marked : (s : Slots) → IsSlots s → AreMarked s
+slots-marked s slots = record { pairs = slots.pairs.marked; clients = slots.clients.marked; live = slots.live }
+
+pub slots-tidy : (s : Slots) → IsSlots s → AreTidy s
+slots-tidy s slots = record { pairs = slots.pairs.tidy; clients = slots.clients.tidy }
+
+pub marks-without : (s after : Slots) (place : ℕ) → AreMarked s → after.rows.items ≡ set s.rows.items place None
+    → hashes_in after.pairs ≡ set (hashes_in s.pairs) place None → length after.pairs.heads.items ≡ length s.pairs.heads.items → after.pairs.start ≡ s.pairs.start
+    → hashes_in after.clients ≡ set (hashes_in s.clients) place None → length after.clients.heads.items ≡ length s.clients.heads.items → after.clients.start ≡ s.clients.start
+    → after.live ≡ length (filled (set s.rows.items place None)) → AreMarked after
+marks-without s after place marked rows pairs pair_heads pair_start clients client_heads client_start live = record {
+  pairs = marked-without ClientAndAgent s.rows.items after.rows.items s.pairs after.pairs place rows marked.pairs pairs pair_heads pair_start;
+  clients = marked-without ByClient s.rows.items after.rows.items s.clients after.clients place rows marked.clients clients client_heads client_start;
   live = live ∙ ap (λ (fs : List (Option FilterRow)). length (filled fs)) (sym rows);
 }
+
+-- what leaves a gap at a gap changes nothing
+pub marks-kept : (s after : Slots) → AreMarked s → after.rows.items ≡ s.rows.items → after.pairs ≡ s.pairs → after.clients ≡ s.clients → after.live ≡ s.live → AreMarked after
+marks-kept s after marked rows pairs clients live = record {
+  pairs = subst (λ (q : List (Option FilterRow) × Index). IsMarked ClientAndAgent q.0 q.1) (λ i. (sym rows i, sym pairs i)) marked.pairs;
+  clients = subst (λ (q : List (Option FilterRow) × Index). IsMarked ByClient q.0 q.1) (λ i. (sym rows i, sym clients i)) marked.clients;
+  live = live ∙ marked.live ∙ ap (λ (fs : List (Option FilterRow)). length (filled fs)) (sym rows);
+}
+
+pub marks-slots : (s : Slots) → AreMarked s → AreTidy s → IsSlots s
+marks-slots s marked tidy = record {
+  pairs = record { marked = marked.pairs; tidy = tidy.pairs };
+  clients = record { marked = marked.clients; tidy = tidy.clients };
+  live = marked.live;
+}
+
+some-hash : (start : NameHasher) (key : Key) (slot : Option FilterRow) → is_some slot ≡ true → slot_hash start key slot ≢ None
+some-hash start key None is = cc
+some-hash start key (Some f) is = λ e. cc
+
+-- what there is has a hash
+pub marked-some : (key : Key) (rows : List (Option FilterRow)) (index : Index) (place : ℕ) (slot : Option FilterRow) → IsMarked key rows index → place < length rows
+    → slot ≡ get_or rows place slot → is_some slot ≡ true → get_or (hashes_in index) place None ≢ None
+marked-some key rows index place slot marked small read some =
+    let here : get_or rows place None ≡ slot = get_or_default rows place None slot small ∙ sym read in
+    λ e. some-hash index.start key slot some
+    (ap (λ (t : Option FilterRow). slot_hash index.start key t) (sym here) ∙ sym (marked-at key rows index place marked small) ∙ e)
 
 pub held_by : (p : FilterRow → Bool) (slots : List (Option FilterRow)) (place : ℕ) (slot : Option FilterRow) → place < length slots → slot ≡ get_or slots place slot
     → slot_passes p slot ≡ true → list_any p (filled slots) ≡ true
@@ -486,19 +537,17 @@ pub held_by_none : (p : FilterRow → Bool) (slots : List (Option FilterRow))
     → ((place : ℕ) (d : Option FilterRow) → 0 ≤ place → place < length slots → slot_passes p (get_or slots place d) ≡ false) → list_any p (filled slots) ≡ false
 held_by_none p slots none = sym (any-filled p slots) ∙ list_any_none (slot_passes p) slots (λ k d below. none k d (omega arith) below)
 
-client-slot : (index : Index) (rows : List (Option FilterRow)) (client : Client) (q : ℕ) (s : Option FilterRow) → IsIndexed ByClient rows index
-    → get_or rows q None ≡ s → slot_passes (is_of_client client) s ≡ true → get_or (hashes_in index) q None ≡ Some (client_hash index.start client.role client.framework)
-client-slot index rows client q None indexed here passes = cc
-client-slot index rows client q (Some f) indexed here passes = indexed.found q f here ∙ of_client_hash index.start client (Some f) passes
-
-client-found : (index : Index) (rows : List (Option FilterRow)) (client : Client) → IsIndexed ByClient rows index → (q : ℕ) (d : Option FilterRow) → q < length rows
+client-found : (index : Index) (rows : List (Option FilterRow)) (client : Client) → IsMarked ByClient rows index → (q : ℕ) (d : Option FilterRow) → q < length rows
     → slot_passes (is_of_client client) (get_or rows q d) ≡ true → get_or (hashes_in index) q None ≡ Some (client_hash index.start client.role client.framework)
-client-found index rows client indexed q d below passes =
-    client-slot index rows client q (get_or rows q d) indexed (get_or_default rows q None d below) passes
+client-found index rows client marked q d below passes =
+    marked-at ByClient rows index q marked below
+    ∙ ap (λ (s : Option FilterRow). slot_hash index.start ByClient s) (get_or_default rows q None d below)
+    ∙ of_client_hash index.start client (get_or rows q d) passes
 
 -- a walk along the chain of a client, whose filters are taken
-module _ (client : Client) (s t : Slots) (place next : ℕ) (slots : IsSlots s) (small : place < length s.rows.items)
-    (is_rows : t.rows.items ≡ without_one (is_of_client client) s.rows.items place) (same : IsSameBut place s.clients t.clients) where
+module _ (client : Client) (s t : Slots) (place next : ℕ) (slots : IsSlots s) (left : IsSlots t) (small : place < length s.rows.items)
+    (is_rows : t.rows.items ≡ without_one (is_of_client client) s.rows.items place)
+    (heads : length t.clients.heads.items ≡ length s.clients.heads.items) (begins : t.clients.start ≡ s.clients.start) where
   abbrev its_hash : ℕ
   its_hash = client_hash s.clients.start client.role client.framework
 
@@ -514,15 +563,20 @@ module _ (client : Client) (s t : Slots) (place next : ℕ) (slots : IsSlots s) 
 
   own-elsewhere : (q : ℕ) → q ≢ place → q < length s.rows.items → get_or (buckets_in t.clients) q 0 ≡ get_or (buckets_in s.clients) q 0
   own-elsewhere q apart below =
-      bucket-at t.clients q (omega (arith, below, slots.clients.number, same.number))
-      ∙ (λ i. bucket_of (same.heads i) (same.others q apart i))
-      ∙ sym (bucket-at s.clients q (omega (arith, below, slots.clients.number)))
+      let hash : get_or (hashes_in t.clients) q None ≡ get_or (hashes_in s.clients) q None =
+      marked-at ByClient t.rows.items t.clients q left.clients.marked (omega (arith, below, long))
+      ∙ (λ i. slot_hash (begins i) ByClient (elsewhere q None apart i))
+      ∙ sym (marked-at ByClient s.rows.items s.clients q slots.clients.marked below)
+      in
+      bucket-at t.clients q (omega (arith, below, long, marked-long ByClient t.rows.items t.clients left.clients.marked))
+      ∙ (λ i. bucket_of (heads i) (hash i))
+      ∙ sym (bucket-at s.clients q (omega (arith, below, marked-long ByClient s.rows.items s.clients slots.clients.marked)))
 
   pub walk-taken : 0 < length s.clients.heads.items → next ≡ get_or (befores s.clients) place 0
       → IsWalked s.rows.items s.clients (slot_passes (is_of_client client)) its_hash (place + 1)
       → IsWalked t.rows.items t.clients (slot_passes (is_of_client client)) (client_hash t.clients.start client.role client.framework) next
   walk-taken known is_next walked =
-      let number : length (buckets_in s.clients) ≡ length s.rows.items = buckets-long s.clients ∙ slots.clients.number in
+      let number : length (buckets_in s.clients) ≡ length s.rows.items = buckets-long s.clients ∙ marked-long ByClient s.rows.items s.clients slots.clients.marked in
       let its : get_or (buckets_in s.clients) place 0 ≡ its_bucket = walked.own place refl in
       let last : IsLast (buckets_in s.clients) its_bucket place next =
       subst (λ (q : ℕ × ℕ). IsLast (buckets_in s.clients) q.0 place q.1) (λ i. (its i, sym is_next i))
@@ -530,14 +584,14 @@ module _ (client : Client) (s t : Slots) (place next : ℕ) (slots : IsSlots s) 
       in
       let own_bucket : (q : ℕ) (d : Option FilterRow) → q < length s.rows.items → slot_passes (is_of_client client) (get_or s.rows.items q d) ≡ true
       → get_or (buckets_in s.clients) q 0 ≡ its_bucket = λ q d below passes.
-      bucket-at s.clients q (omega (arith, below, slots.clients.number))
-      ∙ ap (λ (h : Option ℕ). bucket_of (length s.clients.heads.items) h) (client-found s.clients s.rows.items client slots.clients q d below passes)
+      bucket-at s.clients q (omega (arith, below, marked-long ByClient s.rows.items s.clients slots.clients.marked))
+      ∙ ap (λ (h : Option ℕ). bucket_of (length s.clients.heads.items) h) (client-found s.clients s.rows.items client slots.clients.marked q d below passes)
       in
       record {
         within = omega (arith, last.within, small, long);
         own = λ q at.
             own-elsewhere q (λ e. absurd (omega (arith, at, e, last.within))) (omega (arith, at, last.within, small)) ∙ last.own q at
-            ∙ (λ i. client_hash (sym same.start i) client.role client.framework % sym same.heads i);
+            ∙ (λ i. client_hash (sym begins i) client.role client.framework % sym heads i);
         passed = λ q d after below. elim (cases_eq q place) [
           | inl here ↦
               ap (λ (k : ℕ). slot_passes (is_of_client client) (get_or t.rows.items k d)) here
@@ -555,40 +609,49 @@ module _ (client : Client) (s t : Slots) (place next : ℕ) (slots : IsSlots s) 
 
 -- ---- a walk over all slots, of which those that pass are taken
 
-pub record IsSwept (p : FilterRow → Bool) (s t : Slots) (place : ℕ) : Type 0 where
-  pub slots : IsSlots t
-  pub within : place ≤ length t.rows.items
+pub record IsSwept (p : FilterRow → Bool) (s t : Slots) (place few : ℕ) : Type 0 where
+  pub marked : AreMarked t
+  pub tidy : 0 < few → AreTidy t
+  pub long : length t.rows.items ≡ length s.rows.items
   pub others : filter (λ f. not (p f)) (filters_in t) ≡ filter (λ f. not (p f)) (filters_in s)
-  pub passed : (q : ℕ) (d : Option FilterRow) → place ≤ q → q < length t.rows.items → slot_passes p (get_or t.rows.items q d) ≡ false
+  pub passed : (q : ℕ) (d : Option FilterRow) → q < place → q < length t.rows.items → slot_passes p (get_or t.rows.items q d) ≡ false
 
-pub swept-start : (p : FilterRow → Bool) (s : Slots) (place : ℕ) → IsSlots s → place ≡ length s.rows.items → IsSwept p s s place
-swept-start p s place slots is = record { slots = slots; within = omega (arith, is); others = refl; passed = λ q d after below. absurd (omega (arith, is, after, below)) }
+pub swept-start : (p : FilterRow → Bool) (s : Slots) (few : ℕ) → IsSlots s → IsSwept p s s 0 few
+swept-start p s few slots = record {
+  marked = slots-marked s slots;
+  tidy = λ some. slots-tidy s slots;
+  long = refl;
+  others = refl;
+  passed = λ q d before below. absurd (omega (arith, before));
+}
 
-pub swept-more : (p : FilterRow → Bool) (s t u : Slots) (before place : ℕ) (slot : Option FilterRow) (leaves : Bool) → before ≡ place + 1 → IsSwept p s t before
+pub swept-more : (p : FilterRow → Bool) (s t u : Slots) (place few left : ℕ) (slot : Option FilterRow) (leaves : Bool) → place < length s.rows.items → IsSwept p s t place few
     → slot ≡ get_or t.rows.items place slot → leaves ≡ slot_passes p slot
-    → u.rows.items ≡ (if leaves then set t.rows.items place None else t.rows.items) → IsSlots u → IsSwept p s u place
-swept-more p s t u before place slot leaves at swept read is is_rows slots =
-    let small : place < length t.rows.items = omega (arith, at, swept.within) in
+    → u.rows.items ≡ (if leaves then set t.rows.items place None else t.rows.items) → AreMarked u → (0 < left → AreTidy u)
+    → IsSwept p s u (place + 1) left
+swept-more p s t u place few left slot leaves within swept read is is_rows marked tidy =
+    let small : place < length t.rows.items = omega (arith, within, swept.long) in
     let rows : u.rows.items ≡ without_one p t.rows.items place = without-if p t.rows.items u.rows.items place slot leaves small read is is_rows in
     let long : length u.rows.items ≡ length t.rows.items = ap length rows ∙ without-length p t.rows.items place small in
     record {
-      slots = slots;
-      within = omega (arith, long, small);
+      marked = marked;
+      tidy = tidy;
+      long = long ∙ swept.long;
       others = ap (λ (ss : List (Option FilterRow)). filter (λ f. not (p f)) (filled ss)) rows ∙ without-others p t.rows.items place small ∙ swept.others;
-      passed = λ q d after below. elim (cases_eq q place) [
+      passed = λ q d before below. elim (cases_eq q place) [
         | inl here ↦
             ap (λ (k : ℕ). slot_passes p (get_or u.rows.items k d)) here
             ∙ ap (λ (ss : List (Option FilterRow)). slot_passes p (get_or ss place d)) rows ∙ without-here p t.rows.items place small d
         | inr apart ↦
             ap (λ (slot : Option FilterRow). slot_passes p slot)
             (ap (λ (ss : List (Option FilterRow)). get_or ss q d) rows ∙ without-other p t.rows.items place small q d apart)
-            ∙ swept.passed q d (omega (arith, at, after, apart)) (omega (arith, below, long))
+            ∙ swept.passed q d (omega (arith, before, apart)) (omega (arith, below, long))
       ];
     }
 
-pub swept-all : (p : FilterRow → Bool) (s t : Slots) (place : ℕ) → place ≡ 0 → IsSwept p s t place → filters_in t ≡ filter (λ f. not (p f)) (filters_in s)
-swept-all p s t place none swept =
-    sym (no_slot p t.rows.items (λ q d below. swept.passed q d (omega (arith, none)) below)) ∙ swept.others
+pub swept-all : (p : FilterRow → Bool) (s t : Slots) (place few : ℕ) → length s.rows.items ≤ place → IsSwept p s t place few → filters_in t ≡ filter (λ f. not (p f)) (filters_in s)
+swept-all p s t place few all swept =
+    sym (no_slot p t.rows.items (λ q d below. swept.passed q d (omega (arith, all, below, swept.long)) below)) ∙ swept.others
 
 pub not_not : (p : FilterRow → Bool) (xs : List FilterRow) → filter (λ f. not (not (p f))) xs ≡ filter p xs
 not_not p [] = refl
@@ -639,33 +702,22 @@ table-take n s after soonest is slots table = record {
 pub indexed-push : (key : Key) (rows more : List (Option FilterRow)) (row : FilterRow) (index after : Index) → more ≡ rows ++ Some row ∷ []
     → IsIndexed key rows index → HasRoom index → IsTidy after → hashes_in after ≡ hashes_in index ++ Some (row_hash index.start key row) ∷ []
     → length after.heads.items ≡ length index.heads.items → after.start ≡ index.start → IsIndexed key more after
-indexed-push key rows more row index after is_more indexed room tidy hashes same begins =
-    let longer : length (rows ++ Some row ∷ []) ≡ length rows + 1 = length-append rows (Some row ∷ []) in
-    let hashes_long : length (hashes_in index) ≡ length rows = length-map index.links.items link_hash ∙ indexed.number in
-    let all : IsIndexed key (rows ++ Some row ∷ []) after = record {
-      tidy = tidy;
-      number = sym (length-map after.links.items link_hash) ∙ ap length hashes ∙ length-append (hashes_in index) (Some (row_hash index.start key row) ∷ [])
-          ∙ ap (λ (k : ℕ). k + 1) hashes_long ∙ sym longer;
-      found = λ q f here. elim (cases_lt q (length rows)) [
-        | inl early ↦
-            ap (λ (hs : List (Option ℕ)). get_or hs q None) hashes
-            ∙ get_or_append_left (hashes_in index) (Some (row_hash index.start key row) ∷ []) None q (omega (arith, early, hashes_long))
-            ∙ indexed.found q f (sym (get_or_append_left rows (Some row ∷ []) None q early) ∙ here)
-            ∙ ap (λ (s : FoldHasher). Some (row_hash s key f)) (sym begins)
-        | inr late ↦
-            let at : length rows ≡ q = omega (arith, late, place-below (rows ++ Some row ∷ []) q f here, longer) in
-            let its : Some row ≡ Some f =
-            sym (get_or-append_seam rows (Some row) [] None) ∙ ap (λ (k : ℕ). get_or (rows ++ Some row ∷ []) k None) at ∙ here
-            in
-            ap (λ (hs : List (Option ℕ)). get_or hs q None) hashes
-            ∙ ap (λ (k : ℕ). get_or (hashes_in index ++ Some (row_hash index.start key row) ∷ []) k None) (sym at ∙ sym hashes_long)
-            ∙ get_or-append_seam (hashes_in index) (Some (row_hash index.start key row)) [] None
-            ∙ found-slot index.start key (Some row) f its
-            ∙ ap (λ (s : FoldHasher). Some (row_hash s key f)) (sym begins)
-      ];
-      enough = omega (arith, longer, same, room.heads, indexed.number);
-    } in
-    subst (λ (fs : List (Option FilterRow)). IsIndexed key fs after) (sym is_more) all
+indexed-push key rows more row index after is_more indexed room tidy hashes same begins = record {
+  marked = record {
+    hashes = hashes ∙ ap (λ (hs : List (Option ℕ)). hs ++ Some (row_hash index.start key row) ∷ []) indexed.marked.hashes
+        ∙ sym (map-append (slot_hash index.start key) rows (Some row ∷ []))
+        ∙ (λ i. map (slot_hash (sym begins i) key) (sym is_more i));
+    enough = omega (
+      arith,
+      ap length is_more,
+      length-append rows (Some row ∷ []),
+      same,
+      room.heads,
+      marked-long key rows index indexed.marked,
+    );
+  };
+  tidy = tidy;
+}
 
 -- ---- when filters end
 

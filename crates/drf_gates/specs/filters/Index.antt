@@ -1,8 +1,9 @@
 -- Where the filters of a client, or of a client on an agent, stand among all.
-use Rattle.std.specs.Prelude.{◌≡◌, ◌≢◌, ℕ, ◌+◌, ◌%◌, ◌<◌, ◌≤◌, ◌==◌, if◌then◌else◌, List, Option, None, Some, length, map, take, slice_index, slice_index_or, All, vec_capacity}
+use Rattle.std.specs.Prelude.{◌≡◌, ◌≢◌, ℕ, ◌+◌, ◌%◌, ◌<◌, ◌≤◌, ◌==◌, if◌then◌else◌, List, Option, None, Some, ◌∷◌, [], length, map, take, slice_index, slice_index_or, All, vec_capacity}
 use Rattle.std.specs.Option.{option_map}
 use Rattle.std.specs.Hash.FoldHasher as folding
-use Rattle.std.specs.declared.hash.FoldHasher.{FoldHasher}
+use Rattle.drf_hash.specs.Reading.{read_text}
+use Rattle.drf_hash.specs.declared.name_hasher.NameHasher.{NameHasher}
 use Rattle.drf_role.specs.Text.{Text}
 use Rattle.drf_role.specs.Parts.{text_of}
 use Rattle.drf_role.specs.Path.{Path}
@@ -14,22 +15,26 @@ use Rattle.drf_gates.specs.declared.filters.index.Key.{Key}
 use Rattle.drf_gates.specs.declared.filters.index.Key.TheVariants.{Client, ClientAndAgent}
 
 -- a hash that has read a client, after what it began with
-abbrev pub client_read : FoldHasher → Path → Text → FoldHasher
-client_read start role framework = folding.write (folding.write start framework) (text_of role)
+abbrev pub client_read : NameHasher → Path → Text → NameHasher
+client_read start role framework = read_text (read_text start framework) (text_of role)
+
+-- and a byte that is in no text, without which a bucket would tell too little of the last text
+abbrev pub read_end : NameHasher → NameHasher
+read_end h = read_text h (255 ∷ [])
 
 -- the hash of a client, and of a client and an agent
-unfoldable pub client_hash : FoldHasher → Path → Text → ℕ
-client_hash start role framework = folding.finish (client_read start role framework)
+unfoldable pub client_hash : NameHasher → Path → Text → ℕ
+client_hash start role framework = folding.finish (read_end (client_read start role framework)).fold
 
-unfoldable pub pair_hash : FoldHasher → Path → Text → Text → ℕ
-pair_hash start role framework agent = folding.finish (folding.write (client_read start role framework) agent)
+unfoldable pub pair_hash : NameHasher → Path → Text → Text → ℕ
+pair_hash start role framework agent = folding.finish (read_end (read_text (client_read start role framework) agent)).fold
 
 -- the hash by which a filter is chained
-abbrev pub row_hash : FoldHasher → Key → FilterRow → ℕ
+abbrev pub row_hash : NameHasher → Key → FilterRow → ℕ
 row_hash start Client f = client_hash start f.role f.framework
 row_hash start ClientAndAgent f = pair_hash start f.role f.framework f.agent
 
-abbrev pub slot_hash : FoldHasher → Key → Option FilterRow → Option ℕ
+abbrev pub slot_hash : NameHasher → Key → Option FilterRow → Option ℕ
 slot_hash start key slot = option_map (row_hash start key) slot
 
 -- the hash in whose chain a link is, if it is in one
@@ -65,19 +70,15 @@ pub record IsLedTo (index : Index) (bucket from after : ℕ) : Type 0 where
   pub at_link : (p : ℕ) → from ≡ p + 1 → (slice_index (buckets_in index) p ≡ bucket) × (after ≡ slice_index (befores index) p)
   pub small : from ≤ length index.links.items
 
--- an index that differs at a place alone
-pub record IsSameBut (place : ℕ) (old new : Index) : Type 0 where
-  pub others : (q : ℕ) → q ≢ place → slice_index_or (hashes_in new) q None ≡ slice_index_or (hashes_in old) q None
-  pub number : length new.links.items ≡ length old.links.items
-  pub heads : length new.heads.items ≡ length old.heads.items
-  pub start : new.start ≡ old.start
-
--- there is a link for each filter and gap, each filter is in the chain of its hash, and there are at least as many buckets
-pub record IsIndexed (key : Key) (rows : List (Option FilterRow)) (index : Index) : Type 0 where
-  pub tidy : IsTidy index
-  pub number : length index.links.items ≡ length rows
-  pub found : (place : ℕ) (f : FilterRow) → slice_index_or rows place None ≡ Some f → slice_index_or (hashes_in index) place None ≡ Some (row_hash index.start key f)
+-- each filter has its hash and a gap has none, and there are at least as many buckets
+pub record IsMarked (key : Key) (rows : List (Option FilterRow)) (index : Index) : Type 0 where
+  pub hashes : hashes_in index ≡ map (slot_hash index.start key) rows
   pub enough : length rows ≤ length index.heads.items
+
+-- and each filter is in the chain of its hash
+pub record IsIndexed (key : Key) (rows : List (Option FilterRow)) (index : Index) : Type 0 where
+  pub marked : IsMarked key rows index
+  pub tidy : IsTidy index
 
 -- the filters are left of those that the index has
 pub record IsLeft (key : Key) (rows : List (Option FilterRow)) (index : Index) : Type 0 where

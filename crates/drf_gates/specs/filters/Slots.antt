@@ -3,7 +3,7 @@ use Rattle.std.specs.Prelude.{◌≡◌, ℕ, Bool, false, List, Option, None, S
 use Rattle.std.specs.List.{filter_map}
 use Rattle.std.specs.Option.{option_map_or}
 use Rattle.drf_rows.specs.declared.rows.FilterRow.{FilterRow}
-use Rattle.drf_gates.specs.filters.Index.{IsIndexed, IsLeft, NoneEndsBefore}
+use Rattle.drf_gates.specs.filters.Index.{IsIndexed, IsMarked, IsTidy, IsLeft, NoneEndsBefore}
 use Rattle.drf_gates.specs.declared.filters.index.Key.TheVariants.{Client, ClientAndAgent}
 use Rattle.drf_gates.specs.declared.filters.slots.Slots.{Slots}
 
@@ -21,6 +21,17 @@ without_one test slots place = if slot_passes test (slice_index_or slots place N
 
 abbrev pub filters_in : Slots → List FilterRow
 filters_in s = filled s.rows.items
+
+-- the filters are counted, and their hashes are known, by client, and by client and agent
+pub record AreMarked (s : Slots) : Type 0 where
+  pub pairs : IsMarked ClientAndAgent s.rows.items s.pairs
+  pub clients : IsMarked Client s.rows.items s.clients
+  pub live : s.live ≡ length (filters_in s)
+
+-- each filter is in the chains of its hashes
+pub record AreTidy (s : Slots) : Type 0 where
+  pub pairs : IsTidy s.pairs
+  pub clients : IsTidy s.clients
 
 -- the filters are found by their client, and by client and agent, and counted
 pub record IsSlots (s : Slots) : Type 0 where

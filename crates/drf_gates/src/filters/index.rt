@@ -1,21 +1,22 @@
 //! Where the filters of a client, or of a client on an agent, stand among all.
-ghost use Rattle.std.specs.Prelude.{◌≡◌, ◌≢◌, ◌+◌, ◌%◌, ◌<◌, ◌≤◌, ℕ, [], ◌∷◌, ◌++◌, List, Option, None, Some, length, slice_index, slice_index_or, set, replicate, vec_capacity, OnOk};
+ghost use Rattle.std.specs.Prelude.{◌≡◌, ◌≢◌, ◌+◌, ◌*◌, ◌%◌, ◌<◌, ◌≤◌, ℕ, [], ◌∷◌, ◌++◌, List, Option, None, Some, length, min, slice_index, slice_index_or, set, replicate, vec_capacity, OnOk};
 ghost use Rattle.drf_rows.specs.declared.rows.FilterRow.{FilterRow};
-ghost use Rattle.drf_gates.specs.filters.Index.{client_hash, client_read, pair_hash, row_hash, slot_hash, link_hash, hashes_in, befores, IsTidy, IsTidyTo, IsLedTo, IsSameBut, IsIndexed, IsLeft, HasRoom};
+ghost use Rattle.drf_gates.specs.filters.Index.{client_hash, client_read, pair_hash, row_hash, slot_hash, link_hash, hashes_in, befores, IsTidy, IsTidyTo, IsLedTo, IsIndexed, IsLeft, HasRoom};
 
+use drf_hash::NameHasher;
 use drf_role::{Name, Role};
 use drf_rows::FilterRow;
 use std::alloc::{AllocError, Global};
-use std::hash::{FoldHasher, Hasher};
-
-/// How many places of a chain are looked at in order to take one out.
-const NEAR: usize = 16;
+use std::hash::Hasher;
 
 /// Where what is in no chain goes on.
 const APART: usize = usize::MAX;
 
+/// What a hash reads behind the last text. It is in no text.
+const END: u8 = 255;
+
 /// A hash that has read a client, after what it began with.
-fn client_read(start: FoldHasher, role: &Role, framework: &Name) -> FoldHasher
+fn client_read(start: NameHasher, role: &Role, framework: &Name) -> NameHasher
     ensures { result ≡ client_read start role.now framework.now }
 {
     let mut hasher = start;
@@ -26,19 +27,22 @@ fn client_read(start: FoldHasher, role: &Role, framework: &Name) -> FoldHasher
 
 /// The hash of a client.
 #[tactic(auto, unfolding(crate::specs::filters::Index::client_hash))]
-pub(crate) fn client_hash(start: FoldHasher, role: &Role, framework: &Name) -> u64
+pub(crate) fn client_hash(start: NameHasher, role: &Role, framework: &Name) -> u64
     ensures { result ≡ client_hash start role.now framework.now }
 {
-    client_read(start, role, framework).finish()
+    let mut hasher = client_read(start, role, framework);
+    hasher.write_u8(END);
+    hasher.finish()
 }
 
 /// The hash of a client and an agent.
 #[tactic(auto, unfolding(crate::specs::filters::Index::pair_hash))]
-pub(crate) fn pair_hash(start: FoldHasher, role: &Role, framework: &Name, agent: &Name) -> u64
+pub(crate) fn pair_hash(start: NameHasher, role: &Role, framework: &Name, agent: &Name) -> u64
     ensures { result ≡ pair_hash start role.now framework.now agent.now }
 {
     let mut hasher = client_read(start, role, framework);
     hasher.write(agent.text().as_bytes());
+    hasher.write_u8(END);
     hasher.finish()
 }
 
@@ -50,7 +54,7 @@ pub(crate) enum Key {
 }
 
 /// The hash by which a filter is chained.
-fn row_hash(start: FoldHasher, key: Key, row: &FilterRow) -> u64
+fn row_hash(start: NameHasher, key: Key, row: &FilterRow) -> u64
     ensures { result ≡ row_hash start key row.now }
 {
     match key {
@@ -76,19 +80,19 @@ pub(crate) struct Link {
 }
 
 /// Chains of filters, one for each bucket, from the last to the first. A filter's place is written as the number after
-/// it, and 0 ends a chain. Filters with the same key are in one bucket. A gap is in a chain only where it stands far back.
+/// it, and 0 ends a chain. Filters with the same key are in one bucket, and a gap is in no chain.
 #[derive(Drop)]
 pub(crate) struct Index {
     /// Where the chain of each bucket begins.
     pub(crate) heads: Vec<usize>,
     pub(crate) links: Vec<Link>,
     /// With what each hash begins.
-    pub(crate) start: FoldHasher,
+    pub(crate) start: NameHasher,
 }
 
 impl Index {
     /// The index of no filters.
-    pub(crate) fn new(alloc: Global, start: FoldHasher) -> Index
+    pub(crate) fn new(alloc: Global, start: NameHasher) -> Index
         ensures { (key : Key) → IsIndexed key [] result }
     {
         Index {
@@ -142,8 +146,8 @@ impl Index {
         self.links[place] = Link { mark, before };
     }
 
-    /// Notes that a place is in no chain.
-    fn part(&mut self, place: usize)
+    /// Notes that a place is in no chain. A chain that leads to it is mended, or made anew, before it is read.
+    pub(crate) fn part(&mut self, place: usize)
         requires { place < length self.old.links.items }
         ensures befores { befores self.new ≡ set (befores self.old) place 18446744073709551615 }
         ensures hashes { hashes_in self.new ≡ set (hashes_in self.old) place None }
@@ -206,7 +210,7 @@ impl Index {
         }
     }
 
-    /// Makes it the index of these filters, which are left of those that it has.
+    /// Makes it the index of these filters, which are left of those that it has, with buckets for at most twice as many.
     pub(crate) fn rebuild_if_less(&mut self, key: Key, rows: &[Option<FilterRow>])
         requires { IsLeft key rows.now self.old }
         ensures { IsIndexed key rows.now self.new }
@@ -214,6 +218,7 @@ impl Index {
         if rows.len() >= self.links.len() {
             return;
         }
+        self.heads.truncate(2 * rows.len() + 1);
         cut(&mut self.heads);
         self.links.clear();
         for slot in rows {
@@ -221,27 +226,26 @@ impl Index {
         }
     }
 
-    /// Takes what is at a place out of its chain, unless many stand before it there.
+    /// Takes what is at a place out of its chain.
     pub(crate) fn unlink(&mut self, place: usize)
         requires chained { IsTidy self.old }
         requires heads { 0 < length self.old.heads.items }
         requires within { place < length self.old.links.items }
+        requires hashed { slice_index_or (hashes_in self.old) place None ≢ None }
         ensures chained { IsTidy self.new }
-        ensures others { IsSameBut place self.old self.new }
+        ensures hashes { hashes_in self.new ≡ set (hashes_in self.old) place None }
+        ensures heads { length self.new.heads.items ≡ length self.old.heads.items }
+        ensures start { self.new.start ≡ self.old.start }
     {
         let link = self.link(place);
         let bucket = self.bucket(link.mark);
         let mut after = self.heads[bucket];
         let mut from = 0;
-        let mut left = NEAR;
-        while left > 0 && place + 1 < after {
-            left -= 1;
+        while place + 1 < after {
             from = after;
             after = self.link(from - 1).before;
         }
-        if after == place + 1 {
-            self.pass(bucket, from, place);
-        }
+        self.pass(bucket, from, place);
     }
 
     /// Lets the chain of a bucket pass a place at which it goes on, from its beginning or after a place.
@@ -284,15 +288,16 @@ impl Index {
         self.heads[bucket] = place + 1;
     }
 
-    /// Makes the chains anew, whatever they were.
-    fn chain_all(&mut self)
+    /// Makes the chains anew, whatever they were, with buckets for at most twice as many.
+    pub(crate) fn chain_all(&mut self)
         requires { length self.old.links.items ≤ length self.old.heads.items }
         ensures chained { IsTidy self.new }
         ensures hashes { hashes_in self.new ≡ hashes_in self.old }
-        ensures heads { length self.new.heads.items ≡ length self.old.heads.items }
+        ensures heads { length self.new.heads.items ≡ min (length self.old.heads.items) (2 * length self.old.links.items + 1) }
         ensures start { self.new.start ≡ self.old.start }
         ensures capacity { vec_capacity self.new.links ≡ vec_capacity self.old.links }
     {
+        self.heads.truncate(2 * self.links.len() + 1);
         cut(&mut self.heads);
         for place in 0..self.links.len() {
             self.chain(place);

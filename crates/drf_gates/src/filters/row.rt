@@ -1,6 +1,5 @@
 //! What is asked of filters one by one, and which of a list with gaps are kept.
 ghost use Rattle.std.specs.Prelude.{◌≡◌, ◌≤◌, [], ◌∷◌, ◌++◌, count_by, map, not, true, Some, OnOk};
-ghost use Rattle.std.specs.Option.{option_map_or};
 ghost use Rattle.drf_role.specs.Text.{same_text};
 ghost use Rattle.drf_rows.specs.declared.rows.FilterRow.{FilterRow};
 ghost use Rattle.drf_bundle.specs.Bundle.{covers};
@@ -54,13 +53,13 @@ fn is_of_client(row: &FilterRow, role: &Role, framework: &Name) -> bool
     row.role == *role && row.framework == *framework
 }
 
-/// Whether there is a filter of the client, or none at all.
-pub(crate) fn is_slot_of_no_other(slot: &Option<FilterRow>, role: &Role, framework: &Name) -> bool
-    ensures { result ≡ option_map_or (is_of_client (record { role = role.now; framework = framework.now })) slot.now true }
+/// Whether there is a filter of the client.
+pub(crate) fn is_slot_of_client(slot: &Option<FilterRow>, role: &Role, framework: &Name) -> bool
+    ensures { result ≡ slot_passes (is_of_client (record { role = role.now; framework = framework.now })) slot.now }
 {
     match slot {
         Some(row) => is_of_client(row, role, framework),
-        None => true,
+        None => false,
     }
 }
 

@@ -1,19 +1,21 @@
 //! Filters in the order in which they were added, with gaps where some were taken out.
 ghost use Rattle.std.specs.Prelude.{◌≡◌, ◌<◌, [], ◌∷◌, ◌++◌, None, length, set, if◌then◌else◌, OnOk, OnErr};
 ghost use Rattle.drf_rows.specs.Filters.{is_held_back, in_force, filters_without_client, filters_without_agent, filters_without_framework};
-ghost use Rattle.drf_gates.specs.filters.Index.{IsSameBut};
-ghost use Rattle.drf_gates.specs.filters.Slots.{filters_in, IsSlots, IsClosed};
+ghost use Rattle.drf_gates.specs.filters.Slots.{filters_in, AreMarked, AreTidy, IsSlots, IsClosed};
 
 use crate::filters::index::{Index, Key, client_hash, pair_hash};
 use crate::filters::row::{
-    is_slot_of_framework, is_slot_of_no_other, is_slot_on_agent, is_slot_spent, keep_filled,
+    is_slot_of_client, is_slot_of_framework, is_slot_on_agent, is_slot_spent, keep_filled,
     slot_holds_back,
 };
 use drf_bundle::Bundle;
+use drf_hash::NameHasher;
 use drf_role::{Name, Role};
 use drf_rows::FilterRow;
 use std::alloc::{AllocError, Global};
-use std::hash::FoldHasher;
+
+/// Where all filters are looked at, fewer than so many leave their chains one by one; else the chains are made anew.
+const FEW: usize = 8;
 
 /// Filters, found by their client, and by client and agent. Where a quarter of all are gaps, they are closed when filters
 /// need room or leave, but for a `revive`.
@@ -28,7 +30,7 @@ pub(crate) struct Slots {
 
 impl Slots {
     /// No filters.
-    pub(crate) fn new(alloc: Global, start: FoldHasher) -> Slots
+    pub(crate) fn new(alloc: Global, start: NameHasher) -> Slots
         ensures slots { IsSlots result }
         ensures none { filters_in result ≡ [] }
     {
@@ -95,35 +97,74 @@ impl Slots {
         Ok(())
     }
 
-    /// Takes out what is at a place.
-    fn take(&mut self, place: usize)
-        requires slots { IsSlots self.old }
-        requires within { place < length self.old.rows.items }
-        ensures slots { IsSlots self.new }
-        ensures rows { self.new.rows.items ≡ set self.old.rows.items place None }
-        ensures others { IsSameBut place self.old.clients self.new.clients }
-    {
-        self.pairs.unlink(place);
-        self.clients.unlink(place);
-        if self.rows[place].take().is_some() {
-            self.live -= 1;
-        }
-    }
-
-    /// Takes out what is at a place, if it leaves.
+    /// Takes out what is at a place, if it leaves, and out of its chains.
     fn take_if(&mut self, place: usize, leaves: bool)
         requires slots { IsSlots self.old }
         requires within { place < length self.old.rows.items }
         ensures slots { IsSlots self.new }
         ensures rows { self.new.rows.items ≡ (if leaves then set self.old.rows.items place None else self.old.rows.items) }
-        ensures others { IsSameBut place self.old.clients self.new.clients }
+        ensures heads { length self.new.clients.heads.items ≡ length self.old.clients.heads.items }
+        ensures start { self.new.clients.start ≡ self.old.clients.start }
     {
-        if leaves {
-            self.take(place);
+        if !leaves {
+            return;
+        }
+        if self.rows[place].take().is_some() {
+            self.pairs.unlink(place);
+            self.clients.unlink(place);
+            self.live -= 1;
         }
     }
 
-    /// Takes the filters of a client out, on whatever agent. Looks at the client's chain alone, and takes near gaps out of it.
+    /// Takes out what is at a place, if it leaves, and leaves chains that led to it cut.
+    fn cut_if(&mut self, place: usize, leaves: bool)
+        requires marked { AreMarked self.old }
+        requires within { place < length self.old.rows.items }
+        ensures marked { AreMarked self.new }
+        ensures rows { self.new.rows.items ≡ (if leaves then set self.old.rows.items place None else self.old.rows.items) }
+    {
+        if !leaves {
+            return;
+        }
+        if self.rows[place].take().is_some() {
+            self.pairs.part(place);
+            self.clients.part(place);
+            self.live -= 1;
+        }
+    }
+
+    /// Takes out what is at a place, if it leaves: out of its chains, while few left so. Says how many more may.
+    fn leave(&mut self, place: usize, leaves: bool, few: usize) -> usize
+        requires marked { AreMarked self.old }
+        requires within { place < length self.old.rows.items }
+        requires tidy { 0 < few → AreTidy self.old }
+        ensures marked { AreMarked self.new }
+        ensures rows { self.new.rows.items ≡ (if leaves then set self.old.rows.items place None else self.old.rows.items) }
+        ensures tidy { 0 < result → AreTidy self.new }
+    {
+        if few == 0 {
+            self.cut_if(place, leaves);
+            return 0;
+        }
+        self.take_if(place, leaves);
+        few - leaves as usize
+    }
+
+    /// Chains the filters that are left anew, if no more may leave one by one.
+    fn chain_if_many(&mut self, few: usize)
+        requires marked { AreMarked self.old }
+        requires tidy { 0 < few → AreTidy self.old }
+        ensures slots { IsSlots self.new }
+        ensures same { filters_in self.new ≡ filters_in self.old }
+    {
+        if few > 0 {
+            return;
+        }
+        self.pairs.chain_all();
+        self.clients.chain_all();
+    }
+
+    /// Takes the filters of a client out, on whatever agent. Looks at the chains in which they are.
     pub(crate) fn drop_client(&mut self, role: &Role, framework: &Name)
         requires { IsSlots self.old }
         ensures slots { IsSlots self.new }
@@ -138,23 +179,23 @@ impl Slots {
         while after > 0 {
             let place = after - 1;
             after = self.clients.link(place).before;
-            let leaves = is_slot_of_no_other(&self.rows[place], role, framework);
+            let leaves = is_slot_of_client(&self.rows[place], role, framework);
             self.take_if(place, leaves);
         }
     }
 
-    /// Takes the filters on an agent out. From the last on, since chains begin there; so below.
+    /// Takes the filters on an agent out.
     pub(crate) fn drop_agent(&mut self, agent: &Name)
         requires { IsSlots self.old }
         ensures slots { IsSlots self.new }
         ensures others { filters_in self.new ≡ filters_without_agent agent.now (filters_in self.old) }
     {
-        let mut place = self.rows.len();
-        while place > 0 {
-            place -= 1;
+        let mut few = FEW;
+        for place in 0..self.rows.len() {
             let leaves = is_slot_on_agent(&self.rows[place], agent);
-            self.take_if(place, leaves);
+            few = self.leave(place, leaves, few);
         }
+        self.chain_if_many(few);
         self.close_gaps_if_many();
     }
 
@@ -164,12 +205,12 @@ impl Slots {
         ensures slots { IsSlots self.new }
         ensures others { filters_in self.new ≡ filters_without_framework framework.now (filters_in self.old) }
     {
-        let mut place = self.rows.len();
-        while place > 0 {
-            place -= 1;
+        let mut few = FEW;
+        for place in 0..self.rows.len() {
             let leaves = is_slot_of_framework(&self.rows[place], framework);
-            self.take_if(place, leaves);
+            few = self.leave(place, leaves, few);
         }
+        self.chain_if_many(few);
         self.close_gaps_if_many();
     }
 
@@ -179,12 +220,12 @@ impl Slots {
         ensures slots { IsSlots self.new }
         ensures others { filters_in self.new ≡ in_force now (filters_in self.old) }
     {
-        let mut place = self.rows.len();
-        while place > 0 {
-            place -= 1;
+        let mut few = FEW;
+        for place in 0..self.rows.len() {
             let leaves = is_slot_spent(&self.rows[place], now);
-            self.take_if(place, leaves);
+            few = self.leave(place, leaves, few);
         }
+        self.chain_if_many(few);
         self.close_gaps_if_many();
     }
 

@@ -1,6 +1,5 @@
 //! The limits of roles.
 ghost use Rattle.std.specs.Prelude.{◌≡◌, ◌≤◌, ◌↔◌, [], length, take, IsTrue, IfOk, IsOk, OnOk, OnErr};
-ghost use Rattle.std.specs.Map.{keys_of};
 ghost use Rattle.std.specs.Option.{option_copied, option_map, option_to_list};
 ghost use Rattle.drf_role.specs.Path.{same_path};
 ghost use Rattle.indexmap.specs.IndexMap.{insert_entry};

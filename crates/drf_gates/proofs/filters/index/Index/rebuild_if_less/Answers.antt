@@ -11,4 +11,4 @@ returns c =
     let inv = c.loop-slot.invariant in
     indexed-anew index.start c.args.key c.args.rows.now c.loop-slot.self inv.tidy
     (inv.hashes ∙ ap (λ (rows : List (Option FilterRow)). map (slot_hash index.start c.args.key) rows) (take_all c.loop-slot.slot-index c.args.rows.now c.loop-slot-test.false))
-    inv.start (omega (arith, inv.heads, c.requires.at_most, c.requires.indexed.enough))
+    inv.start (omega (arith, inv.heads, c.requires.at_most, c.requires.indexed.marked.enough))

@@ -1,8 +1,12 @@
+use Rattle.std.proofs.Common.{◌≤◌, ◌+◌}
 use Rattle.drf_gates.specs.filters.Index.{IsLedTo}
 use Rattle.drf_gates.proofs.filters.index.Index.unlink.Given as goal
 
-abbrev pub invariant-loop-left : goal.invariant-loop-left
-invariant-loop-left l = IsLedTo l.self l.bucket l.from l.after
+abbrev pub invariant-loop-after : goal.invariant-loop-after
+invariant-loop-after l = record {
+  led : IsLedTo l.self l.bucket l.from l.after;
+  comes : l.place + 1 ≤ l.after;
+}
 
-abbrev pub decreases-loop-left : goal.decreases-loop-left
-decreases-loop-left l = l.left
+abbrev pub decreases-loop-after : goal.decreases-loop-after
+decreases-loop-after l = l.after

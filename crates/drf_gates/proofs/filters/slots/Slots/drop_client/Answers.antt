@@ -6,7 +6,7 @@ use Rattle.drf_rows.specs.declared.rows.FilterRow.{FilterRow}
 use Rattle.drf_gates.specs.filters.Index.{client_hash}
 use Rattle.drf_gates.specs.filters.Slots.{filled, slot_passes}
 use Rattle.drf_gates.specs.declared.filters.index.Key.TheVariants.{Client as ByClient}
-use Rattle.drf_gates.proofs.filters.Gaps.{no_slot, without-others, without-or_gap}
+use Rattle.drf_gates.proofs.filters.Gaps.{no_slot, without-others, without-if}
 use Rattle.drf_gates.proofs.filters.Held.{IsWalked, of_client_hash, walk-start, walk-less, walk-taken}
 use Rattle.drf_gates.proofs.filters.slots.Slots.drop_client.Goals as goal
 
@@ -15,7 +15,7 @@ loop-after-init c =
     let s = c.args.self.now in
     let client : Client = record { role = c.args.role.now; framework = c.args.framework.now } in
     let not_empty : (s.rows.len == 0) ≡ false = sym c.is_empty.ensures ∙ c.if-is_empty.false in
-    let some : 0 < length s.clients.heads.items = grind (arith, nat_tests, not_empty, s.rows.ok.0, c.requires.clients.enough) in
+    let some : 0 < length s.clients.heads.items = grind (arith, nat_tests, not_empty, s.rows.ok.0, c.requires.clients.marked.enough) in
     record {
       slots = c.requires;
       others = refl;
@@ -30,7 +30,7 @@ loop-after-smaller c =
     let client : Client = record { role = c.args.role.now; framework = c.args.framework.now } in
     let inv = c.loop-after.invariant in
     let after = c.loop-after.after in
-    let some : 0 < length s.clients.heads.items = omega (arith, inv.walked.within, c.loop-after-test.true, inv.slots.clients.enough) in
+    let some : 0 < length s.clients.heads.items = omega (arith, inv.walked.within, c.loop-after-test.true, inv.slots.clients.marked.enough) in
     walk-less s.rows.items s.clients (slot_passes (is_of_client client)) (client_hash s.clients.start client.role client.framework) ByClient inv.slots.clients
     (of_client_hash s.clients.start client) some after (after - 1) c.link-after.result.before (omega arith) c.link-after.ensures.before inv.walked
 
@@ -42,14 +42,15 @@ loop-after-preserved c =
     let inv = c.loop-after.invariant in
     let after = c.loop-after.after in
     let small : after - 1 < length s.rows.items = omega (arith, inv.walked.within, c.loop-after-test.true) in
-    let rows = without-or_gap (is_of_client client) s.rows.items c.take_if.new.self.rows.items (after - 1) c.index.result.now c.is_slot_of_no_other-leaves.result small
-    c.index.ensures c.is_slot_of_no_other-leaves.ensures c.take_if.ensures.rows in
-    let some : 0 < length s.clients.heads.items = omega (arith, small, inv.slots.clients.enough) in
+    let rows = without-if (is_of_client client) s.rows.items c.take_if.new.self.rows.items (after - 1) c.index.result.now c.is_slot_of_client-leaves.result small
+    c.index.ensures c.is_slot_of_client-leaves.ensures c.take_if.ensures.rows in
+    let some : 0 < length s.clients.heads.items = omega (arith, small, inv.slots.clients.marked.enough) in
     record {
       slots = c.take_if.ensures.slots;
       others = ap (λ (ss : List (Option FilterRow)). filters_without_client client (filled ss)) rows
           ∙ without-others (is_of_client client) s.rows.items (after - 1) small ∙ inv.others;
-      walked = walk-taken client s c.take_if.new.self (after - 1) c.link-after.result.before inv.slots small rows c.take_if.ensures.others some c.link-after.ensures.before
+      walked = walk-taken client s c.take_if.new.self (after - 1) c.link-after.result.before inv.slots c.take_if.ensures.slots small rows c.take_if.ensures.heads
+          c.take_if.ensures.start some c.link-after.ensures.before
           (subst (λ (a : ℕ). IsWalked s.rows.items s.clients (slot_passes (is_of_client client)) hash a) (omega arith) inv.walked);
     }
 

@@ -16,7 +16,7 @@ loop-after-init c =
     let s = c.args.self.now in
     let client : Client = record { role = c.args.role.now; framework = c.args.framework.now } in
     let not_empty : (s.rows.len == 0) ≡ false = sym c.is_empty.ensures ∙ c.if-is_empty.false in
-    let some : 0 < length s.pairs.heads.items = grind (arith, nat_tests, not_empty, s.rows.ok.0, c.requires.pairs.enough) in
+    let some : 0 < length s.pairs.heads.items = grind (arith, nat_tests, not_empty, s.rows.ok.0, c.requires.pairs.marked.enough) in
     walk-start s.rows.items s.pairs (slot_passes (holds_back c.args.now client c.args.agent.now c.args.bundle.now))
     (pair_hash s.pairs.start client.role client.framework c.args.agent.now) ClientAndAgent c.requires.pairs
     (held_hash s.pairs.start c.args.now client c.args.agent.now c.args.bundle.now) some c.last-after.result
@@ -27,7 +27,7 @@ loop-after-smaller c =
     let s = c.args.self.now in
     let client : Client = record { role = c.args.role.now; framework = c.args.framework.now } in
     let after = c.loop-after.after in
-    let some : 0 < length s.pairs.heads.items = omega (arith, c.loop-after.invariant.within, c.loop-after-test.true, c.requires.pairs.enough) in
+    let some : 0 < length s.pairs.heads.items = omega (arith, c.loop-after.invariant.within, c.loop-after-test.true, c.requires.pairs.marked.enough) in
     walk-less s.rows.items s.pairs (slot_passes (holds_back c.args.now client c.args.agent.now c.args.bundle.now))
     (pair_hash s.pairs.start client.role client.framework c.args.agent.now) ClientAndAgent c.requires.pairs
     (held_hash s.pairs.start c.args.now client c.args.agent.now c.args.bundle.now) some after (after - 1) c.link-link.result.before
@@ -42,7 +42,7 @@ loop-after-preserved c =
     let its = held_hash s.pairs.start c.args.now client c.args.agent.now c.args.bundle.now in
     let after = c.loop-after.after in
     let small : after - 1 < length s.rows.items = omega (arith, c.loop-after.invariant.within, c.loop-after-test.true) in
-    let some : 0 < length s.pairs.heads.items = omega (arith, small, c.requires.pairs.enough) in
+    let some : 0 < length s.pairs.heads.items = omega (arith, small, c.requires.pairs.marked.enough) in
     let fails : (d : Option FilterRow) → test (get_or s.rows.items (after - 1) d) ≡ false =
     elim c.else-link-hash.branch [
       | else-link-hash-via-then-link-hash+else-slot_holds_back w ↦ λ d.

@@ -2,7 +2,6 @@ pub mod Exits
 pub mod KnownWords
 pub mod RoleLists
 pub mod Values
-pub mod KnownTexts
 pub mod LineValues
 pub mod LineNumbers
 pub mod Ranges

@@ -1,5 +1,5 @@
 -- When the JSON value of a line is read.
-use Rattle.std.proofs.Common.{◌≡◌, Bool, true, false, cond, List, [], ◌∷◌, Option, Some, None, option_and_then, Ok, Err, ℕ, refl, sym, ap, ◌∙◌}
+use Rattle.std.proofs.Common.{◌≡◌, Bool, true, false, cond, List, [], ◌∷◌, Option, Some, None, option_and_then, Ok, Err, ℕ, refl, ap, ◌∙◌}
 use Rattle.std.specs.Option.{ok_or}
 use Rattle.std.specs.Str.{IsUtf8, is_utf8}
 use Rattle.std.proofs.lemmas.Str.{IsUtf8-from_is_utf8, is_utf8-from_IsUtf8}
@@ -8,10 +8,7 @@ use Rattle.json.specs.Token.{Token}
 use Rattle.serde_json.specs.Data.{Data}
 use Rattle.serde_json.specs.Read.{of_json, read}
 use Rattle.drf_lines.specs.declared.fault.LineFault.TheVariants.{NotJson}
-use Rattle.drf_lines.specs.declared.fault.LineError.{LineError}
-use Rattle.drf_lines.specs.declared.fault.LineError.TheVariants.{Fault, Memory}
-use Rattle.drf_lines.specs.Fault.{IsReadAs}
-use Rattle.drf_lines.specs.LineValue.{data_of, is_in_range, IsRefused}
+use Rattle.drf_lines.specs.LineValue.{data_of, is_in_range}
 use Rattle.drf_lines.specs.Meaning.{value_in}
 use Rattle.drf_lines.proofs.LineValues.{read_in_range}
 
@@ -28,11 +25,6 @@ whole_out_of_range o j rest e out = ap whole e ∙ at rest
     at : (rest : List Token) → whole (Some (j, rest)) ≡ None
     at [] = read_in_range j ∙ ap (λ b. cond b (Some (data_of j)) None) out
     at (t ∷ ts) = refl
-
-pub refused_value : {A : Type 0} (view : A → Data) (error : LineError) (o : Option (Json × List Token)) → IsRefused error (o ≡ None)
-    → IsReadAs view (Err error) (ok_or (whole o) NotJson)
-refused_value view (Fault fault) o h = ap (λ o. ok_or (whole o) NotJson) h.1 ∙ ap Err (sym h.0)
-refused_value view Memory o h = tt
 
 pub value_of_utf8 : (line : List ℕ) → IsUtf8 line → value_in line ≡ ok_or (read line) NotJson
 unfolding value_in

@@ -1,7 +1,6 @@
 pub mod Fault
 pub mod Words
 pub mod Resources
-pub mod Known
 pub mod Object
 pub mod LineValue
 pub mod AgentEvents

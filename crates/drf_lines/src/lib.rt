@@ -20,6 +20,7 @@ mod node;
 mod number;
 mod object;
 mod offers;
+mod places;
 mod plain;
 mod range;
 mod reply;

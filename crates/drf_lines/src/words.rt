@@ -1,16 +1,17 @@
-//! Names and roles as texts of a line. Those of frameworks, agents and roles come again and again: a copy of what was read takes no memory, and
-//! shares what the others hold.
-ghost use Rattle.std.specs.Prelude.{◌≡◌, Ok, IfSome};
+//! Names, roles and bundles as texts of a line. Most come again and again: a copy of what was read takes no memory, and shares what the
+//! others hold.
+ghost use Rattle.std.specs.Prelude.{◌≡◌, ◌<◌, Ok, IfSome};
 ghost use Rattle.drf_lines.specs.Fault.{IsReadOf};
 ghost use Rattle.drf_lines.specs.Resources.{bundle_in};
 ghost use Rattle.drf_lines.specs.Words.{name_in, role_in};
 
 use crate::fault::LineError;
-use crate::known::KnownBundles;
+use crate::known::KnownBundle;
+use crate::places::{Places, place_of};
+use crate::resources::read_bundle;
 use drf_bundle::Bundle;
 use drf_role::{Name, Role};
 use std::alloc::{AllocError, Global};
-use std::hash::{FoldHasher, Hasher};
 
 /// Reads the name of an agent, a framework or a task.
 pub fn read_name(alloc: Global, text: &str) -> Result<Name, LineError>
@@ -26,42 +27,14 @@ fn read_role(alloc: Global, text: &str) -> Result<Role, LineError>
     Ok(Role::read(alloc, text)?)
 }
 
-/// How many names are known at most.
-const NAME_PLACES: usize = 2048;
-
-/// How many roles are known at most.
-const ROLE_PLACES: usize = 1024;
-
-/// The number by which the place of a text is told.
-fn hash_of(text: &str) -> usize {
-    let mut hasher = FoldHasher::default();
-    hasher.write(text.as_bytes());
-    hasher.finish() as usize
-}
-
-/// What stands at a place.
-fn at<T>(places: &[Option<T>], place: usize) -> Option<&T> {
-    places.get(place)?.as_ref()
-}
-
-/// Puts something at a place, if there is memory for that.
-fn put<T: Drop>(places: &mut Vec<Option<T>>, place: usize, read: T) -> Result<(), AllocError> {
-    if place < places.len() {
-        places[place] = Some(read);
-        return Ok(());
-    }
-    for _ in places.len()..place {
-        places.push(None)?;
-    }
-    places.push(Some(read))?;
-    Ok(())
-}
+/// How many bytes the text of a bundle that is known has at most.
+const LONGEST_KNOWN: usize = 128;
 
 /// The name of a text, if it stands at a place.
-fn known_name(names: &[Option<Name>], place: usize, text: &str) -> Option<Name>
+fn known_name(names: &Places<Name>, place: usize, text: &str) -> Option<Name>
     ensures { IfSome result (λ name. name_in text.now ≡ Ok name) }
 {
-    let name = at(names, place)?;
+    let name = names.at(place)?;
     if name.text() == text {
         return name.copy().ok();
     }
@@ -69,14 +42,21 @@ fn known_name(names: &[Option<Name>], place: usize, text: &str) -> Option<Name>
 }
 
 /// The role of a text, if it stands at a place.
-fn known_role(roles: &[Option<Role>], place: usize, text: &str) -> Option<Role>
+fn known_role(roles: &Places<Role>, place: usize, text: &str) -> Option<Role>
     ensures { IfSome result (λ role. role_in text.now ≡ Ok role) }
 {
-    let role = at(roles, place)?;
+    let role = roles.at(place)?;
     if role.text() == text {
         return role.copy().ok();
     }
     None
+}
+
+/// The bundle of a text, if it stands at a place.
+fn known_bundle(bundles: &Places<KnownBundle>, place: usize, text: &str) -> Option<Bundle>
+    ensures { IfSome result (λ bundle. bundle_in text.now ≡ Ok bundle) }
+{
+    bundles.at(place)?.of(text)
 }
 
 /// A reader of names, roles and bundles, which knows some, or none where it reads a line alone. What it knows is in no contract.
@@ -84,10 +64,9 @@ pub struct KnownWords {
     /// Where what is read goes.
     pub alloc: Global,
     keeps: bool,
-    // What came last at each place. Nothing stands behind the end.
-    names: Vec<Option<Name>>,
-    roles: Vec<Option<Role>>,
-    bundles: KnownBundles,
+    names: Places<Name>,
+    roles: Places<Role>,
+    bundles: Places<KnownBundle>,
 }
 
 // Written out, so that the proof of whoever drops them sees one call.
@@ -109,9 +88,9 @@ impl KnownWords {
         KnownWords {
             alloc,
             keeps: true,
-            names: Vec::new(alloc),
-            roles: Vec::new(alloc),
-            bundles: KnownBundles::new(),
+            names: Places::new(alloc),
+            roles: Places::new(alloc),
+            bundles: Places::new(alloc),
         }
     }
 
@@ -120,22 +99,37 @@ impl KnownWords {
         KnownWords {
             alloc,
             keeps: false,
-            names: Vec::new(alloc),
-            roles: Vec::new(alloc),
-            bundles: KnownBundles::none(),
+            names: Places::new(alloc),
+            roles: Places::new(alloc),
+            bundles: Places::new(alloc),
         }
     }
 
-    fn keep_name(&mut self, place: usize, name: &Name) -> Result<(), AllocError> {
+    fn keep_name(&mut self, place: usize, name: &Name) -> Result<(), AllocError>
+        requires { place < 2048 }
+    {
         if self.keeps {
-            put(&mut self.names, place, name.copy()?)?;
+            self.names.put(place, name.copy()?)?;
         }
         Ok(())
     }
 
-    fn keep_role(&mut self, place: usize, role: &Role) -> Result<(), AllocError> {
+    fn keep_role(&mut self, place: usize, role: &Role) -> Result<(), AllocError>
+        requires { place < 2048 }
+    {
         if self.keeps {
-            put(&mut self.roles, place, role.copy()?)?;
+            self.roles.put(place, role.copy()?)?;
+        }
+        Ok(())
+    }
+
+    fn keep_bundle(&mut self, place: usize, text: &str, bundle: &Bundle) -> Result<(), AllocError>
+        requires place { place < 2048 }
+        requires bundle { bundle_in text.now ≡ Ok bundle.now }
+    {
+        if self.keeps && text.len() <= LONGEST_KNOWN {
+            self.bundles
+                .put(place, KnownBundle::new(self.alloc, text, bundle)?)?;
         }
         Ok(())
     }
@@ -144,7 +138,7 @@ impl KnownWords {
     pub fn name(&mut self, text: &str) -> Result<Name, LineError>
         ensures { IsReadOf result (name_in text.now) }
     {
-        let place = hash_of(text) % NAME_PLACES;
+        let place = place_of(text);
         if let Some(name) = known_name(&self.names, place, text) {
             return Ok(name);
         }
@@ -157,7 +151,7 @@ impl KnownWords {
     pub fn role(&mut self, text: &str) -> Result<Role, LineError>
         ensures { IsReadOf result (role_in text.now) }
     {
-        let place = hash_of(text) % ROLE_PLACES;
+        let place = place_of(text);
         if let Some(role) = known_role(&self.roles, place, text) {
             return Ok(role);
         }
@@ -170,6 +164,12 @@ impl KnownWords {
     pub fn bundle(&mut self, text: &str) -> Result<Bundle, LineError>
         ensures { IsReadOf result (bundle_in text.now) }
     {
-        self.bundles.read(self.alloc, text)
+        let place = place_of(text);
+        if let Some(bundle) = known_bundle(&self.bundles, place, text) {
+            return Ok(bundle);
+        }
+        let bundle = read_bundle(self.alloc, text)?;
+        let _ = self.keep_bundle(place, text, &bundle);
+        Ok(bundle)
     }
 }

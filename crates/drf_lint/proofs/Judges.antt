@@ -151,15 +151,6 @@ module _ (write : Bool) (number : ℕ) (line : List ℕ) where
     nothing_told : IsToldOf number line (meaning_of line) []
     nothing_told = subst (λ m. IsToldOf number line m []) (sym means) refl
 
-    pub judged-event : (w0 w1 e : Option (List ℕ)) → Appends w0 w1 (form_of write (Ok event)) → HasJudged write number line 0 w0 w1 e e
-    judged-event w0 w1 e appended = record {
-      told = [];
-      is_told = nothing_told;
-      count = ap faults_of (sym means);
-      appended = subst (λ m. Appends w0 w1 (form_of write m)) (sym means) appended;
-      told_appended = Appends-nil e;
-    }
-
     pub stopped-event : (fault : RunFault) (w0 w1 e : Option (List ℕ)) → IsStop fault → AppendsFrontOf w0 w1 (form_of write (Ok event))
         → (fault ≡ Memory → Appends w0 w1 []) → HasStoppedAt fault write number line w0 w1 e e
     stopped-event Read w0 w1 e stop front nothing = absurd stop
@@ -183,16 +174,6 @@ module _ (write : Bool) (number : ℕ) (line : List ℕ) where
 
     no_form : form_of write (meaning_of line) ≡ []
     no_form = ap (form_of write) is.fault
-
-    pub judged-fault : (w e0 e1 : Option (List ℕ)) → Appends e0 e1 (told_line number said.fault said.column said.words.items)
-        → HasJudged write number line 1 w w e0 e1
-    judged-fault w e0 e1 appended = record {
-      told = told_line number said.fault said.column said.words.items;
-      is_told = tells;
-      count = ap faults_of (sym is.fault);
-      appended = subst (Appends w w) (sym no_form) (Appends-nil w);
-      told_appended = appended;
-    }
 
     pub stopped-fault : (fault : RunFault) (w e0 e1 : Option (List ℕ)) → IsStop fault
         → AppendsFrontOf e0 e1 (told_line number said.fault said.column said.words.items)

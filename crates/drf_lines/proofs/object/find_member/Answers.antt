@@ -1,33 +1,31 @@
-use Rattle.std.proofs.Common.{◌≡◌, ◌+◌, ◌-◌, [], ◌∷◌, ◌++◌, take, Bool, true, false, cond, Some, sym, ap, ◌∙◌, arith}
+use Rattle.std.proofs.Common.{◌≡◌, ℕ, ◌-◌, ◌+◌, ◌<◌, ◌≤◌, List, [], ◌∷◌, ◌++◌, length, take, get_or, Bor, Bool, true, false, cond, Some, sym, ap, ◌∙◌, arith}
 use Rattle.std.proofs.lemmas.List.{take_more}
 use Rattle.std.specs.Str.{bytes_eq}
 use Rattle.json.specs.Find.{get_member}
 use Rattle.json.specs.Value.{value_view, members_view}
+use Rattle.json.specs.declared.value.Value.{Value}
 use Rattle.json.proofs.Trees.{get_member-push}
 use Rattle.drf_lines.proofs.object.find_member.Goals as goal
 
+-- the member is the last one of those that are left, or that one is looked for before it
+last_left : {A : Type 0} (name : List ℕ) (all : List (Bor (List ℕ) × Value A)) (left : ℕ) (m : Bor (List ℕ) × Value A) (b : Bool)
+    → 0 < left → left ≤ length all → m ≡ get_or all (left - 1) m → bytes_eq m.0.now name ≡ b
+    → get_member name (members_view (take left all)) ≡ cond b (Some (value_view m.1)) (get_member name (members_view (take (left - 1) all)))
+last_left {A} name all left m b some inside is same =
+    let next : left ≡ left - 1 + 1 = omega arith in
+    ap (λ k. get_member name (members_view (take k all))) next
+    ∙ ap (λ (ms : List (Bor (List ℕ) × Value A)). get_member name (members_view ms)) (take_more all (left - 1) m (omega arith) ∙ ap (λ (last : Bor (List ℕ) × Value A). take (left - 1) all ++ last ∷ []) (sym is))
+    ∙ get_member-push name (take (left - 1) all) m
+    ∙ ap (λ b. cond b (Some (value_view m.1)) (get_member name (members_view (take (left - 1) all)))) same
+
 pub returns-then-is_key : goal.returns-then-is_key
 returns-then-is_key c =
-    let xs = c.args.members.now in
-    let i = c.loop-left.left - 1 in
-    let m = c.index-members-left.result in
-    let name = c.args.name.now in
-    let next : c.loop-left.left ≡ i + 1 = omega arith in
-    let front : take c.loop-left.left xs ≡ take i xs ++ m ∷ [] = ap (λ k. take k xs) next ∙ take_more xs i m (omega arith) ∙ ap (λ y. take i xs ++ y ∷ []) (sym c.index-members-left.is) in
-    let step = c.loop-left.invariant.0 ∙ ap (λ ys. get_member name (members_view ys)) front ∙ get_member-push name (take i xs) m in
-    let pick = λ (b : Bool). cond b (Some (value_view m.1)) (get_member name (members_view (take i xs))) in
-    let same : bytes_eq m.0.now name ≡ true = sym c.is_key.ensures ∙ c.if-is_key.true in
-    sym (step ∙ ap pick same)
+    sym (c.loop-left.invariant.0 ∙ last_left c.args.name.now c.args.members.now c.loop-left.left c.index-members-left.result true
+    (omega arith) c.loop-left.invariant.1 c.index-members-left.is (sym c.is_key.ensures ∙ c.if-is_key.true))
 
 pub loop-left-preserved : goal.loop-left-preserved
-loop-left-preserved c =
-    let xs = c.args.members.now in
-    let i = c.loop-left.left - 1 in
-    let m = c.index-members-left.result in
-    let name = c.args.name.now in
-    let next : c.loop-left.left ≡ i + 1 = omega arith in
-    let front : take c.loop-left.left xs ≡ take i xs ++ m ∷ [] = ap (λ k. take k xs) next ∙ take_more xs i m (omega arith) ∙ ap (λ y. take i xs ++ y ∷ []) (sym c.index-members-left.is) in
-    let step = c.loop-left.invariant.0 ∙ ap (λ ys. get_member name (members_view ys)) front ∙ get_member-push name (take i xs) m in
-    let pick = λ (b : Bool). cond b (Some (value_view m.1)) (get_member name (members_view (take i xs))) in
-    let other : bytes_eq m.0.now name ≡ false = sym c.is_key.ensures ∙ c.if-is_key.false in
-    (step ∙ ap pick other, omega arith)
+loop-left-preserved c = (
+  c.loop-left.invariant.0 ∙ last_left c.args.name.now c.args.members.now c.loop-left.left c.index-members-left.result false
+      (omega arith) c.loop-left.invariant.1 c.index-members-left.is (sym c.is_key.ensures ∙ c.if-is_key.false),
+  omega arith,
+)

@@ -1,7 +1,7 @@
 -- Which keys may be stale, and how many were computed.
-use Rattle.std.specs.Prelude.{◌≡◌, ◌≤◌, ◌<◌, ◌==◌, ℕ, Bool, false, true, List, length, slice_index_or}
+use Rattle.std.specs.Prelude.{◌≡◌, ◌≤◌, ◌<◌, ◌+◌, ◌==◌, ℕ, Bool, false, true, List, length, slice_index_or}
 use Rattle.std.specs.List.{AllByRecursion, count_by, list_any}
-use Rattle.drf_sorter.specs.Work.{Work}
+use Rattle.drf_sorter.specs.Work.{Work, debt}
 
 -- a flag for each number, and the keys that were computed
 pub record Flags : Type 0 where
@@ -15,6 +15,16 @@ marked_in stale = count_by (λ flag. flag) stale
 -- the work of which they tell
 abbrev pub work_of : Flags → Work
 work_of flags = record { made = flags.made; marked = marked_in flags.stale }
+
+-- the count of computed keys does not fall, and the debt grew by at most so much
+pub record Spends (old new : Flags) (most : ℕ) : Type 0 where
+  pub made : old.made ≤ new.made
+  pub work : debt (work_of new) ≤ debt (work_of old) + most
+
+-- no key is computed, and at most so many more are marked
+pub record Defers (old new : Flags) (most : ℕ) : Type 0 where
+  pub made : new.made ≡ old.made
+  pub work : debt (work_of new) ≤ debt (work_of old) + most
 
 -- each marked number waits, those that wait are listed, and each number has room to wait
 pub record AreWaiting (stale listed : List Bool) (waiting : List ℕ) (room : ℕ) : Type 0 where

@@ -1,12 +1,11 @@
 //! What clients get and give back, along their nodes.
-ghost use Rattle.std.specs.Prelude.{true, ◌≡◌, ◌≤◌, ◌+◌, ◌⊎◌, Some, OnOk, length};
+ghost use Rattle.std.specs.Prelude.{true, ◌≡◌, ◌⊎◌, Some, OnOk, length};
 ghost use Rattle.drf_bundle.specs.Quantities.{amount_of, is_named, names_all};
 ghost use Rattle.drf_role.specs.Path.{Path};
 ghost use Rattle.drf_role.specs.Text.{Text, same_text};
 ghost use Rattle.drf_sorter.specs.Content.{Content, charged, has_client, with_change};
-ghost use Rattle.drf_sorter.specs.Work.{debt};
 ghost use Rattle.drf_tree.specs.Changes.{CanLowerAt, HasRoomFor, IsLowerable, IsShapeOf, NamesFew, NamesFewOnWay, OnWay, lowered};
-ghost use Rattle.drf_tree.specs.Marks.{work_of};
+ghost use Rattle.drf_tree.specs.Marks.{Defers};
 ghost use Rattle.drf_tree.specs.Nodes.{client_at, is_live, path_at};
 ghost use Rattle.drf_tree.specs.Tree.{IsTreeOf};
 
@@ -47,8 +46,7 @@ impl Tree {
         ensures tree { (content : Content) (path : Path) → IsTreeOf content self.old → client_at self.old.places.items leaf ≡ Some path → has_client content path ≡ true → IsTreeOf (with_change content path (charged quantities.now offers)) self.new }
         ensures places { self.new.places ≡ self.old.places }
         ensures families { self.new.families ≡ self.old.families }
-        ensures made { self.new.marks.made ≡ self.old.marks.made }
-        ensures work { debt (work_of self.new.marks) ≤ debt (work_of self.old.marks) + length (path_at self.old.places.items leaf) }
+        ensures spends { Defers self.old.marks self.new.marks (length (path_at self.old.places.items leaf)) }
     {
         quantities.recall();
         let mut node = leaf;
@@ -68,8 +66,7 @@ impl Tree {
         ensures tree { (content : Content) (path : Path) → IsTreeOf content self.old → client_at self.old.places.items leaf ≡ Some path → has_client content path ≡ true → CanLowerAt content path quantities.now offers → IsTreeOf (with_change content path (lowered quantities.now offers)) self.new }
         ensures places { self.new.places ≡ self.old.places }
         ensures families { self.new.families ≡ self.old.families }
-        ensures made { self.new.marks.made ≡ self.old.marks.made }
-        ensures work { debt (work_of self.new.marks) ≤ debt (work_of self.old.marks) + length (path_at self.old.places.items leaf) }
+        ensures spends { Defers self.old.marks self.new.marks (length (path_at self.old.places.items leaf)) }
     {
         quantities.recall();
         let mut node = leaf;

@@ -6,9 +6,8 @@ ghost use Rattle.std.specs.String.{string_bytes};
 ghost use Rattle.std.specs.Vec.{vec_capacity, vec_len};
 ghost use Rattle.drf_role.specs.Text.{same_text};
 ghost use Rattle.drf_sorter.specs.Keys.{key_by};
-ghost use Rattle.drf_sorter.specs.Work.{debt};
 ghost use Rattle.drf_tree.specs.Family.{AreCopies, AreFresh, CanKey, CanKeyAt, IsKeyed, are_sorted, child_name, has_child, is_before, key_for, known, is_same, numbers_of};
-ghost use Rattle.drf_tree.specs.Marks.{work_of};
+ghost use Rattle.drf_tree.specs.Marks.{Spends};
 
 use crate::marks::Marks;
 use crate::node::Sum;
@@ -78,8 +77,7 @@ impl Child {
         ensures renewed { slice_index_or marks.old.stale self.old.node false ≡ true → IsKeyed total.now sums.now self.new }
         ensures kept { slice_index_or marks.old.stale self.old.node false ≡ false → self.new ≡ self.old }
         ensures counted { slice_index_or marks.old.stale self.old.node false ≡ true → marks.new.made ≡ min (marks.old.made + 1) (2 ^ 64 - 1) }
-        ensures no_less { marks.old.made ≤ marks.new.made }
-        ensures work { debt (work_of marks.new) ≤ debt (work_of marks.old) }
+        ensures spends { Spends marks.old marks.new 0 }
     {
         let node = self.node;
         let was_marked = marks.is_marked(node);
@@ -165,8 +163,7 @@ impl Family {
         ensures others { (i : ℕ) → has_child i self.old.children.items ≡ false → slice_index_or marks.new.stale i false ≡ slice_index_or marks.old.stale i false }
         ensures down { (i : ℕ) → slice_index_or marks.new.stale i false ≡ true → slice_index_or marks.old.stale i false ≡ true }
         ensures long { length marks.new.stale ≡ length marks.old.stale }
-        ensures no_less { marks.old.made ≤ marks.new.made }
-        ensures work { debt (work_of marks.new) ≤ debt (work_of marks.old) }
+        ensures spends { Spends marks.old marks.new 0 }
     {
         renew_keys(&mut self.children, marks, total, sums);
         sort(&mut self.children);
@@ -209,8 +206,7 @@ fn renew_keys(children: &mut [Child], marks: &mut Marks, total: &Quantities, sum
     ensures others { (i : ℕ) → has_child i children.old ≡ false → slice_index_or marks.new.stale i false ≡ slice_index_or marks.old.stale i false }
     ensures down { (i : ℕ) → slice_index_or marks.new.stale i false ≡ true → slice_index_or marks.old.stale i false ≡ true }
     ensures long { length marks.new.stale ≡ length marks.old.stale }
-    ensures no_less { marks.old.made ≤ marks.new.made }
-    ensures work { debt (work_of marks.new) ≤ debt (work_of marks.old) }
+    ensures spends { Spends marks.old marks.new 0 }
 {
     for child in children.iter_mut() {
         child.renew_if_marked(marks, total, sums);

@@ -2,9 +2,8 @@
 ghost use Rattle.std.specs.Prelude.{◌≡◌, ◌≤◌, ◌<◌, ◌+◌, ◌-◌, ◌^◌, [], ◌∷◌, ◌++◌, ℕ, false, min, true, IfNone, IfOk, IfSome, OnOk, OnErr, length, slice_index_or, slice_set};
 ghost use Rattle.std.specs.String.{string_bytes};
 ghost use Rattle.drf_sorter.specs.Keys.{key_by};
-ghost use Rattle.drf_sorter.specs.Work.{debt};
 ghost use Rattle.drf_tree.specs.Family.{CanKey, key_for};
-ghost use Rattle.drf_tree.specs.Marks.{marked_in, work_of};
+ghost use Rattle.drf_tree.specs.Marks.{Defers, marked_in};
 ghost use Rattle.drf_tree.specs.Nodes.{is_holding};
 
 use crate::node::{Place, Sum};
@@ -115,7 +114,7 @@ impl Marks {
     pub(crate) fn mark(&mut self, node: usize)
         requires { node < length self.old.stale }
         ensures flags { self.new ≡ record self.old { stale = slice_set self.old.stale node true } }
-        ensures work { debt (work_of self.new) ≤ debt (work_of self.old) + 1 }
+        ensures spends { Defers self.old self.new 1 }
     {
         self.stale[node] = true;
         if self.listed[node] {
@@ -129,7 +128,7 @@ impl Marks {
     pub(crate) fn forget(&mut self, node: usize)
         requires { node < length self.old.stale }
         ensures flags { self.new ≡ record self.old { stale = slice_set self.old.stale node false } }
-        ensures work { debt (work_of self.new) ≤ debt (work_of self.old) }
+        ensures spends { Defers self.old self.new 0 }
     {
         self.stale[node] = false;
     }

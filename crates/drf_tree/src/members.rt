@@ -3,9 +3,8 @@ ghost use Rattle.std.specs.Prelude.{◌≡◌, ◌≢◌, ◌≤◌, ◌+◌, �
 ghost use Rattle.drf_role.specs.Path.{IsClientPath, Path};
 ghost use Rattle.drf_sorter.specs.Content.{Content, activated, has_client, has_node, with_change, with_client, without_client};
 ghost use Rattle.drf_sorter.specs.Plain.{plain_content};
-ghost use Rattle.drf_sorter.specs.Work.{debt};
 ghost use Rattle.drf_tree.specs.Changes.{IsLeast, IsOneLonger, IsShapeOf, OnWay};
-ghost use Rattle.drf_tree.specs.Marks.{work_of};
+ghost use Rattle.drf_tree.specs.Marks.{Defers, Spends};
 ghost use Rattle.drf_tree.specs.Nodes.{client_at, is_live, is_node, path_at, place_at};
 ghost use Rattle.drf_tree.specs.Tidy.{IsOneMore, IsTidy, IsTidyBut};
 ghost use Rattle.drf_tree.specs.Tree.{IsTotalFree, IsTreeOf};
@@ -31,8 +30,7 @@ impl Tree {
         ensures client { IfOk result (λ leaf. client_at self.new.places.items leaf ≡ Some path.now) }
         ensures grown { OnOk result (IsTidy (plain_content ledger.now) self.old.places.items → IsTidyBut path.now (plain_content ledger.now) self.new.places.items) }
         ensures left { OnErr result (IsTidy (plain_content ledger.now) self.old.places.items → IsTidy (plain_content ledger.now) self.new.places.items) }
-        ensures made { self.old.marks.made ≤ self.new.marks.made }
-        ensures work { debt (work_of self.new.marks) ≤ debt (work_of self.old.marks) + length path.now }
+        ensures spends { Spends self.old.marks self.new.marks (length path.now) }
     {
         let mut node = ROOT;
         for i in 0..path.len() {
@@ -66,8 +64,7 @@ impl Tree {
         ensures live { IfOk result (λ child. is_live self.new.places.items child ≡ true) }
         ensures one { OnOk result (IsOneMore (take (i + 1) path.now) self.old.places.items self.new.places.items) }
         ensures err { OnErr result ((i : ℕ) → place_at self.new.places.items i ≡ place_at self.old.places.items i) }
-        ensures made { self.old.marks.made ≤ self.new.marks.made }
-        ensures work { debt (work_of self.new.marks) ≤ debt (work_of self.old.marks) + 1 }
+        ensures spends { Spends self.old.marks self.new.marks 1 }
     {
         if let Some(child) = self.child(node, path.part(i)) {
             return Ok(child);
@@ -97,8 +94,7 @@ impl Tree {
         ensures live { IfOk result (λ node. is_live self.new.places.items node ≡ true) }
         ensures one { OnOk result (IsOneMore (take len path.now) self.old.places.items self.new.places.items) }
         ensures err { OnErr result ((i : ℕ) → place_at self.new.places.items i ≡ place_at self.old.places.items i) }
-        ensures made { self.old.marks.made ≤ self.new.marks.made }
-        ensures work { debt (work_of self.new.marks) ≤ debt (work_of self.old.marks) + 1 }
+        ensures spends { Spends self.old.marks self.new.marks 1 }
     {
         let node = path.node(len)?;
         let client = client_of(path, len)?;
@@ -133,8 +129,7 @@ impl Tree {
         ensures tree { (content : Content) (path : Path) → IsTreeOf content self.old → client_at self.old.places.items leaf ≡ Some path → has_client content path ≡ true → IsTreeOf (without_client content path) self.new }
         ensures places { self.new.places ≡ self.old.places }
         ensures families { self.new.families ≡ self.old.families }
-        ensures made { self.new.marks.made ≡ self.old.marks.made }
-        ensures work { debt (work_of self.new.marks) ≤ debt (work_of self.old.marks) + length (path_at self.old.places.items leaf) }
+        ensures spends { Defers self.old.marks self.new.marks (length (path_at self.old.places.items leaf)) }
     {
         let nothing = Sum::of_none(self.alloc(), self.sums[leaf].weight);
         let gone = mem::replace(&mut self.sums[leaf], nothing);
@@ -180,8 +175,7 @@ impl Tree {
         ensures shape { IsShapeOf self.new }
         ensures tree { (content : Content) → IsTreeOf content self.old → IsTreeOf content self.new }
         ensures tidy { (content : Content) → IsTreeOf content self.old → IsTidyBut (path_at self.old.places.items leaf) content self.old.places.items → IsTidy content self.new.places.items }
-        ensures made { self.new.marks.made ≡ self.old.marks.made }
-        ensures work { debt (work_of self.new.marks) ≤ debt (work_of self.old.marks) }
+        ensures spends { Defers self.old.marks self.new.marks 0 }
     {
         let mut node = leaf;
         while node != ROOT && self.is_bare(node) {

@@ -2,8 +2,7 @@
 ghost use Rattle.std.specs.Prelude.{◌≡◌, ◌<◌, ◌≤◌, ◌+◌, ◌-◌, ◌^◌, length, min, true};
 ghost use Rattle.drf_sorter.specs.Content.{IsSound};
 ghost use Rattle.drf_sorter.specs.Plain.{plain_content};
-ghost use Rattle.drf_sorter.specs.Work.{debt};
-ghost use Rattle.drf_tree.specs.Marks.{marked_in, work_of};
+ghost use Rattle.drf_tree.specs.Marks.{Spends, marked_in};
 ghost use Rattle.drf_tree.specs.Nodes.{is_live};
 ghost use Rattle.drf_tree.specs.Tree.{IsTreeOf, IsTreeBut};
 
@@ -18,8 +17,7 @@ impl Tree {
         ensures tree { IsTreeOf (plain_content ledger.now) self.new }
         ensures places { self.new.places ≡ self.old.places }
         ensures repaired { marked_in self.new.marks.stale ≡ 0 }
-        ensures made { self.old.marks.made ≤ self.new.marks.made }
-        ensures work { debt (work_of self.new.marks) ≤ debt (work_of self.old.marks) }
+        ensures spends { Spends self.old.marks self.new.marks 0 }
     {
         if self.marks.are_many() {
             self.renew_all(ledger);
@@ -35,8 +33,7 @@ impl Tree {
         requires tree { IsTreeOf (plain_content ledger.now) self.old }
         ensures tree { IsTreeOf (plain_content ledger.now) self.new }
         ensures places { self.new.places ≡ self.old.places }
-        ensures made { self.old.marks.made ≤ self.new.marks.made }
-        ensures work { debt (work_of self.new.marks) ≤ debt (work_of self.old.marks) }
+        ensures spends { Spends self.old.marks self.new.marks 0 }
     {
         for node in 0..self.families.len() {
             self.renew_family(node, ledger);
@@ -51,8 +48,7 @@ impl Tree {
         ensures tree { IsTreeOf (plain_content ledger.now) self.new }
         ensures places { self.new.places ≡ self.old.places }
         ensures long { length self.new.families.items ≡ length self.old.families.items }
-        ensures made { self.old.marks.made ≤ self.new.marks.made }
-        ensures work { debt (work_of self.new.marks) ≤ debt (work_of self.old.marks) }
+        ensures spends { Spends self.old.marks self.new.marks 0 }
     {
         let family = &mut self.families[node];
         family.renew_all(&mut self.marks, ledger.total(), &self.sums);

@@ -1,5 +1,5 @@
 //! Numbered nodes in parallel lists: their places, their sums, their families and their marks.
-ghost use Rattle.std.specs.Prelude.{◌≡◌, ◌≢◌, ◌≤◌, ◌<◌, ◌+◌, ◌-◌, ◌++◌, ◌∷◌, [], ℕ, false, true, IfOk, IfSome, IsSome, List, None, OnErr, OnOk, Some, length, map, max, option_copied, slice_get, slice_set};
+ghost use Rattle.std.specs.Prelude.{◌≡◌, ◌≢◌, ◌<◌, ◌+◌, ◌-◌, ◌++◌, ◌∷◌, [], ℕ, false, true, IfOk, IfSome, IsSome, List, None, OnErr, OnOk, Some, length, map, max, option_copied, slice_get, slice_set};
 ghost use Rattle.std.specs.List.{list_any};
 ghost use Rattle.drf_bundle.specs.declared.quantities.Entry.{Entry};
 ghost use Rattle.drf_role.specs.Path.{IsClientPath, IsNodePath};
@@ -8,10 +8,9 @@ ghost use Rattle.drf_rows.specs.Held.{weight_of};
 ghost use Rattle.drf_sorter.specs.Content.{Content, empty, has_node, standing_in, with_weight};
 ghost use Rattle.drf_sorter.specs.Keys.{key_by};
 ghost use Rattle.drf_sorter.specs.Served.{Weighs};
-ghost use Rattle.drf_sorter.specs.Work.{debt};
 ghost use Rattle.drf_tree.specs.Changes.{IsKeyOfNothing, IsSameTree, IsOneLonger, IsShapeOf, IsVacant, is_bare_at};
 ghost use Rattle.drf_tree.specs.Family.{child_name};
-ghost use Rattle.drf_tree.specs.Marks.{work_of};
+ghost use Rattle.drf_tree.specs.Marks.{Defers, Spends, work_of};
 ghost use Rattle.drf_tree.specs.Nodes.{children_at, client_at, is_live, is_node, parent_at, path_at, place_at};
 ghost use Rattle.drf_tree.specs.Places.{AreTaken};
 ghost use Rattle.drf_tree.specs.Tidy.{IsOneMore, IsTidy};
@@ -93,8 +92,7 @@ impl Tree {
         ensures tree { (content : Content) → IsTreeOf content self.old → IsTreeOf (with_weight content (path_at self.old.places.items node) weight) self.new }
         ensures places { self.new.places ≡ self.old.places }
         ensures families { self.new.families ≡ self.old.families }
-        ensures made { self.new.marks.made ≡ self.old.marks.made }
-        ensures work { debt (work_of self.new.marks) ≤ debt (work_of self.old.marks) + 1 }
+        ensures spends { Defers self.old.marks self.new.marks 1 }
     {
         let sum = &mut self.sums[node];
         sum.weight = weight;
@@ -234,8 +232,7 @@ impl Tree {
         ensures live { IfOk result (λ node. is_live self.new.places.items node ≡ true) }
         ensures one { OnOk result (IsOneMore path self.old.places.items self.new.places.items) }
         ensures err { OnErr result ((i : ℕ) → place_at self.new.places.items i ≡ place_at self.old.places.items i) }
-        ensures made { self.old.marks.made ≤ self.new.marks.made }
-        ensures work { debt (work_of self.new.marks) ≤ debt (work_of self.old.marks) + 1 }
+        ensures spends { Spends self.old.marks self.new.marks 1 }
     {
         let node = self.vacant()?;
         let child = self.first_child(node, &path)?;
@@ -258,8 +255,7 @@ impl Tree {
         ensures sums { self.new.sums ≡ self.old.sums }
         ensures families { self.new.families ≡ self.old.families }
         ensures stale { self.new.marks.stale ≡ self.old.marks.stale }
-        ensures made { self.old.marks.made ≤ self.new.marks.made }
-        ensures work { debt (work_of self.new.marks) ≤ debt (work_of self.old.marks) + 1 }
+        ensures spends { Spends self.old.marks self.new.marks 1 }
     {
         let alloc = self.alloc();
         let name = String::from_str(alloc, path.part(path.len() - 1))?;
@@ -285,8 +281,7 @@ impl Tree {
         ensures shape { IsShapeOf self.new }
         ensures tree { (content : Content) → IsTreeOf content self.old → IsTreeOf content self.new }
         ensures places { self.new.places.items ≡ slice_set self.old.places.items node None }
-        ensures made { self.new.marks.made ≡ self.old.marks.made }
-        ensures work { debt (work_of self.new.marks) ≤ debt (work_of self.old.marks) }
+        ensures spends { Defers self.old.marks self.new.marks 0 }
     {
         let parent = self.parent(node);
         self.families[parent].remove(node);

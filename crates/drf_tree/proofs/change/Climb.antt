@@ -12,7 +12,7 @@ use Rattle.drf_tree.specs.declared.tree.Tree.{Tree}
 use Rattle.drf_tree.specs.Nodes.{is_live, is_node, parent_at, path_at}
 use Rattle.drf_sorter.specs.Work.{debt}
 use Rattle.drf_tree.specs.Changes.{IsShapeOf}
-use Rattle.drf_tree.specs.Marks.{work_of}
+use Rattle.drf_tree.specs.Marks.{Defers, work_of}
 use Rattle.drf_tree.specs.Tree.{IsShape}
 use Rattle.drf_tree.proofs.shape.Node.{live_within}
 use Rattle.drf_tree.proofs.shape.Path.{begins_by, begins_itself, begins_long, begins_to, begins_trans}
@@ -284,9 +284,10 @@ module _ (old now : Tree) (shape : IsShapeOf old) (leaf node : ℕ) (R : ℕ →
 
   pub marking_step : IsClimbing old now leaf node R → node ≢ 0 → IsMarking old now leaf node → (new : Tree) (above : ℕ)
       → above ≡ parent_at old.places.items node → new.marks ≡ record now.marks { stale = slice_set now.marks.stale node true }
-      → debt (work_of new.marks) ≤ debt (work_of now.marks) + 1 → IsMarking old new leaf above
-  marking_step so other marking new above above_is marks work =
+      → Defers now.marks new.marks 1 → IsMarking old new leaf above
+  marking_step so other marking new above above_is marks spends =
       let less = climb_less old now shape leaf node R so other in
+      let work = spends.work in
       let work_so = marking.work in
       subst (λ (k : ℕ). IsMarking old new leaf k) (sym above_is)
       record {
@@ -297,7 +298,7 @@ module _ (old now : Tree) (shape : IsShapeOf old) (leaf node : ℕ) (R : ℕ →
             (length (path_at old.places.items (parent_at old.places.items node))) (climb_on old now shape leaf node R so other) (sym less)
             old.marks.stale now.marks.stale (marking_within so other marking) marking.marks);
         work = omega (arith, less, work, work_so);
-        made = (λ i. (marks i).made) ∙ marking.made;
+        made = spends.made ∙ marking.made;
       }
 
   pub marking_end : IsMarking old now leaf node → node ≡ 0 → AreMarked old.places.items leaf 0 old.marks.stale now.marks.stale

@@ -1,5 +1,5 @@
 -- A bare node goes, and the tree is still that of the same clients.
-use Rattle.std.specs.Prelude.{◌≡◌, ◌≢◌, ◌≤◌, ◌<◌, ◌+◌, ◌==◌, ℕ, Bool, true, false, ◌||◌, cond, List, [], ◌∷◌, ◌++◌, Option, None, Some, filter, length, map, slice_get, slice_index_or, slice_set}
+use Rattle.std.specs.Prelude.{◌≡◌, ◌≢◌, ◌<◌, ◌+◌, ◌==◌, ℕ, Bool, true, false, ◌||◌, cond, List, [], ◌∷◌, ◌++◌, Option, None, Some, filter, length, map, slice_get, slice_index_or, slice_set}
 use Rattle.std.specs.List.{AllByRecursion, list_any}
 use Rattle.std.specs.Option.{is_some, option_map_or}
 use Rattle.std.specs.Cmp.Lexicographic.{bytes_decides}
@@ -12,7 +12,6 @@ use Rattle.drf_role.specs.PathLaws.{same_path-true}
 use Rattle.drf_bundle.specs.ListLaws.{each_from_both}
 use Rattle.drf_sorter.specs.Content.{Content, Ranked, clients_under, standing_in}
 use Rattle.drf_sorter.specs.Keys.{key_by, key_of}
-use Rattle.drf_sorter.specs.Work.{debt}
 use Rattle.drf_tree.specs.declared.family.Child.{Child}
 use Rattle.drf_tree.specs.declared.family.Family.{Family}
 use Rattle.drf_tree.specs.declared.node.Place.{Place}
@@ -20,10 +19,11 @@ use Rattle.drf_tree.specs.declared.node.Sum.{Sum}
 use Rattle.drf_tree.specs.declared.tree.Tree.{Tree}
 use Rattle.drf_tree.specs.Changes.{IsShapeOf, is_bare_at}
 use Rattle.drf_tree.specs.Family.{IsGone, IsSameKey, child_name}
-use Rattle.drf_tree.specs.Marks.{work_of}
+use Rattle.drf_tree.specs.Marks.{Defers}
 use Rattle.drf_tree.specs.Nodes.{children_at, is_live, is_node, parent_at, path_at, place_at}
 use Rattle.drf_tree.specs.Tree.{IsChildOf, IsMarkedOrRight, IsSumOf, IsTreeOf}
 use Rattle.drf_tree.proofs.change.Climb.{leaf_other}
+use Rattle.drf_tree.proofs.marks.Flags.{defers-both}
 use Rattle.drf_tree.proofs.shape.Node.{live_within, node_within}
 use Rattle.drf_tree.proofs.shape.Path.{begins_by}
 use Rattle.drf_tree.specs.Tidy.{IsTidyBut}
@@ -248,14 +248,13 @@ pub record IsPruning (old now : Tree) (leaf node : ℕ) : Type 0 where
   pub shape : IsShapeOf now
   pub there : is_node now.places.items node ≡ true
   pub tree : (content : Content) → IsTreeOf content old → IsTreeOf content now
-  pub work : debt (work_of now.marks) ≤ debt (work_of old.marks)
-  pub made : now.marks.made ≡ old.marks.made
+  pub spends : Defers old.marks now.marks 0
   pub tidy : (content : Content) → IsTidyBut (path_at old.places.items leaf) content old.places.items
       → IsTidyBut (path_at now.places.items node) content now.places.items
 
 pub prune_start : (tree : Tree) → IsShapeOf tree → (node : ℕ) → is_node tree.places.items node ≡ true → IsPruning tree tree node node
 prune_start tree shape node there =
-    record { shape = shape; there = there; tree = λ content of. of; work = omega arith; made = refl; tidy = λ content but. but }
+    record { shape = shape; there = there; tree = λ content of. of; spends = record { made = refl; work = omega arith }; tidy = λ content but. but }
 
 -- where it is not at the root, it is at a node
 pub prune_live : (old now : Tree) (leaf node : ℕ) → IsPruning old now leaf node → node ≢ 0 → is_live now.places.items node ≡ true
@@ -268,7 +267,7 @@ module _ (old now new : Tree) (leaf node parent : ℕ) (so : IsPruning old now l
     (parent_is : parent ≡ parent_at now.places.items node) (shape : IsShapeOf new)
     (tree : (content : Content) → IsTreeOf content now → IsTreeOf content new)
     (places : new.places.items ≡ slice_set now.places.items node None)
-    (work : debt (work_of new.marks) ≤ debt (work_of now.marks)) (made : new.marks.made ≡ now.marks.made) where
+    (spends : Defers now.marks new.marks 0) where
   shorter : length (path_at now.places.items node) ≡ length (path_at now.places.items parent) + 1
   shorter =
       shorter_above now.places.items now.families.items now.marks.stale now.sums.items so.shape node (prune_live old now leaf node so other)
@@ -287,8 +286,7 @@ module _ (old now new : Tree) (leaf node parent : ℕ) (so : IsPruning old now l
         ap (λ (o : Option Place). (parent == 0) || is_some o) as_it_was ∙ ap (is_node now.places.items) parent_is
         ∙ (so.shape.kept node (prune_live old now leaf node so other)).0;
     tree = λ content of. tree content (so.tree content of);
-    work = omega (arith, work, so.work);
-    made = made ∙ so.made;
+    spends = defers-both so.spends spends;
     tidy = λ content but.
         gone_tidy now new so.shape node parent (prune_live old now leaf node so other) parent_is places content
         (live_within now.places.items node (prune_live old now leaf node so other)) past (so.tidy content but);

@@ -9,15 +9,15 @@ use Rattle.drf_role.specs.Text.{Text, same_text}
 use Rattle.drf_role.specs.Path.{Path, IsClientPath, IsNodePath, begins_with}
 use Rattle.drf_role.specs.PathLaws.{client_paths-apart}
 use Rattle.drf_sorter.specs.Content.{Content, has_node}
-use Rattle.drf_sorter.specs.Work.{debt}
 use Rattle.drf_tree.specs.declared.tree.Tree.{Tree}
 use Rattle.drf_tree.specs.Changes.{IsOneLonger}
 use Rattle.drf_tree.specs.Family.{child_name}
-use Rattle.drf_tree.specs.Marks.{work_of}
+use Rattle.drf_tree.specs.Marks.{Spends}
 use Rattle.drf_tree.specs.Nodes.{children_at, client_at, is_live, is_node, path_at}
 use Rattle.drf_tree.specs.Tidy.{IsOneMore, IsTidy, IsTidyBut}
 use Rattle.drf_tree.specs.Tree.{IsTotalFree, IsTreeOf}
 use Rattle.drf_tree.proofs.change.Climb.{node_from_live}
+use Rattle.drf_tree.proofs.marks.Flags.{spends-both}
 use Rattle.drf_tree.proofs.shape.Find.{no_such, not_below, take_one_more, take_whole}
 use Rattle.drf_tree.proofs.shape.Path.{begins_by}
 use Rattle.drf_tree.proofs.growth.Tidy.{grown_but, tidy_but}
@@ -73,8 +73,7 @@ pub record IsGrowing (content : Content) (old now : Tree) (path : Path) (node i 
   pub free : IsTotalFree content old → IsTotalFree content now
   pub there : is_node now.places.items node ≡ true
   pub at : path_at now.places.items node ≡ take i path
-  pub work : debt (work_of now.marks) ≤ debt (work_of old.marks) + i
-  pub made : old.marks.made ≤ now.marks.made
+  pub spends : Spends old.marks now.marks i
   pub but : IsTidy content old.places.items → IsTidyBut (take i path) content now.places.items
 
 pub grow_start : (content : Content) (tree : Tree) (path : Path) → IsTreeOf content tree → IsGrowing content tree tree path 0 0
@@ -83,23 +82,21 @@ grow_start content tree path of = record {
   free = λ free. free;
   there = refl;
   at = top_is tree.places.items tree.families.items tree.marks.stale tree.sums.items of.shape;
-  work = omega arith;
-  made = omega arith;
+  spends = record { made = omega arith; work = omega arith };
   but = tidy_but content (take 0 path) tree.places.items;
 }
 
 pub grow_step : (content : Content) (old now new : Tree) (path : Path) (node i child : ℕ) → IsGrowing content old now path node i
     → IsTreeOf content new → (IsTotalFree content now → IsTotalFree content new) → is_live new.places.items child ≡ true → path_at new.places.items child ≡ take (i + 1) path
-    → debt (work_of new.marks) ≤ debt (work_of now.marks) + 1 → now.marks.made ≤ new.marks.made
+    → Spends now.marks new.marks 1
     → IsOneMore (take (i + 1) path) now.places.items new.places.items
     → IsGrowing content old new path child (i + 1)
-grow_step content old now new path node i child so of free live at work made one = record {
+grow_step content old now new path node i child so of free live at spends one = record {
   tree = of;
   free = λ was. free (so.free was);
   there = node_from_live new.places.items child live;
   at = at;
-  work = omega (arith, work, so.work);
-  made = omega (arith, made, so.made);
+  spends = spends-both so.spends spends;
   but = λ tidy. grown_but content now.places.items new.places.items (take i path) (take (i + 1) path) (front_begins path i) one (so.but tidy);
 }
 

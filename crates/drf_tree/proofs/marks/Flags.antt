@@ -1,11 +1,10 @@
 -- Marks that are set and taken back, one at a time.
 use Rattle.std.specs.Prelude.{◌≡◌, ◌≤◌, ◌<◌, ◌+◌, ◌-◌, ◌^◌, ℕ, min, zero, suc, Bool, true, false, List, [], ◌∷◌, cond, length, slice_index_or, slice_set}
-use Rattle.std.proofs.Common.{refl, ap, arith}
+use Rattle.std.proofs.Common.{refl, ap, ◌∙◌, arith}
 use Rattle.std.proofs.Math.Nat.{min-le_left}
 use Rattle.std.proofs.lemmas.List.Sums.{count_by-le-length, sum_by-set}
 use Rattle.drf_bundle.specs.ListLaws.{count_by-cons}
-use Rattle.drf_sorter.specs.Work.{debt}
-use Rattle.drf_tree.specs.Marks.{Flags, marked_in, work_of}
+use Rattle.drf_tree.specs.Marks.{Defers, Flags, Spends, marked_in}
 
 abbrev pub one_if : Bool → ℕ
 one_if flag = cond flag 1 0
@@ -52,8 +51,18 @@ down_at (flag ∷ stale) zero (suc i) same = absurd (omega (arith, same))
 down_at (flag ∷ stale) (suc node) zero same = absurd (omega (arith, same))
 down_at (flag ∷ stale) (suc node) (suc i) same = down_at stale node i (omega (arith, same))
 
--- a key more is one unit of work at most
-pub one_more : (old new : Flags) → new.made ≡ min (old.made + 1) (2 ^ 64 - 1) → new.stale ≡ old.stale
-    → debt (work_of new) ≤ debt (work_of old) + 1
-one_more old new made stale =
-    omega (arith, made, min-le_left (old.made + 1) (2 ^ 64 - 1), ap marked_in stale)
+-- one step after another
+module _ {old mid new : Flags} {first second : ℕ} where
+  pub spends-both : Spends old mid first → Spends mid new second → Spends old new (first + second)
+  spends-both a b = record { made = omega (arith, a.made, b.made); work = omega (arith, a.work, b.work) }
+
+  pub defers-both : Defers old mid first → Defers mid new second → Defers old new (first + second)
+  defers-both a b = record { made = b.made ∙ a.made; work = omega (arith, a.work, b.work) }
+
+-- a key that is made for a mark spends nothing more
+pub renewed_one : (old mid new : Flags) → mid.made ≡ old.made → marked_in mid.stale + 1 ≡ marked_in old.stale
+    → new.made ≡ min (mid.made + 1) (2 ^ 64 - 1) → mid.made ≤ new.made → new.stale ≡ mid.stale → Spends old new 0
+renewed_one old mid new same less made no_less stale = record {
+  made = omega (arith, same, no_less);
+  work = omega (arith, same, less, made, min-le_left (mid.made + 1) (2 ^ 64 - 1), ap marked_in stale);
+}

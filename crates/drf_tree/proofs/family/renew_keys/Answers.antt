@@ -1,6 +1,7 @@
-use Rattle.std.proofs.Common.{arith, get_or, refl}
+use Rattle.std.proofs.Common.{get_or, refl}
 use Rattle.drf_tree.specs.declared.family.Child.{Child}
 use Rattle.drf_tree.proofs.keys.Stale.{stepped}
+use Rattle.drf_tree.proofs.marks.Flags.{spends-both}
 use Rattle.drf_tree.proofs.family.renew_keys.Goals as goal
 
 pub loop-child-preserved : goal.loop-child-preserved
@@ -12,6 +13,5 @@ loop-child-preserved c =
       stepped = stepped c.args.total.now c.args.sums.now c.args.marks.now.stale at.marks.stale c.args.children.now at.children at.child-index
           child c.child-item.result at.invariant.stepped c.loop-child-test.true refl c.renew_if_marked.new.marks.stale
           c.renew_if_marked.new.self done.known done.stale done.renewed done.kept;
-      made = omega (arith, at.invariant.made, done.no_less);
-      work = omega (arith, at.invariant.work, done.work);
+      spends = spends-both at.invariant.spends done.spends;
     }

@@ -1,6 +1,4 @@
-use Rattle.std.proofs.Common.{◌≤◌}
-use Rattle.drf_sorter.specs.Work.{debt}
-use Rattle.drf_tree.specs.Marks.{work_of}
+use Rattle.drf_tree.specs.Marks.{Spends}
 use Rattle.drf_tree.proofs.keys.Stale.{AreStepped}
 use Rattle.drf_tree.proofs.family.renew_keys.Given as goal
 
@@ -8,6 +6,5 @@ use Rattle.drf_tree.proofs.family.renew_keys.Given as goal
 abbrev pub invariant-loop-child : goal.invariant-loop-child
 invariant-loop-child l = record {
   stepped : AreStepped l.total l.sums l.fn.marks.stale l.marks.stale l.fn.children l.children l.child-index;
-  made : l.fn.marks.made ≤ l.marks.made;
-  work : debt (work_of l.marks) ≤ debt (work_of l.fn.marks);
+  spends : Spends l.fn.marks l.marks 0;
 }

@@ -30,7 +30,7 @@ loop-node-init c =
           (subst (λ (t : Sum). IsMoved (amounts_in gone) none gone t) (sym put) (is_emptied gone)))
           refl refl refl,
       marking_step old old c.requires.shape leaf leaf (λ i. IsMoved (amounts_in gone) none) start other marking _ c.parent-node.result
-          c.parent-node.ensures c.mark.ensures.flags c.mark.ensures.work,
+          c.parent-node.ensures c.mark.ensures.flags c.mark.ensures.spends,
     )
 
 pub lower-requires : goal.lower-requires
@@ -108,7 +108,7 @@ loop-node-preserved c =
           (least.active c.loop-node.node s on was))
           refl refl refl,
       marking_step old c.loop-node.self c.requires.shape c.args.leaf c.loop-node.node (λ i. IsMoved (amounts_in gone) none) so c.loop-node-test.true marking
-          _ c.parent-node-in-loop-node.result above c.mark-in-loop-node.ensures.flags c.mark-in-loop-node.ensures.work,
+          _ c.parent-node-in-loop-node.result above c.mark-in-loop-node.ensures.flags c.mark-in-loop-node.ensures.spends,
     )
 
 pub returns-clause-tree : goal.returns-clause-tree
@@ -119,5 +119,5 @@ returns-clause-tree c content path tree at has =
     dismissed_tree content path old c.loop-node.self c.args.leaf c.loop-node.node gone tree c.requires.live at least.there
     c.loop-node.invariant.0 c.loop-node.invariant.1 c.loop-node-test.false
 
-pub returns-clause-made : goal.returns-clause-made
-returns-clause-made c = c.loop-node.invariant.1.made
+pub returns-clause-spends : goal.returns-clause-spends
+returns-clause-spends c = record { made = c.loop-node.invariant.1.made; work = omega (arith, c.loop-node.invariant.1.work) }

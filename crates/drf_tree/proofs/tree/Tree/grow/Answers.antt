@@ -5,6 +5,7 @@ use Rattle.drf_role.specs.Path.{Path}
 use Rattle.drf_sorter.specs.Plain.{plain_content}
 use Rattle.drf_tree.specs.declared.node.Place.{Place}
 use Rattle.drf_tree.specs.Tidy.{IsTidyBut}
+use Rattle.drf_tree.proofs.marks.Flags.{spends-both}
 use Rattle.drf_tree.proofs.shape.Find.{take_whole}
 use Rattle.drf_tree.proofs.growth.Tidy.{but_along}
 use Rattle.drf_tree.proofs.growth.Grow.{grow_start, grow_step, grown_client, grown_live}
@@ -17,7 +18,7 @@ pub loop-i-preserved : goal.loop-i-preserved
 loop-i-preserved c =
     let e = c.in-Ok.ensures in
     grow_step (plain_content c.args.ledger.now) c.args.self.now c.loop-i.self c.step.new.self c.args.path.now c.loop-i.node c.loop-i.i
-    c.in-Ok.child c.loop-i.invariant e.tree e.free e.live e.path e.work e.made e.one
+    c.in-Ok.child c.loop-i.invariant e.tree e.free e.live e.path e.spends e.one
 
 pub prune-requires-clause-shape : goal.prune-requires-clause-shape
 prune-requires-clause-shape c = c.in-Err.ensures.tree.shape
@@ -35,12 +36,14 @@ returns-in-Err-clause-free c was =
     let content = plain_content c.args.ledger.now in
     λ total. c.prune.ensures.tree (record content { total = total }) (c.in-Err.ensures.free (c.loop-i.invariant.free was) total)
 
-pub returns-in-Err-clause-work : goal.returns-in-Err-clause-work
-returns-in-Err-clause-work c =
-    omega (arith, c.prune.ensures.work, c.in-Err.ensures.work, c.loop-i.invariant.work, c.loop-i-test.true, c.len-i-end.ensures.len)
-
-pub returns-in-Err-clause-made : goal.returns-in-Err-clause-made
-returns-in-Err-clause-made c = omega (arith, c.prune.ensures.made, c.in-Err.ensures.made, c.loop-i.invariant.made)
+pub returns-in-Err-clause-spends : goal.returns-in-Err-clause-spends
+returns-in-Err-clause-spends c =
+    let so_far = spends-both c.loop-i.invariant.spends c.in-Err.ensures.spends in
+    let pruned = c.prune.ensures.spends in
+    record {
+      made = omega (arith, pruned.made, so_far.made);
+      work = omega (arith, pruned.work, so_far.work, c.loop-i-test.true, c.len-i-end.ensures.len);
+    }
 
 pub returns-clause-live : goal.returns-clause-live
 returns-clause-live c =
@@ -52,8 +55,10 @@ returns-clause-client c =
     grown_client (plain_content c.args.ledger.now) c.args.self.now c.loop-i.self c.args.path.now c.loop-i.node c.loop-i.i c.loop-i.invariant
     c.len-i-end.ensures.right (omega (arith, c.len-i-end.ensures.len, c.loop-i-test.false))
 
-pub returns-clause-work : goal.returns-clause-work
-returns-clause-work c = omega (arith, c.loop-i.invariant.work, c.loop-i.auto.i-end, c.len-i-end.ensures.len)
+pub returns-clause-spends : goal.returns-clause-spends
+returns-clause-spends c =
+    let so = c.loop-i.invariant.spends in
+    record { made = so.made; work = omega (arith, so.work, c.loop-i.auto.i-end, c.len-i-end.ensures.len) }
 
 pub returns-in-Err-clause-left : goal.returns-in-Err-clause-left
 returns-in-Err-clause-left c =

@@ -69,7 +69,7 @@ loop-node-preserved c =
           refl refl refl,
       marking_step old c.loop-node.self c.requires.shape c.args.leaf c.loop-node.node
           (λ i. IsMoved (of_lowered c.args.quantities.now c.args.offers) none) so c.loop-node-test.true marking
-          _ c.parent-node.result above c.mark.ensures.flags c.mark.ensures.work,
+          _ c.parent-node.result above c.mark.ensures.flags c.mark.ensures.spends,
     )
 
 pub returns-clause-tree : goal.returns-clause-tree
@@ -77,5 +77,5 @@ returns-clause-tree c content path tree at has can =
     lowered_tree content path c.args.quantities.now c.args.offers c.args.self.now c.loop-node.self c.args.leaf c.loop-node.node
     tree at has can c.loop-node.invariant.0 c.loop-node.invariant.1 c.loop-node-test.false
 
-pub returns-clause-made : goal.returns-clause-made
-returns-clause-made c = c.loop-node.invariant.1.made
+pub returns-clause-spends : goal.returns-clause-spends
+returns-clause-spends c = record { made = c.loop-node.invariant.1.made; work = omega (arith, c.loop-node.invariant.1.work) }

@@ -20,14 +20,14 @@ loop-node-smaller c =
       arith,
       prune_less c.args.self.now c.loop-node.self c.wither.new.self c.args.leaf c.loop-node.node c.parent-parent.result
           c.loop-node.invariant c.loop-node-test.true c.parent-parent.ensures c.wither.ensures.shape c.wither.ensures.tree
-          c.wither.ensures.places c.wither.ensures.work c.wither.ensures.made,
+          c.wither.ensures.places c.wither.ensures.spends,
     )
 
 pub loop-node-preserved : goal.loop-node-preserved
 loop-node-preserved c =
     prune_step c.args.self.now c.loop-node.self c.wither.new.self c.args.leaf c.loop-node.node c.parent-parent.result
     c.loop-node.invariant c.loop-node-test.true c.parent-parent.ensures c.wither.ensures.shape c.wither.ensures.tree
-    c.wither.ensures.places c.wither.ensures.work c.wither.ensures.made
+    c.wither.ensures.places c.wither.ensures.spends
 
 pub returns-else-is_bare-clause-tidy : goal.returns-else-is_bare-clause-tidy
 returns-else-is_bare-clause-tidy c content of but =

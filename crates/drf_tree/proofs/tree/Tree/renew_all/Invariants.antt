@@ -1,7 +1,6 @@
-use Rattle.std.proofs.Common.{◌≡◌, ◌≤◌, length}
+use Rattle.std.proofs.Common.{◌≡◌, length}
 use Rattle.drf_sorter.specs.Plain.{plain_content}
-use Rattle.drf_sorter.specs.Work.{debt}
-use Rattle.drf_tree.specs.Marks.{work_of}
+use Rattle.drf_tree.specs.Marks.{Spends}
 use Rattle.drf_tree.specs.Tree.{IsTreeOf}
 use Rattle.drf_tree.proofs.tree.Tree.renew_all.Given as goal
 
@@ -10,6 +9,5 @@ invariant-loop-node l = record {
   tree : IsTreeOf (plain_content l.ledger) l.self;
   places : l.self.places ≡ l.fn.self.places;
   long : length l.self.families.items ≡ length l.fn.self.families.items;
-  made : l.fn.self.marks.made ≤ l.self.marks.made;
-  work : debt (work_of l.self.marks) ≤ debt (work_of l.fn.self.marks);
+  spends : Spends l.fn.self.marks l.self.marks 0;
 }

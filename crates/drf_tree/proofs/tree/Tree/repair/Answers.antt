@@ -9,7 +9,7 @@ use Rattle.drf_tree.specs.declared.tree.Tree.{Tree}
 use Rattle.drf_tree.specs.Marks.{Flags, marked_in}
 use Rattle.drf_tree.specs.Nodes.{children_at}
 use Rattle.drf_tree.specs.Tree.{IsMarkedOrRight, IsTreeBut, IsTreeOf}
-use Rattle.drf_tree.proofs.marks.Flags.{down_at, marked_less, one_more}
+use Rattle.drf_tree.proofs.marks.Flags.{down_at, marked_less, renewed_one, spends-both}
 use Rattle.drf_tree.proofs.shape.Node.{flags_changed, live_within}
 use Rattle.drf_tree.proofs.tree.Tree.repair.Goals as goal
 
@@ -79,18 +79,9 @@ pub loop-node-preserved : goal.loop-node-preserved
 loop-node-preserved c = record {
   tree = c.renew.ensures.tree;
   places = c.renew.ensures.places ∙ c.loop-node.invariant.places;
-  work = omega (
-    arith,
-    one_more c.take.new.self c.renew.new.self.marks c.renew.ensures.made c.renew.ensures.stale,
-    one_less (plain_content c.args.ledger.now) c.loop-node.self c.loop-node.invariant.tree c.take.new.self c.in-Some.node
-        c.in-Some.ensures.found (λ i. (c.in-Some.ensures.taken i).stale),
-    ap (λ (flags : Flags). flags.made) c.in-Some.ensures.taken,
-    c.loop-node.invariant.work,
-  );
-  made = omega (
-    arith,
-    ap (λ (flags : Flags). flags.made) c.in-Some.ensures.taken,
-    c.renew.ensures.no_less,
-    c.loop-node.invariant.made,
-  );
+  spends = spends-both c.loop-node.invariant.spends
+      (renewed_one c.loop-node.self.marks c.take.new.self c.renew.new.self.marks (λ i. (c.in-Some.ensures.taken i).made)
+      (one_less (plain_content c.args.ledger.now) c.loop-node.self c.loop-node.invariant.tree c.take.new.self c.in-Some.node
+      c.in-Some.ensures.found (λ i. (c.in-Some.ensures.taken i).stale))
+      c.renew.ensures.made c.renew.ensures.no_less c.renew.ensures.stale);
 }

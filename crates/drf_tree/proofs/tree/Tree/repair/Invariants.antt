@@ -1,7 +1,6 @@
-use Rattle.std.proofs.Common.{◌≡◌, ◌≤◌}
+use Rattle.std.proofs.Common.{◌≡◌}
 use Rattle.drf_sorter.specs.Plain.{plain_content}
-use Rattle.drf_sorter.specs.Work.{debt}
-use Rattle.drf_tree.specs.Marks.{marked_in, work_of}
+use Rattle.drf_tree.specs.Marks.{Spends, marked_in}
 use Rattle.drf_tree.specs.Tree.{IsTreeOf}
 use Rattle.drf_tree.proofs.tree.Tree.repair.Given as goal
 
@@ -9,8 +8,7 @@ abbrev pub invariant-loop-node : goal.invariant-loop-node
 invariant-loop-node l = record {
   tree : IsTreeOf (plain_content l.ledger) l.self;
   places : l.self.places ≡ l.fn.self.places;
-  work : debt (work_of l.self.marks) ≤ debt (work_of l.fn.self.marks);
-  made : l.fn.self.marks.made ≤ l.self.marks.made;
+  spends : Spends l.fn.self.marks l.self.marks 0;
 }
 
 abbrev pub decreases-loop-node : goal.decreases-loop-node

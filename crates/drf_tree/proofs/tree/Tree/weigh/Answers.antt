@@ -15,6 +15,3 @@ returns-clause-tree c content of =
     c.index_mut-sum.ensures.value in
     weighed_tree content c.args.weight old c.args.node of c.requires.live s there _ refl _ refl _ refl refl refl
     (λ i. (c.mark.ensures.flags i).stale)
-
-pub returns-clause-made : goal.returns-clause-made
-returns-clause-made c = λ i. (c.mark.ensures.flags i).made

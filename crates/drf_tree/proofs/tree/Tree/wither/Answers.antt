@@ -57,6 +57,3 @@ returns-clause-tree c content of =
     (sym (family_is t c.requires.shape c.args.node c.parent-parent.result c.index_mut.result.now c.requires.node c.parent-parent.ensures c.index_mut.ensures.value))
     c.remove.ensures)
     c.free.ensures refl (λ i. (c.forget.ensures.flags i).stale) refl content of
-
-pub returns-clause-made : goal.returns-clause-made
-returns-clause-made c = λ i. (c.forget.ensures.flags i).made

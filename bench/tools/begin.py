@@ -9,8 +9,8 @@ ROOT = os.path.dirname(os.path.dirname(os.path.dirname(os.path.realpath(__file__
 SWEEPS = f"{ROOT}/bench/sweeps"
 # A day of these is short enough to be swept; the busy day is not.
 SHORT_EXAMPLES = ("day", "first", "quota", "tasks", "teams")
-# What tools here know of the toolchain's inside, they know of this one.
-KNOWN_TOOLCHAIN = "rattle-kit-13f"
+# What tools here know of the toolchain's inside, they know of these.
+KNOWN_TOOLCHAINS = ("rattle-kit-13b", "rattle-kit-13f")
 
 
 def built_program():
@@ -42,10 +42,10 @@ def shim(source, room):
 
 
 def toolchain():
-    """The path of `rt` and its kit's folder. Of a kit that is not the known one it is said so on standard error."""
+    """The path of `rt` and its kit's folder. Of a kit that is not a known one it is said so on standard error."""
     script = os.path.basename(sys.argv[0])
     rt = os.path.realpath(shutil.which("rt") or sys.exit(f"{script}: there is no rt"))
     told = subprocess.run([rt, "version"], capture_output=True, text=True).stdout.strip()
-    if told.split()[:1] != [KNOWN_TOOLCHAIN]:
-        print(f"{script}: written for {KNOWN_TOOLCHAIN}, and this is {told or 'unknown'}: it may fail, or do something else", file=sys.stderr)
+    if told.split(" ")[0] not in KNOWN_TOOLCHAINS:
+        print(f"{script}: written for {' and '.join(KNOWN_TOOLCHAINS)}, and this is {told or 'unknown'}: it may fail, or do something else", file=sys.stderr)
     return rt, os.path.dirname(os.path.dirname(rt))

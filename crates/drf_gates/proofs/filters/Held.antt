@@ -2,10 +2,9 @@
 use Rattle.std.proofs.Common.{◌≡◌, ◌≢◌, ◌+◌, ◌%◌, ◌<◌, ◌≤◌, ◌&&◌, ◌==◌, if◌then◌else◌, ℕ, zero, suc, Bool, true, false, not, inl, inr, map, filter, refl, List, [], ◌∷◌, ◌++◌, Option, None, Some, is_some, nat_lt, length, get_or, set, take, replicate, ap, ◌∙◌, sym, subst, min, mod-lt, arith, length-append}
 use Rattle.drf_hash.specs.declared.name_hasher.NameHasher.{NameHasher}
 use Rattle.std.specs.List.{list_any}
-use Rattle.std.proofs.Math.Seq.{get_or-append_seam}
 use Rattle.std.proofs.lemmas.Bool.{cases_Bool, cases_eq, cases_lt, false_from_ne_true, and_parts, and_from, lt-ltb, ltb-true}
 use Rattle.std.proofs.lemmas.Bool.Decides.{nat_tests}
-use Rattle.std.proofs.lemmas.List.{map-append, map-set, length-map, length-set, length-replicate, get_or-replicate, take_all, set_comm, get_or-map, get_or-set_same, get_or-set_other, get_or_append_left, get_or_default}
+use Rattle.std.proofs.lemmas.List.{map-append, map-set, length-map, length-set, length-replicate, get_or-replicate, take_all, set_comm, get_or-map, get_or-set_same, get_or-set_other, get_or_default}
 use Rattle.std.proofs.lemmas.List.Elements.{All-nil, All-cons, All-append, All-filter, All-push, All-take}
 use Rattle.std.proofs.lemmas.List.Folds.{Any-from_list_any, list_any-from_Any, list_any_none}
 use Rattle.drf_role.specs.TextLaws.{same_itself, same_from_test}

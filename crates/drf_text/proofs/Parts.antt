@@ -23,13 +23,6 @@ each_of-map {A} {B} {C} step f (x ∷ xs) = ap (λ (r : Result (List C) TextFaul
 abbrev pub each_after : {A B : Type 0} → (A → Result B TextFault) → List B → List A → Result (List B) TextFault
 each_after step found xs = each_of step xs >>= λ more. Ok (found ++ more)
 
-pub each_after-nil : {A B : Type 0} (step : A → Result B TextFault) (xs : List A) → each_after step [] xs ≡ each_of step xs
-each_after-nil {A} {B} step xs = at (each_of step xs)
-  where
-    at : (r : Result (List B) TextFault) → (r >>= λ more. Ok ([] ++ more)) ≡ r
-    at (Ok more) = refl
-    at (Err fault) = refl
-
 pub each_after-end : {A B : Type 0} (step : A → Result B TextFault) (found : List B) → each_after step found [] ≡ Ok found
 each_after-end step found = ap Ok (append-nil found)
 

@@ -2,10 +2,9 @@
 use Rattle.std.proofs.Common.{◌≡◌, ◌≢◌, ◌+◌, ◌%◌, ◌<◌, ◌≤◌, ◌&&◌, ◌==◌, if◌then◌else◌, ℕ, zero, suc, Bool, true, false, not, inl, inr, map, filter, refl, List, [], ◌∷◌, ◌++◌, Option, None, Some, is_some, nat_lt, length, get_or, set, take, replicate, ap, ◌∙◌, sym, subst, min, mod-lt, arith, length-append}
 use Rattle.drf_hash.specs.declared.name_hasher.NameHasher.{NameHasher}
 use Rattle.std.specs.List.{list_any}
-use Rattle.std.proofs.Math.Seq.{get_or-append_seam}
 use Rattle.std.proofs.lemmas.Bool.{cases_Bool, cases_eq, cases_lt, false_from_ne_true, and_parts, and_from, lt-ltb, ltb-true}
 use Rattle.std.proofs.lemmas.Bool.Decides.{nat_tests}
-use Rattle.std.proofs.lemmas.List.{map-append, map-set, length-map, length-set, length-replicate, get_or-replicate, take_all, set_comm, get_or-map, get_or-set_same, get_or-set_other, get_or_append_left, get_or_default}
+use Rattle.std.proofs.lemmas.List.{map-append, map-set, length-map, length-set, length-replicate, get_or-replicate, take_all, set_comm, get_or-map, get_or-set_same, get_or-set_other, get_or_default}
 use Rattle.std.proofs.lemmas.List.Elements.{All-nil, All-cons, All-append, All-filter, All-push, All-take}
 use Rattle.std.proofs.lemmas.List.Folds.{Any-from_list_any, list_any-from_Any, list_any_none}
 use Rattle.drf_role.specs.TextLaws.{same_itself, same_from_test}
@@ -16,7 +15,7 @@ use Rattle.drf_bundle.specs.Bundle.{IsBundle, covers}
 use Rattle.drf_bundle.specs.laws.UnitProofs.{covers_by_units}
 use Rattle.drf_bundle.specs.declared.resource.Resource.{Resource}
 use Rattle.drf_rows.specs.Client.{Client}
-use Rattle.drf_rows.specs.Filters.{is_in_force, in_force, is_of_client, is_on_agent, holds_back}
+use Rattle.drf_rows.specs.Filters.{is_in_force, in_force, is_of_client, is_on_agent, holds_back, filters_without_client}
 use Rattle.drf_rows.specs.declared.rows.FilterRow.{FilterRow}
 use Rattle.drf_gates.specs.filters.Laws.{LessIsHeldBack, HeldBackIsRefused}
 use Rattle.drf_gates.specs.filters.Chains.{IsLast, IsChained}
@@ -572,7 +571,7 @@ module _ (client : Client) (s t : Slots) (place next : ℕ) (slots : IsSlots s) 
       ∙ (λ i. bucket_of (heads i) (hash i))
       ∙ sym (bucket-at s.clients q (omega (arith, below, marked-long ByClient s.rows.items s.clients slots.clients.marked)))
 
-  pub walk-taken : 0 < length s.clients.heads.items → next ≡ get_or (befores s.clients) place 0
+  walk-taken : 0 < length s.clients.heads.items → next ≡ get_or (befores s.clients) place 0
       → IsWalked s.rows.items s.clients (slot_passes (is_of_client client)) its_hash (place + 1)
       → IsWalked t.rows.items t.clients (slot_passes (is_of_client client)) (client_hash t.clients.start client.role client.framework) next
   walk-taken known is_next walked =
@@ -606,6 +605,27 @@ module _ (client : Client) (s t : Slots) (place next : ℕ) (slots : IsSlots s) 
               ]
         ];
       }
+
+pub record IsRevived (client : Client) (s t : Slots) (after : ℕ) : Type 0 where
+  pub slots : IsSlots t
+  pub others : filters_without_client client (filters_in t) ≡ filters_without_client client (filters_in s)
+  pub walked : IsWalked t.rows.items t.clients (slot_passes (is_of_client client)) (client_hash t.clients.start client.role client.framework) after
+
+pub revived-more : (client : Client) (s t u : Slots) (place next : ℕ) (slot : Option FilterRow) (leaves : Bool) → IsRevived client s t (place + 1)
+    → slot ≡ get_or t.rows.items place slot → leaves ≡ slot_passes (is_of_client client) slot
+    → u.rows.items ≡ (if leaves then set t.rows.items place None else t.rows.items) → IsSlots u
+    → length u.clients.heads.items ≡ length t.clients.heads.items → u.clients.start ≡ t.clients.start → next ≡ get_or (befores t.clients) place 0
+    → IsRevived client s u next
+revived-more client s t u place next slot leaves revived read is is_rows slots heads begins is_next =
+    let small : place < length t.rows.items = omega (arith, revived.walked.within) in
+    let some : 0 < length t.clients.heads.items = omega (arith, small, revived.slots.clients.marked.enough) in
+    let rows = without-if (is_of_client client) t.rows.items u.rows.items place slot leaves small read is is_rows in
+    record {
+      slots = slots;
+      others = ap (λ (ss : List (Option FilterRow)). filters_without_client client (filled ss)) rows
+          ∙ without-others (is_of_client client) t.rows.items place small ∙ revived.others;
+      walked = walk-taken client t u place next revived.slots slots small rows heads begins some is_next revived.walked;
+    }
 
 -- ---- a walk over all slots, of which those that pass are taken
 

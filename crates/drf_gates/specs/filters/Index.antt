@@ -1,5 +1,5 @@
 -- Where the filters of a client, or of a client on an agent, stand among all.
-use Rattle.std.specs.Prelude.{◌≡◌, ◌≢◌, ℕ, ◌+◌, ◌%◌, ◌<◌, ◌≤◌, ◌==◌, if◌then◌else◌, List, Option, None, Some, ◌∷◌, [], length, map, take, slice_index, slice_index_or, All, vec_capacity}
+use Rattle.std.specs.Prelude.{◌≡◌, ℕ, ◌+◌, ◌%◌, ◌<◌, ◌≤◌, ◌==◌, if◌then◌else◌, List, Option, None, Some, ◌∷◌, [], length, map, take, slice_index, All, vec_capacity}
 use Rattle.std.specs.Option.{option_map}
 use Rattle.std.specs.Hash.FoldHasher as folding
 use Rattle.drf_hash.specs.Reading.{read_text}

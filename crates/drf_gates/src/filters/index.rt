@@ -1,5 +1,5 @@
 //! Where the filters of a client, or of a client on an agent, stand among all.
-ghost use Rattle.std.specs.Prelude.{◌≡◌, ◌≢◌, ◌+◌, ◌*◌, ◌%◌, ◌<◌, ◌≤◌, ℕ, [], ◌∷◌, ◌++◌, List, Option, None, Some, length, min, slice_index, slice_index_or, set, replicate, vec_capacity, OnOk};
+ghost use Rattle.std.specs.Prelude.{◌≡◌, ◌≢◌, ◌+◌, ◌*◌, ◌%◌, ◌<◌, ◌≤◌, [], ◌∷◌, ◌++◌, List, Option, None, Some, length, min, slice_index, slice_index_or, set, replicate, vec_capacity, OnOk};
 ghost use Rattle.drf_rows.specs.declared.rows.FilterRow.{FilterRow};
 ghost use Rattle.drf_gates.specs.filters.Index.{client_hash, client_read, pair_hash, row_hash, slot_hash, link_hash, hashes_in, befores, IsTidy, IsTidyTo, IsLedTo, IsIndexed, IsLeft, HasRoom};
 

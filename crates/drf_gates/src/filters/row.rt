@@ -1,5 +1,5 @@
 //! What is asked of filters one by one, and which of a list with gaps are kept.
-ghost use Rattle.std.specs.Prelude.{◌≡◌, ◌≤◌, [], ◌∷◌, ◌++◌, count_by, map, not, true, Some, OnOk};
+ghost use Rattle.std.specs.Prelude.{◌≡◌, ◌≤◌, [], ◌∷◌, ◌++◌, count_by, map, not, Some, OnOk};
 ghost use Rattle.drf_role.specs.Text.{same_text};
 ghost use Rattle.drf_rows.specs.declared.rows.FilterRow.{FilterRow};
 ghost use Rattle.drf_bundle.specs.Bundle.{covers};

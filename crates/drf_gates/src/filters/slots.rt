@@ -1,5 +1,5 @@
 //! Filters in the order in which they were added, with gaps where some were taken out.
-ghost use Rattle.std.specs.Prelude.{◌≡◌, ◌<◌, [], ◌∷◌, ◌++◌, None, length, set, if◌then◌else◌, OnOk, OnErr};
+ghost use Rattle.std.specs.Prelude.{◌≡◌, ◌<◌, [], ◌∷◌, ◌++◌, None, length, set, OnOk, OnErr};
 ghost use Rattle.drf_rows.specs.Filters.{is_held_back, in_force, filters_without_client, filters_without_agent, filters_without_framework};
 ghost use Rattle.drf_gates.specs.filters.Slots.{filters_in, AreMarked, AreTidy, IsSlots, IsClosed};
 
@@ -97,18 +97,15 @@ impl Slots {
         Ok(())
     }
 
-    /// Takes out what is at a place, if it leaves, and out of its chains.
-    fn take_if(&mut self, place: usize, leaves: bool)
+    /// Takes out what is at a place, and out of its chains.
+    fn take_out(&mut self, place: usize)
         requires slots { IsSlots self.old }
         requires within { place < length self.old.rows.items }
         ensures slots { IsSlots self.new }
-        ensures rows { self.new.rows.items ≡ (if leaves then set self.old.rows.items place None else self.old.rows.items) }
+        ensures rows { self.new.rows.items ≡ set self.old.rows.items place None }
         ensures heads { length self.new.clients.heads.items ≡ length self.old.clients.heads.items }
         ensures start { self.new.clients.start ≡ self.old.clients.start }
     {
-        if !leaves {
-            return;
-        }
         if self.rows[place].take().is_some() {
             self.pairs.unlink(place);
             self.clients.unlink(place);
@@ -116,16 +113,13 @@ impl Slots {
         }
     }
 
-    /// Takes out what is at a place, if it leaves, and leaves chains that led to it cut.
-    fn cut_if(&mut self, place: usize, leaves: bool)
+    /// Takes out what is at a place, and leaves chains that led to it cut.
+    fn cut_out(&mut self, place: usize)
         requires marked { AreMarked self.old }
         requires within { place < length self.old.rows.items }
         ensures marked { AreMarked self.new }
-        ensures rows { self.new.rows.items ≡ (if leaves then set self.old.rows.items place None else self.old.rows.items) }
+        ensures rows { self.new.rows.items ≡ set self.old.rows.items place None }
     {
-        if !leaves {
-            return;
-        }
         if self.rows[place].take().is_some() {
             self.pairs.part(place);
             self.clients.part(place);
@@ -133,21 +127,21 @@ impl Slots {
         }
     }
 
-    /// Takes out what is at a place, if it leaves: out of its chains, while few left so. Says how many more may.
-    fn leave(&mut self, place: usize, leaves: bool, few: usize) -> usize
+    /// Takes out what is at a place: out of its chains, while few left so. Says how many more may.
+    fn leave(&mut self, place: usize, few: usize) -> usize
         requires marked { AreMarked self.old }
         requires within { place < length self.old.rows.items }
         requires tidy { 0 < few → AreTidy self.old }
         ensures marked { AreMarked self.new }
-        ensures rows { self.new.rows.items ≡ (if leaves then set self.old.rows.items place None else self.old.rows.items) }
+        ensures rows { self.new.rows.items ≡ set self.old.rows.items place None }
         ensures tidy { 0 < result → AreTidy self.new }
     {
         if few == 0 {
-            self.cut_if(place, leaves);
+            self.cut_out(place);
             return 0;
         }
-        self.take_if(place, leaves);
-        few - leaves as usize
+        self.take_out(place);
+        few - 1
     }
 
     /// Chains the filters that are left anew, if no more may leave one by one.
@@ -179,8 +173,9 @@ impl Slots {
         while after > 0 {
             let place = after - 1;
             after = self.clients.link(place).before;
-            let leaves = is_slot_of_client(&self.rows[place], role, framework);
-            self.take_if(place, leaves);
+            if is_slot_of_client(&self.rows[place], role, framework) {
+                self.take_out(place);
+            }
         }
     }
 
@@ -192,8 +187,9 @@ impl Slots {
     {
         let mut few = FEW;
         for place in 0..self.rows.len() {
-            let leaves = is_slot_on_agent(&self.rows[place], agent);
-            few = self.leave(place, leaves, few);
+            if is_slot_on_agent(&self.rows[place], agent) {
+                few = self.leave(place, few);
+            }
         }
         self.chain_if_many(few);
         self.close_gaps_if_many();
@@ -207,8 +203,9 @@ impl Slots {
     {
         let mut few = FEW;
         for place in 0..self.rows.len() {
-            let leaves = is_slot_of_framework(&self.rows[place], framework);
-            few = self.leave(place, leaves, few);
+            if is_slot_of_framework(&self.rows[place], framework) {
+                few = self.leave(place, few);
+            }
         }
         self.chain_if_many(few);
         self.close_gaps_if_many();
@@ -222,8 +219,9 @@ impl Slots {
     {
         let mut few = FEW;
         for place in 0..self.rows.len() {
-            let leaves = is_slot_spent(&self.rows[place], now);
-            few = self.leave(place, leaves, few);
+            if is_slot_spent(&self.rows[place], now) {
+                few = self.leave(place, few);
+            }
         }
         self.chain_if_many(few);
         self.close_gaps_if_many();

@@ -1,6 +1,6 @@
 use Rattle.std.proofs.Common.{◌≡◌, ◌+◌, ◌-◌, ℕ, subst, ◌∙◌, arith, get_or}
 use Rattle.std.proofs.lemmas.List.{get_or_default}
-use Rattle.drf_gates.specs.filters.Index.{IsLedTo, buckets_in}
+use Rattle.drf_gates.specs.filters.Index.{IsLedTo}
 use Rattle.drf_gates.proofs.filters.Held.{led-start, led-more, led-within, led-less, led-on_head, led-on_link, link-bucket}
 use Rattle.drf_gates.proofs.filters.index.Index.unlink.Goals as goal
 

@@ -1,6 +1,7 @@
-use Rattle.std.proofs.Common.{◌∙◌, arith}
+use Rattle.std.proofs.Common.{◌<◌, true, false, length, refl, sym, ◌∙◌, arith}
 use Rattle.drf_rows.specs.Filters.{is_on_agent}
 use Rattle.drf_gates.proofs.filters.Held.{swept-start, swept-more, swept-all}
+use Rattle.drf_gates.proofs.filters.slots.Slots.drop_agent.Goals.{then-is_slot_on_agent, else-is_slot_on_agent}
 use Rattle.drf_gates.proofs.filters.slots.Slots.drop_agent.Goals as goal
 
 pub loop-place-init : goal.loop-place-init
@@ -8,10 +9,17 @@ loop-place-init c = swept-start (is_on_agent c.args.agent.now) c.args.self.now 8
 
 pub loop-place-preserved : goal.loop-place-preserved
 loop-place-preserved c =
-    swept-more (is_on_agent c.args.agent.now) c.args.self.now c.loop-place.self c.leave-few.new.self c.loop-place.place c.loop-place.few c.leave-few.result
-    c.index.result.now c.is_slot_on_agent-leaves.result
-    (omega (arith, c.loop-place-test.true, c.len-place-end.ensures)) c.loop-place.invariant c.index.ensures c.is_slot_on_agent-leaves.ensures c.leave-few.ensures.rows
-    c.leave-few.ensures.marked c.leave-few.ensures.tidy
+    let swept = swept-more (is_on_agent c.args.agent.now) c.args.self.now c.loop-place.self in
+    let within : c.loop-place.place < length c.args.self.now.rows.items = omega (arith, c.loop-place-test.true, c.len-place-end.ensures) in
+    let inv = c.loop-place.invariant in
+    elim c.if-is_slot_on_agent.branch [
+      | then-is_slot_on_agent w ↦
+          rw (w.self-is, w.few-is) (swept w.leave-few.new.self c.loop-place.place c.loop-place.few w.leave-few.result c.index.result.now true within inv c.index.ensures
+          (sym w.if-is_slot_on_agent.true ∙ c.is_slot_on_agent.ensures) w.leave-few.ensures.rows w.leave-few.ensures.marked w.leave-few.ensures.tidy)
+      | else-is_slot_on_agent w ↦
+          rw (w.self-is, w.few-is) (swept c.loop-place.self c.loop-place.place c.loop-place.few c.loop-place.few c.index.result.now false within inv c.index.ensures
+          (sym w.if-is_slot_on_agent.false ∙ c.is_slot_on_agent.ensures) refl inv.marked inv.tidy)
+    ]
 
 pub returns-clause-others : goal.returns-clause-others
 returns-clause-others c =

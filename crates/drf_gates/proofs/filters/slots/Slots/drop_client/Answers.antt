@@ -1,13 +1,12 @@
-use Rattle.std.proofs.Common.{◌≡◌, ◌-◌, ◌%◌, ◌<◌, ◌==◌, ℕ, List, Option, false, length, get_or, ap, refl, subst, sym, ◌∙◌, arith}
+use Rattle.std.proofs.Common.{◌≡◌, ◌-◌, ◌%◌, ◌<◌, ◌==◌, ℕ, true, false, length, get_or, ap, refl, subst, sym, ◌∙◌, arith}
 use Rattle.std.proofs.lemmas.Bool.Decides.{nat_tests}
-use Rattle.drf_rows.specs.Filters.{is_of_client, filters_without_client}
+use Rattle.drf_rows.specs.Filters.{is_of_client}
 use Rattle.drf_rows.specs.Client.{Client}
-use Rattle.drf_rows.specs.declared.rows.FilterRow.{FilterRow}
 use Rattle.drf_gates.specs.filters.Index.{client_hash}
-use Rattle.drf_gates.specs.filters.Slots.{filled, slot_passes}
+use Rattle.drf_gates.specs.filters.Slots.{slot_passes}
 use Rattle.drf_gates.specs.declared.filters.index.Key.TheVariants.{Client as ByClient}
-use Rattle.drf_gates.proofs.filters.Gaps.{no_slot, without-others, without-if}
-use Rattle.drf_gates.proofs.filters.Held.{IsWalked, of_client_hash, walk-start, walk-less, walk-taken}
+use Rattle.drf_gates.proofs.filters.Gaps.{no_slot}
+use Rattle.drf_gates.proofs.filters.Held.{IsRevived, of_client_hash, revived-more, walk-start, walk-less}
 use Rattle.drf_gates.proofs.filters.slots.Slots.drop_client.Goals as goal
 
 pub loop-after-init : goal.loop-after-init
@@ -34,25 +33,22 @@ loop-after-smaller c =
     walk-less s.rows.items s.clients (slot_passes (is_of_client client)) (client_hash s.clients.start client.role client.framework) ByClient inv.slots.clients
     (of_client_hash s.clients.start client) some after (after - 1) c.link-after.result.before (omega arith) c.link-after.ensures.before inv.walked
 
+pub loop-after-preserved-then-is_slot_of_client : goal.loop-after-preserved-then-is_slot_of_client
+loop-after-preserved-then-is_slot_of_client c =
+    let client : Client = record { role = c.args.role.now; framework = c.args.framework.now } in
+    let after = c.loop-after.after in
+    let revived = subst (λ (a : ℕ). IsRevived client c.args.self.now c.loop-after.self a) (omega (arith, c.loop-after-test.true)) c.loop-after.invariant in
+    revived-more client c.args.self.now c.loop-after.self c.take_out.new.self (after - 1) c.link-after.result.before c.index.result.now true revived c.index.ensures
+    (sym c.if-is_slot_of_client.true ∙ c.is_slot_of_client.ensures) c.take_out.ensures.rows c.take_out.ensures.slots c.take_out.ensures.heads
+    c.take_out.ensures.start c.link-after.ensures.before
+
 pub loop-after-preserved : goal.loop-after-preserved
 loop-after-preserved c =
-    let s = c.loop-after.self in
     let client : Client = record { role = c.args.role.now; framework = c.args.framework.now } in
-    let hash = client_hash s.clients.start client.role client.framework in
-    let inv = c.loop-after.invariant in
     let after = c.loop-after.after in
-    let small : after - 1 < length s.rows.items = omega (arith, inv.walked.within, c.loop-after-test.true) in
-    let rows = without-if (is_of_client client) s.rows.items c.take_if.new.self.rows.items (after - 1) c.index.result.now c.is_slot_of_client-leaves.result small
-    c.index.ensures c.is_slot_of_client-leaves.ensures c.take_if.ensures.rows in
-    let some : 0 < length s.clients.heads.items = omega (arith, small, inv.slots.clients.marked.enough) in
-    record {
-      slots = c.take_if.ensures.slots;
-      others = ap (λ (ss : List (Option FilterRow)). filters_without_client client (filled ss)) rows
-          ∙ without-others (is_of_client client) s.rows.items (after - 1) small ∙ inv.others;
-      walked = walk-taken client s c.take_if.new.self (after - 1) c.link-after.result.before inv.slots c.take_if.ensures.slots small rows c.take_if.ensures.heads
-          c.take_if.ensures.start some c.link-after.ensures.before
-          (subst (λ (a : ℕ). IsWalked s.rows.items s.clients (slot_passes (is_of_client client)) hash a) (omega arith) inv.walked);
-    }
+    let revived = subst (λ (a : ℕ). IsRevived client c.args.self.now c.loop-after.self a) (omega (arith, c.loop-after-test.true)) c.loop-after.invariant in
+    revived-more client c.args.self.now c.loop-after.self c.loop-after.self (after - 1) c.link-after.result.before c.index.result.now false revived c.index.ensures
+    (sym c.if-is_slot_of_client.false ∙ c.is_slot_of_client.ensures) refl c.loop-after.invariant.slots refl refl c.link-after.ensures.before
 
 pub returns-clause-others : goal.returns-clause-others
 returns-clause-others c =

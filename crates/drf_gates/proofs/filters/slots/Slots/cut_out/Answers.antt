@@ -3,7 +3,7 @@ use Rattle.drf_rows.specs.declared.rows.FilterRow.{FilterRow}
 use Rattle.drf_gates.specs.filters.Slots.{filled}
 use Rattle.drf_gates.proofs.filters.Gaps.{taken-one}
 use Rattle.drf_gates.proofs.filters.Held.{marks-without}
-use Rattle.drf_gates.proofs.filters.slots.Slots.cut_if.Goals as goal
+use Rattle.drf_gates.proofs.filters.slots.Slots.cut_out.Goals as goal
 
 pub overflow_sub-self : goal.overflow_sub-self
 overflow_sub-self c =

@@ -14,7 +14,7 @@ use Rattle.drf_core.specs.Working.{all_nodes, allowance, allowed, allowance_of_a
 use Rattle.drf_laws.specs.laws.SameLive.{welcome_from, new_offers-live}
 
 module _ (limits : LimitNumbers) (rows old : Rows) (event : Event) (live : live_rows rows ≡ live_rows old) where
-  pub allowance-refused : (refusal : Refusal) → refusal_of limits rows event ≡ Some refusal → allowance limits old event ≡ 0
+  allowance-refused : (refusal : Refusal) → refusal_of limits rows event ≡ Some refusal → allowance limits old event ≡ 0
   allowance-refused refusal case = by (refusal_of limits old event) refl
     where
       by : (found : Option Refusal) → refusal_of limits old event ≡ found → allowance limits old event ≡ 0

@@ -1,5 +1,5 @@
 ghost use Rattle.std.specs.Prelude.{◌≡◌, ◌≤◌, ◌++◌, ◌-◌, false, None, length, vec_len, vec_capacity, IfOk, IfSome, OnOk, OnErr};
-ghost use Rattle.drf_sorter.specs.Work.{Adds};
+ghost use Rattle.drf_sorter.specs.Work.{SpendsOnOk};
 ghost use Rattle.drf_core.specs.Working.{allowance, allowance_of_all, may_make_keys};
 ghost use Rattle.drf_core.specs.Copies.{copies_if};
 ghost use Rattle.drf_core.specs.Machine.{IsOpened, IsSafe, IsSame, IsAfter, IsAfterAll, HasStopped};
@@ -115,8 +115,7 @@ impl<S: Sorter> Core<S> {
         ensures err { OnErr result (IsSame self.old self.new) }
         ensures not_refused { OnErr result (early_refusal_of self.old.limits self.old.rows event ≡ None) }
         ensures safe { IsSafe (live_rows self.new.rows) }
-        ensures work { OnOk result (Adds S.COUNTED self.old.work self.new.work (allowance self.old.limits self.old.rows event)) }
-        ensures made { self.old.work.made ≤ self.new.work.made }
+        ensures spends { SpendsOnOk S.COUNTED result self.old.work self.new.work (allowance self.old.limits self.old.rows event) }
         ensures keys { may_make_keys event ≡ false → self.new.work.made ≡ self.old.work.made }
         ensures refused { IfSome (refusal_of self.old.limits self.old.rows event) (λ refusal. self.new.work.made ≡ self.old.work.made) }
         ensures filters { length self.new.rows.filters ≤ 65537 }
@@ -137,8 +136,7 @@ impl<S: Sorter> Core<S> {
         ensures err { OnErr result (IsSame self.old self.new) }
         ensures not_refused { OnErr result (early_refusal_of self.old.limits self.old.rows event ≡ None) }
         ensures safe { IsSafe (live_rows self.new.rows) }
-        ensures work { OnOk result (Adds S.COUNTED self.old.work self.new.work (allowance self.old.limits self.old.rows event)) }
-        ensures made { self.old.work.made ≤ self.new.work.made }
+        ensures spends { SpendsOnOk S.COUNTED result self.old.work self.new.work (allowance self.old.limits self.old.rows event) }
         ensures keys { may_make_keys event ≡ false → self.new.work.made ≡ self.old.work.made }
         ensures refused { IfSome (refusal_of self.old.limits self.old.rows event) (λ refusal. self.new.work.made ≡ self.old.work.made) }
         ensures filters { length self.new.rows.filters ≤ 65537 }
@@ -167,8 +165,7 @@ impl<S: Sorter> Core<S> {
         ensures err { OnErr result (IsSame self.old self.new) }
         ensures not_refused { OnErr result (early_refusal_of self.old.limits self.old.rows event.now ≡ None) }
         ensures safe { IsSafe (live_rows self.new.rows) }
-        ensures work { OnOk result (Adds S.COUNTED self.old.work self.new.work (allowance self.old.limits self.old.rows event.now)) }
-        ensures made { self.old.work.made ≤ self.new.work.made }
+        ensures spends { SpendsOnOk S.COUNTED result self.old.work self.new.work (allowance self.old.limits self.old.rows event.now) }
         ensures keys { may_make_keys event.now ≡ false → self.new.work.made ≡ self.old.work.made }
     {
         self.tell_safe();
@@ -189,8 +186,7 @@ impl<S: Sorter> Core<S> {
         ensures stopped { OnErr result (HasStopped self.old self.new events.now replies.old.items replies.new.items (vec_capacity replies.new - vec_len replies.new)) }
         ensures capacity { vec_capacity replies.old ≤ vec_capacity replies.new }
         ensures safe { IsSafe (live_rows self.new.rows) }
-        ensures work { OnOk result (Adds S.COUNTED self.old.work self.new.work (allowance_of_all self.old.limits self.old.rows events.now)) }
-        ensures made { self.old.work.made ≤ self.new.work.made }
+        ensures spends { SpendsOnOk S.COUNTED result self.old.work self.new.work (allowance_of_all self.old.limits self.old.rows events.now) }
         ensures keys { list_any may_make_keys events.now ≡ false → self.new.work.made ≡ self.old.work.made }
     {
         self.tell_safe();

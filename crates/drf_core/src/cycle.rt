@@ -20,7 +20,7 @@ ghost use Rattle.drf_rows.specs.declared.rows.LimitRow.{LimitRow};
 ghost use Rattle.drf_core.specs.cycle.Entitling.{IsPassedOver, IsQuotaOf, known_role};
 ghost use Rattle.drf_rows.specs.declared.rows.Rows.{Rows};
 ghost use Rattle.drf_core.specs.cycle.Drafting.{IsCycleAt, IsDrafting, IsTurn, CanCount, IsTried, is_open_at, turn_at, turns_of};
-ghost use Rattle.drf_sorter.specs.Work.{Adds};
+ghost use Rattle.drf_sorter.specs.Work.{Spends, SpendsOnOk};
 ghost use Rattle.drf_core.specs.Working.{AddsDrafts, nodes_of, offered_to, touched};
 
 pub(crate) mod explain;
@@ -83,8 +83,7 @@ fn is_idle<S: Sorter>(tables: &Tables, sorter: &mut S) -> Result<bool, AllocErro
     requires drafting { IsDrafting (S.content sorter.old) tables.now.rows [] }
     ensures idle { IfOk result (λ idle. idle ≡ true → turns_of tables.now.rows ≡ tables.now.rows) }
     ensures content { S.content sorter.new ≡ S.content sorter.old }
-    ensures made { (S.work sorter.old).made ≤ (S.work sorter.new).made }
-    ensures work { Adds S.COUNTED (S.work sorter.old) (S.work sorter.new) 0 }
+    ensures spends { Spends S.COUNTED (S.work sorter.old) (S.work sorter.new) 0 }
 {
     if !has_open(tables) {
         return Ok(true);
@@ -141,8 +140,7 @@ pub(crate) fn begin_turn<S: Sorter>(
     ensures turn { IfOk result (λ free. IsTurn (S.content sorter.new) tables.now drafts.now place free (S.queue sorter.new)) }
     ensures order { OnOk result (S.queue sorter.new ≡ map path_of (turn_order (with_offers tables.now.rows drafts.now.offers.items))) }
     ensures content { S.content sorter.new ≡ S.content sorter.old }
-    ensures work { Adds S.COUNTED (S.work sorter.old) (S.work sorter.new) 0 }
-    ensures made { (S.work sorter.old).made ≤ (S.work sorter.new).made }
+    ensures spends { Spends S.COUNTED (S.work sorter.old) (S.work sorter.new) 0 }
 {
     sorter.fix_order()?;
     let bundle = tables.free(place).copy()?;
@@ -331,8 +329,7 @@ fn offer_all<S: Sorter>(
     ensures err { OnErr result (tables.new.rows ≡ tables.old.rows) }
     ensures drafting { OnErr result (IsDrafting (S.content sorter.new) tables.old.rows drafts.new.offers.items) }
     ensures counted { OnOk result (tables.old.rows.limits ≢ [] → tables.new.counted ≡ true) }
-    ensures work { OnOk result (Adds S.COUNTED (S.work sorter.old) (S.work sorter.new) (nodes_of (offered_to (new_offers tables.old.rows (turns_of tables.old.rows))))) }
-    ensures made { (S.work sorter.old).made ≤ (S.work sorter.new).made }
+    ensures spends { SpendsOnOk S.COUNTED result (S.work sorter.old) (S.work sorter.new) (nodes_of (offered_to (new_offers tables.old.rows (turns_of tables.old.rows)))) }
 {
     tables.settle()?;
     let idle = is_idle(tables, sorter)?;
@@ -367,8 +364,7 @@ impl<S: Sorter> Cluster<S> {
         ensures ok { OnOk result (self.new.rows ≡ effect self.old.rows (Cycle at)) }
         ensures err { OnErr result (self.new.rows ≡ self.old.rows) }
         ensures counted { OnOk result (self.old.rows.limits ≢ [] → self.new.counted ≡ true) }
-        ensures work { OnOk result (Adds S.COUNTED self.old.work self.new.work (nodes_of (touched self.old.rows (Cycle at)))) }
-        ensures made { self.old.work.made ≤ self.new.work.made }
+        ensures spends { SpendsOnOk S.COUNTED result self.old.work self.new.work (nodes_of (touched self.old.rows (Cycle at))) }
     {
         // The moment is put back if memory ends.
         let before = self.tables.clock();

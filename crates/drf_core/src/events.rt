@@ -1,9 +1,9 @@
 //! The effects of events that are not refused.
-ghost use Rattle.std.specs.Prelude.{◌≡◌, ◌≤◌, false, None, IfOk, OnOk, OnErr};
+ghost use Rattle.std.specs.Prelude.{◌≡◌, false, None, IfOk, OnOk, OnErr};
 ghost use Rattle.drf_rows.specs.Step.{refusal_of, effect, answer};
 ghost use Rattle.drf_rows.specs.declared.event.Event.TheVariants.{SetWeight, SetLimit};
 ghost use Rattle.drf_laws.specs.Kept.{IsKept};
-ghost use Rattle.drf_sorter.specs.Work.{Adds};
+ghost use Rattle.drf_sorter.specs.Work.{DefersOnOk, SpendsOnOk};
 ghost use Rattle.drf_core.specs.Working.{allowed, may_make_keys};
 ghost use Rattle.drf_core.specs.events.Answered.{has_answer};
 ghost use Rattle.drf_core.specs.Copies.{copies_if};
@@ -28,8 +28,7 @@ impl<S: Sorter> Cluster<S> {
     fn set_weight(&mut self, limits: &Limits, role: Role, weight: u64) -> Result<(), AllocError>
         requires { refusal_of limits.now self.old.rows (SetWeight role weight) ≡ None }
         ensures ok { OnOk result (self.new.rows ≡ effect self.old.rows (SetWeight role weight)) }
-        ensures work { OnOk result (Adds S.COUNTED self.old.work self.new.work 1) }
-        ensures made { self.new.work.made ≡ self.old.work.made }
+        ensures spends { DefersOnOk S.COUNTED result self.old.work self.new.work 1 }
         ensures err { OnErr result (self.new.rows ≡ self.old.rows) }
     {
         self.tables.reserve_weight()?;
@@ -60,8 +59,7 @@ impl<S: Sorter> Cluster<S> {
         requires welcome { refusal_of limits.now self.old.rows event ≡ None }
         requires plain { has_answer event ≡ false }
         ensures ok { OnOk result (self.new.rows ≡ effect self.old.rows event) }
-        ensures work { OnOk result (Adds S.COUNTED self.old.work self.new.work (allowed self.old.rows event)) }
-        ensures made { self.old.work.made ≤ self.new.work.made }
+        ensures spends { SpendsOnOk S.COUNTED result self.old.work self.new.work (allowed self.old.rows event) }
         ensures keys { may_make_keys event ≡ false → self.new.work.made ≡ self.old.work.made }
         ensures err { OnErr result (self.new.rows ≡ self.old.rows) }
     {
@@ -113,8 +111,7 @@ impl<S: Sorter> Cluster<S> {
         ensures reply { IfOk result (λ stepped. stepped.reply ≡ answer self.old.rows (effect self.old.rows event) event) }
         ensures copies { IfOk result (λ stepped. stepped.copies ≡ copies_if copied stepped.reply) }
         ensures ok { OnOk result (self.new.rows ≡ effect self.old.rows event) }
-        ensures work { OnOk result (Adds S.COUNTED self.old.work self.new.work (allowed self.old.rows event)) }
-        ensures made { self.old.work.made ≤ self.new.work.made }
+        ensures spends { SpendsOnOk S.COUNTED result self.old.work self.new.work (allowed self.old.rows event) }
         ensures keys { may_make_keys event ≡ false → self.new.work.made ≡ self.old.work.made }
         ensures err { OnErr result (self.new.rows ≡ self.old.rows) }
     {

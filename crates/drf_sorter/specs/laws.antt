@@ -6,3 +6,4 @@ pub mod Laws
 pub mod SortedLaws
 pub mod LineLaws
 pub mod PassedLaws
+pub mod SpendLaws

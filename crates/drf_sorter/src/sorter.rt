@@ -2,7 +2,7 @@ ghost use Rattle.std.specs.Prelude.{◌≡◌, ◌≤◌, ◌+◌, ◌↔◌, Bo
 ghost use Rattle.std.specs.List.{AllByRecursion};
 ghost use Rattle.drf_role.specs.Path.{IsClientPath, Path};
 ghost use Rattle.drf_sorter.specs.Passed.{IsPassedFront};
-ghost use Rattle.drf_sorter.specs.Work.{Work, Adds, IsRepaired, OwesAtMost};
+ghost use Rattle.drf_sorter.specs.Work.{Work, Defers, IsRepaired, OwesAtMost, Spends};
 ghost use Rattle.drf_sorter.specs.Content.{Content, IsSound, IsOrderOf, HasChargeAt, HasNodes, HoldsAt, activated, charged, discharged, empty, has_client, has_node, has_weight, refunded, with_change, with_client, with_weight, without_client};
 ghost use Rattle.drf_sorter.specs.Lines.{AreLinesOf};
 ghost use Rattle.drf_sorter.specs.Share.{IsShareOf};
@@ -45,22 +45,19 @@ pub trait Sorter: Sized + Drop {
         requires { has_client (content self.old) path ≡ false }
         ensures ok { OnOk result (content self.new ≡ with_client (content self.old) path) }
         ensures err { OnErr result (content self.new ≡ content self.old) }
-        ensures made { (work self.old).made ≤ (work self.new).made }
-        ensures work { Adds COUNTED (work self.old) (work self.new) (length path) };
+        ensures spends { Spends COUNTED (work self.old) (work self.new) (length path) };
 
     /// Forgets a client, with all that it holds.
     fn remove(&mut self, path: &ClientPath)
         requires { has_client (content self.old) path.now ≡ true }
         ensures content { content self.new ≡ without_client (content self.old) path.now }
-        ensures made { (work self.new).made ≡ (work self.old).made }
-        ensures work { Adds COUNTED (work self.old) (work self.new) (length path.now) };
+        ensures spends { Defers COUNTED (work self.old) (work self.new) (length path.now) };
 
     /// Says whether a client is to be served. It counts in shares in either case.
     fn set_active(&mut self, path: &ClientPath, active: bool)
         requires { has_client (content self.old) path.now ≡ true }
         ensures content { content self.new ≡ with_change (content self.old) path.now (activated active) }
-        ensures made { (work self.new).made ≡ (work self.old).made }
-        ensures work { Adds COUNTED (work self.old) (work self.new) 0 };
+        ensures spends { Defers COUNTED (work self.old) (work self.new) 0 };
 
     /// A client got so many more offers, of these quantities together: one in a cycle, none where a task is put back, and several where a
     /// client is put back that had offers before.
@@ -75,8 +72,7 @@ pub trait Sorter: Sized + Drop {
         ensures ok { OnOk result (content self.new ≡ with_change (content self.old) path.now (charged quantities.now offers)) }
         ensures err { OnErr result (content self.new ≡ content self.old) }
         ensures queue { queue self.new ≡ queue self.old }
-        ensures made { (work self.new).made ≡ (work self.old).made }
-        ensures work { Adds COUNTED (work self.old) (work self.new) (length path.now) };
+        ensures spends { Defers COUNTED (work self.old) (work self.new) (length path.now) };
 
     /// Takes a charge of one offer back.
     fn undo_charge(&mut self, path: &ClientPath, quantities: &Quantities)
@@ -84,8 +80,7 @@ pub trait Sorter: Sized + Drop {
         requires charged { HasChargeAt (content self.old) path.now quantities.now }
         ensures content { content self.new ≡ with_change (content self.old) path.now (discharged quantities.now) }
         ensures queue { queue self.new ≡ queue self.old }
-        ensures made { (work self.new).made ≡ (work self.old).made }
-        ensures work { Adds COUNTED (work self.old) (work self.new) (length path.now) };
+        ensures spends { Defers COUNTED (work self.old) (work self.new) (length path.now) };
 
     /// A client gives these quantities back. The offer in which it got them still counts.
     fn refund(&mut self, path: &ClientPath, quantities: &Quantities)
@@ -93,8 +88,7 @@ pub trait Sorter: Sized + Drop {
         requires held { HoldsAt (content self.old) path.now quantities.now }
         ensures content { content self.new ≡ with_change (content self.old) path.now (refunded quantities.now) }
         ensures queue { queue self.new ≡ queue self.old }
-        ensures made { (work self.new).made ≡ (work self.old).made }
-        ensures work { Adds COUNTED (work self.old) (work self.new) (length path.now) };
+        ensures spends { Defers COUNTED (work self.old) (work self.new) (length path.now) };
 
     /// Sets the total of the cluster. No more keys are stale then than there are nodes, by any list that has each.
     fn set_total(&mut self, total: Quantities)
@@ -109,8 +103,7 @@ pub trait Sorter: Sized + Drop {
         ensures ok { OnOk result (content self.new ≡ with_weight (content self.old) role.now weight) }
         ensures err { OnErr result (content self.new ≡ content self.old) }
         ensures replaced { IsTrue (has_weight (content self.old) role.now) → IsOk result }
-        ensures made { (work self.new).made ≡ (work self.old).made }
-        ensures work { Adds COUNTED (work self.old) (work self.new) 1 };
+        ensures spends { Defers COUNTED (work self.old) (work self.new) 1 };
 
     /// Puts the paths of the active clients into the order in which these are to be served. `first`, `pass` and `pass_front` go
     /// along it, whatever is charged meanwhile.
@@ -119,8 +112,7 @@ pub trait Sorter: Sized + Drop {
         ensures order { OnOk result (IsOrderOf (content self.old) (queue self.new)) }
         ensures right { OnOk result (AllByRecursion IsClientPath (queue self.new)) }
         ensures same { content self.new ≡ content self.old }
-        ensures made { (work self.old).made ≤ (work self.new).made }
-        ensures work { Adds COUNTED (work self.old) (work self.new) 0 }
+        ensures spends { Spends COUNTED (work self.old) (work self.new) 0 }
         ensures repaired { OnOk result (IsRepaired COUNTED (work self.new)) };
 
     /// The client that is to be served next.
@@ -148,8 +140,7 @@ pub trait Sorter: Sized + Drop {
         requires { IsSound (content self.old) }
         ensures order { IfOk result (λ paths. IsOrderOf (content self.old) paths.items) }
         ensures same { content self.new ≡ content self.old }
-        ensures made { (work self.old).made ≤ (work self.new).made }
-        ensures work { Adds COUNTED (work self.old) (work self.new) 0 }
+        ensures spends { Spends COUNTED (work self.old) (work self.new) 0 }
         ensures repaired { OnOk result (IsRepaired COUNTED (work self.new)) }
     {
         self.fix_order()?;

@@ -8,12 +8,13 @@ use Rattle.drf_rows.specs.declared.event.Event.TheVariants.{AddAgent, RemoveAgen
 use Rattle.drf_rows.specs.declared.reply.Refusal.{Refusal}
 use Rattle.drf_rows.specs.declared.rows.OfferRow.{OfferRow}
 use Rattle.drf_rows.specs.declared.rows.Rows.{Rows}
-use Rattle.drf_sorter.specs.Work.{Work, Adds}
+use Rattle.drf_sorter.specs.Work.{Spends, Work}
+use Rattle.drf_sorter.specs.laws.SpendLaws.{spends-both, spends-within}
 use Rattle.drf_core.specs.Working.{all_nodes, allowance, allowed, allowance_of_all, nodes_of, offered_to, touched}
 use Rattle.drf_laws.specs.laws.SameLive.{welcome_from, new_offers-live}
 
 module _ (limits : LimitNumbers) (rows old : Rows) (event : Event) (live : live_rows rows ≡ live_rows old) where
-  pub allowance-refused : (refusal : Refusal) → refusal_of limits rows event ≡ Some refusal → allowance limits old event ≡ 0
+  allowance-refused : (refusal : Refusal) → refusal_of limits rows event ≡ Some refusal → allowance limits old event ≡ 0
   allowance-refused refusal case = by (refusal_of limits old event) refl
     where
       by : (found : Option Refusal) → refusal_of limits old event ≡ found → allowance limits old event ≡ 0
@@ -64,17 +65,17 @@ allowance_of_all-more limits rows [] event = omega arith
 allowance_of_all-more limits rows (first ∷ events) event =
     omega (arith, allowance_of_all-more limits (rows_after limits rows first) events event)
 
--- what is owed after one event more
-pub work-more : (counted : Bool) (first middle last : Work) (limits : LimitNumbers) (old rows : Rows) (events : List Event) (event : Event)
-    → live_rows rows ≡ live_rows (rows_after_all limits old events)
-    → Adds counted first middle (allowance_of_all limits old events)
-    → Adds counted middle last (allowance limits rows event)
-    → Adds counted first last (allowance_of_all limits old (events ++ event ∷ []))
-work-more counted first middle last limits old rows events event live before next = λ is.
-    omega (
+-- what is spent with one event more
+pub spends-more : {counted : Bool} {first middle last : Work} (limits now : LimitNumbers) (old rows : Rows) (events : List Event) (event : Event)
+    → now ≡ limits → live_rows rows ≡ live_rows (rows_after_all limits old events)
+    → Spends counted first middle (allowance_of_all limits old events)
+    → Spends counted middle last (allowance now rows event)
+    → Spends counted first last (allowance_of_all limits old (events ++ event ∷ []))
+spends-more limits now old rows events event same live before next =
+    spends-within (spends-both before next)
+    (omega (
       arith,
-      before is,
-      next is,
+      ap (λ (l : LimitNumbers). allowance l rows event) same,
       allowance_of_all-more limits old events event,
       allowance-same_live limits rows (rows_after_all limits old events) event live,
-    )
+    ))

@@ -3,7 +3,7 @@ ghost use Rattle.std.specs.Prelude.{◌≡◌, None, OnOk, OnErr};
 ghost use Rattle.drf_rows.specs.Step.{refusal_of, effect};
 ghost use Rattle.drf_rows.specs.declared.event.Event.TheVariants.{AddAgent, RemoveAgent, ActivateAgent, DeactivateAgent, SetAgent};
 ghost use Rattle.drf_laws.specs.Kept.{IsKept};
-ghost use Rattle.drf_sorter.specs.Work.{Adds};
+ghost use Rattle.drf_sorter.specs.Work.{Defers, DefersOnOk};
 ghost use Rattle.drf_core.specs.Working.{all_nodes, allowed, nodes_of, touched};
 
 use crate::cluster::Cluster;
@@ -26,8 +26,7 @@ impl<S: Sorter> Cluster<S> {
         requires welcome { refusal_of limits.now self.old.rows (AddAgent agent total) ≡ None }
         ensures ok { OnOk result (self.new.rows ≡ effect self.old.rows (AddAgent agent total)) }
         ensures err { OnErr result (self.new.rows ≡ self.old.rows) }
-        ensures work { OnOk result (Adds S.COUNTED self.old.work self.new.work (all_nodes self.old.rows)) }
-        ensures made { self.new.work.made ≡ self.old.work.made }
+        ensures spends { DefersOnOk S.COUNTED result self.old.work self.new.work (all_nodes self.old.rows) }
     {
         let sum = self.tables.total().plus(total.quantities())?;
         self.tables.add_agent(agent, total)?;
@@ -39,8 +38,7 @@ impl<S: Sorter> Cluster<S> {
     pub(crate) fn remove_agent(&mut self, agent: &Name) -> Result<(), AllocError>
         ensures ok { OnOk result (self.new.rows ≡ effect self.old.rows (RemoveAgent agent.now)) }
         ensures err { OnErr result (self.new.rows ≡ self.old.rows) }
-        ensures work { OnOk result (Adds S.COUNTED self.old.work self.new.work (allowed self.old.rows (RemoveAgent agent.now))) }
-        ensures made { self.new.work.made ≡ self.old.work.made }
+        ensures spends { DefersOnOk S.COUNTED result self.old.work self.new.work (allowed self.old.rows (RemoveAgent agent.now)) }
     {
         let total = self.tables.total_without(agent)?;
         let sum = total.copy()?;
@@ -61,8 +59,7 @@ impl<S: Sorter> Cluster<S> {
     /// An agent's offers end, and no more are made.
     pub(crate) fn deactivate_agent(&mut self, agent: &Name)
         ensures rows { self.new.rows ≡ effect self.old.rows (DeactivateAgent agent.now) }
-        ensures work { Adds S.COUNTED self.old.work self.new.work (nodes_of (touched self.old.rows (DeactivateAgent agent.now))) }
-        ensures made { self.new.work.made ≡ self.old.work.made }
+        ensures spends { Defers S.COUNTED self.old.work self.new.work (nodes_of (touched self.old.rows (DeactivateAgent agent.now))) }
     {
         self.end(Ending::OffersOn(agent));
         self.tables.set_active(agent, false);
@@ -79,8 +76,7 @@ impl<S: Sorter> Cluster<S> {
         requires welcome { refusal_of limits.now self.old.rows (SetAgent agent.now total) ≡ None }
         ensures ok { OnOk result (self.new.rows ≡ effect self.old.rows (SetAgent agent.now total)) }
         ensures err { OnErr result (self.new.rows ≡ self.old.rows) }
-        ensures work { OnOk result (Adds S.COUNTED self.old.work self.new.work (all_nodes self.old.rows)) }
-        ensures made { self.new.work.made ≡ self.old.work.made }
+        ensures spends { DefersOnOk S.COUNTED result self.old.work self.new.work (all_nodes self.old.rows) }
     {
         let others = self.tables.total_without(agent)?;
         let sum = others.plus(total.quantities())?;

@@ -2,7 +2,7 @@
 ghost use Rattle.std.specs.Prelude.{◌≡◌};
 ghost use Rattle.drf_rows.specs.Endings.{without_ended};
 ghost use Rattle.drf_rows.specs.Ended.{ending_of};
-ghost use Rattle.drf_sorter.specs.Work.{Adds};
+ghost use Rattle.drf_sorter.specs.Work.{Defers};
 ghost use Rattle.drf_core.specs.Working.{losers, nodes_of};
 
 use crate::cluster::Cluster;
@@ -14,8 +14,7 @@ impl<S: Sorter> Cluster<S> {
     /// All that ends is given back, one holding after another. It needs no memory.
     pub(crate) fn end(&mut self, ending: Ending)
         ensures rows { self.new.rows ≡ without_ended self.old.rows (ending_of ending.entry) }
-        ensures work { Adds S.COUNTED self.old.work self.new.work (nodes_of (losers self.old.rows (ending_of ending.entry))) }
-        ensures made { self.new.work.made ≡ self.old.work.made }
+        ensures spends { Defers S.COUNTED self.old.work self.new.work (nodes_of (losers self.old.rows (ending_of ending.entry))) }
     {
         while let Some(taken) = self.tables.end(ending) {
             let client = ClientPath::from_parts(taken.role, taken.framework);

@@ -1,10 +1,10 @@
 //! Frameworks register, are served or not, and leave.
-ghost use Rattle.std.specs.Prelude.{◌≡◌, ◌≤◌, None, true, map, sum_by, length, IfOk, OnOk, OnErr};
+ghost use Rattle.std.specs.Prelude.{◌≡◌, None, true, map, sum_by, length, IfOk, OnOk, OnErr};
 ghost use Rattle.drf_rows.specs.Members.{distinct, has_framework, new_client};
 ghost use Rattle.drf_rows.specs.Step.{refusal_of, effect, is_in_role};
 ghost use Rattle.drf_rows.specs.declared.event.Event.TheVariants.{AddFramework, RemoveFramework, Suppress, Revive};
 ghost use Rattle.drf_laws.specs.Kept.{IsKept};
-ghost use Rattle.drf_sorter.specs.Work.{Adds};
+ghost use Rattle.drf_sorter.specs.Work.{Defers, DefersOnOk, SpendsOnOk};
 ghost use Rattle.drf_core.specs.Working.{nodes_of, touched};
 ghost use Rattle.drf_content.specs.Registering.{AreKnown, AreNew, client_paths, with_all, without_all};
 
@@ -64,8 +64,7 @@ fn add_clients<S: Sorter>(sorter: &mut S, paths: &[ClientPath]) -> Result<(), Al
     requires { AreNew (S.content sorter.old) paths.now }
     ensures ok { OnOk result (S.content sorter.new ≡ with_all (S.content sorter.old) paths.now) }
     ensures err { OnErr result (S.content sorter.new ≡ S.content sorter.old) }
-    ensures work { OnOk result (Adds S.COUNTED (S.work sorter.old) (S.work sorter.new) (sum_by length paths.now)) }
-    ensures made { (S.work sorter.old).made ≤ (S.work sorter.new).made }
+    ensures spends { SpendsOnOk S.COUNTED result (S.work sorter.old) (S.work sorter.new) (sum_by length paths.now) }
 {
     let Some((first, rest)) = paths.split_first() else {
         return Ok(());
@@ -84,8 +83,7 @@ fn add_clients<S: Sorter>(sorter: &mut S, paths: &[ClientPath]) -> Result<(), Al
 fn remove_clients<S: Sorter>(sorter: &mut S, paths: &[ClientPath])
     requires { AreKnown (S.content sorter.old) paths.now }
     ensures content { S.content sorter.new ≡ without_all (S.content sorter.old) paths.now }
-    ensures work { Adds S.COUNTED (S.work sorter.old) (S.work sorter.new) (sum_by length paths.now) }
-    ensures made { (S.work sorter.new).made ≡ (S.work sorter.old).made }
+    ensures spends { Defers S.COUNTED (S.work sorter.old) (S.work sorter.new) (sum_by length paths.now) }
 {
     for path in paths {
         sorter.remove(path);
@@ -104,8 +102,7 @@ impl<S: Sorter> Cluster<S> {
         requires kept { IsKept limits.now self.old.rows }
         requires welcome { refusal_of limits.now self.old.rows (AddFramework framework roles) ≡ None }
         ensures ok { OnOk result (self.new.rows ≡ effect self.old.rows (AddFramework framework roles)) }
-        ensures work { OnOk result (Adds S.COUNTED self.old.work self.new.work (nodes_of (touched self.old.rows (AddFramework framework roles)))) }
-        ensures made { self.old.work.made ≤ self.new.work.made }
+        ensures spends { SpendsOnOk S.COUNTED result self.old.work self.new.work (nodes_of (touched self.old.rows (AddFramework framework roles))) }
         ensures err { OnErr result (self.new.rows ≡ self.old.rows) }
     {
         let roles = distinct_roles(alloc, roles)?;
@@ -127,8 +124,7 @@ impl<S: Sorter> Cluster<S> {
         requires kept { IsKept limits.now self.old.rows }
         requires known { has_framework self.old.rows framework.now ≡ true }
         ensures ok { OnOk result (self.new.rows ≡ effect self.old.rows (RemoveFramework framework.now)) }
-        ensures work { OnOk result (Adds S.COUNTED self.old.work self.new.work (nodes_of (touched self.old.rows (RemoveFramework framework.now)))) }
-        ensures made { self.new.work.made ≡ self.old.work.made }
+        ensures spends { DefersOnOk S.COUNTED result self.old.work self.new.work (nodes_of (touched self.old.rows (RemoveFramework framework.now))) }
         ensures err { OnErr result (self.new.rows ≡ self.old.rows) }
     {
         let paths = client_paths(alloc, framework, self.tables.clients(framework))?;
@@ -147,8 +143,7 @@ impl<S: Sorter> Cluster<S> {
     ) -> Result<(), AllocError>
         requires { is_in_role self.old.rows framework.now role.now ≡ true }
         ensures ok { OnOk result (self.new.rows ≡ effect self.old.rows (Suppress framework.now role.now)) }
-        ensures work { OnOk result (Adds S.COUNTED self.old.work self.new.work (nodes_of (touched self.old.rows (Suppress framework.now role.now)))) }
-        ensures made { self.new.work.made ≡ self.old.work.made }
+        ensures spends { DefersOnOk S.COUNTED result self.old.work self.new.work (nodes_of (touched self.old.rows (Suppress framework.now role.now))) }
         ensures err { OnErr result (self.new.rows ≡ self.old.rows) }
     {
         let path = ClientPath::new(alloc, role, framework)?;
@@ -166,8 +161,7 @@ impl<S: Sorter> Cluster<S> {
     ) -> Result<(), AllocError>
         requires { is_in_role self.old.rows framework.now role.now ≡ true }
         ensures ok { OnOk result (self.new.rows ≡ effect self.old.rows (Revive framework.now role.now)) }
-        ensures work { OnOk result (Adds S.COUNTED self.old.work self.new.work (nodes_of (touched self.old.rows (Revive framework.now role.now)))) }
-        ensures made { self.new.work.made ≡ self.old.work.made }
+        ensures spends { DefersOnOk S.COUNTED result self.old.work self.new.work (nodes_of (touched self.old.rows (Revive framework.now role.now))) }
         ensures err { OnErr result (self.new.rows ≡ self.old.rows) }
     {
         let path = ClientPath::new(alloc, role, framework)?;

@@ -6,7 +6,7 @@ ghost use Rattle.drf_rows.specs.Step.{effect};
 ghost use Rattle.drf_rows.specs.declared.event.Event.TheVariants as event;
 ghost use Rattle.drf_rows.specs.declared.limits.TheConstants.{LATEST_MOMENT};
 ghost use Rattle.drf_rows.specs.Endings.{one_offer, one_task};
-ghost use Rattle.drf_sorter.specs.Work.{Adds};
+ghost use Rattle.drf_sorter.specs.Work.{Defers, DefersOnOk};
 ghost use Rattle.drf_core.specs.Working.{losers, nodes_of};
 
 use crate::cluster::Cluster;
@@ -24,8 +24,7 @@ impl<S: Sorter> Cluster<S> {
         requires early { accept.at ≤ LATEST_MOMENT }
         ensures ok { OnOk result (self.new.rows ≡ effect self.old.rows (event.Accept accept)) }
         ensures err { OnErr result (self.new.rows ≡ self.old.rows) }
-        ensures work { OnOk result (Adds S.COUNTED self.old.work self.new.work (nodes_of (losers self.old.rows (one_offer accept.offer)))) }
-        ensures made { self.new.work.made ≡ self.old.work.made }
+        ensures spends { DefersOnOk S.COUNTED result self.old.work self.new.work (nodes_of (losers self.old.rows (one_offer accept.offer))) }
     {
         let taken = self.tables.accept(accept)?;
         let client = ClientPath::from_parts(taken.role, taken.framework);
@@ -40,8 +39,7 @@ impl<S: Sorter> Cluster<S> {
         requires early { decline.now.at ≤ LATEST_MOMENT }
         ensures ok { OnOk result (self.new.rows ≡ effect self.old.rows (event.Decline decline.now)) }
         ensures err { OnErr result (self.new.rows ≡ self.old.rows) }
-        ensures work { OnOk result (Adds S.COUNTED self.old.work self.new.work (nodes_of (losers self.old.rows (one_offer decline.now.offer)))) }
-        ensures made { self.new.work.made ≡ self.old.work.made }
+        ensures spends { DefersOnOk S.COUNTED result self.old.work self.new.work (nodes_of (losers self.old.rows (one_offer decline.now.offer))) }
     {
         self.tables.filter_declined(decline)?;
         self.end(Ending::Offer(decline.offer));
@@ -51,8 +49,7 @@ impl<S: Sorter> Cluster<S> {
     /// An offer is taken back.
     pub(crate) fn rescind(&mut self, number: u64)
         ensures rows { self.new.rows ≡ effect self.old.rows (event.Rescind number) }
-        ensures work { Adds S.COUNTED self.old.work self.new.work (nodes_of (losers self.old.rows (one_offer number))) }
-        ensures made { self.new.work.made ≡ self.old.work.made }
+        ensures spends { Defers S.COUNTED self.old.work self.new.work (nodes_of (losers self.old.rows (one_offer number))) }
     {
         self.end(Ending::Offer(number));
     }
@@ -60,8 +57,7 @@ impl<S: Sorter> Cluster<S> {
     /// A task ends.
     pub(crate) fn finish(&mut self, framework: &Name, task: &Name)
         ensures rows { self.new.rows ≡ effect self.old.rows (event.Finish framework.now task.now) }
-        ensures work { Adds S.COUNTED self.old.work self.new.work (nodes_of (losers self.old.rows (one_task framework.now task.now))) }
-        ensures made { self.new.work.made ≡ self.old.work.made }
+        ensures spends { Defers S.COUNTED self.old.work self.new.work (nodes_of (losers self.old.rows (one_task framework.now task.now))) }
     {
         let ending = Ending::Task {
             framework,

@@ -3,6 +3,7 @@ use Rattle.drf_rows.specs.Step.{line_told, new_offers}
 use Rattle.drf_rows.specs.declared.reply.Reply.TheVariants.{Offers}
 use Rattle.drf_rows.specs.declared.rows.Rows.{Rows}
 use Rattle.drf_rows.specs.declared.rows.OfferRow.{OfferRow}
+use Rattle.drf_sorter.specs.laws.SpendLaws.{spends-on_ok, spends-within}
 use Rattle.drf_core.specs.cycle.Drafting.{IsDrafting, turns_of}
 use Rattle.drf_core.specs.Working.{nodes_of, offered_to}
 use Rattle.drf_gates.specs.quota.Allowance.{Usage, quota_under}
@@ -57,15 +58,18 @@ returns-clause-reply g c =
     ∙ sym (new_offers-drafts c.lend_consumption.new.tables.rows c.turns.new.drafts.offers.items c.in_ok-turns.ensures.turns)
     ∙ (λ i. new_offers (same i) (turns_of (same i)))))
 
-pub returns-clause-work : goal.returns-clause-work
-returns-clause-work g c = λ counted.
+pub returns-clause-spends : goal.returns-clause-spends
+returns-clause-spends g c =
     let Nodes : List OfferRow → ℕ = λ os. nodes_of (offered_to os) in
     let drafts = c.turns.new.drafts.offers.items in
     let same = c.lend_consumption.ensures.same ∙ c.settle.ensures.same in
     let new : drafts ≡ new_offers c.args.tables.now.rows (turns_of c.args.tables.now.rows) =
     sym (new_offers-drafts c.lend_consumption.new.tables.rows drafts c.in_ok-turns.ensures.turns)
     ∙ (λ i. new_offers (same i) (turns_of (same i))) in
-    omega (arith, c.is_idle.ensures.work counted, c.in_ok-turns.ensures.work counted, ap Nodes c.requires.none, ap Nodes new)
+    record {
+      made = omega (arith, c.is_idle.ensures.spends.made, c.turns.ensures.made);
+      work = λ counted. omega (arith, c.is_idle.ensures.spends.work counted, c.in_ok-turns.ensures.work counted, ap Nodes c.requires.none, ap Nodes new);
+    }
 
 -- ---- nobody is tried
 
@@ -88,5 +92,5 @@ returns-then-idle-clause-reply g c =
     ∙ ap (map line_told)
     (sym (no_offers c.settle.new.self.rows (c.in_ok-idle.ensures.idle c.if-idle.true)) ∙ (λ i. new_offers (same i) (turns_of (same i)))))
 
-pub returns-then-idle-clause-work : goal.returns-then-idle-clause-work
-returns-then-idle-clause-work g c = λ counted. omega (arith, c.is_idle.ensures.work counted)
+pub returns-then-idle-clause-spends : goal.returns-then-idle-clause-spends
+returns-then-idle-clause-spends g c = spends-on_ok _ (spends-within c.is_idle.ensures.spends (omega arith))

@@ -23,5 +23,5 @@ loop-offer-preserved g c =
     record {
       sorted = c.undo_charge.ensures.content ∙ (λ i. with_change content (c.from_parts-client.ensures i) (discharged (c.quantities.ensures.value i))) ∙ taken;
       clients = front.0;
-      made = omega (arith, c.loop-offer.invariant.made, c.undo_charge.ensures.made);
+      made = omega (arith, c.loop-offer.invariant.made, c.undo_charge.ensures.spends.made);
     }

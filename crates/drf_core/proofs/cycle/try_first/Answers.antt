@@ -160,7 +160,7 @@ returns-clause-work g c = λ counted.
     ap length next.joined ∙ sym (ap (λ (o : OfferRow). length (path_of (of_offer o).client)) next.made) in
     omega (
       arith,
-      c.in_ok-charge.ensures.work counted,
+      c.charge.ensures.spends.work counted,
       path,
       nodes_of-drafted c.args.drafts.now.offers.items offer,
       ap (λ (os : List OfferRow). nodes_of (offered_to os)) items,

@@ -35,8 +35,8 @@ loop-sorter-init g c = record {
     queued = c.in_ok-free.ensures.order;
     same = λ agent at. refl;
   };
-  work = λ counted. omega (arith, c.begin_turn.ensures.work counted);
-  made = omega (arith, c.begin_turn.ensures.made);
+  work = λ counted. omega (arith, c.begin_turn.ensures.spends.work counted);
+  made = omega (arith, c.begin_turn.ensures.spends.made);
 }
 
 pub goes_on-requires : goal.goes_on-requires

@@ -1,15 +1,14 @@
-use Rattle.std.proofs.Common.{◌≡◌, ◌+◌, ◌||◌, Bool, true, false, true≢false, List, ℕ, ◌++◌, ◌∷◌, [], refl, ap, subst, ◌∙◌, sym, length, take, drop, append_assoc, arith}
+use Rattle.std.proofs.Common.{◌≡◌, ◌+◌, ◌||◌, Bool, true, false, true≢false, List, ℕ, ◌++◌, ◌∷◌, [], refl, ap, ◌∙◌, sym, length, take, drop, append_assoc, arith}
 use Rattle.std.proofs.lemmas.List.Folds.{list_any-append}
 use Rattle.std.proofs.lemmas.List.{take-append-drop}
 use Rattle.std.proofs.lemmas.Option.{slice_get_read}
 use Rattle.std.specs.List.{list_any}
-use Rattle.drf_rows.specs.LimitNumbers.{LimitNumbers}
 use Rattle.drf_rows.specs.Step.{replies_to}
 use Rattle.drf_rows.specs.declared.event.Event.{Event}
 use Rattle.drf_rows.specs.declared.reply.Reply.{Reply}
-use Rattle.drf_sorter.specs.Work.{Adds}
-use Rattle.drf_core.specs.Working.{allowance, may_make_keys}
-use Rattle.drf_core.proofs.stepping.Allowance.{work-more}
+use Rattle.drf_sorter.specs.laws.SpendLaws.{spends-at_ok}
+use Rattle.drf_core.specs.Working.{may_make_keys}
+use Rattle.drf_core.proofs.stepping.Allowance.{spends-more}
 use Rattle.drf_core.proofs.stepping.Step.{on_err, HasStopped-at, IsAfterAll-more, reply-more, take_one_more}
 use Rattle.drf_core.proofs.allocator.Core.run.Goals as goal
 
@@ -72,20 +71,17 @@ loop-event-preserved g c =
     let more : take (i + 1) events ≡ before ++ event ∷ [] = take_one_more events i event at in
     let told : c.push_reserved.new.self.items ≡ (c.args.replies.now.items ++ replies_to c.args.self.now.limits c.args.self.now.rows before) ++ c.in_ok-reply.reply ∷ [] =
     c.push_reserved.ensures.items ∙ ap (λ (rs : List Reply). rs ++ c.in_ok-reply.reply ∷ []) (c.reserve.ensures.items ∙ c.loop-event.invariant.told) in
-    let work = work-more g.S.Sorter.COUNTED c.args.self.now.work c.loop-event.self.work c.step_lent.new.self.work
-    c.args.self.now.limits c.args.self.now.rows c.loop-event.self.rows before event c.loop-event.invariant.after.rows c.loop-event.invariant.work
-    (subst (λ (l : LimitNumbers). Adds g.S.Sorter.COUNTED c.loop-event.self.work c.step_lent.new.self.work
-    (allowance l c.loop-event.self.rows event)) c.loop-event.invariant.after.limits c.in_ok-reply.ensures.work) in
+    let after = c.loop-event.invariant.after in
     rw more (record {
-      after = IsAfterAll-more c.args.self.now c.loop-event.self c.step_lent.new.self before event c.loop-event.invariant.after c.in_ok-reply.ensures.ok;
+      after = IsAfterAll-more c.args.self.now c.loop-event.self c.step_lent.new.self before event after c.in_ok-reply.ensures.ok;
       safe = c.step_lent.ensures.safe;
-      work = work;
+      spends = spends-more c.args.self.now.limits c.loop-event.self.limits c.args.self.now.rows c.loop-event.self.rows before event
+          after.limits after.rows c.loop-event.invariant.spends (spends-at_ok c.in_ok-reply.ensures.spends);
       told = told
           ∙ append_assoc c.args.replies.now.items (replies_to c.args.self.now.limits c.args.self.now.rows before) (c.in_ok-reply.reply ∷ [])
           ∙ ap (λ (rs : List Reply). c.args.replies.now.items ++ rs)
-          (reply-more c.args.self.now c.loop-event.self before event c.in_ok-reply.reply c.loop-event.invariant.after c.in_ok-reply.ensures.reply);
+          (reply-more c.args.self.now c.loop-event.self before event c.in_ok-reply.reply after c.in_ok-reply.ensures.reply);
       capacity = omega (arith, c.loop-event.invariant.capacity, c.reserve.ensures.capacity, c.push_reserved.ensures.capacity);
-      made = omega (arith, c.loop-event.invariant.made, c.step_lent.ensures.made);
       keys = λ none.
           let each = or_false (list_any may_make_keys before) (may_make_keys event || false)
           (sym (list_any-append may_make_keys before (event ∷ [])) ∙ none) in

@@ -1,4 +1,4 @@
-use Rattle.std.proofs.Common.{◌≡◌, ℕ, ◌+◌, None, length, refl, ap, subst, ◌∙◌, sym, arith}
+use Rattle.std.proofs.Common.{◌≡◌, ◌+◌, None, length, refl, ap, subst, ◌∙◌, sym, arith}
 use Rattle.std.specs.Option.{IfSome}
 use Rattle.drf_rows.specs.LimitNumbers.{LimitNumbers}
 use Rattle.drf_rows.specs.Step.{live_rows, refusal_of, reply_to, rows_after}
@@ -15,8 +15,9 @@ use Rattle.drf_laws.specs.laws.Welcome.{room_for}
 use Rattle.drf_core.proofs.stepping.Step.{on_err, early_none, rows_after-counted, events-applied, IsKept-counted}
 use Rattle.drf_laws.specs.laws.SameLive.{refused_from, welcome_from, accepted_from}
 use Rattle.drf_core.specs.Working.{allowance, allowed}
-use Rattle.drf_core.proofs.stepping.Allowance.{allowance-refused, allowance-accepted}
-use Rattle.drf_sorter.specs.Work.{Work, Adds, debt}
+use Rattle.drf_core.proofs.stepping.Allowance.{allowance-accepted}
+use Rattle.drf_sorter.specs.Work.{Spends}
+use Rattle.drf_sorter.specs.laws.SpendLaws.{spends-at_ok, spends-both, spends-nothing, spends-on_ok, spends-within}
 use Rattle.drf_core.proofs.allocator.Core.step_copied.Goals as goal
 
 abbrev engine_of : LimitNumbers → ClusterState → Engine
@@ -71,16 +72,12 @@ returns-in-Some-clause-safe g c = safe_kept c.self.inside.limits c.refusal.new.s
 pub returns-in-Some-clause-filters : goal.returns-in-Some-clause-filters
 returns-in-Some-clause-filters g c = omega (arith, c.refusal.ensures.filters)
 
-pub returns-in-Some-clause-work : goal.returns-in-Some-clause-work
-returns-in-Some-clause-work g c =
+pub returns-in-Some-clause-spends : goal.returns-in-Some-clause-spends
+returns-in-Some-clause-spends g c =
     let limits = c.self.inside.limits in
-    let old : Rows = c.deref_mut-cluster.result.now.rows in
     let view = seen limits c.deref_mut-cluster.result.now c.self.inside.cluster.value c.args.self.now c.deref_mut-cluster.ensures.value c.self.view_is in
-    let case = sym c.in_ok-refusal.ensures.value ∙ c.in-Some.is in
-    let nothing : allowance limits old c.args.event ≡ 0
-    = allowance-refused limits c.refusal.new.self.rows old c.args.event c.refusal.ensures.live c.in-Some.refusal case in
-    subst (λ (m : Engine). Adds g.S.Sorter.COUNTED m.work c.refusal.new.self.work (allowance m.limits m.rows c.args.event)) view
-    (rw nothing (λ counted. omega (arith, ap debt c.refusal.ensures.work)))
+    spends-on_ok _ (subst (λ (m : Engine). Spends g.S.Sorter.COUNTED m.work c.refusal.new.self.work (allowance m.limits m.rows c.args.event)) view
+    (spends-within (spends-nothing c.refusal.ensures.work) (omega arith)))
 
 -- an accepted one
 pub count_event-requires : goal.count_event-requires
@@ -169,18 +166,17 @@ returns-clause-filters g c =
     )
 
 -- what the sorter owes more
-pub returns-clause-work : goal.returns-clause-work
-returns-clause-work g c =
+pub returns-clause-spends : goal.returns-clause-spends
+returns-clause-spends g c =
     let limits = c.self.inside.limits in
     let old : Rows = c.deref_mut-cluster.result.now.rows in
     let view = seen limits c.deref_mut-cluster.result.now c.self.inside.cluster.value c.args.self.now c.deref_mut-cluster.ensures.value c.self.view_is in
     let none = sym c.in_ok-refusal.ensures.value ∙ c.in_default.is in
     let same : allowed c.refusal.new.self.rows c.args.event ≡ allowance limits old c.args.event
     = allowance-accepted limits c.refusal.new.self.rows old c.args.event c.refusal.ensures.live none in
-    subst (λ (m : Engine). Adds g.S.Sorter.COUNTED m.work c.count_event.new.self.work (allowance m.limits m.rows c.args.event)) view
-    (rw c.count_event.ensures.work
-    (subst (λ (w : Work). Adds g.S.Sorter.COUNTED w c.apply.new.self.work (allowance limits old c.args.event)) c.refusal.ensures.work
-    (subst (λ (n : ℕ). Adds g.S.Sorter.COUNTED c.refusal.new.self.work c.apply.new.self.work n) same c.in_ok-stepped.ensures.work)))
+    let applied = spends-both (spends-at_ok c.in_ok-stepped.ensures.spends) (spends-nothing c.count_event.ensures.work) in
+    spends-on_ok _ (subst (λ (m : Engine). Spends g.S.Sorter.COUNTED m.work c.count_event.new.self.work (allowance m.limits m.rows c.args.event)) view
+    (spends-within (spends-both (spends-nothing c.refusal.ensures.work) applied) (omega (arith, same))))
 
 -- a refused event makes no key
 pub returns-in_err-stepped-clause-refused : goal.returns-in_err-stepped-clause-refused

@@ -3,12 +3,10 @@ use Rattle.drf_rows.specs.Step.{reply_to}
 use Rattle.drf_rows.specs.declared.event.Event.{Event}
 use Rattle.drf_rows.specs.declared.rows.Rows.{Rows}
 use Rattle.drf_laws.specs.laws.SameLive.{refused_from}
-use Rattle.drf_sorter.specs.Work.{Adds}
+use Rattle.drf_sorter.specs.laws.SpendLaws.{spends-nothing, spends-on_ok, spends-within}
 use Rattle.drf_core.specs.Machine.{Engine, IsAfter}
 use Rattle.drf_core.specs.refusal.Cases.{early_refusal_of}
-use Rattle.drf_core.specs.Working.{allowance}
 use Rattle.drf_core.proofs.refusing.Tests.{told_early}
-use Rattle.drf_core.proofs.stepping.Allowance.{allowance-refused}
 use Rattle.drf_core.proofs.stepping.Step.{on_err}
 use Rattle.drf_core.proofs.allocator.Core.step_lent.Goals as goal
 
@@ -29,15 +27,8 @@ returns-in-Some-clause-ok g c =
     subst (λ (m : Engine). IsAfter m m event) c.self.view_is
     (record { limits = refl; rows = (refused_from limits rows rows event refl c.in-Some.refusal case).1 })
 
-pub returns-in-Some-clause-work : goal.returns-in-Some-clause-work
-returns-in-Some-clause-work g c =
-    let limits = c.self.inside.limits in
-    let rows : Rows = c.self.inside.cluster.value.rows in
-    let event : Event = c.args.event.now in
-    let case = told_early limits rows event c.in-Some.refusal (sym (rw c.deref.ensures at c.early_refusal.ensures) ∙ c.in-Some.is) in
-    let nothing : allowance limits rows event ≡ 0 = allowance-refused limits rows rows event refl c.in-Some.refusal case in
-    subst (λ (m : Engine). Adds g.S.Sorter.COUNTED m.work m.work (allowance m.limits m.rows event)) c.self.view_is
-    (rw nothing (λ counted. omega arith))
+pub returns-in-Some-clause-spends : goal.returns-in-Some-clause-spends
+returns-in-Some-clause-spends g c = spends-on_ok _ (spends-within (spends-nothing refl) (omega arith))
 
 pub returns-in_err-event-clause-not_refused : goal.returns-in_err-event-clause-not_refused
 returns-in_err-event-clause-not_refused g c =

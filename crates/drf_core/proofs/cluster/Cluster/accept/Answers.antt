@@ -4,6 +4,7 @@ use Rattle.drf_bundle.specs.Bundle.{quantities_of}
 use Rattle.drf_rows.specs.Offers.{left_of_offer}
 use Rattle.drf_rows.specs.declared.rows.Rows.{Rows}
 use Rattle.drf_holdings.specs.declared.holdings.Taken.{Taken}
+use Rattle.drf_sorter.specs.laws.SpendLaws.{defers-on_ok, defers-within}
 use Rattle.drf_core.proofs.effects.Accepted.{known-accepted, held-accepted, sorted-accepted, effect-accept}
 use Rattle.drf_core.proofs.stepping.Work.{nodes_of-offer}
 use Rattle.drf_core.proofs.cluster.Cluster.accept.Goals as goal
@@ -50,14 +51,13 @@ returns-clause-ok g c = rw (← c.self.view_is) (
     let may = rw (← c.self.view_is) at c.requires.can in
     effect-accept c.self.inside.tables.rows c.accept.new.self.rows c.args.accept may.offer may.at (c.in_ok-taken.ensures.ok may.offer may.at))
 
-pub returns-clause-work : goal.returns-clause-work
-returns-clause-work g c =
+pub returns-clause-spends : goal.returns-clause-spends
+returns-clause-spends g c =
     let may = rw (← c.self.view_is) at c.requires.can in
-    rw (← c.self.view_is) (λ counted.
-    omega (
+    rw (← c.self.view_is) (defers-on_ok _ (defers-within c.refund.ensures.spends
+    (omega (
       arith,
-      c.refund.ensures.work counted,
       ap length c.from_parts-client.ensures,
       ap (λ (t : Taken). length (client_path t.role t.framework)) (c.in_ok-taken.ensures.taken may.offer may.at),
       nodes_of-offer c.self.inside.tables.rows c.args.accept.offer may.offer may.at,
-    ))
+    ))))

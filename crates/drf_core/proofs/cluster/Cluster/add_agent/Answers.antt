@@ -4,11 +4,9 @@ use Rattle.drf_bundle.specs.Bundle.{quantities_of}
 use Rattle.drf_rows.specs.Held.{cluster_total}
 use Rattle.drf_rows.specs.Report as report
 use Rattle.drf_rows.specs.declared.rows.Rows.{Rows}
-use Rattle.drf_sorter.specs.Work.{debt}
-use Rattle.drf_core.specs.Cluster.{ClusterState}
-use Rattle.drf_core.specs.Working.{all_nodes}
 use Rattle.drf_laws.specs.laws.Welcome.{welcome_agent, small_amounts}
 use Rattle.drf_laws.specs.laws.Kept.{sound_total, few_agents}
+use Rattle.drf_sorter.specs.laws.SpendLaws.{defers-on_ok, defers-stale}
 use Rattle.drf_core.proofs.effects.Registered.{sorted-agent, effect-agent}
 use Rattle.drf_core.proofs.stepping.Work.{has_nodes}
 use Rattle.drf_core.proofs.cluster.Cluster.add_agent.Goals as goal
@@ -48,15 +46,9 @@ pub returns-clause-ok : goal.returns-clause-ok
 returns-clause-ok g c =
     rw (← c.self.view_is) (effect-agent c.self.inside.tables.rows c.add_agent.new.self.rows c.args.agent c.args.total c.in_ok-add_agent.ensures.ok)
 
-pub returns-clause-work : goal.returns-clause-work
-returns-clause-work g c = λ counted.
+pub returns-clause-spends : goal.returns-clause-spends
+returns-clause-spends g c =
     let rows : Rows = c.self.inside.tables.rows in
     let stale = c.set_total.ensures.stale (report.nodes_of rows)
-    (has_nodes rows (g.S.Sorter.content c.self.inside.sorter) c.self.invariant) counted in
-    omega (
-      arith,
-      stale,
-      c.set_total.ensures.made,
-      ap (λ (s : ClusterState). debt s.work) c.self.view_is,
-      ap (λ (s : ClusterState). all_nodes s.rows) c.self.view_is,
-    )
+    (has_nodes rows (g.S.Sorter.content c.self.inside.sorter) c.self.invariant) in
+    rw (← c.self.view_is) (defers-on_ok _ (defers-stale _ c.set_total.ensures.made stale))

@@ -11,6 +11,7 @@ use Rattle.drf_rows.specs.declared.rows.ClientRow.{ClientRow}
 use Rattle.drf_rows.specs.declared.rows.FrameworkRow.{FrameworkRow}
 use Rattle.drf_rows.specs.declared.rows.Rows.{Rows}
 use Rattle.drf_sorter.specs.Content.{Content}
+use Rattle.drf_sorter.specs.laws.SpendLaws.{spends-at_ok, spends-on_ok, spends-within}
 use Rattle.drf_content.specs.Registering.{AreNew, client_paths, with_all}
 use Rattle.drf_laws.specs.laws.Roles.{distinct_apart, roles_of_new, uncounted_new}
 use Rattle.drf_content.specs.laws.Registered.{AreNew-registering}
@@ -81,9 +82,9 @@ returns-clause-ok g c =
     (c.in_ok-clients.ensures ∙ ap (map new_client) c.in_ok-roles.ensures)
     (c.add_framework.ensures.rows ∙ (λ i. record (c.reserve_framework.ensures.same i) { frameworks = (c.reserve_framework.ensures.same i).frameworks ++ record { name = c.args.framework; clients = c.in_ok-clients.clients } ∷ [] })))
 
-pub returns-clause-work : goal.returns-clause-work
-returns-clause-work g c =
+pub returns-clause-spends : goal.returns-clause-spends
+returns-clause-spends g c =
     let paths : c.deref.result.now ≡ client_paths c.args.framework (map new_client (distinct c.args.roles)) =
     c.deref.ensures.value ∙ c.in_ok-paths.ensures ∙ ap (client_paths c.args.framework) (c.as_slice.ensures ∙ c.in_ok-clients.ensures ∙ ap (map new_client) c.in_ok-roles.ensures) in
-    rw (← c.self.view_is) (λ counted.
-    omega (arith, c.in_ok-add_clients.ensures.work counted, ap (λ (ps : List Path). sum_by length ps) paths, nodes_of-new c.args.framework (distinct c.args.roles)))
+    rw (← c.self.view_is) (spends-on_ok _ (spends-within (spends-at_ok c.in_ok-add_clients.ensures.spends)
+    (omega (arith, ap (λ (ps : List Path). sum_by length ps) paths, nodes_of-new c.args.framework (distinct c.args.roles)))))

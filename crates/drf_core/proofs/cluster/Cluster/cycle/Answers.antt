@@ -58,12 +58,15 @@ returns-in-Ok-clause-reply g c =
     ∙ ap (λ os. Offers (map line_told os)) (new_offers-cycle rows c.set_clock.new.self.rows c.max.result (turns_of c.set_clock.new.self.rows) c.set_clock.ensures
     ∙ ap (new_offers rows) (turned g (goal.at.returns-in-Ok-clause-reply g c).After-offer_all)))
 
-pub returns-in-Ok-clause-work : goal.returns-in-Ok-clause-work
-returns-in-Ok-clause-work g c =
+pub returns-in-Ok-clause-spends : goal.returns-in-Ok-clause-spends
+returns-in-Ok-clause-spends g c =
     let rows : Rows = c.self.inside.tables.rows in
     let new = new_offers-cycle rows c.set_clock.new.self.rows c.max.result (turns_of c.set_clock.new.self.rows) c.set_clock.ensures
-    ∙ ap (new_offers rows) (turned g (goal.at.returns-in-Ok-clause-work g c).After-offer_all) in
-    rw (← c.self.view_is) (λ counted. omega (arith, c.in-Ok.ensures.work counted, ap (λ (os : List OfferRow). nodes_of (offered_to os)) new))
+    ∙ ap (new_offers rows) (turned g (goal.at.returns-in-Ok-clause-spends g c).After-offer_all) in
+    rw (← c.self.view_is) (record {
+      made = c.in-Ok.ensures.spends.made;
+      work = λ counted. omega (arith, c.in-Ok.ensures.spends.work counted, ap (λ (os : List OfferRow). nodes_of (offered_to os)) new);
+    })
 
 pub returns-in-Ok-clause-counted : goal.returns-in-Ok-clause-counted
 returns-in-Ok-clause-counted g c =

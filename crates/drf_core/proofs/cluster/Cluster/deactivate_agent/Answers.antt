@@ -1,5 +1,5 @@
 use Rattle.std.proofs.Common.{ap, ◌∙◌, arith}
-use Rattle.drf_sorter.specs.Work.{debt}
+use Rattle.drf_sorter.specs.laws.SpendLaws.{defers-both, defers-nothing, defers-within}
 use Rattle.drf_core.specs.Cluster.{ClusterState}
 use Rattle.drf_core.proofs.effects.Ended.{sorted-activity, effect-deactivated}
 use Rattle.drf_core.proofs.cluster.Cluster.deactivate_agent.Goals as goal
@@ -13,5 +13,6 @@ returns-clause-rows g c =
     effect-deactivated c.args.self.now.rows c.self.inside.tables.rows c.set_active.new.self.rows c.args.agent.now
     (ap (λ (s : ClusterState). s.rows) c.self.view_is ∙ c.end.ensures.rows) c.set_active.ensures.rows
 
-pub returns-clause-work : goal.returns-clause-work
-returns-clause-work g c = λ counted. omega (arith, c.end.ensures.work counted, ap (λ (s : ClusterState). debt s.work) c.self.view_is)
+pub returns-clause-spends : goal.returns-clause-spends
+returns-clause-spends g c =
+    defers-within (defers-both c.end.ensures.spends (defers-nothing (ap (λ (s : ClusterState). s.work) c.self.view_is))) (omega arith)

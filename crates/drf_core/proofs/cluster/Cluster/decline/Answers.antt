@@ -4,6 +4,7 @@ use Rattle.drf_rows.specs.Cycle.{at_moment}
 use Rattle.drf_rows.specs.Endings.{one_offer}
 use Rattle.drf_rows.specs.Offers.{filters_with, filters_all}
 use Rattle.drf_rows.specs.declared.rows.Rows.{Rows}
+use Rattle.drf_sorter.specs.laws.SpendLaws.{defers-on_ok, defers-within}
 use Rattle.drf_core.specs.Working.{losers, nodes_of}
 use Rattle.drf_row_laws.specs.OfferLaws.{some_offer}
 use Rattle.drf_core.proofs.effects.Accepted.{sorted-declined, rows_declined, effect-decline}
@@ -26,10 +27,10 @@ returns-clause-ok g c = rw (← c.self.view_is) (
     (rows_declined rows c.filter_declined.new.self.rows c.end.new.self.rows d.offer one.offer d.at d.refuse_ms one.at
     (c.in_ok-filter_declined.ensures.ok one.offer one.at) c.end.ensures.rows))
 
-pub returns-clause-work : goal.returns-clause-work
-returns-clause-work g c =
+pub returns-clause-spends : goal.returns-clause-spends
+returns-clause-spends g c =
     let rows : Rows = c.self.inside.tables.rows in
     let d = c.args.decline.now in
     let one = some_offer rows d.offer (rw (← c.self.view_is) at c.requires.offer) in
-    rw (← c.self.view_is) (λ counted.
-    omega (arith, c.end.ensures.work counted, ap (λ (r : Rows). nodes_of (losers r (one_offer d.offer))) (c.in_ok-filter_declined.ensures.ok one.offer one.at)))
+    rw (← c.self.view_is) (defers-on_ok _ (defers-within c.end.ensures.spends
+    (omega (arith, ap (λ (r : Rows). nodes_of (losers r (one_offer d.offer))) (c.in_ok-filter_declined.ensures.ok one.offer one.at)))))

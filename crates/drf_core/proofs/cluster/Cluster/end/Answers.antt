@@ -27,17 +27,15 @@ loop-taken-preserved g c =
           content c.loop-taken.invariant.sorted;
       work = λ counted. omega (
         arith,
-        c.refund.ensures.work counted,
+        c.refund.ensures.spends.work counted,
         ap length c.from_parts-client.ensures,
         c.loop-taken.invariant.work counted,
         losers-ended c.loop-taken.self-inside.tables.rows c.end.new.self.rows (ending_of c.args.ending) c.in-Some.taken c.in-Some.ensures.some,
       );
       later = c.in-Some.ensures.some.later ∙ c.loop-taken.invariant.later;
-      made = c.refund.ensures.made ∙ c.loop-taken.invariant.made;
+      made = c.refund.ensures.spends.made ∙ c.loop-taken.invariant.made;
     }
 
-pub returns-clause-work : goal.returns-clause-work
-returns-clause-work g c = rw (← c.self.view_is) (λ counted. omega (arith, c.loop-taken.invariant.work counted))
-
-pub returns-clause-made : goal.returns-clause-made
-returns-clause-made g c = rw (← c.self.view_is) c.loop-taken.invariant.made
+pub returns-clause-spends : goal.returns-clause-spends
+returns-clause-spends g c =
+    rw (← c.self.view_is) (record { made = c.loop-taken.invariant.made; work = λ counted. omega (arith, c.loop-taken.invariant.work counted) })

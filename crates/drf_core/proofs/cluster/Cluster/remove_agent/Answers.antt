@@ -6,7 +6,7 @@ use Rattle.drf_rows.specs.Endings.{all_on, without_ended}
 use Rattle.drf_rows.specs.Held.{cluster_total}
 use Rattle.drf_rows.specs.Report as report
 use Rattle.drf_rows.specs.declared.rows.Rows.{Rows}
-use Rattle.drf_sorter.specs.Work.{debt}
+use Rattle.drf_sorter.specs.laws.SpendLaws.{defers-both, defers-nothing, defers-on_ok, defers-stale, defers-within}
 use Rattle.drf_core.specs.Cluster.{ClusterState}
 use Rattle.drf_core.specs.Working.{all_nodes}
 use Rattle.drf_core.proofs.effects.Ended.{nothing_left, sorted-departed, effect-departed}
@@ -40,19 +40,15 @@ returns-clause-ok g c =
     effect-departed c.args.self.now.rows c.self-2.inside.tables.rows c.remove_agent.new.self.rows c.args.agent.now
     (ap (λ (s : ClusterState). s.rows) c.self-2.view_is ∙ c.end.ensures.rows) c.remove_agent.ensures.rows
 
-pub returns-clause-work : goal.returns-clause-work
-returns-clause-work g c = λ counted.
+pub returns-clause-spends : goal.returns-clause-spends
+returns-clause-spends g c =
     let middle : Rows = c.self-2.inside.tables.rows in
     let ended : middle ≡ without_ended c.args.self.now.rows (all_on c.args.agent.now) =
     ap (λ (s : ClusterState). s.rows) c.self-2.view_is ∙ c.end.ensures.rows in
     let nodes : all_nodes middle ≡ all_nodes c.args.self.now.rows = ap all_nodes ended in
     let stale = c.set_total.ensures.stale (report.nodes_of middle)
-    (has_nodes middle (g.S.Sorter.content c.self-2.inside.sorter) c.self-2.invariant) counted in
-    omega (
-      arith,
-      stale,
-      c.set_total.ensures.made,
-      ap (λ (s : ClusterState). debt s.work) c.self-2.view_is,
-      c.end.ensures.work counted,
-      nodes,
-    )
+    (has_nodes middle (g.S.Sorter.content c.self-2.inside.sorter) c.self-2.invariant) in
+    defers-on_ok _ (defers-within
+    (defers-both c.end.ensures.spends
+    (defers-both (defers-nothing (ap (λ (s : ClusterState). s.work) c.self-2.view_is)) (defers-stale (all_nodes middle) c.set_total.ensures.made stale)))
+    (omega (arith, nodes)))

@@ -7,7 +7,7 @@ use Rattle.drf_rows.specs.Endings.{all_of, without_ended}
 use Rattle.drf_rows.specs.Held.{clients_of}
 use Rattle.drf_rows.specs.declared.rows.FrameworkRow.{FrameworkRow}
 use Rattle.drf_rows.specs.declared.rows.Rows.{Rows}
-use Rattle.drf_sorter.specs.Work.{debt}
+use Rattle.drf_sorter.specs.laws.SpendLaws.{defers-both, defers-nothing, defers-on_ok, defers-within}
 use Rattle.drf_core.specs.Cluster.{ClusterState}
 use Rattle.drf_content.specs.Registering.{client_paths}
 use Rattle.drf_core.specs.Working.{losers}
@@ -54,20 +54,20 @@ returns-clause-ok g c =
     effect-left c.args.self.now.rows c.self-2.inside.tables.rows c.remove_framework.new.self.rows c.args.framework.now
     (ap (λ (s : ClusterState). s.rows) c.self-2.view_is ∙ c.end.ensures.rows) c.remove_framework.ensures
 
-pub returns-clause-work : goal.returns-clause-work
-returns-clause-work g c = λ counted.
+pub returns-clause-spends : goal.returns-clause-spends
+returns-clause-spends g c =
     let rows : Rows = c.args.self.now.rows in
     let name = c.args.framework.now in
     let f = one_found (λ (f : FrameworkRow). same_text f.name name) rows.frameworks c.requires.known in
     let found = ap (λ (s : ClusterState). find (λ (f : FrameworkRow). same_text f.name name) s.rows.frameworks) c.self.view_is ∙ f.found in
     let paths : c.deref.result.now ≡ client_paths name f.one.clients =
     c.deref.ensures.value ∙ c.in_ok-paths.ensures ∙ ap (client_paths name) (c.clients.ensures f.one found) in
-    omega (
+    defers-on_ok _ (defers-within
+    (defers-both c.end.ensures.spends
+    (defers-both (defers-nothing (ap (λ (s : ClusterState). s.work) c.self-2.view_is)) c.remove_clients.ensures.spends))
+    (omega (
       arith,
-      c.end.ensures.work counted,
-      ap (λ (s : ClusterState). debt s.work) c.self-2.view_is,
-      c.remove_clients.ensures.work counted,
       ap (λ (ps : List Path). sum_by length ps) paths,
       nodes_of-append (losers rows (all_of name)) (filter (λ c. same_text c.framework name) (clients_of rows)),
       nodes_of-leaving name f.one rows.frameworks f.found,
-    )
+    )))

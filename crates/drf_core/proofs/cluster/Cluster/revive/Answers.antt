@@ -1,4 +1,5 @@
 use Rattle.std.proofs.Common.{arith}
+use Rattle.drf_sorter.specs.laws.SpendLaws.{defers-on_ok, defers-within}
 use Rattle.drf_core.proofs.effects.Ended.{known-client, sorted-revived, effect-revived}
 use Rattle.drf_core.proofs.cluster.Cluster.revive.Goals as goal
 
@@ -17,5 +18,5 @@ pub returns-clause-ok : goal.returns-clause-ok
 returns-clause-ok g c =
     rw (← c.self.view_is) (effect-revived c.self.inside.tables.rows c.revive.new.self.rows c.args.role.now c.args.framework.now c.revive.ensures)
 
-pub returns-clause-work : goal.returns-clause-work
-returns-clause-work g c = rw (← c.self.view_is) (λ counted. omega (arith, c.set_active.ensures.work counted))
+pub returns-clause-spends : goal.returns-clause-spends
+returns-clause-spends g c = rw (← c.self.view_is) (defers-on_ok _ (defers-within c.set_active.ensures.spends (omega arith)))

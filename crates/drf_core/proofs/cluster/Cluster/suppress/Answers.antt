@@ -1,4 +1,5 @@
 use Rattle.std.proofs.Common.{arith}
+use Rattle.drf_sorter.specs.laws.SpendLaws.{defers-on_ok, defers-within}
 use Rattle.drf_core.proofs.effects.Ended.{known-client, sorted-suppressed, effect-suppressed}
 use Rattle.drf_core.proofs.cluster.Cluster.suppress.Goals as goal
 
@@ -17,5 +18,5 @@ pub returns-clause-ok : goal.returns-clause-ok
 returns-clause-ok g c =
     rw (← c.self.view_is) (effect-suppressed c.self.inside.tables.rows c.suppress.new.self.rows c.args.role.now c.args.framework.now c.suppress.ensures)
 
-pub returns-clause-work : goal.returns-clause-work
-returns-clause-work g c = rw (← c.self.view_is) (λ counted. omega (arith, c.set_active.ensures.work counted))
+pub returns-clause-spends : goal.returns-clause-spends
+returns-clause-spends g c = rw (← c.self.view_is) (defers-on_ok _ (defers-within c.set_active.ensures.spends (omega arith)))

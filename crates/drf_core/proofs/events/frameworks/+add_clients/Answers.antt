@@ -3,6 +3,7 @@ use Rattle.std.specs.Prelude.{sum_by}
 use Rattle.std.proofs.lemmas.List.Sums.{sum_by-cons}
 use Rattle.drf_role.specs.Path.{Path}
 use Rattle.drf_sorter.specs.Content.{Content, has_client, with_client, without_client}
+use Rattle.drf_sorter.specs.laws.SpendLaws.{spends-at_ok, spends-both, spends-on_ok, spends-within}
 use Rattle.drf_content.specs.laws.Registered.{has_client-added, without-added, first_new}
 use Rattle.drf_core.proofs.events.frameworks.+add_clients.Goals as goal
 
@@ -24,8 +25,9 @@ returns-in-Err-clause-err g t c =
     ∙ ap (λ (k : Content). without_client k path) added
     ∙ without-added content path (first_new content c.args.paths.now path c.in-Some.rest.now c.in-Some.ensures.cases.0 c.requires)
 
-pub returns-in-Ok-clause-work : goal.returns-in-Ok-clause-work
-returns-in-Ok-clause-work g t c = λ counted.
+pub returns-in-Ok-clause-spends : goal.returns-in-Ok-clause-spends
+returns-in-Ok-clause-spends g t c =
     let sum : sum_by length c.args.paths.now ≡ length c.in-Some.first.now + sum_by length c.in-Some.rest.now =
     ap (λ (ps : List Path). sum_by length ps) c.in-Some.ensures.cases.0 ∙ sum_by-cons length c.in-Some.first.now c.in-Some.rest.now in
-    omega (arith, sum, c.in_ok-add.ensures.work counted, c.in-Ok.ensures.work counted, ap length c.in_ok-copy.ensures)
+    let both = spends-both c.add.ensures.spends (spends-at_ok c.in-Ok.ensures.spends) in
+    spends-on_ok _ (spends-within both (omega (arith, sum, ap length c.in_ok-copy.ensures)))

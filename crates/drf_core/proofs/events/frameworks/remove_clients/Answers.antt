@@ -21,10 +21,10 @@ loop-path-preserved g c =
     let first = first_known (g.S.Sorter.content c.loop-path.sorter) paths i c.path-item.result c.loop-path-test.true at c.loop-path.invariant.known in
     record {
       known = subst (λ (k : Content). AreKnown k (drop (i + 1) paths)) (sym c.remove.ensures.content) first.later;
-      work = λ counted. omega (arith, sum_at length paths i c.path-item.result c.loop-path-test.true at, c.remove.ensures.work counted, c.loop-path.invariant.work counted);
+      work = λ counted. omega (arith, sum_at length paths i c.path-item.result c.loop-path-test.true at, c.remove.ensures.spends.work counted, c.loop-path.invariant.work counted);
       removed = ap (λ (k : Content). without_all k (drop (i + 1) paths)) c.remove.ensures.content ∙ sym first.same ∙ c.loop-path.invariant.removed;
-      made = c.remove.ensures.made ∙ c.loop-path.invariant.made;
+      made = c.remove.ensures.spends.made ∙ c.loop-path.invariant.made;
     }
 
-pub returns-clause-work : goal.returns-clause-work
-returns-clause-work g c = λ counted. omega (arith, c.loop-path.invariant.work counted)
+pub returns-clause-spends : goal.returns-clause-spends
+returns-clause-spends g c = record { made = c.loop-path.invariant.made; work = λ counted. omega (arith, c.loop-path.invariant.work counted) }

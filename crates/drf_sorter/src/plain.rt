@@ -279,12 +279,7 @@ impl PlainSorter {
     }
 
     #[tactic(auto, using(crate::proofs::ChangeLemmas::distinct_stays, crate::proofs::ChangeLemmas::listed_stays))]
-    pub fn undo_charge_at(
-        &mut self,
-        row: Option<usize>,
-        path: &ClientPath,
-        quantities: &Quantities,
-    )
+    pub fn undo_charge_at(&mut self, row: Option<usize>, path: &ClientPath, quantities: &Quantities)
         requires row { row ≡ position (λ c. same_path c.path path.now) self.old.clients.items }
         requires known { has_client (plain_content self.old) path.now ≡ true }
         requires charged { HasChargeAt (plain_content self.old) path.now quantities.now }

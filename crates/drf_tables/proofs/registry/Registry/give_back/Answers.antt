@@ -45,8 +45,8 @@ returns-in_default-index c =
     let here = slot_found name t.slots.items c.in-Some.place.now found in
     absurd (no_gap t.slots.items c.in-Some.place.now c.index.result.now here.entry here.below c.index.ensures here.there c.in_default-index.is)
 
-pub freed-requires : goal.freed-requires
-freed-requires c =
+pub freed-free-requires : goal.freed-free-requires
+freed-free-requires c =
     let t = c.self.inside in
     let name : Text = c.args.name.now in
     let found : slot_of name t.slots.items ≡ Some c.in-Some.place.now =

@@ -24,6 +24,6 @@ pub returns-then-is_empty-2 : goal.returns-then-is_empty-2
 returns-then-is_empty-2 c =
     let a = c.args.self.now in
     let none : c.args.other.now ≡ [] = c.is_empty-2.ensures.is_empty.0 c.if-is_empty-2.true in
-    IfOk-weaker c.copy-2.result (λ both. both ≡ a) (λ both. join a c.args.other.now ≡ Some both)
+    IfOk-weaker c.copy-then-is_empty-2.result (λ both. both ≡ a) (λ both. join a c.args.other.now ≡ Some both)
     (λ both same. subst (λ (b : List Resource). join a b ≡ Some both) (sym none)
-    (neutral a c.is_empty.ensures.given ∙ ap Some (sym same))) c.copy-2.ensures.same
+    (neutral a c.is_empty.ensures.given ∙ ap Some (sym same))) c.copy-then-is_empty-2.ensures.same

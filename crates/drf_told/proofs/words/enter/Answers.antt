@@ -1,7 +1,8 @@
-use Rattle.std.proofs.Common.{◌≡◌, Some, map, ◌∙◌, sym}
+use Rattle.std.proofs.Common.{ℕ, List, Bor, map, ◌∙◌, sym}
 use Rattle.std.proofs.lemmas.Bool.{and_parts, false≢true}
 use Rattle.clap.specs.Words.{app_of, built, fault_of, found_of, is_simple, rows_of}
 use Rattle.clap.specs.Faults.{is_free_app}
+use Rattle.clap.specs.declared.parser.matches.ArgMatches.{ArgMatches}
 use Rattle.clap.specs.declared.parser.matches.ArgMatches.TheViews.{out-ArgMatches}
 use Rattle.clap.proofs.CallerLemmas.{subcommand_required}
 use Rattle.drf_told.specs.Words.{HasEntered}
@@ -12,7 +13,7 @@ pub returns-in_err-matches : goal.returns-in_err-matches
 returns-in_err-matches g c =
     let form = app_of c.args.line in
     let words = map g.S.AsStr.text c.args.words.now in
-    refused_as (λ command. HasEntered form words command.0.now (rows_of (found_of command.1))) (fault_of form words) c.from_residual-in_err-matches.result
+    refused_as (λ (command : Bor (List ℕ) × ArgMatches). HasEntered form words command.0.now (rows_of (found_of command.1))) (fault_of form words) c.from_residual-in_err-matches.result
     c.in_err-matches.field-0.0 c.from_residual-in_err-matches.ensures.1 (c.in_err-matches.ensures.kinds c.requires.simple)
 
 pub unreachable-requires : goal.unreachable-requires

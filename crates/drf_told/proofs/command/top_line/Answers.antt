@@ -1,7 +1,7 @@
 use Rattle.std.proofs.Common.{◌≡◌, true, ap, codes, ◌∙◌}
 use Rattle.clap.specs.Words.{app_of, new_app}
 use Rattle.clap.specs.Simple.{app_of_fields, on_top}
-use Rattle.drf_told.proofs.words.top_line.Goals as goal
+use Rattle.drf_told.proofs.command.top_line.Goals as goal
 
 pub returns : goal.returns
 returns c =

@@ -7,7 +7,7 @@ use Rattle.clap.specs.declared.parser.matches.ArgMatches.TheViews.{out-ArgMatche
 use Rattle.clap.proofs.CallerLemmas.{subcommand_required}
 use Rattle.drf_told.specs.Words.{HasEntered}
 use Rattle.drf_told.proofs.Words.{entered, entered_is_named, is_plain_form, local, refused_as}
-use Rattle.drf_told.proofs.words.enter.Goals as goal
+use Rattle.drf_told.proofs.command.enter.Goals as goal
 
 pub returns-in_err-matches : goal.returns-in_err-matches
 returns-in_err-matches g c =

@@ -43,8 +43,8 @@ pub fn enter<'a, S: AsStr>(
     line: Command<'a>,
     words: &'a [S],
 ) -> Result<(&'a str, ArgMatches<'a>), Error>
-    requires simple { is_simple_and_free (app_of line.entry) ≡ true }
-    requires required { (app_of line.entry).top.subcommand_required ≡ true }
+    requires simple { is_simple_and_free (app_of line) ≡ true }
+    requires required { (app_of line).top.subcommand_required ≡ true }
     ensures { MatchResult result
         (λ command. HasEntered (app_of line.entry) (map S.text words.now) command.0.now (rows_of (found_of command.1)))
         (HasKind (fault_of (app_of line.entry) (map S.text words.now))) }

@@ -13,8 +13,8 @@ pub returns-in_err-matches : goal.returns-in_err-matches
 returns-in_err-matches g c =
     let form = app_of c.args.line in
     let words = map g.S.AsStr.text c.args.words.now in
-    refused_as (λ (command : Bor (List ℕ) × ArgMatches). HasEntered form words command.0.now (rows_of (found_of command.1))) (fault_of form words) c.from_residual-in_err-matches.result
-    c.in_err-matches.field-0.0 c.from_residual-in_err-matches.ensures.1 (c.in_err-matches.ensures.kinds c.requires.simple)
+    refused_as (λ (command : Bor (List ℕ) × ArgMatches). HasEntered form words command.0.now (rows_of (found_of command.1))) (fault_of form words) c.from_residual.result
+    c.in_err-matches.field-0.0 c.from_residual.ensures.1 (c.in_err-matches.ensures.kinds c.requires.simple)
 
 pub unreachable-requires : goal.unreachable-requires
 unreachable-requires g c =

@@ -12,24 +12,24 @@ enter-requires-clause-simple g c = ap is_simple_and_free c.in_ok-line.ensures
 pub enter-requires-clause-required : goal.enter-requires-clause-required
 enter-requires-clause-required g c = ap (λ (a : App). a.top.subcommand_required) c.in_ok-line.ensures
 
-pub returns-in_err-enter : goal.returns-in_err-enter
-returns-in_err-enter g c =
+pub returns-in_err-name : goal.returns-in_err-name
+returns-in_err-name g c =
     let words = map g.S.AsStr.text c.args.words.now in
-    let error = c.in_err-enter.field-0.0 in
-    let refused = subst (λ (a : App). HasKind (fault_of a words) error) c.in_ok-line.ensures c.in_err-enter.ensures in
-    refused_as (Asks words) (fault_of drf_line words) c.from_residual-in_err-enter.result error c.from_residual-in_err-enter.ensures.1 refused
+    let error = c.in_err-name.field-0.0 in
+    let refused = subst (λ (a : App). HasKind (fault_of a words) error) c.in_ok-line.ensures c.in_err-name.ensures in
+    refused_as (Asks words) (fault_of drf_line words) c.from_residual-in_err-name.result error c.from_residual-in_err-name.ensures.1 refused
 
 pub task_of-task-requires : goal.task_of-task-requires
 task_of-task-requires g c =
     let words = map g.S.AsStr.text c.args.words.now in
-    let rows = rows_of (found_of c.in_ok-enter.command) in
-    (subst (λ (a : App). HasEntered a words c.in_ok-enter.name.now rows) c.in_ok-line.ensures c.in_ok-enter.ensures).is_name
+    let rows = rows_of (found_of c.in_ok-name.command) in
+    (subst (λ (a : App). HasEntered a words c.in_ok-name.name.now rows) c.in_ok-line.ensures c.in_ok-name.ensures).is_name
 
 pub returns : goal.returns
 returns g c =
     let words = map g.S.AsStr.text c.args.words.now in
-    let found = found_of c.in_ok-enter.command in
-    let said = subst (λ (a : App). HasEntered a words c.in_ok-enter.name.now (rows_of found)) c.in_ok-line.ensures c.in_ok-enter.ensures in
+    let found = found_of c.in_ok-name.command in
+    let said = subst (λ (a : App). HasEntered a words c.in_ok-name.name.now (rows_of found)) c.in_ok-line.ensures c.in_ok-name.ensures in
     record {
       right = said.right;
       named = record {

@@ -12,19 +12,19 @@ enter-requires-clause-simple g c = ap is_simple_and_free c.in_ok-line.ensures
 pub enter-requires-clause-required : goal.enter-requires-clause-required
 enter-requires-clause-required g c = ap (λ (a : App). a.top.subcommand_required) c.in_ok-line.ensures
 
-pub returns-in_err-enter : goal.returns-in_err-enter
-returns-in_err-enter g c =
+pub returns-in_err-_drive : goal.returns-in_err-_drive
+returns-in_err-_drive g c =
     let words = map g.S.AsStr.text c.args.words.now in
-    let error = c.in_err-enter.field-0.0 in
-    let refused = subst (λ (a : App). HasKind (fault_of a words) error) c.in_ok-line.ensures c.in_err-enter.ensures in
-    refused_as (Asks words) (fault_of drf_line words) c.from_residual-in_err-enter.result error c.from_residual-in_err-enter.ensures.1 refused
+    let error = c.in_err-_drive.field-0.0 in
+    let refused = subst (λ (a : App). HasKind (fault_of a words) error) c.in_ok-line.ensures c.in_err-_drive.ensures in
+    refused_as (Asks words) (fault_of drf_line words) c.from_residual-in_err-_drive.result error c.from_residual-in_err-_drive.ensures.1 refused
 
 pub returns : goal.returns
 returns g c =
     let words = map g.S.AsStr.text c.args.words.now in
-    let name = c.in_ok-enter._drive.now in
-    let rows = rows_of (found_of c.in_ok-enter.command) in
-    let said = subst (λ (a : App). HasEntered a words name rows) c.in_ok-line.ensures c.in_ok-enter.ensures in
+    let name = c.in_ok-_drive._drive.now in
+    let rows = rows_of (found_of c.in_ok-_drive.command) in
+    let said = subst (λ (a : App). HasEntered a words name rows) c.in_ok-line.ensures c.in_ok-_drive.ensures in
     let drive : name ≡ codes "drive" = ⊎_elim (λ same. same) (λ none. absurd none) said.is_name in
     record {
       right = said.right;
@@ -32,6 +32,6 @@ returns g c =
         rows = rows;
         entered = subst (λ (name : Text). subcommand_of drf_line words ≡ Some (name, rows)) drive said.entered;
         files = c.in_ok-files.ensures;
-        from = c.get_str-from.ensures ∙ first_value-rows (found_of c.in_ok-enter.command) (codes "from");
+        from = c.get_str-from.ensures ∙ first_value-rows (found_of c.in_ok-_drive.command) (codes "from");
       };
     }

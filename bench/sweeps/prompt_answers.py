@@ -27,16 +27,28 @@ CASES = [
 SECONDS = 20
 
 
+def count_of(words, line):
+    """How many lines come of a line: with `--echo` an event's own before its reply."""
+    return 2 if "--echo" in words and not line.startswith("?") else 1
+
+
+def has_come(stream, count):
+    """Whether so many lines come in time."""
+    text = b""
+    while text.count(b"\n") < count:
+        if not select.select([stream], [], [], SECONDS)[0]:
+            return False
+        text += stream.read(65_536)
+    return True
+
+
 def late_lines(program, words, lines):
-    """The lines of which nothing came before the next one was given."""
+    """The lines of which not all came before the next one was given."""
     how = {name: subprocess.PIPE for name in ("stdin", OUT, ERR)}
     ran, late = subprocess.Popen([program, *words], bufsize=0, **how), []
     for line, stream in lines:
         ran.stdin.write(line.encode() + b"\n")
-        told = getattr(ran, stream)
-        if select.select([told], [], [], SECONDS)[0]:
-            told.read(65_536)
-        else:
+        if not has_come(getattr(ran, stream), count_of(words, line)):
             late.append(line)
     ran.communicate()
     return late

@@ -1,0 +1,65 @@
+#!/usr/bin/env python3
+"""Outside the proof. Gives the program one line at a time, and the next one only once all that comes of it is there: no reply, answer or fault of a line
+may wait for more input. The clauses promise that of lines that ended 65,536 bytes before; the gate runs it of `run` alone.
+
+    bench/sweeps/prompt_answers.py           the program that ./drf builds
+    bench/sweeps/prompt_answers.py PROGRAM   another one"""
+import os
+import select
+import subprocess
+import sys
+
+sys.path.append(f"{os.path.dirname(os.path.realpath(__file__))}/../tools")
+from begin import built_program
+
+EVENT, FAULT = '{"event":"add_agent","agent":"n1","total":"cpus:1"}', '{"event":"add_agent"}'
+QUESTIONS = ["?report", "?explain", "?offers", "?tasks", "?state", "?tables", "?", "?tasks f1"]
+OUT, ERR = "stdout", "stderr"
+# Words, and lines with the streams on which something comes of each.
+CASES = [
+    (["run"], [(EVENT, OUT), (FAULT, OUT)]),
+    (["run", "--echo"], [(EVENT, OUT), (FAULT, OUT)]),
+    (["run", "--ask"], [(line, OUT) for line in [EVENT, *QUESTIONS, FAULT, *QUESTIONS]]),
+    (["run", "--ask", "--echo"], [(line, OUT) for line in [EVENT, *QUESTIONS, FAULT, *QUESTIONS]]),
+    (["lint"], [(FAULT, OUT), ("{", OUT)]),
+    (["lint", "--write"], [(EVENT, OUT), (FAULT, ERR), (EVENT, OUT)]),
+]
+SECONDS = 20
+
+
+def count_of(words, line):
+    """How many lines come of a line: with `--echo` an event's own before its reply."""
+    return 2 if "--echo" in words and not line.startswith("?") else 1
+
+
+def has_come(stream, count):
+    """Whether so many lines come in time."""
+    text = b""
+    while text.count(b"\n") < count:
+        if not select.select([stream], [], [], SECONDS)[0]:
+            return False
+        text += stream.read(65_536)
+    return True
+
+
+def late_lines(program, words, lines):
+    """The lines of which not all came before the next one was given."""
+    how = {name: subprocess.PIPE for name in ("stdin", OUT, ERR)}
+    ran, late = subprocess.Popen([program, *words], bufsize=0, **how), []
+    for line, stream in lines:
+        ran.stdin.write(line.encode() + b"\n")
+        if not has_come(getattr(ran, stream), count_of(words, line)):
+            late.append(line)
+    ran.communicate()
+    return late
+
+
+def main(program=None):
+    program = program or built_program()
+    for words, lines in CASES:
+        late = late_lines(program, words, lines)
+        print(f"{' '.join(words):18}{len(lines):3} lines, {len(late)} late", *late, sep="\n  " if late else "", flush=True)
+
+
+if __name__ == "__main__":
+    main(*sys.argv[1:2])

@@ -375,6 +375,20 @@ impl Bundle {
         let left = rest(self.alloc(), self.entries(), old.entries())?;
         Bundle::from_parts(merged(self.alloc(), left.entries(), new.entries())?)
     }
+
+    /// The join of two bundles that are known to have one, of which nothing is tested.
+    pub fn joined(&self, other: &Bundle) -> Result<Bundle, AllocError>
+        requires { refusal self.now other.now ≡ None }
+        ensures { IfOk result (λ both. join self.now other.now ≡ Some both) }
+    {
+        if self.is_empty() {
+            return other.copy();
+        }
+        if other.is_empty() {
+            return self.copy();
+        }
+        Bundle::from_parts(merged(self.alloc(), self.entries(), other.entries())?)
+    }
 }
 
 impl Algebra for Bundle {
@@ -409,14 +423,7 @@ impl Algebra for Bundle {
         if let Some(fault) = self.refusal(other) {
             return Err(fault);
         }
-        if self.is_empty() {
-            return Ok(other.copy()?);
-        }
-        if other.is_empty() {
-            return Ok(self.copy()?);
-        }
-        let parts = merged(self.alloc(), self.entries(), other.entries())?;
-        Ok(Bundle::from_parts(parts)?)
+        Ok(self.joined(other)?)
     }
 
     fn covers(&self, part: &Bundle) -> bool {

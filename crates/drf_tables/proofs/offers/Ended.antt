@@ -3,9 +3,8 @@ use Rattle.std.specs.Prelude.{◌≡◌, ℕ, ◌+◌, ◌≤◌, ◌==◌, ◌|
 use Rattle.std.specs.List.{list_any, AllByRecursion}
 use Rattle.std.specs.Option.{option_map_or}
 use Rattle.std.proofs.Common.{refl, sym, ap, ◌∙◌, subst, inl, inr}
-use Rattle.drf_role.specs.Text.{Text, same_text}
-use Rattle.drf_bundle.specs.Value.{Point}
-use Rattle.drf_bundle.specs.Bundle.{Key, IsBundle, units}
+use Rattle.drf_role.specs.Text.{Text}
+use Rattle.drf_bundle.specs.Bundle.{IsBundle, units}
 use Rattle.drf_bundle.specs.Taken.{units_of_all}
 use Rattle.drf_bundle.specs.laws.TakenLaws.{bundle-rest_of_all}
 use Rattle.drf_bundle.specs.declared.resource.Resource.{Resource}
@@ -26,12 +25,12 @@ use Rattle.drf_rows.specs.declared.rows.TaskRow.{TaskRow}
 use Rattle.drf_rows.specs.declared.rows.Rows.{Rows}
 use Rattle.drf_holdings.specs.Stored.{OffersAndTasks, IsOfferOut, IsTaskOut, IsNothingOut, HasStarted, holding_of}
 use Rattle.drf_holdings.specs.declared.holdings.Taken.{Taken}
-use Rattle.drf_tables.specs.registry.Changing.{changed, freed, HasFreed}
+use Rattle.drf_tables.specs.registry.Changing.{changed, freed, CanGiveBack, HasFreed}
 use Rattle.drf_tables.specs.offers.Ended.{left_to_end, held_in, HasEnded, with_accepted}
 use Rattle.drf_tables.specs.Inside.{agent_row, rows_of, rows_in, IsKnown, AreDerived}
 use Rattle.drf_tables.specs.declared.tables.Agent.{Agent}
 use Rattle.drf_tables.specs.declared.tables.Tables.TheInside.{Inside}
-use Rattle.drf_tables.proofs.registry.Freed.{known-freed, rows-freed}
+use Rattle.drf_tables.proofs.registry.Freed.{joins-freed, known-freed, rows-freed, HasLess}
 
 -- ---- one holding ends
 
@@ -92,23 +91,34 @@ module _ (t : Inside) (held : OffersAndTasks) (ending : Ending) (taken : Taken) 
   ]
 
 -- it is held there no longer
-less_there : (old new : List Holding) (h : Holding) → IsOneLess old new h → (agent : Text) → same_text h.agent agent ≡ true
-    → (key : Key) (p : Point)
-    → units_of_all (parts_on agent old) key p ≡ units_of_all (parts_on agent new) key p + units h.bundle key p
-less_there old new h less agent here key p =
-    units-one_less old new h less agent key p
-    ∙ ap (λ (b : Bool). units_of_all (parts_on agent new) key p + cond b (units h.bundle key p) 0) here
+less-ended : (old new : Rows) (ending : Ending) (h : Holding) → IsConsistent old → IsWithoutOne old new ending h
+    → HasLess (holdings_of old) (holdings_of new) h.agent h.bundle
+less-ended old new ending h consistent one = record {
+  is_part = (one-one_less (holdings_of old) (holdings_of new) h one.less (IsHeld old.agents old.frameworks) consistent.holdings).bundle;
+  each_old = bundles-consistent old consistent;
+  each_new = bundles-consistent new one.consistent;
+  others = parts_on-one_less (holdings_of old) (holdings_of new) h one.less;
+  less = λ agent here key p.
+      units-one_less (holdings_of old) (holdings_of new) h one.less agent key p
+      ∙ ap (λ (b : Bool). units_of_all (parts_on agent (holdings_of new)) key p + cond b (units h.bundle key p) 0) here;
+}
+
+-- so it can come back
+pub back-ended : (t : Inside) (held : OffersAndTasks) (ending : Ending) (taken : Taken) → AreDerived (rows_in t) t.agents.entries t.total t.clients
+    → IsOfferOut ending t.holdings held (holding_of taken) ⊎ IsTaskOut ending t.holdings held (holding_of taken)
+    → CanGiveBack taken.agent taken.bundle t.agents.entries
+unfolding rows_of
+back-ended t held ending taken kept lost =
+    joins-freed (holdings_of (rows_in t)) (holdings_of (rows_with t held)) taken.agent taken.bundle
+    (less-ended (rows_in t) (rows_with t held) ending (holding_of taken) kept.consistent (without_taken t held ending taken kept.consistent lost))
+    t.agents.entries kept.free kept.consistent.agents.each kept.consistent.covered
 
 pub AreDerived-ended : (old new : Rows) (agents : List (Text × Agent)) (sum : List Entry) (number : ℕ) (ending : Ending) (h : Holding) (back : Bool)
     → old.agents ≡ map agent_row agents → AreDerived old agents sum number → IsWithoutOne old new ending h
     → AreDerived new (map (changed h.agent (freed back h.bundle)) agents) sum number
 AreDerived-ended old new agents sum number ending h back stand kept one = record {
   consistent = one.consistent;
-  free = known-freed (holdings_of old) (holdings_of new) h.agent h.bundle
-      (one-one_less (holdings_of old) (holdings_of new) h one.less (IsHeld old.agents old.frameworks) kept.consistent.holdings).bundle
-      (bundles-consistent old kept.consistent) (bundles-consistent new one.consistent)
-      (parts_on-one_less (holdings_of old) (holdings_of new) h one.less)
-      (less_there (holdings_of old) (holdings_of new) h one.less) back agents kept.free
+  free = known-freed (holdings_of old) (holdings_of new) h.agent h.bundle (less-ended old new ending h kept.consistent one) back agents kept.free
       (subst (AllByRecursion IsAgent) stand kept.consistent.agents.each)
       (subst (AllByRecursion (IsCovered (holdings_of old))) stand kept.consistent.covered);
   total = kept.total ∙ sym (ap (λ (r : Rows). cluster_total r.agents) one.others);
@@ -154,6 +164,31 @@ each_filter : (P : FilterRow → Type 0) (refused : Option FilterRow) → ((f : 
 each_filter P None right = tt
 each_filter P (Some f) right = (right f refl, tt)
 
+-- on its agent only the tasks are held
+less-accepted : (rows : Rows) (number : ℕ) (starts : List Start) (o : OfferRow) → IsConsistent rows → offer_at rows number ≡ Some o
+    → AllByRecursion IsBundle (uses starts) → CanStart rows o starts
+    → HasLess (holdings_of rows) (holdings_of (with_accepted rows o starts None)) o.agent (left_of_offer o starts)
+less-accepted rows number starts o consistent found bundles can =
+    let held : IsHeld rows.agents rows.frameworks (of_offer o) = offer_held rows number o starts [] consistent found in
+    let has = units-covers_all o.bundle (uses starts) held.bundle bundles can.covered in
+    record {
+      is_part = bundle-rest_of_all o.bundle (uses starts) held.bundle;
+      each_old = bundles-consistent rows consistent;
+      each_new = bundles-consistent (with_accepted rows o starts None) (IsConsistent-accepted rows number o starts [] consistent found bundles can tt);
+      others = parts_on-accepted rows number o starts [] consistent found;
+      less = units-left rows number o starts [] consistent found has bundles;
+    }
+
+-- so what is left can come back
+pub back-accepted : (t : Inside) (number : ℕ) (starts : List Start) (o : OfferRow) → AreDerived (rows_in t) t.agents.entries t.total t.clients
+    → offer_at (rows_in t) number ≡ Some o → AllByRecursion IsBundle (uses starts) → CanStart (rows_in t) o starts
+    → CanGiveBack o.agent (left_of_offer o starts) t.agents.entries
+unfolding rows_of
+back-accepted t number starts o kept found bundles can =
+    joins-freed (holdings_of (rows_in t)) (holdings_of (with_accepted (rows_in t) o starts None)) o.agent (left_of_offer o starts)
+    (less-accepted (rows_in t) number starts o kept.consistent found bundles can)
+    t.agents.entries kept.free kept.consistent.agents.each kept.consistent.covered
+
 module _ (t : Inside) (entries : List (Text × Agent)) (held : OffersAndTasks) (filters : List FilterRow) (number : ℕ)
     (starts : List Start) (refused : Option FilterRow) (o x : OfferRow)
     (kept : AreDerived (rows_in t) t.agents.entries t.total t.clients)
@@ -192,17 +227,11 @@ module _ (t : Inside) (entries : List (Text × Agent)) (held : OffersAndTasks) (
       let rows : Rows = with_accepted (rows_in t) o starts refused in
       let more : List FilterRow = option_map_or (λ f. f ∷ []) refused [] in
       let left : List Resource = left_of_offer o starts in
-      let held : IsHeld (rows_in t).agents (rows_in t).frameworks (of_offer o) = offer_held (rows_in t) number o starts more kept.consistent found in
-      let has = units-covers_all o.bundle (uses starts) held.bundle bundles can.covered in
       let known : AllByRecursion (IsKnown (holdings_of rows)) entries =
       subst (λ (es : List (Text × Agent)). AllByRecursion (IsKnown (holdings_of rows)) es)
       (sym (freed_there.same ∙ (λ i. map (changed (same_offer i).agent (freed freed_there.kept left)) t.agents.entries)))
-      (known-freed (holdings_of (rows_in t)) (holdings_of rows) o.agent left (bundle-rest_of_all o.bundle (uses starts) held.bundle)
-      (bundles-consistent (rows_in t) kept.consistent)
-      (bundles-consistent rows (IsConsistent-accepted (rows_in t) number o starts more kept.consistent found bundles can
-      (each_filter (IsFilter (rows_in t).agents (rows_in t).frameworks) refused each)))
-      (parts_on-accepted (rows_in t) number o starts more kept.consistent found)
-      (units-left (rows_in t) number o starts more kept.consistent found has bundles)
+      (known-freed (holdings_of (rows_in t)) (holdings_of rows) o.agent left
+      (less-accepted (rows_in t) number starts o kept.consistent found bundles can)
       freed_there.kept t.agents.entries kept.free kept.consistent.agents.each kept.consistent.covered) in
       subst (λ (r : Rows). AreDerived r entries t.total t.clients) (sym accepted-rows) (record {
         consistent = IsConsistent-accepted (rows_in t) number o starts more kept.consistent found bundles can

@@ -1,7 +1,8 @@
 -- Agents whose entries change.
-use Rattle.std.specs.Prelude.{◌≡◌, ℕ, ◌≤◌, Bool, false, List, map, Option, Some, None, take, if◌then◌else◌}
+use Rattle.std.specs.Prelude.{◌≡◌, ℕ, ◌≤◌, Bool, true, false, List, map, Option, Some, None, take, if◌then◌else◌}
+use Rattle.std.specs.List.{AllByRecursion}
 use Rattle.std.specs.Option.{option_map}
-use Rattle.drf_bundle.specs.Bundle.{IsBundle, join, quantities_of, rest}
+use Rattle.drf_bundle.specs.Bundle.{IsBundle, join, quantities_of, refusal, rest}
 use Rattle.drf_bundle.specs.Quantities.{amount_of}
 use Rattle.drf_bundle.specs.declared.resource.Resource.{Resource}
 use Rattle.drf_rows.specs.Cycle.{free_of}
@@ -21,6 +22,14 @@ changed name change e = if same_text e.0 name then (e.0, change e.1) else e
 abbrev pub joined_free : Option (List Resource) → List Resource → Option (List Resource)
 joined_free None part = None
 joined_free (Some known) part = join known part
+
+-- the part joins what is free, where that is known
+abbrev pub CanTakeBack : List Resource → Option (List Resource) → Type 0
+CanTakeBack part free = (known : List Resource) → free ≡ Some known → refusal known part ≡ None
+
+-- and so it does on the agent of a name
+abbrev pub CanGiveBack : Text → List Resource → List (Text × Agent) → Type 0
+CanGiveBack name part entries = AllByRecursion (λ e. same_text e.0 name ≡ true → CanTakeBack part e.1.free) entries
 
 -- a part comes back, or what is free there is not known any more
 abbrev pub freed : Bool → List Resource → Agent → Agent

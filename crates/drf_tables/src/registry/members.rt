@@ -8,7 +8,7 @@ ghost use Rattle.drf_role.specs.Text.{same_text};
 ghost use Rattle.drf_rows.specs.Consistent.{are_distinct};
 ghost use Rattle.drf_rows.specs.Members.{suppressed_in};
 ghost use Rattle.drf_rows.specs.declared.rows.ClientRow.{ClientRow};
-ghost use Rattle.drf_tables.specs.registry.Changing.{changed, joined_free, with_active, HasFreed};
+ghost use Rattle.drf_tables.specs.registry.Changing.{changed, joined_free, with_active, CanGiveBack, CanTakeBack, HasFreed};
 ghost use Rattle.drf_tables.specs.cycle.Counting.{count_clients};
 ghost use Rattle.drf_tables.specs.Inside.{framework_rows};
 ghost use Rattle.drf_tables.specs.declared.tables.Agent.{Agent};
@@ -24,9 +24,10 @@ use drf_rows::ClientRow;
 
 /// What was free with a part that comes back. Where memory ends, it is not known.
 fn freed(free: &Option<FreePart>, part: &Bundle) -> Option<FreePart>
+    requires { CanTakeBack part.now free.now }
     ensures { (result ≡ joined_free free.now part.now) ⊎ (result ≡ None) }
 {
-    let both = free.as_ref()?.bundle().try_join(part).ok()?;
+    let both = free.as_ref()?.bundle().joined(part).ok()?;
     Some(FreePart::new(both))
 }
 
@@ -42,6 +43,7 @@ fn put_active(slot: &mut Option<(Name, Agent)>, active: bool)
 impl Registry {
     /// Gives an agent a part back that is held there no longer. Where memory ends, what is free there is not known any more.
     pub(crate) fn give_back(&mut self, name: &Name, part: &Bundle)
+        requires { CanGiveBack name.now part.now self.old.entries }
         ensures { HasFreed name.now part.now self.old.entries self.new.entries }
     {
         let Some(place) = self.places.get(name) else {

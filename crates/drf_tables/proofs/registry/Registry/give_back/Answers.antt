@@ -1,12 +1,15 @@
-use Rattle.std.proofs.Common.{◌≡◌, List, None, Some, true, false, map, set, inl, inr, sym, ap, ◌∙◌, subst, arith}
+use Rattle.std.proofs.Common.{◌≡◌, List, None, Some, true, false, length, map, set, take, inl, inr, sym, ap, ◌∙◌, subst, arith}
 use Rattle.std.specs.Option.{option_copied, option_map}
 use Rattle.drf_bundle.specs.declared.resource.Resource.{Resource}
-use Rattle.drf_role.specs.Text.{Text}
-use Rattle.drf_tables.specs.registry.Changing.{changed, freed}
+use Rattle.drf_bundle.specs.ListLaws.{each_at}
+use Rattle.drf_gates.specs.filters.Slots.{filled}
+use Rattle.drf_role.specs.Text.{Text, same_text}
+use Rattle.drf_row_laws.specs.ConsistentLaws.{same_text-swap}
+use Rattle.drf_tables.specs.registry.Changing.{changed, freed, CanGiveBack, CanTakeBack}
 use Rattle.drf_tables.specs.registry.Registered.{Registered, slot_of}
 use Rattle.drf_tables.specs.declared.tables.Agent.{Agent}
 use Rattle.drf_tables.proofs.registry.Changes.{changed_slot, unchanged_slots}
-use Rattle.drf_tables.proofs.registry.Slots.{Entry, no_gap, read_is, read_slot, registry-set, slot_found}
+use Rattle.drf_tables.proofs.registry.Slots.{Entry, filled_at, no_gap, read_is, read_slot, registry-set, slot_found}
 use Rattle.drf_tables.proofs.registry.Registry.give_back.Goals as goal
 
 pub returns-in_default : goal.returns-in_default
@@ -41,6 +44,23 @@ returns-in_default-index c =
     sym (c.self.invariant.found name) ∙ sym c.get.ensures.value ∙ ap option_copied c.in-Some.is in
     let here = slot_found name t.slots.items c.in-Some.place.now found in
     absurd (no_gap t.slots.items c.in-Some.place.now c.index.result.now here.entry here.below c.index.ensures here.there c.in_default-index.is)
+
+pub freed-free-requires : goal.freed-free-requires
+freed-free-requires c =
+    let t = c.self.inside in
+    let name : Text = c.args.name.now in
+    let found : slot_of name t.slots.items ≡ Some c.in-Some.place.now =
+    sym (c.self.invariant.found name) ∙ sym c.get.ensures.value ∙ ap option_copied c.in-Some.is in
+    let here = slot_found name t.slots.items c.in-Some.place.now found in
+    let e : Entry = c.in-Some-index.entry in
+    let place = c.in-Some.place.now in
+    let there = read_slot t.slots.items place c.index.result.now e here.below c.index.ensures c.in-Some-index.is in
+    let its = here.there in
+    let same : here.entry ≡ e = cc in
+    let named : same_text e.0 name ≡ true = same_text-swap e.0 name ∙ ap (λ (f : Entry). same_text name f.0) (sym same) ∙ here.named in
+    let part : List Resource = c.args.part.now in
+    each_at (λ (e : Entry). same_text e.0 name ≡ true → CanTakeBack part e.1.free) (filled t.slots.items) (length (filled (take place t.slots.items))) e
+    (subst (λ (r : Registered). CanGiveBack name part r.entries) (sym c.self.view_is) c.requires) (filled_at t.slots.items place e there) named
 
 pub index_mut-requires : goal.index_mut-requires
 index_mut-requires c =

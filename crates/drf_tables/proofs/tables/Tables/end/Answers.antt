@@ -6,7 +6,7 @@ use Rattle.drf_tables.specs.offers.Ended.{HasEnded}
 use Rattle.drf_tables.specs.Inside.{rows_in, rows_of}
 use Rattle.drf_tables.specs.Stored.{Stored}
 use Rattle.drf_holdings.specs.Stored.{HasTaken, holding_of}
-use Rattle.drf_tables.proofs.offers.Ended.{ended-kept, ended-one, rows_ended, rows-none, without_it, without-none}
+use Rattle.drf_tables.proofs.offers.Ended.{back-ended, ended-kept, ended-one, rows_ended, rows-none, without_it, without-none}
 use Rattle.drf_tables.proofs.limits.Recounted.{counts-ended, ending_fits}
 use Rattle.drf_tables.proofs.tables.Tables.end.Goals as goal
 
@@ -19,6 +19,14 @@ returns-in_err-taken-clause-none c =
       rows-none t c.take.new.self ending lost ∙ ap (λ (s : Stored). s.rows) c.self.view_is,
       subst (λ (s : Stored). without_ended s.rows ending ≡ s.rows) c.self.view_is (without-none t c.take.new.self ending lost),
     )
+
+pub give_back-requires : goal.give_back-requires
+give_back-requires c =
+    let t = c.self.inside in
+    let ending = ending_of c.args.ending in
+    let taken = c.in_ok-taken.taken in
+    let lost : HasTaken ending t.holdings c.take.new.self (Some taken) = c.in_ok-taken.ensures in
+    back-ended t c.take.new.self ending taken c.self.invariant.kept lost
 
 pub release_held-requires : goal.release_held-requires
 release_held-requires c =

@@ -7,13 +7,13 @@ use Rattle.drf_rows.specs.declared.rows.FilterRow.{FilterRow}
 use Rattle.drf_rows.specs.declared.rows.OfferRow.{OfferRow}
 use Rattle.drf_rows.specs.declared.rows.Rows.{Rows}
 use Rattle.drf_bundle.specs.declared.resource.Resource.{Resource}
-use Rattle.drf_tables.specs.registry.Changing.{HasFreed}
+use Rattle.drf_tables.specs.registry.Changing.{CanGiveBack, HasFreed}
 use Rattle.drf_tables.specs.offers.Ended.{with_accepted}
 use Rattle.drf_tables.specs.Inside.{rows_of, rows_in}
 use Rattle.drf_tables.specs.limits.Recounting.{CountsAll}
 use Rattle.drf_tables.specs.Stored.{Stored}
 use Rattle.drf_tables.proofs.limits.Counts.{counts-same}
-use Rattle.drf_tables.proofs.offers.Ended.{found_any, accepted-rows, accepted-kept}
+use Rattle.drf_tables.proofs.offers.Ended.{found_any, back-accepted, accepted-rows, accepted-kept}
 use Rattle.drf_tables.proofs.tables.Kept.{AreDerived-clocked}
 use Rattle.drf_tables.proofs.limits.Recounted.{accept_fits, counts-accepted}
 use Rattle.drf_tables.proofs.tables.Tables.start.Goals as goal
@@ -36,6 +36,20 @@ start-requires-clause-new c = λ o found.
     let both : ◌≡◌ {A = Option OfferRow} (Some o) (Some can.offer) = sym found ∙ can.at in
     let same : o ≡ can.offer = cc in
     subst (λ (p : OfferRow). AreNew t.holdings.tasks (map (task_of p) c.args.tasks)) (sym same) (new_starts (rows_in t) can.offer c.args.tasks can.can)
+
+pub give_back-requires : goal.give_back-requires
+unfolding rows_of
+give_back-requires c =
+    let t = c.self.inside in
+    let number = c.args.number in
+    let can : CanAccept (rows_in t) number c.args.tasks =
+    subst (λ (s : Stored). CanAccept s.rows number c.args.tasks) (sym c.self.view_is) c.requires.can in
+    let rest : c.args.rest ≡ left_of_offer can.offer c.args.tasks =
+    c.requires.rest can.offer (sym (ap (λ (s : Stored). offer_at s.rows number) c.self.view_is) ∙ can.at) in
+    let both : ◌≡◌ {A = Option OfferRow} (Some c.in-Ok.offer) (Some can.offer) = sym c.in-Ok.ensures.ok.found ∙ can.at in
+    let same : c.in-Ok.offer ≡ can.offer = cc in
+    subst (λ (p : OfferRow × List Resource). CanGiveBack p.0.agent p.1 t.agents.entries) (λ i. (sym same i, sym rest i))
+    (back-accepted t number c.args.tasks can.offer c.self.invariant.kept can.at c.requires.bundles can.can)
 
 pub release_held-requires : goal.release_held-requires
 unfolding rows_of

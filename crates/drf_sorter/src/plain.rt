@@ -236,6 +236,81 @@ impl PlainSorter {
     }
 }
 
+// What changes a client whose row is known, so that it is looked up once.
+impl PlainSorter {
+    ghost use Rattle.std.specs.Prelude.{drop, OnErr};
+    ghost use Rattle.drf_sorter.specs.Content.{HasChargeAt, HoldsAt, activated, charged, discharged, refunded, with_change};
+    ghost use Rattle.drf_sorter.specs.Plain.{plain_content};
+
+    #[tactic(auto, using(crate::proofs::ChangeLemmas::distinct_stays, crate::proofs::ChangeLemmas::listed_stays))]
+    pub fn set_active_at(&mut self, row: Option<usize>, path: &ClientPath, active: bool)
+        requires row { row ≡ position (λ c. same_path c.path path.now) self.old.clients.items }
+        requires known { has_client (plain_content self.old) path.now ≡ true }
+        ensures content { plain_content self.new ≡ with_change (plain_content self.old) path.now (activated active) }
+        ensures made { self.new.made ≡ self.old.made }
+    {
+        if let Some(at) = row {
+            self.clients[at].active = active;
+        }
+    }
+
+    #[tactic(auto, using(crate::proofs::ChangeLemmas::distinct_stays, crate::proofs::ChangeLemmas::listed_stays))]
+    pub fn charge_at(
+        &mut self,
+        row: Option<usize>,
+        path: &ClientPath,
+        quantities: &Quantities,
+        offers: u64,
+    ) -> Result<(), AllocError>
+        requires row { row ≡ position (λ c. same_path c.path path.now) self.old.clients.items }
+        requires known { has_client (plain_content self.old) path.now ≡ true }
+        requires sound { IsSound (with_change (plain_content self.old) path.now (charged quantities.now offers)) }
+        ensures ok { OnOk result (plain_content self.new ≡ with_change (plain_content self.old) path.now (charged quantities.now offers)) }
+        ensures err { OnErr result (plain_content self.new ≡ plain_content self.old) }
+        ensures queue { drop self.new.next self.new.queue.items ≡ drop self.old.next self.old.queue.items }
+        ensures made { self.new.made ≡ self.old.made }
+    {
+        if let Some(at) = row {
+            let client = &mut self.clients[at];
+            raise(&mut client.held, quantities)?;
+            client.count += offers;
+        }
+        Ok(())
+    }
+
+    #[tactic(auto, using(crate::proofs::ChangeLemmas::distinct_stays, crate::proofs::ChangeLemmas::listed_stays))]
+    pub fn undo_charge_at(&mut self, row: Option<usize>, path: &ClientPath, quantities: &Quantities)
+        requires row { row ≡ position (λ c. same_path c.path path.now) self.old.clients.items }
+        requires known { has_client (plain_content self.old) path.now ≡ true }
+        requires charged { HasChargeAt (plain_content self.old) path.now quantities.now }
+        ensures content { plain_content self.new ≡ with_change (plain_content self.old) path.now (discharged quantities.now) }
+        ensures queue { drop self.new.next self.new.queue.items ≡ drop self.old.next self.old.queue.items }
+        ensures made { self.new.made ≡ self.old.made }
+    {
+        quantities.recall();
+        if let Some(at) = row {
+            let client = &mut self.clients[at];
+            client.held.lower(quantities);
+            client.count -= 1;
+        }
+    }
+
+    #[tactic(auto, using(crate::proofs::ChangeLemmas::distinct_stays, crate::proofs::ChangeLemmas::listed_stays))]
+    pub fn refund_at(&mut self, row: Option<usize>, path: &ClientPath, quantities: &Quantities)
+        requires row { row ≡ position (λ c. same_path c.path path.now) self.old.clients.items }
+        requires known { has_client (plain_content self.old) path.now ≡ true }
+        requires held { HoldsAt (plain_content self.old) path.now quantities.now }
+        ensures content { plain_content self.new ≡ with_change (plain_content self.old) path.now (refunded quantities.now) }
+        ensures queue { drop self.new.next self.new.queue.items ≡ drop self.old.next self.old.queue.items }
+        ensures made { self.new.made ≡ self.old.made }
+    {
+        quantities.recall();
+        if let Some(at) = row {
+            self.clients[at].held.lower(quantities);
+        }
+    }
+}
+
 impl Sorter for PlainSorter {
     ghost use Rattle.drf_sorter.specs.Plain.{keys_to_make, plain_content};
     ghost use Rattle.std.specs.Prelude.{drop, false};
@@ -287,44 +362,29 @@ impl Sorter for PlainSorter {
         }
     }
 
-    #[tactic(auto, using(crate::proofs::ChangeLemmas::distinct_stays, crate::proofs::ChangeLemmas::listed_stays))]
     fn set_active(&mut self, path: &ClientPath, active: bool) {
-        if let Some(at) = self.row_of(path) {
-            self.clients[at].active = active;
-        }
+        let row = self.row_of(path);
+        self.set_active_at(row, path, active);
     }
 
-    #[tactic(auto, using(crate::proofs::ChangeLemmas::distinct_stays, crate::proofs::ChangeLemmas::listed_stays))]
     fn charge(
         &mut self,
         path: &ClientPath,
         quantities: &Quantities,
         offers: u64,
     ) -> Result<(), AllocError> {
-        if let Some(at) = self.row_of(path) {
-            let client = &mut self.clients[at];
-            raise(&mut client.held, quantities)?;
-            client.count += offers;
-        }
-        Ok(())
+        let row = self.row_of(path);
+        self.charge_at(row, path, quantities, offers)
     }
 
-    #[tactic(auto, using(crate::proofs::ChangeLemmas::distinct_stays, crate::proofs::ChangeLemmas::listed_stays))]
     fn undo_charge(&mut self, path: &ClientPath, quantities: &Quantities) {
-        quantities.recall();
-        if let Some(at) = self.row_of(path) {
-            let client = &mut self.clients[at];
-            client.held.lower(quantities);
-            client.count -= 1;
-        }
+        let row = self.row_of(path);
+        self.undo_charge_at(row, path, quantities);
     }
 
-    #[tactic(auto, using(crate::proofs::ChangeLemmas::distinct_stays, crate::proofs::ChangeLemmas::listed_stays))]
     fn refund(&mut self, path: &ClientPath, quantities: &Quantities) {
-        quantities.recall();
-        if let Some(at) = self.row_of(path) {
-            self.clients[at].held.lower(quantities);
-        }
+        let row = self.row_of(path);
+        self.refund_at(row, path, quantities);
     }
 
     fn set_total(&mut self, total: Quantities) {

@@ -95,8 +95,9 @@ impl Sorter for TreeSorter {
 
     fn set_active(&mut self, path: &ClientPath, active: bool) {
         self.walk.stop();
-        let known = leaf_at(&self.leaves, self.ledger.row_of(path));
-        self.ledger.set_active(path, active);
+        let row = self.ledger.row_of(path);
+        let known = leaf_at(&self.leaves, row);
+        self.ledger.set_active_at(row, path, active);
         let Some(node) = self.tree.leaf(known, path) else {
             return;
         };
@@ -109,20 +110,22 @@ impl Sorter for TreeSorter {
         quantities: &Quantities,
         offers: u64,
     ) -> Result<(), AllocError> {
-        let known = leaf_at(&self.leaves, self.ledger.row_of(path));
+        let row = self.ledger.row_of(path);
+        let known = leaf_at(&self.leaves, row);
         let Some(node) = self.tree.leaf(known, path) else {
             return Ok(());
         };
         self.is_total_free = false;
         self.tree.name_labels(node, quantities)?;
-        self.ledger.charge(path, quantities, offers)?;
+        self.ledger.charge_at(row, path, quantities, offers)?;
         self.tree.charge(node, quantities, offers);
         Ok(())
     }
 
     fn undo_charge(&mut self, path: &ClientPath, quantities: &Quantities) {
-        let known = leaf_at(&self.leaves, self.ledger.row_of(path));
-        self.ledger.undo_charge(path, quantities);
+        let row = self.ledger.row_of(path);
+        let known = leaf_at(&self.leaves, row);
+        self.ledger.undo_charge_at(row, path, quantities);
         let Some(node) = self.tree.leaf(known, path) else {
             return;
         };
@@ -131,8 +134,9 @@ impl Sorter for TreeSorter {
     }
 
     fn refund(&mut self, path: &ClientPath, quantities: &Quantities) {
-        let known = leaf_at(&self.leaves, self.ledger.row_of(path));
-        self.ledger.refund(path, quantities);
+        let row = self.ledger.row_of(path);
+        let known = leaf_at(&self.leaves, row);
+        self.ledger.refund_at(row, path, quantities);
         let Some(node) = self.tree.leaf(known, path) else {
             return;
         };

@@ -25,19 +25,19 @@ invariant_of-self c =
     (c.name_labels.ensures.tree content c.self.invariant.of_ledger) (total_counts content c.name_labels.new.self) c.self.invariant.tidy
     c.name_labels.ensures.places c.name_labels.ensures.families c.self.invariant.frames c.self.invariant.settled
 
-pub invariant_of-self-in_err-charge : goal.invariant_of-self-in_err-charge
-invariant_of-self-in_err-charge c =
+pub invariant_of-self-in_err-charge_at : goal.invariant_of-self-in_err-charge_at
+invariant_of-self-in_err-charge_at c =
     let content = plain_content c.self.inside.ledger in
-    kept_by c.charge.new.self content c.in_err-charge.ensures.err c.self.inside.tree c.name_labels.new.self c.self.inside.walk false
+    kept_by c.charge_at.new.self content c.in_err-charge_at.ensures.err c.self.inside.tree c.name_labels.new.self c.self.inside.walk false
     (c.name_labels.ensures.tree content c.self.invariant.of_ledger) (total_counts content c.name_labels.new.self) c.self.invariant.tidy
     c.name_labels.ensures.places c.name_labels.ensures.families c.self.invariant.frames c.self.invariant.settled
 
-pub charge-requires-2-clause-shape : goal.charge-requires-2-clause-shape
-charge-requires-2-clause-shape c =
+pub charge-requires-clause-shape : goal.charge-requires-clause-shape
+charge-requires-clause-shape c =
     (c.name_labels.ensures.tree (plain_content c.self.inside.ledger) c.self.invariant.of_ledger).shape
 
-pub charge-requires-2-clause-room : goal.charge-requires-2-clause-room
-charge-requires-2-clause-room c =
+pub charge-requires-clause-room : goal.charge-requires-clause-room
+charge-requires-clause-room c =
     let ledger = ap (λ (s : Sorted). s.ledger) c.self.view_is in
     let content = plain_content c.self.inside.ledger in
     let places = c.name_labels.ensures.places in
@@ -57,24 +57,24 @@ invariant_of-self-2 c =
     known_in c.self.inside.ledger c.args.self.now.ledger path (ap (λ (s : Sorted). s.ledger) c.self.view_is) c.requires.known in
     let places = c.name_labels.ensures.places in
     let of = c.name_labels.ensures.tree content c.self.invariant.of_ledger in
-    kept_along c.charge.new.self content now c.in_ok-charge.ensures.ok
+    kept_along c.charge_at.new.self content now c.in_ok-charge_at.ensures.ok
     (active_stays path (charged c.args.quantities.now c.args.offers) (λ d. refl) (λ d. refl) content)
-    c.self.inside.tree c.charge-2.new.self c.self.inside.walk false
-    (c.charge-2.ensures.tree content path of
+    c.self.inside.tree c.charge.new.self c.self.inside.walk false
+    (c.charge.ensures.tree content path of
     (leaf_of content c.name_labels.new.self c.in-Some.node path of known
     (ap (λ (v : _). is_live v.items c.in-Some.node) places ∙ c.in-Some.ensures.live)
     (ap (λ (v : _). path_at v.items c.in-Some.node) places ∙ c.in-Some.ensures.at)) known)
-    (total_counts now c.charge-2.new.self)
+    (total_counts now c.charge.new.self)
     (λ i live. has_changed content path (charged c.args.quantities.now c.args.offers) (λ d. refl) _ (c.self.invariant.tidy i live))
-    (c.charge-2.ensures.places ∙ places) (c.charge-2.ensures.families ∙ c.name_labels.ensures.families)
+    (c.charge.ensures.places ∙ places) (c.charge.ensures.families ∙ c.name_labels.ensures.families)
     c.self.invariant.frames c.self.invariant.settled
 
 pub returns-clause-queue : goal.returns-clause-queue
 returns-clause-queue c =
     let content = plain_content c.self.inside.ledger in
-    queue_stays content (plain_content c.charge.new.self)
-    (ap active_paths c.in_ok-charge.ensures.ok
+    queue_stays content (plain_content c.charge_at.new.self)
+    (ap active_paths c.in_ok-charge_at.ensures.ok
     ∙ active_stays c.args.path.now (charged c.args.quantities.now c.args.offers) (λ d. refl) (λ d. refl) content)
-    c.self.inside.tree c.charge-2.new.self (c.charge-2.ensures.places ∙ c.name_labels.ensures.places)
-    (c.charge-2.ensures.families ∙ c.name_labels.ensures.families) c.self.inside.walk.frames.items
+    c.self.inside.tree c.charge.new.self (c.charge.ensures.places ∙ c.name_labels.ensures.places)
+    (c.charge.ensures.families ∙ c.name_labels.ensures.families) c.self.inside.walk.frames.items
     ∙ ap (λ (s : Sorted). s.queue) c.self.view_is

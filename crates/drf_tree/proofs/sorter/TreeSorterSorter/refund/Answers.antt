@@ -50,7 +50,7 @@ invariant_of-self-2 c =
     (c.lower.ensures.tree before path of
     (leaf_of before tree c.in-Some.node path of known c.in-Some.ensures.live c.in-Some.ensures.at) known
     (can_refund before path quantities held)) in
-    kept_along c.refund.new.self content now c.refund.ensures.content
+    kept_along c.refund_at.new.self content now c.refund_at.ensures.content
     (active_stays path (refunded quantities) (λ d. refl) (λ d. refl) content) tree c.lower.new.self c.self.inside.walk
     c.self.inside.is_total_free (along content.total c.self.invariant.of_ledger) (λ on total. along total (c.self.invariant.free on total))
     (λ i live. has_changed content path (refunded quantities) (λ d. refl) _ (c.self.invariant.tidy i live))
@@ -67,8 +67,8 @@ returns-in_default-clause-queue c =
 pub returns-clause-queue : goal.returns-clause-queue
 returns-clause-queue c =
     let content = plain_content c.self.inside.ledger in
-    queue_stays content (plain_content c.refund.new.self)
-    (ap active_paths c.refund.ensures.content
+    queue_stays content (plain_content c.refund_at.new.self)
+    (ap active_paths c.refund_at.ensures.content
     ∙ active_stays c.args.path.now (refunded c.args.quantities.now) (λ d. refl) (λ d. refl) content)
     c.self.inside.tree c.lower.new.self c.lower.ensures.places c.lower.ensures.families c.self.inside.walk.frames.items
     ∙ ap (λ (s : Sorted). s.queue) c.self.view_is

@@ -36,7 +36,7 @@ invariant_of-self-2 c =
     let ledger = ap (λ (s : Sorted). s.ledger) c.self.view_is in
     let now : Content = with_change content path (discharged c.args.quantities.now) in
     let known = known_in c.self.inside.ledger c.args.self.now.ledger path ledger c.requires.known in
-    kept_along c.undo_charge.new.self content now c.undo_charge.ensures.content
+    kept_along c.undo_charge_at.new.self content now c.undo_charge_at.ensures.content
     (active_stays path (discharged c.args.quantities.now) (λ d. refl) (λ d. refl) content) tree c.lower.new.self c.self.inside.walk false
     (c.lower.ensures.tree content path c.self.invariant.of_ledger
     (leaf_of content tree c.in-Some.node path c.self.invariant.of_ledger known c.in-Some.ensures.live c.in-Some.ensures.at) known
@@ -56,8 +56,8 @@ returns-in_default-clause-queue c =
 pub returns-clause-queue : goal.returns-clause-queue
 returns-clause-queue c =
     let content = plain_content c.self.inside.ledger in
-    queue_stays content (plain_content c.undo_charge.new.self)
-    (ap active_paths c.undo_charge.ensures.content
+    queue_stays content (plain_content c.undo_charge_at.new.self)
+    (ap active_paths c.undo_charge_at.ensures.content
     ∙ active_stays c.args.path.now (discharged c.args.quantities.now) (λ d. refl) (λ d. refl) content)
     c.self.inside.tree c.lower.new.self c.lower.ensures.places c.lower.ensures.families c.self.inside.walk.frames.items
     ∙ ap (λ (s : Sorted). s.queue) c.self.view_is

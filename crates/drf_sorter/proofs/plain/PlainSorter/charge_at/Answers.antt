@@ -1,15 +1,15 @@
-use Rattle.std.proofs.Common.{◌+◌, ap, arith}
+use Rattle.std.proofs.Common.{◌+◌, ap, arith, sym, ◌∙◌}
 use Rattle.drf_sorter.specs.declared.client.Client.{Client}
 use Rattle.drf_sorter.specs.Content.{charged}
 use Rattle.drf_sorter.proofs.ChangeLemmas.{place-found, changed_in_sum, known-found, charged_is, changed_one, with_clients}
-use Rattle.drf_sorter.proofs.plain.PlainSorterSorter.charge.Goals as goal
+use Rattle.drf_sorter.proofs.plain.PlainSorter.charge_at.Goals as goal
 
 pub raise-requires : goal.raise-requires
 raise-requires c label =
     let clients = c.args.self.now.clients.items in
     let x = c.index_mut-client.result.now in
     let found =
-    place-found clients c.args.path.now c.in-Some.at x c.in-Some.ensures
+    place-found clients c.args.path.now c.in-Some.at x (sym c.in-Some.is ∙ c.requires.row)
     c.index_mut-client.ensures.value in
     let part =
     changed_in_sum c.args.path.now (charged c.args.quantities.now c.args.offers) (λ r. r.held label) clients c.in-Some.at x found in
@@ -20,7 +20,7 @@ overflow_add-client c =
     let clients = c.args.self.now.clients.items in
     let x = c.index_mut-client.result.now in
     let found =
-    place-found clients c.args.path.now c.in-Some.at x c.in-Some.ensures
+    place-found clients c.args.path.now c.in-Some.at x (sym c.in-Some.is ∙ c.requires.row)
     c.index_mut-client.ensures.value in
     let part =
     changed_in_sum c.args.path.now (charged c.args.quantities.now c.args.offers) (λ r. r.count) clients c.in-Some.at x found in
@@ -33,7 +33,7 @@ returns-in_ok-raise-clause-ok c =
     let x = c.index_mut-client.result.now in
     let y : Client = record x { held = c.raise.new.held; count = x.count + c.args.offers } in
     let found =
-    place-found clients c.args.path.now c.in-Some.at x c.in-Some.ensures
+    place-found clients c.args.path.now c.in-Some.at x (sym c.in-Some.is ∙ c.requires.row)
     c.index_mut-client.ensures.value in
     let made =
     charged_is x c.args.quantities.now c.args.offers c.raise.new.held c.in_ok-raise.ensures.ok in
@@ -43,6 +43,4 @@ returns-in_ok-raise-clause-ok c =
 pub returns-in_default-clause-ok : goal.returns-in_default-clause-ok
 returns-in_default-clause-ok c =
     let clients = c.args.self.now.clients.items in
-    absurd
-    (known-found clients c.args.path.now c.requires.known
-    c.in_default.ensures)
+    absurd (known-found clients c.args.path.now c.requires.known (sym c.in_default.is ∙ c.requires.row))

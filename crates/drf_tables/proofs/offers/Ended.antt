@@ -3,7 +3,7 @@ use Rattle.std.specs.Prelude.{◌≡◌, ℕ, ◌+◌, ◌≤◌, ◌==◌, ◌|
 use Rattle.std.specs.List.{list_any, AllByRecursion}
 use Rattle.std.specs.Option.{option_map_or}
 use Rattle.std.proofs.Common.{refl, sym, ap, ◌∙◌, subst, inl, inr}
-use Rattle.drf_role.specs.Text.{Text, same_text}
+use Rattle.drf_role.specs.Text.{Text}
 use Rattle.drf_bundle.specs.Bundle.{IsBundle, units}
 use Rattle.drf_bundle.specs.Taken.{units_of_all}
 use Rattle.drf_bundle.specs.laws.TakenLaws.{bundle-rest_of_all}

@@ -33,21 +33,25 @@ def count_of(words, line):
 
 
 def has_come(stream, count):
-    """Whether so many lines come in time."""
+    """Whether just so many lines come in time."""
     text = b""
     while text.count(b"\n") < count:
-        if not select.select([stream], [], [], SECONDS)[0]:
+        more = stream.read(65_536) if select.select([stream], [], [], SECONDS)[0] else b""
+        if not more:
             return False
-        text += stream.read(65_536)
-    return True
+        text += more
+    return text.count(b"\n") == count and text.endswith(b"\n")
 
 
 def late_lines(program, words, lines):
-    """The lines of which not all came before the next one was given."""
+    """The lines of which not just all came before the next one was given."""
     how = {name: subprocess.PIPE for name in ("stdin", OUT, ERR)}
     ran, late = subprocess.Popen([program, *words], bufsize=0, **how), []
     for line, stream in lines:
-        ran.stdin.write(line.encode() + b"\n")
+        try:
+            ran.stdin.write(line.encode() + b"\n")
+        except BrokenPipeError:
+            return [*late, line]
         if not has_come(getattr(ran, stream), count_of(words, line)):
             late.append(line)
     ran.communicate()
@@ -55,10 +59,12 @@ def late_lines(program, words, lines):
 
 
 def main(program=None):
-    program = program or built_program()
+    program, wrong = program or built_program(), 0
     for words, lines in CASES:
         late = late_lines(inspector_of(program) if words[0] == "lint" else program, words, lines)
         print(f"{' '.join(words):18}{len(lines):3} lines, {len(late)} late", *late, sep="\n  " if late else "", flush=True)
+        wrong += len(late)
+    sys.exit(1 if wrong else 0)
 
 
 if __name__ == "__main__":

@@ -1,1 +1,3 @@
+mod Flushed
 mod Bounds
+mod Begun

@@ -1,3 +1,4 @@
 pub mod Line
 pub mod Verdicts
+pub mod Lints
 pub mod Done

@@ -4,7 +4,9 @@
 mod check;
 mod explain;
 mod line;
+mod lint;
 mod run;
+mod show;
 mod tasks;
 
 pub use line::{Request, Scope, Task};

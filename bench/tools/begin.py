@@ -19,23 +19,13 @@ def built_program():
     return f"{ROOT}/crates/drf/out/drf"
 
 
-def beside(program, crate, words):
-    """Another program beside one: of that which ./drf builds, the one of a crate, which is built by those words where it must be, and else
-    the one of the same name with the end of the crate's name behind it."""
-    if program != f"{ROOT}/crates/drf/out/drf":
-        return f"{program}_{crate.removeprefix('drf_')}"
-    subprocess.run([f"{ROOT}/drf", *words], stdout=subprocess.DEVNULL, check=True)
-    return f"{ROOT}/crates/{crate}/out/{crate}"
-
-
 def driver_of(program):
-    """The program that drives files."""
-    return beside(program, "drf_driver", ["drive", "--version"])
-
-
-def inspector_of(program):
-    """The program that shows states and lints lines."""
-    return beside(program, "drf_inspector", ["show", "--help"])
+    """The program that drives files: beside the built one that of ./drf drive, which is built where it must be, and else the one of the
+    same name with `_driver` behind it."""
+    if program != f"{ROOT}/crates/drf/out/drf":
+        return f"{program}_driver"
+    subprocess.run([f"{ROOT}/drf", "drive", "--version"], stdout=subprocess.DEVNULL, check=True)
+    return f"{ROOT}/crates/drf_driver/out/drf_driver"
 
 
 def inputs(extent):

@@ -242,6 +242,7 @@ impl PlainSorter {
     ghost use Rattle.drf_sorter.specs.Content.{HasChargeAt, HoldsAt, activated, charged, discharged, refunded, with_change};
     ghost use Rattle.drf_sorter.specs.Plain.{plain_content};
 
+    /// As `set_active`, of a client at the row that `row_of` gives.
     #[tactic(auto, using(crate::proofs::ChangeLemmas::distinct_stays, crate::proofs::ChangeLemmas::listed_stays))]
     pub fn set_active_at(&mut self, row: Option<usize>, path: &ClientPath, active: bool)
         requires row { row ≡ position (λ c. same_path c.path path.now) self.old.clients.items }
@@ -254,6 +255,7 @@ impl PlainSorter {
         }
     }
 
+    /// As `charge`, of a client at the row that `row_of` gives.
     #[tactic(auto, using(crate::proofs::ChangeLemmas::distinct_stays, crate::proofs::ChangeLemmas::listed_stays))]
     pub fn charge_at(
         &mut self,
@@ -278,6 +280,7 @@ impl PlainSorter {
         Ok(())
     }
 
+    /// As `undo_charge`, of a client at the row that `row_of` gives.
     #[tactic(auto, using(crate::proofs::ChangeLemmas::distinct_stays, crate::proofs::ChangeLemmas::listed_stays))]
     pub fn undo_charge_at(&mut self, row: Option<usize>, path: &ClientPath, quantities: &Quantities)
         requires row { row ≡ position (λ c. same_path c.path path.now) self.old.clients.items }
@@ -295,6 +298,7 @@ impl PlainSorter {
         }
     }
 
+    /// As `refund`, of a client at the row that `row_of` gives.
     #[tactic(auto, using(crate::proofs::ChangeLemmas::distinct_stays, crate::proofs::ChangeLemmas::listed_stays))]
     pub fn refund_at(&mut self, row: Option<usize>, path: &ClientPath, quantities: &Quantities)
         requires row { row ≡ position (λ c. same_path c.path path.now) self.old.clients.items }

@@ -1,5 +1,6 @@
 -- Laws of filters.
-use Rattle.std.proofs.Common.{◌≡◌, ◌≢◌, ◌+◌, ◌%◌, ◌<◌, ◌≤◌, ◌&&◌, ◌==◌, if◌then◌else◌, ℕ, zero, suc, Bool, true, false, not, inl, inr, map, filter, refl, List, [], ◌∷◌, ◌++◌, Option, None, Some, is_some, nat_lt, length, get_or, set, take, replicate, ap, ◌∙◌, sym, subst, min, mod-lt, arith, length-append}
+use Rattle.std.proofs.Common.{◌≡◌, ◌≢◌, ◌+◌, ◌*◌, ◌%◌, ◌<◌, ◌≤◌, ◌&&◌, ◌==◌, if◌then◌else◌, ℕ, zero, suc, Bool, true, false, not, inl, inr, map, filter, refl, List, [], ◌∷◌, ◌++◌, Option, None, Some, is_some, nat_lt, length, get_or, set, take, replicate, ap, ◌∙◌, sym, subst, min, arith, length-append}
+use Rattle.std.proofs.Math.Nat.{div-lt_iff_lt-mul, mod-lt, mul-lt-mul_of_pos_right}
 use Rattle.drf_hash.specs.declared.name_hasher.NameHasher.{NameHasher}
 use Rattle.std.specs.List.{list_any}
 use Rattle.std.proofs.lemmas.Bool.{cases_Bool, cases_eq, cases_lt, false_from_ne_true, and_parts, and_from, lt-ltb, ltb-true}
@@ -19,7 +20,7 @@ use Rattle.drf_rows.specs.Filters.{is_in_force, in_force, is_of_client, is_on_ag
 use Rattle.drf_rows.specs.declared.rows.FilterRow.{FilterRow}
 use Rattle.drf_gates.specs.filters.Laws.{LessIsHeldBack, HeldBackIsRefused}
 use Rattle.drf_gates.specs.filters.Chains.{IsLast, IsChained}
-use Rattle.drf_gates.specs.filters.Index.{client_hash, pair_hash, row_hash, slot_hash, link_hash, hashes_in, befores, bucket_of, buckets_in, IsTidy, IsTidyTo, IsLedTo, IsMarked, IsIndexed, IsLeft, HasRoom, NoneEndsBefore}
+use Rattle.drf_gates.specs.filters.Index.{client_hash, pair_hash, row_hash, slot_hash, link_hash, hashes_in, befores, hash_bucket, bucket_of, buckets_in, IsTidy, IsTidyTo, IsLedTo, IsMarked, IsIndexed, IsLeft, HasRoom, NoneEndsBefore}
 use Rattle.drf_gates.specs.filters.Slots.{filled, slot_passes, without_one, filters_in, AreMarked, AreTidy, IsSlots, IsClosed, IsFilterTable}
 use Rattle.drf_gates.specs.declared.filters.index.Index.{Index}
 use Rattle.drf_gates.specs.declared.filters.index.Link.{Link}
@@ -54,6 +55,14 @@ held_back_is_refused filters clock client agent bundle held are_bundles is_part 
       same_from_test f.agent agent on.0,
       (covers_by_units f.bundle bundle is_bundle is_part).0 on.1,
     )
+
+-- ---- a bucket is one of those that there are
+
+pub bucket-lt : (hash : ℕ) {number : ℕ} → 0 < number → hash_bucket number hash < number
+unfolding hash_bucket
+bucket-lt hash {number} some =
+    let below : hash % 4294967296 * number < 4294967296 * number = mul-lt-mul_of_pos_right (mod-lt hash (omega arith)) some in
+    (div-lt_iff_lt-mul (omega arith)).1 (omega (arith, below))
 
 -- ---- what is found has its hash
 
@@ -155,7 +164,7 @@ tidy-gap index place link tidy small hash none =
 
 pub tidy-next : (index : Index) (all : List ℕ) (links : List Link) (place bucket head : ℕ) (link : Link) → IsTidyTo place index → place < length index.links.items
     → link_hash link ≡ get_or (hashes_in index) place None → (link.before == 18446744073709551615) ≡ false
-    → bucket ≡ link.mark % length index.heads.items → bucket < length index.heads.items → head ≡ get_or index.heads.items bucket 0
+    → bucket ≡ hash_bucket (length index.heads.items) link.mark → bucket < length index.heads.items → head ≡ get_or index.heads.items bucket 0
     → map link_hash links ≡ hashes_in index → map (λ (l : Link). l.before) links ≡ set (befores index) place head → all ≡ set index.heads.items bucket (place + 1)
     → IsChained (take (place + 1) (map (bucket_of (length all)) (map link_hash links))) all (take (place + 1) (map (λ (l : Link). l.before) links))
 tidy-next index all links place bucket head link tidy small hash none is_bucket known is_head hashes goes heads =
@@ -191,7 +200,7 @@ tidy-all index place all tidy =
 
 -- ---- a filter is put behind the others
 
-pub tidy-push : (index : Index) (all : List ℕ) (links : List Link) (mark bucket head next : ℕ) → IsTidy index → bucket ≡ mark % length index.heads.items
+pub tidy-push : (index : Index) (all : List ℕ) (links : List Link) (mark bucket head next : ℕ) → IsTidy index → bucket ≡ hash_bucket (length index.heads.items) mark
     → bucket < length index.heads.items → next ≡ length index.links.items + 1 → head ≡ get_or index.heads.items bucket 0
     → map link_hash links ≡ hashes_in index ++ Some mark ∷ [] → map (λ (l : Link). l.before) links ≡ befores index ++ head ∷ []
     → all ≡ set index.heads.items bucket next → IsTidyBy all links
@@ -341,7 +350,7 @@ led-on_link index bucket from after p next place tidy known led at is before own
 
 -- the bucket of a link
 pub link-bucket : (index : Index) (place bucket : ℕ) (link : Link) → place < length index.links.items → link_hash link ≡ get_or (hashes_in index) place None
-    → get_or (hashes_in index) place None ≢ None → bucket ≡ link.mark % length index.heads.items → get_or (buckets_in index) place 0 ≡ bucket
+    → get_or (hashes_in index) place None ≢ None → bucket ≡ hash_bucket (length index.heads.items) link.mark → get_or (buckets_in index) place 0 ≡ bucket
 link-bucket index place bucket link small read is is_bucket =
     bucket-at index place small
     ∙ ap (λ (h : Option ℕ). bucket_of (length index.heads.items) h) (sym read ∙ hash-some link (λ e. is (sym read ∙ e))) ∙ sym is_bucket
@@ -419,16 +428,16 @@ module _ (rows : List (Option FilterRow)) (index : Index) (test : Option FilterR
   -- it has come to a place of the bucket, or has ended, and no slot behind passes the test
   pub record IsWalked (after : ℕ) : Type 0 where
     pub within : after ≤ length rows
-    pub own : (place : ℕ) → after ≡ place + 1 → get_or (buckets_in index) place 0 ≡ hash % length index.heads.items
+    pub own : (place : ℕ) → after ≡ place + 1 → get_or (buckets_in index) place 0 ≡ hash_bucket (length index.heads.items) hash
     pub passed : (place : ℕ) (d : Option FilterRow) → after ≤ place → place < length rows → test (get_or rows place d) ≡ false
 
   module _ (key : Key) (indexed : IsIndexed key rows index) (its : (s : Option FilterRow) → test s ≡ true → slot_hash index.start key s ≡ Some hash)
       (known : 0 < length index.heads.items) where
     abbrev bucket : ℕ
-    bucket = hash % length index.heads.items
+    bucket = hash_bucket (length index.heads.items) hash
 
     below : bucket < length index.heads.items
-    below = mod-lt hash known
+    below = bucket-lt hash known
 
     number : length (buckets_in index) ≡ length rows
     number = buckets-long index ∙ marked-long key rows index indexed.marked
@@ -551,7 +560,7 @@ module _ (client : Client) (s t : Slots) (place next : ℕ) (slots : IsSlots s) 
   its_hash = client_hash s.clients.start client.role client.framework
 
   abbrev its_bucket : ℕ
-  its_bucket = its_hash % length s.clients.heads.items
+  its_bucket = hash_bucket (length s.clients.heads.items) its_hash
 
   elsewhere : (q : ℕ) (d : Option FilterRow) → q ≢ place → get_or t.rows.items q d ≡ get_or s.rows.items q d
   elsewhere q d apart =
@@ -579,7 +588,7 @@ module _ (client : Client) (s t : Slots) (place next : ℕ) (slots : IsSlots s) 
       let its : get_or (buckets_in s.clients) place 0 ≡ its_bucket = walked.own place refl in
       let last : IsLast (buckets_in s.clients) its_bucket place next =
       subst (λ (q : ℕ × ℕ). IsLast (buckets_in s.clients) q.0 place q.1) (λ i. (its i, sym is_next i))
-      (slots.clients.tidy.link place (omega (arith, small, number)) (omega (arith, its, mod-lt its_hash known)))
+      (slots.clients.tidy.link place (omega (arith, small, number)) (omega (arith, its, bucket-lt its_hash known)))
       in
       let own_bucket : (q : ℕ) (d : Option FilterRow) → q < length s.rows.items → slot_passes (is_of_client client) (get_or s.rows.items q d) ≡ true
       → get_or (buckets_in s.clients) q 0 ≡ its_bucket = λ q d below passes.
@@ -590,7 +599,7 @@ module _ (client : Client) (s t : Slots) (place next : ℕ) (slots : IsSlots s) 
         within = omega (arith, last.within, small, long);
         own = λ q at.
             own-elsewhere q (λ e. absurd (omega (arith, at, e, last.within))) (omega (arith, at, last.within, small)) ∙ last.own q at
-            ∙ (λ i. client_hash (sym begins i) client.role client.framework % sym heads i);
+            ∙ (λ i. hash_bucket (sym heads i) (client_hash (sym begins i) client.role client.framework));
         passed = λ q d after below. elim (cases_eq q place) [
           | inl here ↦
               ap (λ (k : ℕ). slot_passes (is_of_client client) (get_or t.rows.items k d)) here

@@ -1,5 +1,5 @@
 -- Where the filters of a client, or of a client on an agent, stand among all.
-use Rattle.std.specs.Prelude.{◌≡◌, ℕ, ◌+◌, ◌%◌, ◌<◌, ◌≤◌, ◌==◌, if◌then◌else◌, List, Option, None, Some, ◌∷◌, [], length, map, take, slice_index, All, vec_capacity}
+use Rattle.std.specs.Prelude.{◌≡◌, ℕ, ◌+◌, ◌%◌, ◌*◌, ◌/◌, ◌<◌, ◌≤◌, ◌==◌, if◌then◌else◌, List, Option, None, Some, ◌∷◌, [], length, map, take, slice_index, All, vec_capacity}
 use Rattle.std.specs.Option.{option_map}
 use Rattle.std.specs.Hash.FoldHasher as folding
 use Rattle.drf_hash.specs.Reading.{read_text}
@@ -48,10 +48,14 @@ hashes_in index = map link_hash index.links.items
 abbrev pub befores : Index → List ℕ
 befores index = map (λ (link : Link). link.before) index.links.items
 
--- the bucket of a hash among so many; without a hash it is none of them
+-- the bucket of a hash among so many, by its last 32 bits
+unfoldable pub hash_bucket : ℕ → ℕ → ℕ
+hash_bucket number hash = hash % 4294967296 * number / 4294967296
+
+-- without a hash it is none of them
 abbrev pub bucket_of : ℕ → Option ℕ → ℕ
 bucket_of number None = number
-bucket_of number (Some hash) = hash % number
+bucket_of number (Some hash) = hash_bucket number hash
 
 abbrev pub buckets_in : Index → List ℕ
 buckets_in index = map (bucket_of (length index.heads.items)) (hashes_in index)

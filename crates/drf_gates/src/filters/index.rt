@@ -1,7 +1,7 @@
 //! Where the filters of a client, or of a client on an agent, stand among all.
 ghost use Rattle.std.specs.Prelude.{◌≡◌, ◌≢◌, ◌+◌, ◌*◌, ◌%◌, ◌<◌, ◌≤◌, [], ◌∷◌, ◌++◌, List, Option, None, Some, length, min, slice_index, slice_index_or, set, replicate, vec_capacity, OnOk};
 ghost use Rattle.drf_rows.specs.declared.rows.FilterRow.{FilterRow};
-ghost use Rattle.drf_gates.specs.filters.Index.{client_hash, client_read, pair_hash, row_hash, slot_hash, link_hash, hashes_in, befores, IsTidy, IsTidyTo, IsLedTo, IsIndexed, IsLeft, HasRoom};
+ghost use Rattle.drf_gates.specs.filters.Index.{client_hash, client_read, hash_bucket, pair_hash, row_hash, slot_hash, link_hash, hashes_in, befores, IsTidy, IsTidyTo, IsLedTo, IsIndexed, IsLeft, HasRoom};
 
 use drf_hash::NameHasher;
 use drf_role::{Name, Role};
@@ -63,6 +63,16 @@ fn row_hash(start: NameHasher, key: Key, row: &FilterRow) -> u64
     }
 }
 
+/// The bucket of a hash among so many: by a product, as a division takes as long as the rest of a search.
+#[tactic(auto, unfolding(crate::specs::filters::Index::hash_bucket))]
+fn bucket_among(number: usize, hash: u64) -> usize
+    requires { 0 < number }
+    ensures value { result ≡ hash_bucket number hash }
+    ensures within { result < number }
+{
+    (u128::from(hash % 4_294_967_296) * number as u128 / 4_294_967_296) as usize
+}
+
 /// Ends each chain at once.
 fn cut(heads: &mut [usize])
     ensures { heads.new ≡ replicate (length heads.old) 0 }
@@ -109,16 +119,16 @@ impl Index {
 
     fn bucket(&self, hash: u64) -> usize
         requires { 0 < length self.now.heads.items }
-        ensures value { result ≡ hash % length self.now.heads.items }
+        ensures value { result ≡ hash_bucket (length self.now.heads.items) hash }
         ensures within { result < length self.now.heads.items }
     {
-        (hash % self.heads.len() as u64) as usize
+        bucket_among(self.heads.len(), hash)
     }
 
     /// Where the chain of a hash begins.
     pub(crate) fn last(&self, hash: u64) -> usize
         requires { 0 < length self.now.heads.items }
-        ensures { result ≡ slice_index self.now.heads.items (hash % length self.now.heads.items) }
+        ensures { result ≡ slice_index self.now.heads.items (hash_bucket (length self.now.heads.items) hash) }
     {
         self.heads[self.bucket(hash)]
     }

@@ -1,9 +1,10 @@
-use Rattle.std.proofs.Common.{◌≡◌, ◌-◌, ◌%◌, ◌<◌, ◌==◌, ℕ, true, false, length, get_or, ap, refl, subst, sym, ◌∙◌, arith}
+use Rattle.std.proofs.Common.{◌≡◌, ◌-◌, ◌<◌, ◌==◌, ℕ, true, false, length, get_or, ap, refl, subst, sym, ◌∙◌, arith}
 use Rattle.std.proofs.lemmas.Bool.Decides.{nat_tests}
 use Rattle.drf_rows.specs.Filters.{is_of_client}
 use Rattle.drf_rows.specs.Client.{Client}
-use Rattle.drf_gates.specs.filters.Index.{client_hash}
+use Rattle.drf_gates.specs.filters.Index.{befores, client_hash, hash_bucket}
 use Rattle.drf_gates.specs.filters.Slots.{slot_passes}
+use Rattle.drf_gates.specs.declared.filters.slots.Slots.{Slots}
 use Rattle.drf_gates.specs.declared.filters.index.Key.TheVariants.{Client as ByClient}
 use Rattle.drf_gates.proofs.filters.Gaps.{no_slot}
 use Rattle.drf_gates.proofs.filters.Held.{IsRevived, of_client_hash, revived-more, walk-start, walk-less}
@@ -20,18 +21,25 @@ loop-after-init c =
       others = refl;
       walked = walk-start s.rows.items s.clients (slot_passes (is_of_client client)) (client_hash s.clients.start client.role client.framework) ByClient
           c.requires.clients (of_client_hash s.clients.start client) some c.last-after.result
-          (c.last-after.ensures ∙ ap (λ (h : ℕ). get_or s.clients.heads.items (h % length s.clients.heads.items) 0) c.client_hash.ensures);
+          (c.last-after.ensures ∙ ap (λ (h : ℕ). get_or s.clients.heads.items (hash_bucket (length s.clients.heads.items) h) 0) c.client_hash.ensures);
     }
+
+-- the chain goes on before
+less : (client : Client) (start s : Slots) (after before : ℕ) → IsRevived client start s after → 0 < after → before ≡ get_or (befores s.clients) (after - 1) 0 → before < after
+less client start s after before inv going is =
+    let some : 0 < length s.clients.heads.items = omega (arith, inv.walked.within, going, inv.slots.clients.marked.enough) in
+    walk-less s.rows.items s.clients (slot_passes (is_of_client client)) (client_hash s.clients.start client.role client.framework) ByClient inv.slots.clients
+    (of_client_hash s.clients.start client) some after (after - 1) before (omega (arith, going)) is inv.walked
 
 pub loop-after-smaller : goal.loop-after-smaller
 loop-after-smaller c =
-    let s = c.loop-after.self in
-    let client : Client = record { role = c.args.role.now; framework = c.args.framework.now } in
-    let inv = c.loop-after.invariant in
-    let after = c.loop-after.after in
-    let some : 0 < length s.clients.heads.items = omega (arith, inv.walked.within, c.loop-after-test.true, inv.slots.clients.marked.enough) in
-    walk-less s.rows.items s.clients (slot_passes (is_of_client client)) (client_hash s.clients.start client.role client.framework) ByClient inv.slots.clients
-    (of_client_hash s.clients.start client) some after (after - 1) c.link-after.result.before (omega arith) c.link-after.ensures.before inv.walked
+    less (record { role = c.args.role.now; framework = c.args.framework.now }) c.args.self.now c.loop-after.self c.loop-after.after c.link-after.result.before
+    c.loop-after.invariant c.loop-after-test.true c.link-after.ensures.before
+
+pub loop-after-smaller-then-is_slot_of_client : goal.loop-after-smaller-then-is_slot_of_client
+loop-after-smaller-then-is_slot_of_client c =
+    less (record { role = c.args.role.now; framework = c.args.framework.now }) c.args.self.now c.loop-after.self c.loop-after.after c.link-after.result.before
+    c.loop-after.invariant c.loop-after-test.true c.link-after.ensures.before
 
 pub loop-after-preserved-then-is_slot_of_client : goal.loop-after-preserved-then-is_slot_of_client
 loop-after-preserved-then-is_slot_of_client c =

@@ -1,10 +1,10 @@
-use Rattle.std.proofs.Common.{◌≡◌, ◌-◌, ◌%◌, ◌<◌, ◌==◌, ℕ, Option, false, length, get_or, ap, sym, ◌∙◌, arith}
+use Rattle.std.proofs.Common.{◌≡◌, ◌-◌, ◌<◌, ◌==◌, ℕ, Option, false, length, get_or, ap, sym, ◌∙◌, arith}
 use Rattle.std.proofs.lemmas.Bool.Decides.{nat_tests}
 use Rattle.std.proofs.lemmas.List.{get_or_default}
 use Rattle.drf_rows.specs.Filters.{holds_back}
 use Rattle.drf_rows.specs.Client.{Client}
 use Rattle.drf_rows.specs.declared.rows.FilterRow.{FilterRow}
-use Rattle.drf_gates.specs.filters.Index.{pair_hash}
+use Rattle.drf_gates.specs.filters.Index.{hash_bucket, pair_hash}
 use Rattle.drf_gates.specs.filters.Slots.{slot_passes}
 use Rattle.drf_gates.specs.declared.filters.index.Key.TheVariants.{ClientAndAgent}
 use Rattle.drf_gates.proofs.filters.Held.{held_hash, held_by, held_by_none, walk-start, walk-less, walk-marked, walk-next}
@@ -20,7 +20,7 @@ loop-after-init c =
     walk-start s.rows.items s.pairs (slot_passes (holds_back c.args.now client c.args.agent.now c.args.bundle.now))
     (pair_hash s.pairs.start client.role client.framework c.args.agent.now) ClientAndAgent c.requires.pairs
     (held_hash s.pairs.start c.args.now client c.args.agent.now c.args.bundle.now) some c.last-after.result
-    (c.last-after.ensures ∙ ap (λ (h : ℕ). get_or s.pairs.heads.items (h % length s.pairs.heads.items) 0) c.pair_hash-hash.ensures)
+    (c.last-after.ensures ∙ ap (λ (h : ℕ). get_or s.pairs.heads.items (hash_bucket (length s.pairs.heads.items) h) 0) c.pair_hash-hash.ensures)
 
 pub loop-after-smaller : goal.loop-after-smaller
 loop-after-smaller c =

@@ -1,4 +1,5 @@
 -- The rows that the fields of tables stand for.
+pub mod Names
 pub mod Standing
 pub mod PutBack
 pub mod Kept

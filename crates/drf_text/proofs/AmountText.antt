@@ -4,13 +4,8 @@ use Rattle.std.proofs.lemmas.Bool.{and_from, lt-ltb}
 use Rattle.std.proofs.lemmas.Fmt.{digits_value-decimal, decimal_nonempty}
 use Rattle.std.specs.Char.{is_ascii_digit}
 use Rattle.std.specs.Str.Parse.{digits_value}
-use Rattle.drf_role.specs.Text.{Text}
-use Rattle.drf_text.specs.Blanks.{is_blank}
-use Rattle.drf_text.specs.ByteLaws.{HasNone, none_of, not_that, is_amount_byte, amount_has_none}
-use Rattle.drf_text.specs.DecimalLaws.{numerals, digits_of, decimals_none, decimals_said}
+use Rattle.drf_text.proofs.Names.{Text, is_blank, HasNone, none_of, not_that, is_amount_byte, amount_has_none, numerals, digits_of, decimals_none, decimals_said, WeightIsRead, amount_text}
 use Rattle.drf_text.specs.Number.{is_point, are_digits, is_number, rounded, thousandths_of, decimals_of, number_of}
-use Rattle.drf_text.specs.RoundTrip.{WeightIsRead}
-use Rattle.drf_text.specs.Written.{amount_text}
 use Rattle.drf_text.proofs.CutLemmas.{not_blank, trimmed_stays, before_at, after_at, any_at_mark, position_none}
 use Rattle.drf_text.proofs.Numbers.{all_before}
 

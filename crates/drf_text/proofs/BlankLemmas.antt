@@ -1,11 +1,8 @@
 -- Spaces and tabs at the ends of a text.
-use Rattle.std.specs.Prelude.{◌≡◌, ◌≢◌, ℕ, ◌+◌, ◌<◌, ◌&&◌, Bool, true, false, [], ◌∷◌, ◌++◌, length, not, IsTrue}
 use Rattle.std.specs.Bool.{OnTrue}
 use Rattle.std.specs.List.{list_all}
-use Rattle.std.proofs.Common.{zero, suc, get_or, refl, sym, ap, ◌∙◌, inl, inr, cond, arith}
-use Rattle.std.proofs.lemmas.Bool.{ne_eqb}
-use Rattle.drf_role.specs.Text.{Text}
-use Rattle.drf_text.specs.Blanks.{is_blank, IsOneLastLess, without_first_blanks, without_last_blanks, trimmed}
+use Rattle.std.proofs.Common.{zero, suc, get_or, refl, sym, ap, ◌∙◌, inl, inr, cond, arith, ◌≡◌, ◌≢◌, ℕ, ◌+◌, ◌<◌, ◌&&◌, Bool, true, false, [], ◌∷◌, ◌++◌, length, not, IsTrue, ne_eqb}
+use Rattle.drf_text.proofs.Names.{Text, is_blank, IsOneLastLess, without_first_blanks, without_last_blanks, trimmed}
 
 no_blank : (b : ℕ) → b ≢ 32 → b ≢ 9 → is_blank b ≡ false
 no_blank b space tab = rw (ne_eqb b 32 space, ne_eqb b 9 tab) refl
@@ -48,10 +45,6 @@ push_dropped : (text : Text) (b : ℕ) → IsTrue (is_blank b)
     → without_last_blanks (text ++ b ∷ []) ≡ without_last_blanks text
 push_dropped [] b blank = rw blank refl
 push_dropped (c ∷ cs) b blank = λ i. cond (is_blank c && all_push cs b blank i) [] (c ∷ push_dropped cs b blank i)
-
-length_push : (text : Text) (b : ℕ) → length (text ++ b ∷ []) ≡ length text + 1
-length_push [] b = refl
-length_push (c ∷ cs) b = omega (arith, length_push cs b)
 
 pub last_more : (text rest : Text) → length rest < length text → IsOneLastLess text rest
     → without_last_blanks rest ≡ without_last_blanks text

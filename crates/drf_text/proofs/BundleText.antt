@@ -1,5 +1,5 @@
 -- What is written of a bundle means that bundle.
-use Rattle.std.proofs.Common.{map, ◌≡◌, ◌+◌, ◌^◌, ◌≤◌, Bool, true, false, cond, List, [], ◌∷◌, ◌++◌, ◌&&◌, All, Ok, Some, None, inl, inr, refl, sym, ap, subst, ◌∙◌, append_assoc, append-nil, arith}
+use Rattle.std.proofs.Common.{map, ◌≡◌, ◌+◌, ◌^◌, ◌≤◌, Bool, true, false, cond, List, [], ◌∷◌, ◌++◌, ◌&&◌, All, Ok, Some, None, inl, inr, refl, sym, ap, subst, ◌∙◌, append_assoc, append-nil, arith, ◌||◌, Option, IsTrue, not, nat_lt}
 use Rattle.std.proofs.lemmas.Bool.{true≢false, and_parts, or_parts, lt-ltb, lt-leb}
 use Rattle.std.proofs.lemmas.List.Elements.{All-head, All-tail, All-nil, All-cons}
 use Rattle.std.proofs.lemmas.List.Folds.{list_all-append}
@@ -7,8 +7,7 @@ use Rattle.std.proofs.lemmas.List.Sums.{sum_by-append}
 use Rattle.std.specs.List.{list_any}
 use Rattle.std.specs.Option.{option_map}
 use Rattle.std.specs.Ordering.{is_lt}
-use Rattle.std.specs.Prelude.{◌||◌, Option, IsTrue, not, nat_lt}
-use Rattle.drf_role.specs.Text.{Text, same_text}
+use Rattle.drf_text.proofs.Names.{Text, same_text, Resource, resource_of, BundleIsRead}
 use Rattle.drf_amount.specs.declared.algebra.AlgebraFault.{AlgebraFault}
 use Rattle.drf_amount.specs.declared.algebra.AlgebraFault.TheVariants as refused
 use Rattle.drf_bundle.specs.Value.{Point, Thousandths, units_in, amount_in, is_same_kind, share_members}
@@ -17,10 +16,7 @@ use Rattle.drf_bundle.specs.laws.BundleLaws.{bundle-empty}
 use Rattle.drf_bundle.specs.laws.FitLaws.{stock_has, fits_less, stock_of_both, IsFree, free_from_refusal, join_fits}
 use Rattle.drf_bundle.specs.laws.KeyLaws.{cases_key, stands_first, unit_of, where-cons}
 use Rattle.drf_bundle.specs.Union.{has_other_kind, is_reserved_elsewhere, is_too_much, union_refusal, with_united}
-use Rattle.drf_bundle.specs.declared.resource.Resource.{Resource}
 use Rattle.drf_text.specs.Meaning.{after, text_fault_of, put_or, put, meaning_from}
-use Rattle.drf_text.specs.Pieces.{resource_of}
-use Rattle.drf_text.specs.RoundTrip.{BundleIsRead}
 use Rattle.drf_text.specs.Written.{resource_text, bundle_text}
 use Rattle.drf_text.proofs.CutLemmas.{IsPart, pieces_found}
 use Rattle.drf_text.proofs.ResourceText.{resource_found}

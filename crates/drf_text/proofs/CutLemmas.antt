@@ -1,17 +1,13 @@
 -- Texts without blanks, and texts cut where they were joined.
-use Rattle.std.proofs.Common.{◌≡◌, ℕ, ◌+◌, ◌-◌, ◌<◌, Bool, true, false, cond, eqb, List, [], ◌∷◌, ◌++◌, length, map, take, drop, All, refl, ap, ◌∙◌, arith, length-append}
+use Rattle.std.proofs.Common.{◌≡◌, ℕ, ◌+◌, ◌-◌, ◌<◌, Bool, true, false, cond, eqb, List, [], ◌∷◌, ◌++◌, length, map, take, drop, All, refl, ap, ◌∙◌, arith, length-append, ◌||◌, filter, nat_lt}
 use Rattle.std.proofs.Math.Seq.{take-append_seam, drop-append-add}
 use Rattle.std.proofs.lemmas.Bool.{and_from, or_parts, eq-eqb, lt-ltb}
 use Rattle.std.proofs.lemmas.List.{get_or_push}
 use Rattle.std.proofs.lemmas.List.Elements.{All-head, All-tail, All-weaker, All-nil, All-cons, All-append}
 use Rattle.std.proofs.lemmas.List.Folds.{list_any_none, list_any-append}
 use Rattle.std.proofs.lemmas.List.Splits.{slice_split_none, slice_split_at}
-use Rattle.std.specs.Prelude.{◌||◌, filter, nat_lt}
 use Rattle.std.specs.List.{list_all, list_any, slice_split, join_with_byte, position_or_len, before_first, after_first}
-use Rattle.drf_role.specs.Text.{Text}
-use Rattle.drf_text.specs.Blanks.{is_blank, without_first_blanks, without_last_blanks, trimmed}
-use Rattle.drf_text.specs.ByteLaws.{HasNone, not_that}
-use Rattle.drf_text.specs.Pieces.{ends, inside, parts_inside, pieces_of}
+use Rattle.drf_text.proofs.Names.{Text, is_blank, without_first_blanks, without_last_blanks, trimmed, HasNone, not_that, ends, inside, parts_inside, pieces_of}
 
 pub not_blank : (class : ℕ → Bool) → class 32 ≡ false → class 9 ≡ false → (b : ℕ) → class b ≡ true → is_blank b ≡ false
 not_blank class space tab b inside = rw (not_that class 32 space b inside, not_that class 9 tab b inside) refl

@@ -1,15 +1,9 @@
 -- Heads and bodies cut at their marks.
-use Rattle.std.proofs.Common.{◌≡◌, ◌≢◌, ℕ, suc, ◌+◌, ◌-◌, ◌<◌, Bool, true, false, cond, eqb, ltb, List, [], ◌∷◌, ◌++◌, ◌&&◌, length, take, get_or, Option, Some, None, Result, Ok, Err, refl, sym, ap, ◌∙◌, arith, sub-one}
-use Rattle.std.proofs.lemmas.Bool.{lt-ltb, ne_eqb, eqb-true}
+use Rattle.std.proofs.Common.{◌≡◌, ◌≢◌, ℕ, suc, ◌+◌, ◌-◌, ◌<◌, Bool, true, false, cond, eqb, ltb, List, [], ◌∷◌, ◌++◌, ◌&&◌, length, take, get_or, Option, Some, None, Result, Ok, Err, refl, sym, ap, ◌∙◌, arith, sub-one, lt-ltb, ne_eqb, eqb-true, not}
 use Rattle.std.proofs.lemmas.List.Sums.{split_at_first}
-use Rattle.std.specs.Prelude.{not}
 use Rattle.std.specs.List.{list_all, list_any, position_or_len, before_first, after_first}
-use Rattle.drf_role.specs.Text.{Text}
-use Rattle.drf_text.specs.Blanks.{trimmed}
-use Rattle.drf_text.specs.Pieces.{begins, ends, parts_between, has_one_dash, role_text_of}
+use Rattle.drf_text.proofs.Names.{Text, trimmed, begins, ends, parts_between, has_one_dash, role_text_of, TextFault, Syntax}
 use Rattle.drf_text.specs.Steps.{plain_head_in, head_in, body_in}
-use Rattle.drf_text.specs.declared.fault.TextFault.{TextFault}
-use Rattle.drf_text.specs.declared.fault.TextFault.TheVariants.{Syntax}
 use Rattle.drf_text.specs.declared.piece.Kind.TheVariants.{Scalar, Ranges, Items}
 use Rattle.drf_text.proofs.CutLemmas.{take_all_but_last, ends_closed, inside_of}
 use Rattle.drf_text.proofs.Numbers.{any_at, all_before}

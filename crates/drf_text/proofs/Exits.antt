@@ -1,24 +1,18 @@
 -- What a reader tells where a name, a role or a number is refused.
-use Rattle.std.proofs.Common.{◌≡◌, ◌≢◌, ℕ, ◌^◌, ◌<◌, Bool, true, false, cond, ltb, [], length, Option, Some, None, Result, Ok, Err, refl, ap, ◌∙◌, inl, inr}
+use Rattle.std.proofs.Common.{◌≡◌, ◌≢◌, ℕ, ◌^◌, ◌<◌, Bool, true, false, cond, ltb, [], length, Option, Some, None, Result, Ok, Err, refl, ap, ◌∙◌, inl, inr, IsOk}
 use Rattle.std.proofs.lemmas.Bool.{cases_Bool, lt-ltb, ltb-true, and_right}
 use Rattle.std.specs.Option.{ok_or}
-use Rattle.std.specs.Prelude.{IsOk}
 use Rattle.std.specs.Result.{OkIff, result_ok}
 use Rattle.std.specs.Str.Parse.{digits_value}
-use Rattle.drf_role.specs.Text.{Text}
+use Rattle.drf_text.proofs.Names.{Text, trimmed, IsMeaning, fault_of_name, fault_of_role, is_end, low_of, high_of, TextFault, BadName, BadRole, BadNumber, TooLarge, Memory}
 use Rattle.drf_role.specs.declared.name.NameFault.{NameFault}
 use Rattle.drf_role.specs.declared.name.NameFault.TheVariants as name
 use Rattle.drf_role.specs.declared.role.RoleFault.{RoleFault}
 use Rattle.drf_role.specs.declared.role.RoleFault.TheVariants as role
 use Rattle.drf_bundle.specs.declared.value.Value.{Value}
 use Rattle.drf_bundle.specs.declared.value.Value.TheVariants.{Scalar}
-use Rattle.drf_text.specs.Blanks.{trimmed}
-use Rattle.drf_text.specs.Faults.{IsMeaning, fault_of_name, fault_of_role}
 use Rattle.drf_text.specs.Number.{are_digits, is_number, thousandths_of, number_of}
-use Rattle.drf_text.specs.Pieces.{is_end, low_of, high_of}
 use Rattle.drf_text.specs.Steps.{end_in, ends_in, pair_in, scalar_in}
-use Rattle.drf_text.specs.declared.fault.TextFault.{TextFault}
-use Rattle.drf_text.specs.declared.fault.TextFault.TheVariants.{BadName, BadRole, BadNumber, TooLarge, Memory}
 
 pub name_refused : {A : Type 0} (refused : NameFault) (b : Bool) (x : A) → (refused ≡ name.BadName → b ≡ false)
     → IsMeaning (Err (fault_of_name refused)) (cond b (Ok x) (Err BadName))

@@ -6,6 +6,7 @@ pub mod Cuts
 pub mod Exits
 pub mod Joined
 pub mod Named
+pub mod Names
 pub mod Numbers
 pub mod Parts
 pub mod PieceLemmas

@@ -1,11 +1,8 @@
 -- A piece that could be read has a name.
-use Rattle.std.proofs.Common.{◌≡◌, Result, Ok, Err, refl, ap}
-use Rattle.std.specs.Prelude.{IsOk}
+use Rattle.std.proofs.Common.{◌≡◌, Result, Ok, Err, refl, ap, IsOk}
 use Rattle.std.specs.Result.{is_ok}
-use Rattle.drf_role.specs.Text.{Text}
-use Rattle.drf_text.specs.Blanks.{trimmed}
+use Rattle.drf_text.proofs.Names.{Text, trimmed, TextFault}
 use Rattle.drf_text.specs.Steps.{◌>>=◌, cut_in, head_in, body_in, label_in, named_in, DraftOf, draft_in, said_in, counted_in, put_said, put_counted, bundle_step, quantities_step}
-use Rattle.drf_text.specs.declared.fault.TextFault.{TextFault}
 use Rattle.drf_text.specs.declared.said.Said.{Said}
 use Rattle.drf_text.specs.declared.said.Counted.{Counted}
 use Rattle.drf_text.proofs.Reading.{StepsAreNamed}

@@ -1,15 +1,13 @@
 -- Numbers in digits.
-use Rattle.std.proofs.Common.{◌≡◌, ◌⊎◌, ℕ, ◌+◌, ◌*◌, ◌^◌, ◌<◌, ◌≤◌, Bool, true, false, cond, ltb, List, [], ◌∷◌, ◌&&◌, length, Result, Err, inl, inr, refl, sym, subst, ◌∙◌, arith}
+use Rattle.std.proofs.Common.{◌≡◌, ◌⊎◌, ℕ, ◌+◌, ◌*◌, ◌^◌, ◌<◌, ◌≤◌, Bool, true, false, cond, ltb, List, [], ◌∷◌, ◌&&◌, length, Result, Err, inl, inr, refl, sym, subst, ◌∙◌, arith, take_all}
 use Rattle.std.proofs.lemmas.Bool.{cases_Bool, lt-ltb, ltb-true}
 use Rattle.std.proofs.lemmas.Bool.Decides.{nat_tests}
-use Rattle.std.proofs.lemmas.List.{take_all}
 use Rattle.std.proofs.Math.ListN.{drop_of_length-le}
 use Rattle.std.specs.List.{list_any, position_or_len, before_first, after_first}
 use Rattle.std.specs.Result.{OkIff}
 use Rattle.std.specs.Str.Parse.{digits_value}
 use Rattle.drf_text.specs.Number.{is_point, are_digits, is_number, rounded, thousandths_of, whole_of, decimals_of, small_or_fault, number_of}
-use Rattle.drf_text.specs.declared.fault.TextFault.{TextFault}
-use Rattle.drf_text.specs.declared.fault.TextFault.TheVariants.{BadNumber, TooLarge}
+use Rattle.drf_text.proofs.Names.{TextFault, BadNumber, TooLarge}
 
 -- what is not below 2^64 is too large
 pub too_large : (n : ℕ) → 2 ^ 64 ≤ n → Err TooLarge ≡ small_or_fault n

@@ -2,10 +2,7 @@
 use Rattle.std.proofs.Common.{◌≡◌, ℕ, Bool, true, false, cond, List, [], ◌∷◌, ◌++◌, ◌&&◌, map, Result, Ok, Err, refl, sym, ap, append_assoc, append-nil}
 use Rattle.std.specs.List.{list_all, flat_map}
 use Rattle.std.specs.Str.Parse.{digits_value}
-use Rattle.drf_role.specs.Text.{Text}
-use Rattle.drf_text.specs.Pieces.{low_of, high_of}
-use Rattle.drf_text.specs.Steps.{◌>>=◌, each_of}
-use Rattle.drf_text.specs.declared.fault.TextFault.{TextFault}
+use Rattle.drf_text.proofs.Names.{Text, low_of, high_of, ◌>>=◌, each_of, TextFault}
 
 -- the two ends of a range
 abbrev pub pair_of : Text → ℕ × ℕ

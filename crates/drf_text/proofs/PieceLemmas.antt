@@ -1,16 +1,10 @@
 -- A head and a body with `:` between them, and when they have no fault.
-use Rattle.std.proofs.Common.{◌≡◌, ℕ, Bool, true, false, cond, eqb, [], ◌∷◌, ◌++◌, ◌&&◌, Some, None, refl, sym, ap, subst, ◌∙◌}
+use Rattle.std.proofs.Common.{◌≡◌, ℕ, Bool, true, false, cond, eqb, [], ◌∷◌, ◌++◌, ◌&&◌, Some, None, refl, sym, ap, subst, ◌∙◌, not}
 use Rattle.std.proofs.lemmas.List.Elements.{All-head}
 use Rattle.std.proofs.lemmas.List.Folds.{list_any_none}
-use Rattle.std.specs.Prelude.{not}
 use Rattle.std.specs.List.{list_any}
-use Rattle.drf_role.specs.Text.{Text}
+use Rattle.drf_text.proofs.Names.{Text, is_blank, trimmed, is_label_byte, is_label, HasNone, not_that, label_has_none, begins, head_of, body_of, name_of, is_reserved, is_head, is_body, members_are_labels, has_numbers, first_fault, Syntax, BadName, BadRole, BadNumber}
 use Rattle.drf_role.specs.Name.{IsLabel}
-use Rattle.drf_text.specs.Blanks.{is_blank, trimmed}
-use Rattle.drf_role.specs.Tests.{is_label_byte, is_label}
-use Rattle.drf_text.specs.ByteLaws.{HasNone, not_that, label_has_none}
-use Rattle.drf_text.specs.Pieces.{begins, head_of, body_of, name_of, is_reserved, is_head, is_body, members_are_labels, has_numbers, first_fault}
-use Rattle.drf_text.specs.declared.fault.TextFault.TheVariants.{Syntax, BadName, BadRole, BadNumber}
 use Rattle.drf_text.proofs.CutLemmas.{not_blank, trimmed_stays, before_at, after_at, any_at_mark, position_none}
 use Rattle.drf_role.specs.TestLaws.{label_decides}
 use Rattle.drf_text.proofs.Numbers.{all_before}

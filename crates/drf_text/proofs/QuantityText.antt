@@ -1,23 +1,15 @@
 -- What is written of quantities means those quantities.
-use Rattle.std.proofs.Common.{◌≡◌, ◌+◌, ◌^◌, ◌<◌, true, false, cond, eqb, List, [], ◌∷◌, ◌++◌, map, All, Ok, Err, None, refl, sym, ap, ◌∙◌, append_assoc, append-nil, length-append, arith}
+use Rattle.std.proofs.Common.{◌≡◌, ◌+◌, ◌^◌, ◌<◌, true, false, cond, eqb, List, [], ◌∷◌, ◌++◌, map, All, Ok, Err, None, refl, sym, ap, ◌∙◌, append_assoc, append-nil, length-append, arith, IsTrue, nat_lt}
 use Rattle.std.proofs.lemmas.Bool.{and_parts, lt-ltb}
 use Rattle.std.proofs.lemmas.List.Elements.{All-head, All-tail, All-append, All-cons, All-map, All-weaker}
 use Rattle.std.proofs.lemmas.List.Folds.{list_all-append}
-use Rattle.std.specs.Prelude.{IsTrue, nat_lt}
-use Rattle.drf_role.specs.Text.{Text, text_below}
+use Rattle.drf_text.proofs.Names.{Text, text_below, is_blank, HasNone, label_has_none, is_label_byte, is_reserved, head_of, body_of, name_of, value_of, quantity_fault_of, IsEntry, QuantitiesAreRead, amount_text, quantity_text, TooLarge}
 use Rattle.drf_role.specs.TextLaws.{below_other, cmp_above}
 use Rattle.drf_bundle.specs.Quantities.{amount_of, is_in_order, with_amount}
 use Rattle.drf_bundle.specs.laws.QuantitiesLaws.{stands_first}
 use Rattle.drf_bundle.specs.declared.quantities.Entry.{Entry}
 use Rattle.drf_bundle.specs.declared.value.Value.TheVariants.{Scalar}
-use Rattle.drf_text.specs.Blanks.{is_blank}
-use Rattle.drf_text.specs.ByteLaws.{HasNone, label_has_none}
 use Rattle.drf_text.specs.Meaning.{after, counted, quantities_from}
-use Rattle.drf_role.specs.Tests.{is_label_byte}
-use Rattle.drf_text.specs.Pieces.{is_reserved, head_of, body_of, name_of, value_of, quantity_fault_of}
-use Rattle.drf_text.specs.RoundTrip.{IsEntry, QuantitiesAreRead}
-use Rattle.drf_text.specs.Written.{amount_text, quantity_text}
-use Rattle.drf_text.specs.declared.fault.TextFault.TheVariants.{TooLarge}
 use Rattle.drf_text.proofs.CutLemmas.{not_blank, not_between, is_between, IsPart, no_blanks, pieces_found}
 use Rattle.drf_text.proofs.PieceLemmas.{label_without, head_found, body_found, name_alone, not_reserved, label_head, right_piece}
 use Rattle.drf_text.proofs.ValueText.{IsTextOf, scalar_text}

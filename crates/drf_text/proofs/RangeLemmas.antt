@@ -1,23 +1,18 @@
 -- The numbers of ranges.
-use Rattle.std.proofs.Common.{◌≡◌, ℕ, ◌<◌, ◌≤◌, Bool, true, false, cond, leb, ltb, List, [], ◌∷◌, map, Any, Some, None, Result, Ok, Err, refl, sym, ap, subst, ◌∙◌, arith}
+use Rattle.std.proofs.Common.{◌≡◌, ℕ, ◌<◌, ◌≤◌, Bool, true, false, cond, leb, ltb, List, [], ◌∷◌, map, Any, Some, None, Result, Ok, Err, refl, sym, ap, subst, ◌∙◌, arith, ◌&&◌, IsTrue, ◌↔◌}
 use Rattle.std.proofs.lemmas.Bool.{and_parts, leb-true, lt-ltb, true≢false}
 use Rattle.std.proofs.lemmas.Bool.Decides.{nat_tests}
 use Rattle.std.proofs.lemmas.List.Folds.{list_any-from_Any}
-use Rattle.std.specs.Prelude.{◌&&◌, IsTrue, ◌↔◌}
 use Rattle.std.specs.List.{list_all, list_any, flat_map}
 use Rattle.std.specs.Option.{ok_or}
 use Rattle.std.specs.Ordering.{nat_cmp}
 use Rattle.std.specs.FinSet as set
-use Rattle.drf_role.specs.Text.{Text}
+use Rattle.drf_text.proofs.Names.{Text, IsMeaning, fault_of_ranges, low_of, high_of, is_end, is_range, TextFault, BadNumber}
 use Rattle.drf_kinds.specs.declared.ranges.RangesFault.{RangesFault}
 use Rattle.drf_kinds.specs.declared.ranges.RangesFault.TheVariants as ranges
 use Rattle.drf_kinds.specs.Intervals.{members, numbers, interval_of, is_in}
 use Rattle.drf_kinds.specs.IntervalLaws.{contains-members, same_numbers, in_pairs}
-use Rattle.drf_text.specs.Faults.{IsMeaning, fault_of_ranges}
-use Rattle.drf_text.specs.Pieces.{low_of, high_of, is_end, is_range}
 use Rattle.drf_text.specs.Steps.{each_of, pair_in, numbers_between}
-use Rattle.drf_text.specs.declared.fault.TextFault.{TextFault}
-use Rattle.drf_text.specs.declared.fault.TextFault.TheVariants.{BadNumber}
 use Rattle.drf_text.proofs.Parts.{pair_of, each_tested, flat_map-map}
 
 same_test : (a b : Bool) → (IsTrue a → IsTrue b) → (IsTrue b → IsTrue a) → a ≡ b

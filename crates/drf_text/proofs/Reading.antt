@@ -1,12 +1,8 @@
 -- Texts read one after another, each put to what those before it gave.
-use Rattle.std.proofs.Common.{◌≡◌, ℕ, ◌+◌, ◌<◌, ◌≤◌, Bool, true, false, ltb, List, [], ◌∷◌, length, drop, get_or, Result, Ok, Err, refl, sym, ap, subst, ◌∙◌, arith}
-use Rattle.std.specs.Prelude.{IsOk}
-use Rattle.std.proofs.lemmas.Bool.{lt-ltb}
+use Rattle.std.proofs.Common.{◌≡◌, ℕ, ◌+◌, ◌<◌, ◌≤◌, Bool, true, false, ltb, List, [], ◌∷◌, length, drop, get_or, Result, Ok, Err, refl, sym, ap, subst, ◌∙◌, arith, IsOk, lt-ltb}
 use Rattle.std.proofs.lemmas.List.{at_drop_more, at_drop_all}
-use Rattle.drf_role.specs.Text.{Text}
-use Rattle.drf_text.specs.Blanks.{trimmed}
+use Rattle.drf_text.proofs.Names.{Text, trimmed, TextFault}
 use Rattle.drf_text.specs.Steps.{◌>>=◌, cut_in, named_in, IsFirstNamed}
-use Rattle.drf_text.specs.declared.fault.TextFault.{TextFault}
 use Rattle.drf_text.proofs.Together.{steps_of, filled}
 
 -- ---- the first piece

@@ -1,20 +1,14 @@
 -- The steps of a reader together are the meaning of a piece.
-use Rattle.std.proofs.Common.{◌≡◌, ℕ, Bool, true, false, cond, eqb, List, [], ◌∷◌, ◌&&◌, map, Option, Some, None, Result, Ok, Err, refl, ap, ◌∙◌, arith, get_or}
-use Rattle.std.specs.Prelude.{not}
+use Rattle.std.proofs.Common.{◌≡◌, ℕ, Bool, true, false, cond, eqb, List, [], ◌∷◌, ◌&&◌, map, Option, Some, None, Result, Ok, Err, refl, ap, ◌∙◌, arith, get_or, not, eqb-true, ne_eqb}
 use Rattle.std.specs.List.{list_all, list_any, flat_map}
 use Rattle.std.specs.FinSet as set
 use Rattle.std.specs.Ordering.{nat_cmp}
-use Rattle.std.proofs.lemmas.Bool.{eqb-true, ne_eqb}
-use Rattle.drf_role.specs.Text.{Text}
+use Rattle.drf_text.proofs.Names.{Text, is_label, is_role, begins, inside, parts_between, parts_inside, head_of, body_of, is_reserved, name_of, role_text_of, is_head, is_body, is_range, has_form, members_are_labels, has_labels, has_bad_role, has_numbers, fault_of, quantity_fault_of, numbers_of, value_of, role_of, TextFault, Syntax, BadName, BadRole, BadNumber}
 use Rattle.drf_role.specs.Path.{Path}
 use Rattle.drf_role.specs.Parts.{parts_of}
 use Rattle.drf_bundle.specs.declared.value.Value.{Value}
 use Rattle.drf_bundle.specs.declared.value.Value.TheVariants as value
-use Rattle.drf_role.specs.Tests.{is_label, is_role}
-use Rattle.drf_text.specs.Pieces.{begins, inside, parts_between, parts_inside, head_of, body_of, is_reserved, name_of, role_text_of, is_head, is_body, is_range, has_form, members_are_labels, has_labels, has_bad_role, has_numbers, fault_of, quantity_fault_of, numbers_of, value_of, role_of}
 use Rattle.drf_text.specs.Steps.{◌>>=◌, each_of, cut_in, head_in, kind_of, content_of, body_in, label_in, members_in, role_in, no_role, fitting, scalar_in, ranges_in, numbers_between, value_in, DraftOf, draft_in, said_in, counted_in}
-use Rattle.drf_text.specs.declared.fault.TextFault.{TextFault}
-use Rattle.drf_text.specs.declared.fault.TextFault.TheVariants.{Syntax, BadName, BadRole, BadNumber}
 use Rattle.drf_text.specs.declared.piece.Kind.{Kind}
 use Rattle.drf_text.specs.declared.said.Said.{Said}
 use Rattle.drf_text.specs.declared.said.Counted.{Counted}

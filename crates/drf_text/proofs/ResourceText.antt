@@ -1,20 +1,13 @@
 -- What is written of a resource is a piece without a fault that says this resource.
-use Rattle.std.proofs.Common.{◌≡◌, ℕ, ◌-◌, Bool, true, false, cond, take, eqb, [], ◌∷◌, ◌++◌, ◌&&◌, length, None, inl, inr, refl, sym, ap, ◌∙◌, append_assoc, arith, length-append}
+use Rattle.std.proofs.Common.{◌≡◌, ℕ, ◌-◌, Bool, true, false, cond, take, eqb, [], ◌∷◌, ◌++◌, ◌&&◌, length, None, inl, inr, refl, sym, ap, ◌∙◌, append_assoc, arith, length-append, not}
 use Rattle.std.proofs.lemmas.Bool.{cases_Bool}
 use Rattle.std.proofs.lemmas.List.Elements.{All-nil, All-cons, All-append}
 use Rattle.std.specs.List.{list_any}
-use Rattle.std.specs.Prelude.{not}
 use Rattle.drf_role.specs.Parts.{parts_of, text_of}
 use Rattle.drf_role.specs.PathLaws.{same_path-true}
 use Rattle.drf_role.specs.Role.{IsComponentByte, IsRolePath, default_role}
-use Rattle.drf_role.specs.Text.{Text}
+use Rattle.drf_text.proofs.Names.{Text, Resource, is_blank, trimmed, is_label_byte, is_label, is_role, HasNone, label_has_none, ends, is_reserved, head_of, body_of, name_of, role_text_of, role_of, value_of, has_bad_role, fault_of, resource_of, head_text, value_text, resource_text}
 use Rattle.drf_bundle.specs.Bundle.{is_default, IsResource}
-use Rattle.drf_bundle.specs.declared.resource.Resource.{Resource}
-use Rattle.drf_text.specs.Blanks.{is_blank, trimmed}
-use Rattle.drf_role.specs.Tests.{is_label_byte, is_label, is_role}
-use Rattle.drf_text.specs.ByteLaws.{HasNone, label_has_none}
-use Rattle.drf_text.specs.Pieces.{ends, is_reserved, head_of, body_of, name_of, role_text_of, role_of, value_of, has_bad_role, fault_of, resource_of}
-use Rattle.drf_text.specs.Written.{head_text, value_text, resource_text}
 use Rattle.drf_text.proofs.CutLemmas.{is_between, not_between, no_blanks, IsPart, trimmed_stays, before_at, after_at, any_at_mark, take_all_but_last, ends_closed}
 use Rattle.drf_text.proofs.PieceLemmas.{label_test, label_without, head_found, body_found, name_alone, not_reserved, label_head, IsRightHead, right_piece}
 use Rattle.drf_text.proofs.RoleText.{component_no_colon, component_no_blank, component_not_between, role_test, role_has_none, reserved_path}

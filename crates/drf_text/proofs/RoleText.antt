@@ -1,15 +1,12 @@
 -- The text of a role that reserves something: its bytes, and that it passes the test of a role.
-use Rattle.std.proofs.Common.{◌≡◌, ℕ, Bool, true, false, eqb, sym, ap, subst, ◌∙◌, inl, inr, refl, arith}
-use Rattle.std.proofs.lemmas.Bool.{true≢false, ne_eqb}
+use Rattle.std.proofs.Common.{◌≡◌, ℕ, Bool, true, false, eqb, sym, ap, subst, ◌∙◌, inl, inr, refl, arith, true≢false, ne_eqb}
 use Rattle.std.proofs.lemmas.List.Elements.{All-weaker}
 use Rattle.drf_role.specs.Parts.{parts_of, text_of}
 use Rattle.drf_role.specs.Path.{Path}
 use Rattle.drf_role.specs.PathLaws.{same_path_itself}
 use Rattle.drf_role.specs.Role.{IsComponentByte, IsComponent, IsRolePath, IsRole, default_role}
 use Rattle.drf_bundle.specs.Bundle.{is_default}
-use Rattle.drf_text.specs.Blanks.{is_blank}
-use Rattle.drf_text.specs.ByteLaws.{HasNone}
-use Rattle.drf_role.specs.Tests.{is_role}
+use Rattle.drf_text.proofs.Names.{is_blank, HasNone, is_role}
 use Rattle.drf_text.proofs.CutLemmas.{is_between, joined_has_none}
 use Rattle.drf_role.specs.TestLaws.{role_decides}
 

@@ -1,25 +1,18 @@
 -- Pieces put together one after another.
-use Rattle.std.proofs.Common.{◌≡◌, ℕ, ◌^◌, ◌+◌, ◌≤◌, Bool, true, false, cond, ltb, List, [], ◌∷◌, ◌||◌, ◌&&◌, length, map, filter, Option, Some, None, Result, Ok, Err, refl, sym, ap, ◌∙◌, arith}
-use Rattle.std.specs.Prelude.{not}
+use Rattle.std.proofs.Common.{◌≡◌, ℕ, ◌^◌, ◌+◌, ◌≤◌, Bool, true, false, cond, ltb, List, [], ◌∷◌, ◌||◌, ◌&&◌, length, map, filter, Option, Some, None, Result, Ok, Err, refl, sym, ap, ◌∙◌, arith, not, le-leb, lt-ltb}
 use Rattle.std.specs.Option.{option_map}
-use Rattle.std.proofs.lemmas.Bool.{le-leb, lt-ltb}
 use Rattle.std.proofs.lemmas.Bool.Decides.{nat_tests}
-use Rattle.drf_role.specs.Text.{Text, same_text}
+use Rattle.drf_text.proofs.Names.{Text, same_text, Resource, trimmed, fault_of, quantity_fault_of, head_of, body_of, name_of, value_of, resource_of, TextFault, Kind, TooLarge}
 use Rattle.drf_role.specs.Path.{Path}
 use Rattle.drf_amount.specs.declared.algebra.AlgebraFault.TheVariants as refusal
 use Rattle.drf_bundle.specs.Value.{amount_in, is_same_kind, share_members}
 use Rattle.drf_bundle.specs.Quantities.{amount_of}
 use Rattle.drf_bundle.specs.Union.{has_other_kind, is_reserved_elsewhere, is_too_much, with_united}
 use Rattle.drf_bundle.specs.declared.quantities.Entry.{Entry}
-use Rattle.drf_bundle.specs.declared.resource.Resource.{Resource}
 use Rattle.drf_bundle.specs.declared.value.Value.{Value}
 use Rattle.drf_bundle.specs.declared.value.Value.TheVariants.{Scalar, Ranges, Items}
-use Rattle.drf_text.specs.Blanks.{trimmed}
 use Rattle.drf_text.specs.Meaning.{after, text_fault_of, put, put_or, meaning_from, counted, quantities_from}
-use Rattle.drf_text.specs.Pieces.{fault_of, quantity_fault_of, head_of, body_of, name_of, value_of, resource_of}
 use Rattle.drf_text.specs.Steps.{◌>>=◌, fitting, said_in, counted_in, put_said, put_counted, bundle_step, quantities_step}
-use Rattle.drf_text.specs.declared.fault.TextFault.{TextFault}
-use Rattle.drf_text.specs.declared.fault.TextFault.TheVariants.{Kind, TooLarge}
 use Rattle.drf_text.specs.declared.said.Said.{Said}
 use Rattle.drf_text.specs.declared.said.Counted.{Counted}
 use Rattle.drf_text.proofs.Readings.{told, said_of, counted_of, said_tested, counted_tested}

@@ -1,5 +1,5 @@
 -- What is written of a value is read as that value.
-use Rattle.std.proofs.Common.{◌≡◌, ℕ, ◌+◌, ◌-◌, ◌^◌, ◌<◌, ◌≤◌, Bool, true, false, eqb, List, [], ◌∷◌, ◌++◌, length, map, All, decimal, refl, sym, ap, subst, ◌∙◌, arith, length-append}
+use Rattle.std.proofs.Common.{◌≡◌, ℕ, ◌+◌, ◌-◌, ◌^◌, ◌<◌, ◌≤◌, Bool, true, false, eqb, List, [], ◌∷◌, ◌++◌, length, map, All, decimal, refl, sym, ap, subst, ◌∙◌, arith, length-append, nat_le, nat_lt}
 use Rattle.std.proofs.lemmas.Bool.{and_from, or_left, or_right, eq-eqb, le-leb, lt-ltb}
 use Rattle.std.proofs.lemmas.List.Elements.{All-head, All-tail, All-nil, All-cons, All-append, All-map, All-weaker}
 use Rattle.std.proofs.lemmas.List.Splits.{length-slice_split, slice_split_none, slice_split_at}
@@ -9,10 +9,9 @@ use Rattle.std.specs.FinSet as set
 use Rattle.std.specs.List.{list_all, list_any, join_with_byte, flat_map, range_with_len}
 use Rattle.std.specs.Ordering.{nat_cmp, eq_by_cmp, is_eq}
 use Rattle.std.specs.Cmp.Lexicographic.{nat_list_cmp_total}
-use Rattle.std.specs.Prelude.{nat_le, nat_lt}
 use Rattle.std.specs.Str.Parse.{digits_value}
 use Rattle.drf_role.specs.Name.{IsLabel}
-use Rattle.drf_role.specs.Text.{Text}
+use Rattle.drf_text.proofs.Names.{Text, is_blank, trimmed, is_label_byte, is_label, is_amount_byte, amount_has_none, HasNone, none_of, not_that, label_has_none, digits_of, parts_inside, low_of, high_of, has_one_dash, is_end, is_range, numbers_of, value_of, amount_text, interval_text, intervals_text, ranges_text, items_text, value_text}
 use Rattle.drf_role.specs.TextLaws.{cmp_itself}
 use Rattle.drf_kinds.specs.Intervals.{AreMaximal, AreMaximalFrom, numbers, members}
 use Rattle.drf_kinds.specs.Names.{text_cmp, AreAscending}
@@ -20,12 +19,6 @@ use Rattle.drf_kinds.specs.declared.interval.Interval.{Interval}
 use Rattle.drf_bundle.specs.Value.{IsGiven}
 use Rattle.drf_bundle.specs.declared.value.Value.{Value}
 use Rattle.drf_bundle.specs.declared.value.Value.TheVariants.{Scalar, Ranges, Items}
-use Rattle.drf_text.specs.Blanks.{is_blank, trimmed}
-use Rattle.drf_role.specs.Tests.{is_label_byte, is_label}
-use Rattle.drf_text.specs.ByteLaws.{is_amount_byte, amount_has_none, HasNone, none_of, not_that, label_has_none}
-use Rattle.drf_text.specs.DecimalLaws.{digits_of}
-use Rattle.drf_text.specs.Pieces.{parts_inside, low_of, high_of, has_one_dash, is_end, is_range, numbers_of, value_of}
-use Rattle.drf_text.specs.Written.{amount_text, interval_text, intervals_text, ranges_text, items_text, value_text}
 use Rattle.drf_kinds.specs.Listed.{listed, intervals_of}
 use Rattle.drf_kinds.specs.ListedLaws.{maximal-intervals_of, members-intervals_of, ascending-listed, from_list-listed}
 use Rattle.drf_text.proofs.AmountText.{are_digits_of, value_of_digits, amount_read}

@@ -1,3 +1,4 @@
+pub mod Names
 pub mod keys
 pub mod sums
 pub mod shape

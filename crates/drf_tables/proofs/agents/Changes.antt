@@ -1,29 +1,15 @@
 -- The rows that the fields stand for once agents and frameworks take part or not, or leave.
-use Rattle.std.specs.Prelude.{◌≡◌, ℕ, ◌+◌, ◌-◌, Bool, true, false, not, List, length, map, filter}
 use Rattle.std.specs.List.{AllByRecursion}
 use Rattle.std.specs.Global.{Vec}
 use Rattle.std.specs.Map.{remove_entry}
-use Rattle.std.proofs.Common.{refl, sym, ap, ◌∙◌, subst, arith}
+use Rattle.std.proofs.Common.{refl, sym, ap, ◌∙◌, subst, arith, ◌≡◌, ℕ, ◌+◌, ◌-◌, Bool, true, false, not, List, length, map, filter}
 use Rattle.std.proofs.lemmas.List.{length-map}
-use Rattle.drf_role.specs.Text.{Text, same_text}
-use Rattle.drf_bundle.specs.declared.quantities.Entry.{Entry}
-use Rattle.drf_rows.specs.Client.{Client}
-use Rattle.drf_rows.specs.Consistent.{are_distinct}
+use Rattle.drf_tables.proofs.tables.Names.{Text, same_text, Entry, Client, are_distinct, clients_of, cluster_total, holdings_of, each_filter, length-filter_le, active_at, with_activity, with_suppression, suppressed_in, revived, agent_removed, framework_removed, ClientRow, Rows, changed, with_active, count_clients, Agent, Inside}
 use Rattle.drf_rows.specs.Endings.{without_ended, all_on, all_of}
 use Rattle.drf_rows.specs.Filters.{filters_without_client, filters_without_agent, filters_without_framework}
-use Rattle.drf_rows.specs.Held.{clients_of, cluster_total}
-use Rattle.drf_rows.specs.Holdings.{holdings_of}
-use Rattle.drf_bundle.specs.ListLaws.{each_filter, length-filter_le}
-use Rattle.drf_rows.specs.Members.{active_at, with_activity, with_suppression, suppressed_in, revived, agent_removed, framework_removed}
 use Rattle.drf_row_laws.specs.MemberLaws.{IsConsistent-with_activity, cluster_total-with_activity, IsConsistent-with_suppression, clients_of-with_suppression, IsConsistent-revived, IsConsistent-agent_removed, IsConsistent-framework_removed}
-use Rattle.drf_rows.specs.declared.rows.ClientRow.{ClientRow}
 use Rattle.drf_rows.specs.declared.rows.FilterRow.{FilterRow}
-use Rattle.drf_rows.specs.declared.rows.Rows.{Rows}
-use Rattle.drf_tables.specs.registry.Changing.{changed, with_active}
-use Rattle.drf_tables.specs.cycle.Counting.{count_clients}
 use Rattle.drf_tables.specs.Inside.{agent_row, framework_rows, rows_of, rows_in, IsKnown, AreDerived}
-use Rattle.drf_tables.specs.declared.tables.Agent.{Agent}
-use Rattle.drf_tables.specs.declared.tables.Tables.TheInside.{Inside}
 use Rattle.drf_tables.proofs.registry.Entries.{names-keys, removed_entry, rows-filter, stays}
 use Rattle.drf_tables.proofs.tables.Kept.{AreDerived-same}
 use Rattle.drf_tables.proofs.registry.Known.{rows-with_active, known-with_active}

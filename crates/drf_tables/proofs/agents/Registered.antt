@@ -1,23 +1,12 @@
 -- The rows with one more framework, to whose clients offers may have been made.
-use Rattle.std.specs.Prelude.{◌≡◌, ◌<◌, ◌&&◌, Bool, true, false, List, [], ◌∷◌, ◌++◌, map}
 use Rattle.std.specs.List.{list_any}
-use Rattle.std.proofs.Common.{refl, sym, ap, ◌∙◌}
+use Rattle.std.proofs.Common.{refl, sym, ap, ◌∙◌, ◌≡◌, ◌<◌, ◌&&◌, Bool, true, false, List, [], ◌∷◌, ◌++◌, map}
 use Rattle.std.proofs.lemmas.Bool.{or_left}
 use Rattle.std.proofs.lemmas.List.{map-append}
 use Rattle.std.proofs.lemmas.List.Folds.{list_any-append}
-use Rattle.drf_role.specs.Text.{Text, same_text}
-use Rattle.drf_role.specs.Path.{same_path}
-use Rattle.drf_rows.specs.Client.{Client}
-use Rattle.drf_rows.specs.Consistent.{are_distinct, are_distinct_roles, offers_counted, IsConsistent, IsFilter, IsFramework, IsHeld}
-use Rattle.drf_rows.specs.Held.{is_registered}
-use Rattle.drf_rows.specs.Holdings.{Holding, holdings_of}
-use Rattle.drf_rows.specs.Members.{has_framework}
-use Rattle.drf_bundle.specs.ListLaws.{each_append, each_from}
+use Rattle.drf_tables.proofs.tables.Names.{Text, same_text, same_path, Client, are_distinct, are_distinct_roles, offers_counted, IsConsistent, IsFilter, IsFramework, IsHeld, is_registered, Holding, holdings_of, has_framework, each_append, each_from, ClientRow, FrameworkRow, Rows}
 use Rattle.drf_row_laws.specs.RegistrationLaws.{framework_added, IsConsistent-framework_added}
-use Rattle.drf_rows.specs.declared.rows.ClientRow.{ClientRow}
 use Rattle.drf_rows.specs.declared.rows.FilterRow.{FilterRow}
-use Rattle.drf_rows.specs.declared.rows.FrameworkRow.{FrameworkRow}
-use Rattle.drf_rows.specs.declared.rows.Rows.{Rows}
 
 -- who is registered stays so
 still_registered : (fs : List FrameworkRow) (f : FrameworkRow) (client : Client) → is_registered fs client ≡ true → is_registered (fs ++ f ∷ []) client ≡ true

@@ -1,12 +1,7 @@
 -- A client that is suppressed, or not.
-use Rattle.std.specs.Prelude.{◌≡◌, Bool, false, map, if◌then◌else◌}
-use Rattle.std.proofs.Common.{ap, ◌∙◌}
-use Rattle.drf_role.specs.Text.{same_text}
+use Rattle.std.proofs.Common.{ap, ◌∙◌, ◌≡◌, Bool, false, map, if◌then◌else◌}
+use Rattle.drf_tables.proofs.tables.Names.{same_text, Client, same_text-swap, suppressed_at, suppressed_in, FrameworkRow}
 use Rattle.drf_role.specs.TextLaws.{same_itself}
-use Rattle.drf_rows.specs.Client.{Client}
-use Rattle.drf_row_laws.specs.ConsistentLaws.{same_text-swap}
-use Rattle.drf_rows.specs.Members.{suppressed_at, suppressed_in}
-use Rattle.drf_rows.specs.declared.rows.FrameworkRow.{FrameworkRow}
 
 module _ (client : Client) (suppressed : Bool) (f : FrameworkRow) where
   pub suppressed-other : same_text client.framework f.name ≡ false → suppressed_in client suppressed f ≡ f

@@ -1,23 +1,11 @@
 -- Offers that are counted at their clients.
-use Rattle.std.specs.Prelude.{◌≡◌, ℕ, ◌+◌, ◌<◌, ◌≤◌, ◌^◌, ◌||◌, Bool, true, false, List, [], ◌∷◌, ◌++◌, length, map, flat_map, sum_by, take, drop}
 use Rattle.std.specs.List.{list_any}
-use Rattle.std.proofs.Common.{refl, sym, ap, ◌∙◌, inl, inr, zero, suc, arith, get_or, set}
+use Rattle.std.proofs.Common.{refl, sym, ap, ◌∙◌, inl, inr, zero, suc, arith, get_or, set, ◌≡◌, ℕ, ◌+◌, ◌<◌, ◌≤◌, ◌^◌, ◌||◌, Bool, true, false, List, [], ◌∷◌, ◌++◌, length, map, flat_map, sum_by, take, drop}
 use Rattle.std.proofs.lemmas.Bool.{cases_Bool, false≢true}
 use Rattle.std.proofs.lemmas.List.{length-append, length-map}
 use Rattle.std.proofs.lemmas.List.Sums.{sum_by-cons}
-use Rattle.drf_role.specs.Text.{same_text}
-use Rattle.drf_role.specs.Path.{same_path}
+use Rattle.drf_tables.proofs.tables.Names.{same_text, same_path, Client, offers_counted, counted, count_offer, client_of, of_offer, ClientRow, FrameworkRow, OfferRow, counting, counting_all, count_clients, CanCount, CanCountAll, same_text-swap, name-count_offer}
 use Rattle.drf_role.specs.TextLaws.{same_itself}
-use Rattle.drf_rows.specs.Client.{Client}
-use Rattle.drf_rows.specs.Consistent.{offers_counted}
-use Rattle.drf_rows.specs.Cycle.{counted, count_offer}
-use Rattle.drf_rows.specs.Held.{client_of}
-use Rattle.drf_rows.specs.Holdings.{of_offer}
-use Rattle.drf_rows.specs.declared.rows.ClientRow.{ClientRow}
-use Rattle.drf_rows.specs.declared.rows.FrameworkRow.{FrameworkRow}
-use Rattle.drf_rows.specs.declared.rows.OfferRow.{OfferRow}
-use Rattle.drf_tables.specs.cycle.Counting.{counting, counting_all, count_clients, CanCount, CanCountAll}
-use Rattle.drf_row_laws.specs.ConsistentLaws.{same_text-swap, name-count_offer}
 
 -- ---- one client after another
 

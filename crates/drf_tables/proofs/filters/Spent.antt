@@ -1,15 +1,13 @@
 -- The rows that the fields stand for once spent filters are dropped.
-use Rattle.std.specs.Prelude.{◌≡◌, List, length}
 use Rattle.std.proofs.lemmas.List.Sums.{length-filter}
-use Rattle.std.proofs.Common.{refl, sym, ap, ◌∙◌, subst}
+use Rattle.std.proofs.Common.{refl, sym, ap, ◌∙◌, subst, ◌≡◌, List, length}
 use Rattle.drf_rows.specs.Filters.{is_in_force, in_force, number_in_force}
 use Rattle.drf_row_laws.specs.LiveLaws.{live_rows-twice}
 use Rattle.drf_row_laws.specs.MemberLaws.{IsConsistent-filters_kept}
 use Rattle.drf_rows.specs.Step.{live_rows}
 use Rattle.drf_rows.specs.declared.rows.FilterRow.{FilterRow}
-use Rattle.drf_rows.specs.declared.rows.Rows.{Rows}
+use Rattle.drf_tables.proofs.tables.Names.{Rows, Inside}
 use Rattle.drf_tables.specs.Inside.{rows_of, rows_in, AreDerived}
-use Rattle.drf_tables.specs.declared.tables.Tables.TheInside.{Inside}
 use Rattle.drf_tables.proofs.tables.Kept.{AreDerived-same}
 use Rattle.drf_tables.proofs.agents.Changes.{rows_but}
 

@@ -1,20 +1,9 @@
 -- What roles consume, change by change.
-use Rattle.std.specs.Prelude.{◌≡◌, ◌≢◌, ℕ, ◌+◌, Bool, true, false, List, [], ◌∷◌, Option, Some, None, is_some, sum_by, if◌then◌else◌}
-use Rattle.std.proofs.Common.{refl, sym, ap, subst, inl, inr, ◌∙◌}
+use Rattle.std.proofs.Common.{refl, sym, ap, subst, inl, inr, ◌∙◌, ◌≡◌, ◌≢◌, ℕ, ◌+◌, Bool, true, false, List, [], ◌∷◌, Option, Some, None, is_some, sum_by, if◌then◌else◌}
 use Rattle.std.specs.List.{list_any}
 use Rattle.std.proofs.lemmas.Bool.{cases_Bool, false≢true}
-use Rattle.drf_role.specs.Text.{Text, same_text}
-use Rattle.drf_role.specs.Path.{Path, same_path}
-use Rattle.drf_bundle.specs.declared.quantities.Entry.{Entry}
-use Rattle.drf_rows.specs.Holdings.{holdings_of}
-use Rattle.drf_bundle.specs.ListLaws.{sum_by-map}
-use Rattle.drf_rows.specs.Members.{active_at, with_activity}
-use Rattle.drf_rows.specs.Quota.{admits, admits_under, consumption, reserved_in, held_unreserved, reserved_for, limit_of}
-use Rattle.drf_rows.specs.declared.rows.AgentRow.{AgentRow}
+use Rattle.drf_tables.proofs.tables.Names.{Text, same_text, Path, same_path, Entry, holdings_of, sum_by-map, active_at, with_activity, admits, admits_under, consumption, reserved_in, held_unreserved, reserved_for, limit_of, AgentRow, Rows, Allowance, IsAllowanceOf, Usage, quota_under, used_where, CountsAll}
 use Rattle.drf_rows.specs.declared.rows.LimitRow.{LimitRow}
-use Rattle.drf_rows.specs.declared.rows.Rows.{Rows}
-use Rattle.drf_gates.specs.quota.Allowance.{Allowance, IsAllowanceOf, Usage, quota_under, used_where}
-use Rattle.drf_tables.specs.limits.Recounting.{CountsAll}
 
 -- where it is not counted, nothing is said
 pub none_counted : (rows : Rows) (consumption : Option (List Usage)) → is_some consumption ≡ false → CountsAll rows consumption

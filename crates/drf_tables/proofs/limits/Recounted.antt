@@ -1,46 +1,28 @@
 -- What roles consume, kept through each change of the rows.
-use Rattle.std.specs.Prelude.{◌≡◌, ℕ, ◌+◌, ◌<◌, ◌≤◌, ◌^◌, Bool, true, false, List, [], ◌∷◌, ◌++◌, map, Option, Some, None, IfSome, length}
 use Rattle.std.specs.List.{AllByRecursion}
 use Rattle.std.specs.Map.{remove_entry}
 use Rattle.std.specs.Option.{option_map_or}
-use Rattle.std.proofs.Common.{refl, sym, ap, subst, ◌∙◌, cond, inl, inr, arith}
+use Rattle.std.proofs.Common.{refl, sym, ap, ◌∙◌, cond, inl, inr, arith, ◌≡◌, ℕ, ◌+◌, ◌<◌, ◌≤◌, ◌^◌, Bool, true, false, List, [], ◌∷◌, ◌++◌, map, Option, Some, None, IfSome, length}
 use Rattle.std.proofs.lemmas.Bool.{cases_Bool}
 use Rattle.std.proofs.lemmas.List.Sums.{sum_by-append, sum_by-cons}
-use Rattle.drf_role.specs.Text.{Text, same_text}
-use Rattle.drf_role.specs.Path.{Path, same_path}
+use Rattle.drf_tables.proofs.tables.Names.{Text, same_text, Path, same_path, Key, IsBundle, quantities_of, rest, units, units_where, amount_of, Resource, IsConsistent, same_text-swap, Holding, holdings_of, of_offer, of_task, CanStart, offer_at, task_of, consumption_where, held_unreserved, reserved_for, reserved_in, reserves, unreserved_in, CanExchange, agent_at, exchanged, with_total, AgentRow, OfferRow, Rows, IsConsumptionOf, Usage, used_by, used_where, agent_row, Amounts, CountsAll, IsRaisedIf, reserved_at, Agent}
 use Rattle.drf_role.specs.PathLaws.{same_path_itself}
-use Rattle.drf_bundle.specs.Bundle.{Key, IsBundle, quantities_of, rest, units, units_where}
 use Rattle.drf_bundle.specs.laws.FitLaws.{join_some}
 use Rattle.drf_bundle.specs.laws.JoinLaws.{where-merged}
-use Rattle.drf_bundle.specs.Quantities.{amount_of}
 use Rattle.drf_bundle.specs.laws.RestLaws.{bundle-rest}
 use Rattle.drf_bundle.specs.laws.SumLaws.{amount-quantities_of}
 use Rattle.drf_bundle.specs.Taken.{rest_of_all, units_of_all}
 use Rattle.drf_bundle.specs.laws.TakenLaws.{units-rest_of_all}
 use Rattle.drf_bundle.specs.laws.UnitProofs.{covers_by_units, rest_and_part}
 use Rattle.drf_bundle.specs.Value.{Point, Thousandths}
-use Rattle.drf_bundle.specs.declared.resource.Resource.{Resource}
-use Rattle.drf_rows.specs.Consistent.{IsConsistent}
-use Rattle.drf_row_laws.specs.ConsistentLaws.{same_text-swap}
 use Rattle.drf_row_laws.specs.EndingLaws.{IsOneLess, accepted_in, offer_held, offer_out, started_by, sum_by-out, tasks_last}
-use Rattle.drf_rows.specs.Holdings.{Holding, holdings_of, of_offer, of_task}
-use Rattle.drf_rows.specs.Offers.{CanStart, offer_at, task_of}
-use Rattle.drf_rows.specs.Quota.{consumption_where, held_unreserved, reserved_for, reserved_in, reserves, unreserved_in}
 use Rattle.drf_row_laws.specs.QuotaLaws.{consumption_is_part_of_total, parts_le}
 use Rattle.drf_row_laws.specs.RegistrationLaws.{agent_added, new_agent}
 use Rattle.drf_rows.specs.TaskLaws.{units-covers_all}
 use Rattle.drf_rows.specs.Tasks.{Start, uses}
-use Rattle.drf_rows.specs.Totals.{CanExchange, agent_at, exchanged, with_total}
 use Rattle.drf_row_laws.specs.TotalsLaws.{agents_after, agents_before, agents_stand, stock-exchanged, where-exchanged, with_total-place}
 use Rattle.drf_rows.specs.declared.limits.TheConstants.{LARGEST_AMOUNT}
-use Rattle.drf_rows.specs.declared.rows.AgentRow.{AgentRow}
 use Rattle.drf_rows.specs.declared.rows.FilterRow.{FilterRow}
-use Rattle.drf_rows.specs.declared.rows.OfferRow.{OfferRow}
-use Rattle.drf_rows.specs.declared.rows.Rows.{Rows}
-use Rattle.drf_gates.specs.quota.Allowance.{IsConsumptionOf, Usage, used_by, used_where}
-use Rattle.drf_tables.specs.Inside.{agent_row}
-use Rattle.drf_tables.specs.limits.Recounting.{Amounts, CountsAll, IsRaisedIf, reserved_at}
-use Rattle.drf_tables.specs.declared.tables.Agent.{Agent}
 use Rattle.drf_tables.proofs.tables.Fields.{sums_fit}
 
 -- what holdings of roles that pass a test have for everyone, and what agents have reserved for them

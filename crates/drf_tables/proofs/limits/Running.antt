@@ -1,27 +1,12 @@
 -- What roles consume is counted through each change of what agents have.
-use Rattle.std.specs.Prelude.{◌≡◌, ◌+◌, ◌<◌, ◌≤◌, ◌^◌, Bool, false, not, List, filter, map, Option, Some, None, IfSome}
 use Rattle.std.specs.Map.{remove_entry}
-use Rattle.std.proofs.Common.{refl, sym, ap, subst, arith}
-use Rattle.drf_role.specs.Text.{Text, same_text}
-use Rattle.drf_role.specs.Path.{Path, same_path}
-use Rattle.drf_bundle.specs.Bundle.{quantities_of}
-use Rattle.drf_bundle.specs.Quantities.{plus}
-use Rattle.drf_bundle.specs.declared.quantities.Entry.{Entry}
-use Rattle.drf_bundle.specs.declared.resource.Resource.{Resource}
-use Rattle.drf_rows.specs.Held.{cluster_total}
-use Rattle.drf_rows.specs.Quota.{consumption_where, reserved_for, reserved_in}
+use Rattle.std.proofs.Common.{refl, sym, ap, subst, arith, ◌≡◌, ◌+◌, ◌<◌, ◌≤◌, ◌^◌, Bool, false, not, List, filter, map, Option, Some, None, IfSome}
+use Rattle.drf_tables.proofs.tables.Names.{Text, same_text, Path, same_path, quantities_of, plus, Entry, Resource, cluster_total, consumption_where, reserved_for, reserved_in, CanExchange, exchanged, with_other_total, with_total, Rows, Usage, used_by, used_where, CanExchangeOn, CanHaveTotal, HasOther, changed, with_exchanged, with_other, CountsAll, IsRaisedIf, reserved_at, Agent, Inside}
 use Rattle.drf_row_laws.specs.QuotaLaws.{consumption_is_part_of_total}
-use Rattle.drf_rows.specs.Totals.{CanExchange, exchanged, with_other_total, with_total}
 use Rattle.drf_row_laws.specs.TotalsLaws.{can_in_total, is_agent}
 use Rattle.drf_rows.specs.declared.limits.TheConstants.{LARGEST_AMOUNT}
 use Rattle.drf_rows.specs.declared.rows.FilterRow.{FilterRow}
-use Rattle.drf_rows.specs.declared.rows.Rows.{Rows}
-use Rattle.drf_gates.specs.quota.Allowance.{Usage, used_by, used_where}
-use Rattle.drf_tables.specs.registry.Changing.{CanExchangeOn, CanHaveTotal, HasOther, changed, with_exchanged, with_other}
 use Rattle.drf_tables.specs.Inside.{agent_row, rows_of, rows_in, AreDerived}
-use Rattle.drf_tables.specs.limits.Recounting.{CountsAll, IsRaisedIf, reserved_at}
-use Rattle.drf_tables.specs.declared.tables.Agent.{Agent}
-use Rattle.drf_tables.specs.declared.tables.Tables.TheInside.{Inside}
 use Rattle.drf_tables.proofs.agents.Changes.{rows_but}
 use Rattle.drf_tables.proofs.tables.Fields.{agents_in, total_fits}
 use Rattle.drf_tables.proofs.reservations.Moved.{kept-other, rows-exchanged, rows-other}

@@ -1,19 +1,13 @@
 -- What tables hold once an offer is accepted or refused.
-use Rattle.std.proofs.Common.{◌≡◌, ℕ, ◌≤◌, Bool, true, false, List, [], ◌∷◌, ◌++◌, Option, Some, map, refl, sym, ap, subst, ◌∙◌}
-use Rattle.std.specs.Prelude.{max, if◌then◌else◌}
+use Rattle.std.proofs.Common.{◌≡◌, ℕ, ◌≤◌, Bool, true, false, List, [], ◌∷◌, ◌++◌, Option, Some, map, refl, sym, ap, subst, ◌∙◌, max, if◌then◌else◌, append-nil}
 use Rattle.std.specs.Option.{option_map_or}
-use Rattle.std.proofs.lemmas.List.{append-nil}
 use Rattle.drf_bundle.specs.laws.TakenLaws.{bundle-rest_of_all}
-use Rattle.drf_rows.specs.Consistent.{IsFilter, IsConsistent}
-use Rattle.drf_rows.specs.Cycle.{at_moment}
+use Rattle.drf_tables.proofs.tables.Names.{IsFilter, IsConsistent, at_moment, offer_accepted, filter_of, filters_with, left_of_offer, offer_at, filtered_until, filters_all, filters_rest, task_of, OfferRow, Rows}
 use Rattle.drf_rows.specs.Endings.{without_ended, one_offer}
 use Rattle.drf_row_laws.specs.EndingLaws.{held-offer_at}
-use Rattle.drf_rows.specs.Offers.{offer_accepted, filter_of, filters_with, left_of_offer, offer_at, filtered_until, filters_all, filters_rest, task_of}
 use Rattle.drf_rows.specs.Tasks.{Start, uses}
 use Rattle.drf_rows.specs.declared.limits.TheConstants.{LATEST_MOMENT}
 use Rattle.drf_rows.specs.declared.rows.FilterRow.{FilterRow}
-use Rattle.drf_rows.specs.declared.rows.OfferRow.{OfferRow}
-use Rattle.drf_rows.specs.declared.rows.Rows.{Rows}
 use Rattle.drf_row_laws.specs.OfferLaws.{offer_filter}
 use Rattle.drf_tables.specs.offers.Ended.{filter_if, with_accepted}
 

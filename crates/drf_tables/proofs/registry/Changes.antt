@@ -1,33 +1,23 @@
 -- Agents in slots that change, found by name.
 use Rattle.std.proofs.Common.{◌≡◌, ◌+◌, ◌<◌, ℕ, Bool, true, refl, List, [], ◌∷◌, ◌++◌, Option, None, Some, is_some, map, length, drop, get_or, set, take, ap, ◌∙◌, sym}
 use Rattle.std.specs.Map.{keys_of}
+use Rattle.std.specs.Option.{option_map}
 use Rattle.std.proofs.lemmas.List.{drop_more, map-append}
 use Rattle.std.proofs.lemmas.List.Sums.{sum_by-append}
-use Rattle.indexmap.specs.IndexMap.{set_value_at}
-use Rattle.drf_gates.specs.filters.Slots.{filled}
-use Rattle.drf_role.specs.Text.{Text, same_text}
+use Rattle.drf_tables.proofs.tables.Names.{set_value_at, filled, Text, same_text, Path, are_distinct, reserved_for, reserved_in, AgentRow, changed, agent_row, slot_of, IsRegistry, Agent}
 use Rattle.drf_role.specs.TextLaws.{same_from_test}
-use Rattle.drf_role.specs.Path.{Path}
-use Rattle.drf_rows.specs.Consistent.{are_distinct}
-use Rattle.drf_rows.specs.Quota.{reserved_for, reserved_in}
-use Rattle.drf_rows.specs.declared.rows.AgentRow.{AgentRow}
-use Rattle.drf_tables.specs.registry.Changing.{changed}
-use Rattle.drf_tables.specs.Inside.{agent_row}
-use Rattle.drf_tables.specs.registry.Registered.{slot_of}
-use Rattle.drf_tables.specs.declared.tables.Agent.{Agent}
 use Rattle.drf_tables.proofs.registry.Entries.{names-keys}
 use Rattle.drf_tables.proofs.registry.Known.{changed_entry, changed_none, key_unknown}
-use Rattle.drf_tables.proofs.registry.Slots.{Entry, Slots, filled_at, filled_set, slot_found, slot_none}
+use Rattle.drf_tables.proofs.registry.Slots.{Entry, Slots, IsIn, filled_at, filled_set, read_is, registry-set, slot_found, slot_none}
 
 pub names_apart : (es : List Entry) → are_distinct (keys_of es) ≡ true → are_distinct (map (λ a. a.name) (map agent_row es)) ≡ true
 names_apart es apart = ap are_distinct (names-keys agent_row (λ a. a.name) es (λ e. refl)) ∙ apart
 
 -- the agent of a name is another in its slot
-pub changed_slot : (name : Text) (change : Agent → Agent) (slots new : Slots) (i : ℕ) (e : Entry) (w : Agent)
-    → are_distinct (keys_of (filled slots)) ≡ true → slot_of name slots ≡ Some i → get_or slots i None ≡ Some e → change e.1 ≡ w
+changed_here : (name : Text) (change : Agent → Agent) (slots new : Slots) (i : ℕ) (e : Entry) (w : Agent)
+    → are_distinct (keys_of (filled slots)) ≡ true → IsIn name slots i → get_or slots i None ≡ Some e → change e.1 ≡ w
     → new ≡ set slots i (Some (e.0, w)) → filled new ≡ map (changed name change) (filled slots)
-changed_slot name change slots new i e w apart found there is written =
-    let here = slot_found name slots i found in
+changed_here name change slots new i e w apart here there is written =
     let at = here.there in
     let same : here.entry ≡ e = cc in
     let named : e.0 ≡ name = sym (same_from_test name e.0 (ap (λ (f : Entry). same_text name f.0) (sym same) ∙ here.named)) in
@@ -36,6 +26,27 @@ changed_slot name change slots new i e w apart found there is written =
     ∙ filled_set slots i e w there
     ∙ ap (set_value_at (filled slots) number) (sym is)
     ∙ changed_entry name change (filled slots) number e (names_apart (filled slots) apart) (filled_at slots i e there) named
+
+pub changed_slot : (name : Text) (change : Agent → Agent) (slots new : Slots) (i : ℕ) (e : Entry) (w : Agent)
+    → are_distinct (keys_of (filled slots)) ≡ true → slot_of name slots ≡ Some i → get_or slots i None ≡ Some e → change e.1 ≡ w
+    → new ≡ set slots i (Some (e.0, w)) → filled new ≡ map (changed name change) (filled slots)
+changed_slot name change slots new i e w apart found = changed_here name change slots new i e w apart (slot_found name slots i found)
+
+-- a slot is read and written in place
+pub record IsRewritten (name : Text) (slots new : Slots) (places : List (Text × ℕ)) (live : ℕ) (old a : Agent) : Type 0 where
+  pub registry : IsRegistry new places live
+  pub entries : (change : Agent → Agent) → change old ≡ a → filled new ≡ map (changed name change) (filled slots)
+
+pub rewritten : (name : Text) (slots : Slots) (places : List (Text × ℕ)) (live i : ℕ) (e : Entry) (g : Agent → Agent) (x slot : Option Entry)
+    → IsRegistry slots places live → IsIn name slots i → get_or slots i None ≡ Some e → x ≡ get_or slots i x
+    → slot ≡ option_map (λ (f : Entry). (f.0, g f.1)) x → IsRewritten name slots (set slots i slot) places live e.1 (g e.1)
+rewritten name slots places live i e g x slot known here there read put =
+    let written : set slots i slot ≡ set slots i (Some (e.0, g e.1)) =
+    ap (set slots i) (put ∙ ap (option_map (λ (f : Entry). (f.0, g f.1))) (read_is slots i x e here.below read there)) in
+    record {
+      registry = registry-set slots _ places live i e (g e.1) known there written;
+      entries = λ change is. changed_here name change slots _ i e (g e.1) known.apart here there is written;
+    }
 
 -- and no agent where none has the name
 pub unchanged_slots : (name : Text) (change : Agent → Agent) (slots : Slots) → slot_of name slots ≡ None

@@ -1,27 +1,15 @@
 -- Tables by name, entry by entry.
-use Rattle.std.specs.Prelude.{◌≡◌, ℕ, Bool, true, false, not, List, [], ◌∷◌, ◌++◌, length, map, filter, find, ◌+◌, ◌||◌, Option, None, slice_get, Some, is_some, Result, Ok, Err, OnOk, if◌then◌else◌}
 use Rattle.std.specs.List.{list_any, position}
 use Rattle.std.specs.Global.{Vec}
 use Rattle.std.specs.Map.{lookup, keys_of, values_of, remove_entry}
-use Rattle.std.proofs.Common.{refl, sym, ap, ◌∙◌, inl, inr, zero, suc, arith, get_or, Bor}
+use Rattle.std.proofs.Common.{refl, sym, ap, ◌∙◌, inl, inr, zero, suc, arith, get_or, Bor, ◌≡◌, ℕ, Bool, true, false, not, List, [], ◌∷◌, ◌++◌, length, map, filter, find, ◌+◌, ◌||◌, Option, None, slice_get, Some, is_some, Result, Ok, Err, OnOk, if◌then◌else◌}
 use Rattle.std.proofs.lemmas.List.Quantifiers.{position-Some}
 use Rattle.std.specs.Option.{option_copied, option_map, option_map_or}
 use Rattle.std.proofs.lemmas.Option.{get_or_from_slice_get, slice_get-map}
 use Rattle.drf_role.specs.TextLaws.{same_from_test}
 use Rattle.std.proofs.lemmas.Bool.{cases_Bool, false≢true, and_parts, or_parts, not-true}
-use Rattle.indexmap.specs.IndexMap.{insert_entry, set_value_at}
-use Rattle.drf_role.specs.Text.{Text, same_text}
-use Rattle.drf_rows.specs.Consistent.{are_distinct}
-use Rattle.drf_row_laws.specs.ConsistentLaws.{same_text-swap}
-use Rattle.drf_bundle.specs.ListLaws.{none_has, none_has_at}
-use Rattle.drf_rows.specs.declared.rows.ClientRow.{ClientRow}
-use Rattle.drf_rows.specs.declared.rows.FrameworkRow.{FrameworkRow}
-use Rattle.drf_role.specs.Path.{same_path}
-use Rattle.drf_rows.specs.Client.{Client}
-use Rattle.drf_rows.specs.Held.{is_registered}
-use Rattle.drf_tables.specs.cycle.Counting.{count_clients}
+use Rattle.drf_tables.proofs.tables.Names.{insert_entry, set_value_at, Text, same_text, are_distinct, same_text-swap, none_has, none_has_at, ClientRow, FrameworkRow, same_path, Client, is_registered, count_clients, framework_row, framework_rows}
 use Rattle.drf_tables.proofs.cycle.Counted.{count_clients-cons}
-use Rattle.drf_tables.specs.Inside.{framework_row, framework_rows}
 
 -- ---- names
 

@@ -1,31 +1,16 @@
 -- What is free on an agent once one more part is held there.
-use Rattle.std.specs.Prelude.{◌≡◌, ℕ, ◌+◌, ◌≤◌, Bool, true, false, ◌&&◌, List, [], ◌∷◌, ◌++◌, length, map, Option, Some, None, is_some, if◌then◌else◌}
 use Rattle.std.specs.List.{AllByRecursion}
 use Rattle.std.specs.Option.{option_map}
-use Rattle.std.proofs.Common.{refl, sym, ap, subst, ◌∙◌, arith}
-use Rattle.std.proofs.lemmas.List.{append-nil}
-use Rattle.drf_role.specs.Text.{Text, same_text}
+use Rattle.std.proofs.Common.{refl, sym, ap, subst, ◌∙◌, arith, ◌≡◌, ℕ, ◌+◌, ◌≤◌, Bool, true, false, ◌&&◌, List, [], ◌∷◌, ◌++◌, length, map, Option, Some, None, is_some, if◌then◌else◌, append-nil}
+use Rattle.drf_tables.proofs.tables.Names.{Text, same_text, Key, IsBundle, rest, units, Entry, Resource, IsAgent, IsConsistent, IsHeld, clients_of, cluster_total, Holding, AreBundles, holdings_of, of_offer, of_task, parts_on, bundles-consistent, same_text-swap, AgentRow, OfferRow, Rows, changed, with_held, agent_row, is_settled, AreDerived, IsKnown, Agent}
 use Rattle.drf_bundle.specs.Value.{Point}
-use Rattle.drf_bundle.specs.Bundle.{Key, IsBundle, rest, units}
 use Rattle.drf_bundle.specs.Taken.{units_of_all, rest_of_all}
 use Rattle.drf_bundle.specs.laws.BundleLaws.{known_by_units}
 use Rattle.drf_bundle.specs.laws.RestLaws.{bundle-rest, units-rest}
 use Rattle.drf_bundle.specs.laws.TakenLaws.{bundle-rest_of_all, units-rest_of_all}
-use Rattle.drf_bundle.specs.declared.quantities.Entry.{Entry}
-use Rattle.drf_bundle.specs.declared.resource.Resource.{Resource}
-use Rattle.drf_rows.specs.Consistent.{IsAgent, IsConsistent, IsHeld}
-use Rattle.drf_rows.specs.Held.{clients_of, cluster_total}
-use Rattle.drf_rows.specs.Holdings.{Holding, AreBundles, holdings_of, of_offer, of_task, parts_on}
-use Rattle.drf_row_laws.specs.ConsistentLaws.{bundles-consistent, same_text-swap}
 use Rattle.drf_row_laws.specs.EndingLaws.{IsOneLess, one-one_less, one_less-offer, one_less-task, parts_on-one_less, units-one_less}
 use Rattle.drf_row_laws.specs.HoldingsLaws.{each_part}
-use Rattle.drf_rows.specs.declared.rows.AgentRow.{AgentRow}
-use Rattle.drf_rows.specs.declared.rows.OfferRow.{OfferRow}
-use Rattle.drf_rows.specs.declared.rows.Rows.{Rows}
 use Rattle.drf_rows.specs.declared.rows.TaskRow.{TaskRow}
-use Rattle.drf_tables.specs.registry.Changing.{changed, with_held}
-use Rattle.drf_tables.specs.Inside.{agent_row, is_settled, AreDerived, IsKnown}
-use Rattle.drf_tables.specs.declared.tables.Agent.{Agent}
 
 -- ---- what is free
 

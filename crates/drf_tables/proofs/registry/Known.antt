@@ -1,31 +1,16 @@
 -- What is known of free parts, entry by entry.
-use Rattle.std.specs.Prelude.{◌≡◌, ℕ, ◌+◌, Bool, true, false, List, [], ◌∷◌, map, length, slice_get, slice_set, Option, Some, None, is_some, if◌then◌else◌}
 use Rattle.std.specs.List.{list_any, AllByRecursion}
 use Rattle.std.specs.Map.{lookup, keys_of, values_of}
-use Rattle.std.proofs.Common.{refl, sym, ap, subst, ◌∙◌, zero, suc, inl, inr, add-one, arith}
+use Rattle.std.proofs.Common.{refl, sym, ap, subst, ◌∙◌, zero, suc, inl, inr, add-one, arith, ◌≡◌, ℕ, ◌+◌, Bool, true, false, List, [], ◌∷◌, map, length, slice_get, slice_set, Option, Some, None, is_some, if◌then◌else◌, map-id}
 use Rattle.std.proofs.lemmas.Bool.{cases_Bool, and_parts, and_from}
-use Rattle.std.proofs.lemmas.List.{map-id}
-use Rattle.indexmap.specs.IndexMap.{set_value_at}
-use Rattle.drf_role.specs.Text.{Text, same_text}
+use Rattle.drf_tables.proofs.tables.Names.{set_value_at, Text, same_text, Resource, are_distinct, same_text-swap, Holding, holdings_of, parts_on, each_from, each_map, active_at, AgentRow, Rows, changed, with_active, are_settled, with_free_at, Agent, Inside}
 use Rattle.drf_role.specs.TextLaws.{same_from_test, same_itself}
 use Rattle.drf_bundle.specs.Taken.{rest_of_all}
-use Rattle.drf_bundle.specs.declared.resource.Resource.{Resource}
-use Rattle.drf_rows.specs.Consistent.{are_distinct}
-use Rattle.drf_row_laws.specs.ConsistentLaws.{same_text-swap}
 use Rattle.drf_rows.specs.Cycle.{free_of}
-use Rattle.drf_rows.specs.Holdings.{Holding, holdings_of, parts_on}
-use Rattle.drf_bundle.specs.ListLaws.{each_from, each_map}
-use Rattle.drf_rows.specs.Members.{active_at}
-use Rattle.drf_rows.specs.declared.rows.AgentRow.{AgentRow}
-use Rattle.drf_rows.specs.declared.rows.Rows.{Rows}
 use Rattle.drf_holdings.specs.Stored.{holdings_in}
-use Rattle.drf_tables.specs.registry.Changing.{changed, with_active, are_settled}
 use Rattle.drf_tables.specs.cycle.Drafts.{frees_after}
 use Rattle.drf_tables.specs.Inside.{agent_row, frees_in, known_after, is_settled, rows_in, rows_of, IsKnown}
-use Rattle.drf_tables.specs.registry.Registered.{with_free_at}
-use Rattle.drf_tables.specs.declared.tables.Agent.{Agent}
 use Rattle.drf_tables.specs.declared.tables.Left.{Left}
-use Rattle.drf_tables.specs.declared.tables.Tables.TheInside.{Inside}
 use Rattle.drf_tables.proofs.registry.Entries.{known-lookup, names-keys, changed_at, unknown_stay}
 
 -- ---- the entry of one name changes

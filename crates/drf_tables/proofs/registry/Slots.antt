@@ -5,16 +5,8 @@ use Rattle.std.specs.Option.{option_map}
 use Rattle.std.proofs.lemmas.Bool.{cases_Bool, and_parts, and_from, not-true}
 use Rattle.std.proofs.lemmas.List.{get_or_default, take_more}
 use Rattle.std.proofs.lemmas.List.Elements.{filter_map-append}
-use Rattle.indexmap.specs.IndexMap.{set_value_at}
-use Rattle.drf_bundle.specs.ListLaws.{none_has, none_has_at}
-use Rattle.drf_bundle.specs.declared.resource.Resource.{Resource}
-use Rattle.drf_gates.specs.filters.Slots.{filled}
-use Rattle.drf_role.specs.Text.{Text, same_text}
+use Rattle.drf_tables.proofs.tables.Names.{set_value_at, none_has, none_has_at, Resource, filled, Text, same_text, same_text-swap, are_distinct, slot_of, ranks_of, with_free_at, IsRanked, IsRegistry, Agent}
 use Rattle.drf_role.specs.TextLaws.{same_from_test}
-use Rattle.drf_row_laws.specs.ConsistentLaws.{same_text-swap}
-use Rattle.drf_rows.specs.Consistent.{are_distinct}
-use Rattle.drf_tables.specs.registry.Registered.{slot_of, ranks_of, with_free_at, IsRanked, IsRegistry}
-use Rattle.drf_tables.specs.declared.tables.Agent.{Agent}
 
 abbrev pub Entry : Type 0
 Entry = Text × Agent

@@ -1,42 +1,23 @@
 -- The rows that the fields stand for once limits are set, a part of an agent is exchanged, or its total is another.
-use Rattle.std.specs.Prelude.{◌≡◌, ℕ, ◌+◌, ◌<◌, ◌≤◌, ◌^◌, Bool, true, false, not, List, [], ◌∷◌, map, filter, Option, Some, None, Result, Ok, Err, OnOk, OnErr, if◌then◌else◌}
 use Rattle.std.specs.List.{AllByRecursion}
 use Rattle.std.specs.Option.{option_map}
-use Rattle.std.proofs.Common.{refl, sym, ap, subst, ◌∙◌, arith}
+use Rattle.std.proofs.Common.{refl, sym, ap, subst, ◌∙◌, arith, ◌≡◌, ℕ, ◌+◌, ◌<◌, ◌≤◌, ◌^◌, Bool, true, false, not, List, [], ◌∷◌, map, filter, Option, Some, None, if◌then◌else◌}
 use Rattle.std.proofs.lemmas.List.{length-map}
 use Rattle.std.proofs.lemmas.List.Sums.{sum_by-append}
-use Rattle.drf_role.specs.Text.{Text, same_text}
-use Rattle.drf_role.specs.Path.{Path}
+use Rattle.drf_tables.proofs.tables.Names.{Text, same_text, Path, Key, IsBundle, is_default, quantities_of, rest, units, plus, Entry, Resource, IsAgent, IsCovered, cluster_total, Holding, AreBundles, of_offer, of_task, holdings_of, parts_on, bundles-consistent, each_from_both, each_map, unreserved_in, held_unreserved, reserved_for, consumption_where, limits_with, CanExchange, total_at, with_total, with_other_total, exchanged, AgentRow, Rows, IsConsumptionOf, IsRaisedBy, Usage, used_where, CanExchangeOn, CanHaveTotal, CanExchangeAt, HasOther, changed, other_free, with_exchanged, with_other, Agent, Inside}
 use Rattle.drf_role.specs.Role.{IsRole}
 use Rattle.drf_bundle.specs.Value.{Point}
-use Rattle.drf_bundle.specs.Bundle.{Key, IsBundle, is_default, quantities_of, rest, units}
 use Rattle.drf_bundle.specs.laws.BundleLaws.{bundle-empty, known_by_units}
 use Rattle.drf_bundle.specs.laws.RestLaws.{bundle-rest, units-rest}
-use Rattle.drf_bundle.specs.Quantities.{plus}
 use Rattle.drf_bundle.specs.Taken.{units_of_all, rest_of_all}
 use Rattle.drf_bundle.specs.laws.TakenLaws.{bundle-rest_of_all, rest-itself, units-rest_of_all}
-use Rattle.drf_bundle.specs.declared.quantities.Entry.{Entry}
-use Rattle.drf_bundle.specs.declared.resource.Resource.{Resource}
-use Rattle.drf_rows.specs.Consistent.{IsAgent, IsCovered}
 use Rattle.drf_rows.specs.Cycle.{free_of}
-use Rattle.drf_rows.specs.Held.{cluster_total}
-use Rattle.drf_rows.specs.Holdings.{Holding, AreBundles, of_offer, of_task, holdings_of, parts_on}
-use Rattle.drf_row_laws.specs.ConsistentLaws.{bundles-consistent}
 use Rattle.drf_row_laws.specs.HoldingsLaws.{each_part}
 use Rattle.drf_row_laws.specs.LimitLaws.{IsConsistent-limit_set}
-use Rattle.drf_bundle.specs.ListLaws.{each_from_both, each_map}
-use Rattle.drf_rows.specs.Quota.{unreserved_in, held_unreserved, reserved_for, consumption_where, limits_with}
 use Rattle.drf_row_laws.specs.QuotaLaws.{consumption_is_part_of_total}
 use Rattle.drf_row_laws.specs.ReservationLaws.{IsConsistent-other_total}
-use Rattle.drf_rows.specs.Totals.{CanExchange, total_at, with_total, with_other_total, exchanged}
 use Rattle.drf_row_laws.specs.TotalsLaws.{if_named, can_in_total, IsConsistent-exchanged, free_of-exchanged, cluster_total-exchanged, cluster_total-other_total}
-use Rattle.drf_rows.specs.declared.rows.AgentRow.{AgentRow}
-use Rattle.drf_rows.specs.declared.rows.Rows.{Rows}
-use Rattle.drf_gates.specs.quota.Allowance.{IsConsumptionOf, IsRaisedBy, Usage, used_where}
-use Rattle.drf_tables.specs.registry.Changing.{CanExchangeOn, CanHaveTotal, CanExchangeAt, HasOther, changed, other_free, with_exchanged, with_other}
 use Rattle.drf_tables.specs.Inside.{agent_row, rows_of, rows_in, IsKnown, AreDerived, IsWhole}
-use Rattle.drf_tables.specs.declared.tables.Agent.{Agent}
-use Rattle.drf_tables.specs.declared.tables.Tables.TheInside.{Inside}
 use Rattle.drf_tables.proofs.agents.Changes.{rows_but}
 use Rattle.drf_tables.proofs.limits.Counts.{counts-same}
 use Rattle.drf_tables.proofs.tables.Fields.{total_fits}

@@ -1,22 +1,14 @@
 -- Copies of maps, entry by entry.
-use Rattle.std.specs.Prelude.{◌≡◌, ℕ, Bool, false, List, [], ◌∷◌, ◌++◌, map}
 use Rattle.std.specs.List.{AllByRecursion, IsDistinct}
 use Rattle.std.specs.Map.{keys_of}
 use Rattle.std.specs.Global.{Vec}
-use Rattle.std.proofs.Common.{refl, sym, ap, ◌∙◌, subst, append_assoc}
+use Rattle.std.proofs.Common.{refl, sym, ap, ◌∙◌, subst, append_assoc, ◌≡◌, ℕ, Bool, false, List, [], ◌∷◌, ◌++◌, map}
 use Rattle.std.proofs.lemmas.Map.Keys.{IsDistinct-head, IsDistinct-tail}
-use Rattle.indexmap.specs.IndexMap.{insert_entry}
-use Rattle.drf_role.specs.Text.{Text, same_text}
-use Rattle.drf_row_laws.specs.ConsistentLaws.{same_text-swap}
-use Rattle.drf_rows.specs.declared.rows.ClientRow.{ClientRow}
-use Rattle.drf_rows.specs.declared.rows.FrameworkRow.{FrameworkRow}
-use Rattle.drf_role.specs.Path.{Path}
+use Rattle.drf_tables.proofs.tables.Names.{insert_entry, Text, same_text, same_text-swap, ClientRow, FrameworkRow, Path, Agent, Inside}
 use Rattle.drf_rows.specs.declared.rows.FilterRow.{FilterRow}
 use Rattle.drf_rows.specs.declared.rows.LimitRow.{LimitRow}
 use Rattle.drf_holdings.specs.Stored.{OffersAndTasks}
 use Rattle.drf_tables.specs.Inside.{agent_row, framework_row, framework_rows, rows_in, rows_of, weight_rows}
-use Rattle.drf_tables.specs.declared.tables.Agent.{Agent}
-use Rattle.drf_tables.specs.declared.tables.Tables.TheInside.{Inside}
 
 module _ {K V : Type 0} (same : K → K → Bool) (swap : (x y : K) → same x y ≡ same y x) where
   -- no two keys are the same, so one that is still to come is new

@@ -1,39 +1,21 @@
 -- The rows that the fields of tables stand for, before and after each change.
-use Rattle.std.specs.Prelude.{◌≡◌, ℕ, ◌+◌, ◌*◌, ◌<◌, ◌≤◌, ◌^◌, Bool, true, false, List, [], ◌∷◌, ◌++◌, length, map, fold, slice_get, Some, is_some}
 use Rattle.std.specs.List.{AllByRecursion}
 use Rattle.std.specs.Global.{Vec}
 use Rattle.std.specs.Option.{option_map}
 use Rattle.std.specs.Map.{lookup, values_of}
-use Rattle.std.proofs.Common.{refl, sym, ap, ◌∙◌, zero, suc, arith}
+use Rattle.std.proofs.Common.{refl, sym, ap, ◌∙◌, zero, suc, arith, ◌≡◌, ℕ, ◌+◌, ◌*◌, ◌<◌, ◌≤◌, ◌^◌, Bool, true, false, List, [], ◌∷◌, ◌++◌, length, map, fold, slice_get, Some, is_some}
 use Rattle.std.proofs.lemmas.List.{map-append}
-use Rattle.indexmap.specs.IndexMap.{insert_entry}
-use Rattle.drf_role.specs.Text.{Text, same_text}
-use Rattle.drf_bundle.specs.Quantities.{amount_of, plus}
+use Rattle.drf_tables.proofs.tables.Names.{insert_entry, Text, same_text, amount_of, plus, quantities_of, Entry, cluster_total, has_agent, has_framework, IsAgent, AgentRow, ClientRow, OfferRow, Rows, counting_all, holdings_of, each_at, Resource, Agent, Inside}
 use Rattle.drf_bundle.specs.laws.QuantitiesLaws.{amount-plus}
 use Rattle.drf_bundle.specs.laws.UnitProofs.{quantities_no_zeros}
-use Rattle.drf_bundle.specs.Bundle.{quantities_of}
-use Rattle.drf_bundle.specs.declared.quantities.Entry.{Entry}
-use Rattle.drf_rows.specs.Held.{cluster_total}
 use Rattle.drf_rows.specs.Cycle.{free_of}
-use Rattle.drf_rows.specs.Members.{has_agent, has_framework}
 use Rattle.drf_rows.specs.Totals.{agent_at as found_agent}
-use Rattle.drf_rows.specs.Consistent.{IsAgent}
 use Rattle.drf_row_laws.specs.RegistrationLaws.{agent_added, framework_added}
 use Rattle.drf_rows.specs.declared.limits.TheConstants.{LARGEST_AMOUNT}
-use Rattle.drf_rows.specs.declared.rows.AgentRow.{AgentRow}
-use Rattle.drf_rows.specs.declared.rows.ClientRow.{ClientRow}
-use Rattle.drf_rows.specs.declared.rows.OfferRow.{OfferRow}
-use Rattle.drf_rows.specs.declared.rows.Rows.{Rows}
 use Rattle.drf_tables.specs.cycle.Drafts.{with_offers}
 use Rattle.drf_tables.specs.cycle.DraftLaws.{offers_added, with_offers-added}
-use Rattle.drf_tables.specs.cycle.Counting.{counting_all}
 use Rattle.drf_tables.specs.Inside.{agent_row, framework_row, framework_rows, rows_of, rows_in, IsKnown}
-use Rattle.drf_rows.specs.Holdings.{holdings_of}
-use Rattle.drf_bundle.specs.ListLaws.{each_at}
-use Rattle.drf_bundle.specs.declared.resource.Resource.{Resource}
 use Rattle.drf_holdings.specs.Stored.{OffersAndTasks}
-use Rattle.drf_tables.specs.declared.tables.Agent.{Agent}
-use Rattle.drf_tables.specs.declared.tables.Tables.TheInside.{Inside}
 use Rattle.drf_tables.proofs.registry.Entries.{known-lookup, found-lookup, insert_entry-new}
 
 -- ---- an agent by its place

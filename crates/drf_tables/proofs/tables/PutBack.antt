@@ -1,31 +1,18 @@
 -- The tables once an offer or a task is put back.
-use Rattle.std.specs.Prelude.{◌≡◌, Bool, true, false, not, List, [], ◌∷◌, ◌++◌, map, Option, Some, None}
 use Rattle.std.specs.List.{list_all, list_any}
+use Rattle.std.specs.Map.{lookup}
 use Rattle.std.specs.Option.{option_map, option_map_or}
-use Rattle.std.proofs.Common.{refl, sym, ap, subst, ◌∙◌}
+use Rattle.std.proofs.Common.{refl, sym, ap, subst, ◌∙◌, ◌≡◌, Bool, true, false, not, List, [], ◌∷◌, ◌++◌, map, Option, Some, None}
 use Rattle.std.proofs.lemmas.Bool.{and_parts, not-true, or_from}
 use Rattle.std.proofs.lemmas.List.Folds.{list_all-append}
-use Rattle.drf_role.specs.Path.{Path}
-use Rattle.drf_role.specs.Text.{Text}
-use Rattle.drf_bundle.specs.Bundle.{covers, part_for, rest}
-use Rattle.drf_bundle.specs.declared.resource.Resource.{Resource}
-use Rattle.drf_rows.specs.Consistent.{are_distinct_tasks, IsConsistent, IsHeld}
+use Rattle.drf_tables.proofs.tables.Names.{Path, Text, same_text, covers, part_for, rest, Resource, are_distinct_tasks, IsConsistent, IsHeld, Holding, holdings_of, of_offer, of_task, has_agent, agent_at, AgentRow, OfferRow, Rows, changed, with_held, Agent, Inside}
 use Rattle.drf_rows.specs.Cycle.{free_of}
 use Rattle.drf_rows.specs.Endings.{is_task}
-use Rattle.drf_rows.specs.Holdings.{Holding, holdings_of, of_offer, of_task}
-use Rattle.drf_rows.specs.Members.{has_agent}
 use Rattle.drf_row_laws.specs.EndingLaws.{IsOneLess, is_task-swap, one-one_less}
-use Rattle.drf_rows.specs.Totals.{agent_at}
-use Rattle.drf_rows.specs.declared.rows.AgentRow.{AgentRow}
 use Rattle.drf_saved.specs.Saved.{is_usable}
-use Rattle.drf_rows.specs.declared.rows.OfferRow.{OfferRow}
-use Rattle.drf_rows.specs.declared.rows.Rows.{Rows}
 use Rattle.drf_rows.specs.declared.rows.TaskRow.{TaskRow}
 use Rattle.drf_holdings.specs.Stored.{OffersAndTasks}
-use Rattle.drf_tables.specs.registry.Changing.{changed, with_held}
 use Rattle.drf_tables.specs.Inside.{agent_row, rows_in, rows_of, AreDerived}
-use Rattle.drf_tables.specs.declared.tables.Agent.{Agent}
-use Rattle.drf_tables.specs.declared.tables.Tables.TheInside.{Inside}
 use Rattle.drf_tables.proofs.tables.Fields.{agents_in}
 use Rattle.drf_tables.proofs.registry.Held.{AreDerived-held, one_more-offer, one_more-task, rows-held}
 
@@ -75,9 +62,18 @@ usable_free rows name role bundle free is =
 -- ---- what is left
 
 -- what is left is free where one more is held
-pub left_held : (a : Agent) (part : List Resource) (left : Option (List Resource)) → left ≡ option_map (λ known. rest known part) a.free
+left_held : (a : Agent) (part : List Resource) (left : Option (List Resource)) → left ≡ option_map (λ known. rest known part) a.free
     → with_held part a ≡ record a { free = left }
 left_held a part left is = λ i. record a { free = sym is i }
+
+-- and the agent of the name changes so, where a copy of the name found it
+pub told_held : (old new : List (Text × Agent)) (name copy : Text) (part : List Resource) (left : Option (List Resource)) (a : Agent)
+    → lookup (same_text name) old ≡ Some a → left ≡ option_map (λ known. rest known part) a.free → copy ≡ name
+    → ((change : Agent → Agent) (a : Agent) → lookup (same_text copy) old ≡ Some a → change a ≡ record a { free = left } → new ≡ map (changed copy change) old)
+    → new ≡ map (changed name (with_held part)) old
+told_held old new name copy part left a at is same set =
+    subst (λ (n : Text). (change : Agent → Agent) (a : Agent) → lookup (same_text n) old ≡ Some a → change a ≡ record a { free = left }
+    → new ≡ map (changed n change) old) same set (with_held part) a at (left_held a part left is)
 
 module _ (t : Inside) (kept : AreDerived (rows_in t) t.agents.entries t.total t.clients) (entries : List (Text × Agent)) (held : OffersAndTasks) where
   -- the rows with other agents and holdings

@@ -1,12 +1,10 @@
 -- Whether anything stands in a table.
-use Rattle.std.specs.Prelude.{◌≡◌, ◌==◌, ℕ, Bool, true, false, not, List, [], ◌∷◌, filter, length, nat_lt, Option, Some, None, is_some}
 use Rattle.std.specs.List.{list_all}
 use Rattle.std.specs.Map.Iter.{TakesFirst}
-use Rattle.std.proofs.Common.{refl, sym, ap, inl, inr}
+use Rattle.std.proofs.Common.{refl, sym, ap, inl, inr, ◌≡◌, ◌==◌, ℕ, Bool, true, false, not, List, [], ◌∷◌, filter, length, nat_lt, Option, Some, None, is_some}
 use Rattle.std.proofs.lemmas.Bool.{cases_Bool}
 use Rattle.std.proofs.Math.Dec.{eqb-suc-zero}
-use Rattle.drf_rows.specs.Offers.{is_empty}
-use Rattle.drf_rows.specs.declared.rows.OfferRow.{OfferRow}
+use Rattle.drf_tables.proofs.tables.Names.{is_empty, OfferRow}
 
 pub none_there : {X : Type 0} (xs : List X) → (length xs == 0) ≡ is_empty xs
 none_there [] = refl

@@ -1,21 +1,14 @@
 -- The table of weights, as rows.
-use Rattle.std.specs.Prelude.{◌≡◌, ℕ, List, [], ◌∷◌, is_some, true}
 use Rattle.std.specs.List.{list_any}
 use Rattle.std.specs.Map.{lookup}
-use Rattle.std.proofs.Common.{refl, ap, ◌∙◌, inl, inr}
+use Rattle.std.proofs.Common.{refl, ap, ◌∙◌, inl, inr, ◌≡◌, ℕ, List, [], ◌∷◌, is_some, true}
 use Rattle.std.proofs.lemmas.Bool.{cases_Bool}
-use Rattle.indexmap.specs.IndexMap.{insert_entry}
-use Rattle.drf_role.specs.Path.{Path, same_path}
+use Rattle.drf_tables.proofs.tables.Names.{insert_entry, Path, same_path, Entry, Rows, Agent, Inside, Text}
 use Rattle.drf_role.specs.PathLaws.{same_path-swap}
 use Rattle.drf_role.specs.Role.{IsRole}
-use Rattle.drf_bundle.specs.declared.quantities.Entry.{Entry}
 use Rattle.drf_rows.specs.Weights.{has_weight, is_weight, weights_with}
 use Rattle.drf_row_laws.specs.WeightLaws.{IsConsistent-weight_set}
-use Rattle.drf_rows.specs.declared.rows.Rows.{Rows}
 use Rattle.drf_tables.specs.Inside.{weight_row, weight_rows, rows_of, rows_in, AreDerived}
-use Rattle.drf_tables.specs.declared.tables.Agent.{Agent}
-use Rattle.drf_tables.specs.declared.tables.Tables.TheInside.{Inside}
-use Rattle.drf_role.specs.Text.{Text}
 use Rattle.drf_tables.proofs.tables.Kept.{AreDerived-same}
 
 -- a role is found among the keys exactly where a row has it

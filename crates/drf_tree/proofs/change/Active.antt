@@ -1,18 +1,10 @@
 -- A client is to be served or not.
-use Rattle.std.specs.Prelude.{◌≡◌, ◌≤◌, ◌+◌, ◌-◌, ℕ, Bool, true, false, cond, List, [], ◌∷◌, Some, map, slice_get, sum_by}
 use Rattle.std.specs.List.{AllByRecursion, IsDistinct}
-use Rattle.std.proofs.Common.{refl, sym, ap, subst, ◌∙◌, inl, inr, arith}
+use Rattle.std.proofs.Common.{refl, sym, ap, subst, ◌∙◌, inl, inr, arith, ◌≡◌, ◌≤◌, ◌+◌, ◌-◌, ℕ, Bool, true, false, cond, List, [], ◌∷◌, Some, map, slice_get, sum_by}
 use Rattle.std.proofs.lemmas.Bool.{true≢false, cases_Bool}
 use Rattle.std.proofs.lemmas.List.Sums.{sum_by-cons}
 use Rattle.std.proofs.lemmas.Map.Keys.{IsDistinct-head, IsDistinct-tail}
-use Rattle.drf_role.specs.Path.{Path, IsClientPath, begins_with, same_path}
-use Rattle.drf_role.specs.PathLaws.{client_paths-apart, path_decides, same_path-swap, same_path-true}
-use Rattle.drf_bundle.specs.ListLaws.{each_from}
-use Rattle.drf_sorter.specs.Content.{Content, Ranked, activated, clients_under, has_client, with_change}
-use Rattle.drf_tree.specs.declared.node.Sum.{Sum}
-use Rattle.drf_tree.specs.declared.tree.Tree.{Tree}
-use Rattle.drf_tree.specs.Nodes.{client_at, is_live, path_at}
-use Rattle.drf_tree.specs.Tree.{IsTreeOf}
+use Rattle.drf_tree.proofs.Names.{Path, IsClientPath, begins_with, same_path, client_paths-apart, path_decides, same_path-swap, same_path-true, each_from, Content, Ranked, activated, clients_under, has_client, with_change, Sum, Tree, client_at, is_live, path_at, IsTreeOf}
 use Rattle.drf_tree.proofs.change.Changed.{changed_kept}
 use Rattle.drf_tree.proofs.change.Climb.{IsClimbing, climb_end}
 use Rattle.drf_tree.proofs.sums.Content.{below, sum_below}

@@ -1,14 +1,7 @@
 -- One more client.
-use Rattle.std.specs.Prelude.{◌≡◌, ◌+◌, ℕ, true, false, Some, length, slice_index_or}
-use Rattle.std.proofs.Common.{refl, sym, ap, subst, ◌∙◌, inl, inr, arith}
+use Rattle.std.proofs.Common.{refl, sym, ap, subst, ◌∙◌, inl, inr, arith, ◌≡◌, ◌+◌, ℕ, true, false, Some, length, slice_index_or}
 use Rattle.std.proofs.lemmas.Bool.{cases_Bool}
-use Rattle.drf_role.specs.Text.{Text}
-use Rattle.drf_role.specs.Path.{Path, begins_with}
-use Rattle.drf_sorter.specs.Content.{Content, has_client, with_client}
-use Rattle.drf_tree.specs.declared.node.Sum.{Sum}
-use Rattle.drf_tree.specs.declared.tree.Tree.{Tree}
-use Rattle.drf_tree.specs.Nodes.{client_at, is_live}
-use Rattle.drf_tree.specs.Tree.{AreRight, IsTreeOf}
+use Rattle.drf_tree.proofs.Names.{Text, Path, begins_with, Content, has_client, with_client, Sum, Tree, client_at, is_live, AreRight, IsTreeOf}
 use Rattle.drf_tree.proofs.change.Climb.{IsClimbing, climb_end}
 use Rattle.drf_tree.proofs.shape.Complete.{complete_with, distinct_with, paths_with}
 use Rattle.drf_tree.proofs.sums.Move.{IsMoved, added_below, added_beside, none, of_newcomer, total_under}

@@ -1,15 +1,8 @@
 -- A tree after a change of one client.
-use Rattle.std.specs.Prelude.{◌≡◌, ℕ, Bool, true, false, List, Some, length, map, slice_index_or}
 use Rattle.std.specs.List.{AllByRecursion, IsDistinct, list_any}
-use Rattle.std.proofs.Common.{refl, sym, ap, subst, ◌∙◌, inl, inr, arith}
+use Rattle.std.proofs.Common.{refl, sym, ap, subst, ◌∙◌, inl, inr, arith, ◌≡◌, ℕ, Bool, true, false, List, Some, length, map, slice_index_or}
 use Rattle.std.proofs.lemmas.Bool.{cases_Bool}
-use Rattle.drf_role.specs.Text.{Text}
-use Rattle.drf_role.specs.Path.{Path, IsClientPath, begins_with, same_path}
-use Rattle.drf_sorter.specs.Content.{Content, Ranked, has_client, with_change}
-use Rattle.drf_tree.specs.declared.tree.Tree.{Tree}
-use Rattle.drf_tree.specs.Changes.{IsShapeOf}
-use Rattle.drf_tree.specs.Nodes.{client_at, is_live, path_at}
-use Rattle.drf_tree.specs.Tree.{AreRight, IsComplete, IsTreeOf}
+use Rattle.drf_tree.proofs.Names.{Text, Path, IsClientPath, begins_with, same_path, Content, Ranked, has_client, with_change, Tree, IsShapeOf, client_at, is_live, path_at, AreRight, IsComplete, IsTreeOf}
 use Rattle.drf_tree.proofs.change.Climb.{AreChanged, AreMarked, live_on_way, on_way}
 use Rattle.drf_tree.proofs.sums.Content.{paths_stay}
 use Rattle.drf_tree.proofs.sums.Move.{Amounts, AreMoved, IsChange, IsMoved, changed_below, changed_beside, none}

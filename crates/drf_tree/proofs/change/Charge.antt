@@ -1,16 +1,8 @@
 -- A client gets more.
-use Rattle.std.specs.Prelude.{◌≡◌, ◌+◌, ℕ, true, List, [], ◌∷◌, Some}
 use Rattle.std.specs.List.{AllByRecursion}
-use Rattle.std.proofs.Common.{refl, ap, ◌∙◌, arith}
-use Rattle.drf_bundle.specs.Quantities.{amount_of, is_in_order, plus}
+use Rattle.std.proofs.Common.{refl, ap, ◌∙◌, arith, ◌≡◌, ◌+◌, ℕ, true, List, [], ◌∷◌, Some}
+use Rattle.drf_tree.proofs.Names.{amount_of, is_in_order, plus, Entry, Path, same_path, Content, Ranked, charged, has_client, with_change, Sum, Tree, client_at, IsTreeOf}
 use Rattle.drf_bundle.specs.laws.QuantitiesLaws.{amount-plus}
-use Rattle.drf_bundle.specs.declared.quantities.Entry.{Entry}
-use Rattle.drf_role.specs.Path.{Path, same_path}
-use Rattle.drf_sorter.specs.Content.{Content, Ranked, charged, has_client, with_change}
-use Rattle.drf_tree.specs.declared.node.Sum.{Sum}
-use Rattle.drf_tree.specs.declared.tree.Tree.{Tree}
-use Rattle.drf_tree.specs.Nodes.{client_at}
-use Rattle.drf_tree.specs.Tree.{IsTreeOf}
 use Rattle.drf_tree.proofs.change.Changed.{changed_marked}
 use Rattle.drf_tree.proofs.change.Climb.{IsClimbing, IsMarking, climb_end, marking_end}
 use Rattle.drf_tree.proofs.sums.Move.{Amounts, IsChange, IsMoved, none}

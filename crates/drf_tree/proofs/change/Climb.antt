@@ -1,19 +1,10 @@
 -- A climb from a leaf to the root, which changes the sum of each node on the way and may mark it.
-use Rattle.std.specs.Prelude.{◌≡◌, ◌≢◌, ◌≤◌, ◌<◌, ◌+◌, ℕ, Bool, true, false, ◌&&◌, ◌||◌, ◌==◌, List, [], ◌∷◌, ◌++◌, Option, Some, drop, length, slice_get, slice_index_or, slice_set}
 use Rattle.std.specs.Option.{is_some}
-use Rattle.std.proofs.Common.{refl, sym, ap, subst, ◌∙◌, inl, inr, arith, length-set, get_or-set_same, get_or-set_other}
+use Rattle.std.proofs.Common.{refl, sym, ap, subst, ◌∙◌, inl, inr, arith, length-set, get_or-set_same, get_or-set_other, ◌≡◌, ◌≢◌, ◌≤◌, ◌<◌, ◌+◌, ℕ, Bool, true, false, ◌&&◌, ◌||◌, ◌==◌, List, [], ◌∷◌, ◌++◌, Option, Some, drop, length, slice_get, slice_index_or, slice_set}
 use Rattle.std.proofs.lemmas.Bool.{true≢false, false≢true, and_parts, cases_eq, or_cases}
 use Rattle.std.proofs.lemmas.Option.{slice_get_within, slice_get_read}
-use Rattle.drf_role.specs.Path.{Path, begins_with}
-use Rattle.drf_tree.specs.declared.family.Family.{Family}
-use Rattle.drf_tree.specs.declared.node.Place.{Place}
-use Rattle.drf_tree.specs.declared.node.Sum.{Sum}
-use Rattle.drf_tree.specs.declared.tree.Tree.{Tree}
-use Rattle.drf_tree.specs.Nodes.{is_live, is_node, parent_at, path_at}
+use Rattle.drf_tree.proofs.Names.{Path, begins_with, Family, Place, Sum, Tree, is_live, is_node, parent_at, path_at, IsShapeOf, OnWay, Defers, work_of, IsShape}
 use Rattle.drf_sorter.specs.Work.{debt}
-use Rattle.drf_tree.specs.Changes.{IsShapeOf}
-use Rattle.drf_tree.specs.Marks.{Defers, work_of}
-use Rattle.drf_tree.specs.Tree.{IsShape}
 use Rattle.drf_tree.proofs.shape.Node.{live_within}
 use Rattle.drf_tree.proofs.shape.Path.{begins_by, begins_itself, begins_long, begins_to, begins_trans}
 use Rattle.drf_tree.proofs.shape.Slice.{get_set_same, get_set_other}
@@ -234,8 +225,20 @@ module _ (old now : Tree) (shape : IsShapeOf old) (leaf node : ℕ) (R : ℕ →
     pub climb_was : (s : Sum) → s ≡ slice_index_or now.sums.items node s → slice_get old.sums.items node ≡ Some s
     climb_was s is = sym (so.sums.ahead node (omega arith)) ∙ climb_sum s is
 
+    -- what holds of each sum on the way holds there
+    pub climb_holds : (P : Sum → Type 0) → OnWay old leaf P → (s : Sum) → s ≡ slice_index_or now.sums.items node s → P s
+    climb_holds P each s is = each node s climb_on (climb_was s is)
+
+    -- the node above, by the places as they are
+    pub climb_above : (above : ℕ) → above ≡ parent_at now.places.items node → above ≡ parent_at old.places.items node
+    climb_above above is = is ∙ (λ i. parent_at (so.places i).items node)
+
     pub climb_less : length (path_at old.places.items (parent_at old.places.items node)) + 1 ≡ length (path_at old.places.items node)
     climb_less = sym (shorter_above old.places.items old.families.items old.marks.stale old.sums.items shape node climb_live)
+
+    pub climb_falls : (above : ℕ) → above ≡ parent_at now.places.items node
+        → length (path_at old.places.items above) < length (path_at old.places.items node)
+    climb_falls above is = rw (climb_above above is) (omega (arith, climb_less))
 
     pub climb_step : (new : Tree) (above : ℕ) (s t : Sum) → above ≡ parent_at old.places.items node
         → s ≡ slice_index_or now.sums.items node s → R node s t

@@ -1,22 +1,12 @@
 -- A client is gone, with all that it held.
-use Rattle.std.specs.Prelude.{◌≡◌, ◌≤◌, ◌+◌, ◌-◌, ℕ, Bool, true, false, not, ◌||◌, cond, List, [], ◌∷◌, Some, filter, map, slice_get, slice_index_or, sum_by}
 use Rattle.std.specs.List.{AllByRecursion, IsDistinct, list_any}
-use Rattle.std.proofs.Common.{refl, sym, ap, subst, ◌∙◌, inl, inr, arith}
+use Rattle.std.proofs.Common.{refl, sym, ap, subst, ◌∙◌, inl, inr, arith, ◌≡◌, ◌≤◌, ◌+◌, ◌-◌, ℕ, Bool, true, false, not, ◌||◌, cond, List, [], ◌∷◌, Some, filter, map, slice_get, slice_index_or, sum_by}
 use Rattle.std.proofs.lemmas.Bool.{cases_Bool}
 use Rattle.std.proofs.lemmas.List.Sums.{sum_by-cons}
 use Rattle.std.proofs.lemmas.Map.Keys.{IsDistinct-head, IsDistinct-tail}
-use Rattle.drf_bundle.specs.Quantities.{amount_of, minus}
+use Rattle.drf_tree.proofs.Names.{amount_of, minus, Entry, Text, Path, IsClientPath, begins_with, same_path, same_path-true, Sum, Tree, IsLeast, OnWay, client_at, is_live, path_at, IsSumOf, IsTreeOf}
 use Rattle.drf_bundle.specs.laws.QuantitiesLaws.{amount-minus}
-use Rattle.drf_bundle.specs.declared.quantities.Entry.{Entry}
-use Rattle.drf_role.specs.Text.{Text}
-use Rattle.drf_role.specs.Path.{Path, IsClientPath, begins_with, same_path}
-use Rattle.drf_role.specs.PathLaws.{same_path-true}
 use Rattle.drf_sorter.specs.Content.{Content, Ranked, clients_under, standing_in, without_client}
-use Rattle.drf_tree.specs.declared.node.Sum.{Sum}
-use Rattle.drf_tree.specs.declared.tree.Tree.{Tree}
-use Rattle.drf_tree.specs.Changes.{IsLeast, OnWay}
-use Rattle.drf_tree.specs.Nodes.{client_at, is_live, path_at}
-use Rattle.drf_tree.specs.Tree.{IsSumOf, IsTreeOf}
 use Rattle.drf_tree.proofs.change.Changed.{unmarked_after}
 use Rattle.drf_tree.proofs.change.Climb.{AreChanged, AreMarked, IsClimbing, IsMarking, climb_end, marking_end}
 use Rattle.drf_tree.proofs.sums.Content.{below, sum_below}

@@ -1,21 +1,10 @@
 -- More labels are named along the nodes of a client, with no amount.
-use Rattle.std.specs.Prelude.{◌≡◌, ◌<◌, ◌+◌, ℕ, zero, suc, Bool, cond, false, true, ◌||◌, ◌⊎◌, IsTrue, List, [], ◌∷◌, Some, length, nat_lt, slice_get, slice_index_or, slice_set, take}
 use Rattle.std.specs.List.{list_all}
-use Rattle.std.proofs.Common.{refl, sym, ap, subst, ◌∙◌, inl, inr, arith, get_or, length-set}
+use Rattle.std.proofs.Common.{refl, sym, ap, subst, ◌∙◌, inl, inr, arith, get_or, length-set, ◌≡◌, ◌<◌, ◌+◌, ℕ, zero, suc, Bool, cond, false, true, ◌||◌, ◌⊎◌, IsTrue, List, [], ◌∷◌, Some, length, nat_lt, slice_get, slice_index_or, slice_set, take}
 use Rattle.std.proofs.lemmas.Bool.{ltb-true, true≢false, cases_eq, and_from, and_parts}
 use Rattle.std.proofs.lemmas.Option.{slice_get_within, slice_get-get_or}
-use Rattle.drf_bundle.specs.Quantities.{amount_of, is_named, names_all, with_amount}
+use Rattle.drf_tree.proofs.Names.{amount_of, is_named, names_all, with_amount, Entry, Text, same_text, cases_same, same_itself, Path, Content, Sum, Tree, IsShapeOf, NamesFew, NamesFewOnWay, OnWay, is_live, path_at, AreRight, IsSumOf, IsTreeOf}
 use Rattle.drf_bundle.specs.laws.QuantitiesLaws.{amount-with, named-with}
-use Rattle.drf_bundle.specs.declared.quantities.Entry.{Entry}
-use Rattle.drf_role.specs.Text.{Text, same_text}
-use Rattle.drf_role.specs.TextLaws.{cases_same, same_itself}
-use Rattle.drf_role.specs.Path.{Path}
-use Rattle.drf_sorter.specs.Content.{Content}
-use Rattle.drf_tree.specs.declared.node.Sum.{Sum}
-use Rattle.drf_tree.specs.declared.tree.Tree.{Tree}
-use Rattle.drf_tree.specs.Changes.{IsShapeOf, NamesFew, NamesFewOnWay, OnWay}
-use Rattle.drf_tree.specs.Nodes.{is_live, path_at}
-use Rattle.drf_tree.specs.Tree.{AreRight, IsSumOf, IsTreeOf}
 use Rattle.drf_tree.proofs.change.Climb.{IsClimbing, climb_end, live_on_way, on_way, some_part}
 use Rattle.drf_tree.proofs.sums.Move.{AreMoved, IsMoved, none, not_moved, sum_after}
 use Rattle.drf_tree.proofs.shape.Slice.{get_set_same, get_set_other}

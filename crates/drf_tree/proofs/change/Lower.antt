@@ -1,18 +1,7 @@
 -- A client gives back.
-use Rattle.std.specs.Prelude.{◌≡◌, ◌≤◌, ◌-◌, ℕ, true, List, Some}
-use Rattle.std.proofs.Common.{refl, ap, ◌∙◌, arith}
-use Rattle.drf_bundle.specs.Quantities.{amount_of, minus}
+use Rattle.std.proofs.Common.{refl, ap, ◌∙◌, arith, ◌≡◌, ◌≤◌, ◌-◌, ℕ, true, List, Some}
+use Rattle.drf_tree.proofs.Names.{amount_of, minus, Entry, Text, Path, same_path, each_from, Content, Ranked, has_client, with_change, Sum, Tree, CanLower, CanLowerAt, lowered, client_at, IsTreeOf}
 use Rattle.drf_bundle.specs.laws.QuantitiesLaws.{amount-minus}
-use Rattle.drf_bundle.specs.declared.quantities.Entry.{Entry}
-use Rattle.drf_role.specs.Text.{Text}
-use Rattle.drf_role.specs.Path.{Path, same_path}
-use Rattle.drf_bundle.specs.ListLaws.{each_from}
-use Rattle.drf_sorter.specs.Content.{Content, Ranked, has_client, with_change}
-use Rattle.drf_tree.specs.declared.node.Sum.{Sum}
-use Rattle.drf_tree.specs.declared.tree.Tree.{Tree}
-use Rattle.drf_tree.specs.Changes.{CanLower, CanLowerAt, lowered}
-use Rattle.drf_tree.specs.Nodes.{client_at}
-use Rattle.drf_tree.specs.Tree.{IsTreeOf}
 use Rattle.drf_tree.proofs.change.Changed.{changed_marked}
 use Rattle.drf_tree.proofs.change.Climb.{IsClimbing, IsMarking, climb_end, marking_end}
 use Rattle.drf_tree.proofs.sums.Move.{Amounts, IsChange, IsMoved, none}

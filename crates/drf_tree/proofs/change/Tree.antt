@@ -1,23 +1,11 @@
 -- A tree whose sums, marks and keys are those of another content.
-use Rattle.std.specs.Prelude.{◌≡◌, ◌<◌, ℕ, Bool, true, false, List, [], ◌∷◌, ◌++◌, Option, Some, length, map, slice_get, slice_index_or}
 use Rattle.std.specs.List.{AllByRecursion, IsDistinct}
-use Rattle.std.proofs.Common.{sym, ap, subst, ◌∙◌, inl, inr, arith, get_or}
+use Rattle.std.proofs.Common.{sym, ap, subst, ◌∙◌, inl, inr, arith, get_or, ◌≡◌, ◌<◌, ℕ, Bool, true, false, List, [], ◌∷◌, ◌++◌, Option, Some, length, map, slice_get, slice_index_or}
 use Rattle.std.proofs.lemmas.Bool.{cases_Bool}
 use Rattle.std.proofs.lemmas.Option.{slice_get_within, slice_get-get_or}
-use Rattle.drf_role.specs.Text.{Text}
-use Rattle.drf_role.specs.Path.{Path, IsClientPath, begins_with, same_path}
+use Rattle.drf_tree.proofs.Names.{Text, Path, IsClientPath, begins_with, same_path, each_from, each_from_both, Key, key_by, key_of, Child, Family, Place, Sum, Tree, IsSameKey, child_name, children_at, is_live, path_at, AreRight, AreSums, IsChildOf, IsComplete, IsMarkedOrRight, IsRight, IsShape, IsTreeOf}
 use Rattle.drf_rows.specs.Held.{weight_of}
-use Rattle.drf_bundle.specs.ListLaws.{each_from, each_from_both}
 use Rattle.drf_sorter.specs.Content.{Content, Ranked, standing_in}
-use Rattle.drf_sorter.specs.Keys.{Key, key_by, key_of}
-use Rattle.drf_tree.specs.declared.family.Child.{Child}
-use Rattle.drf_tree.specs.declared.family.Family.{Family}
-use Rattle.drf_tree.specs.declared.node.Place.{Place}
-use Rattle.drf_tree.specs.declared.node.Sum.{Sum}
-use Rattle.drf_tree.specs.declared.tree.Tree.{Tree}
-use Rattle.drf_tree.specs.Family.{IsSameKey, child_name}
-use Rattle.drf_tree.specs.Nodes.{children_at, is_live, path_at}
-use Rattle.drf_tree.specs.Tree.{AreRight, AreSums, IsChildOf, IsComplete, IsMarkedOrRight, IsRight, IsShape, IsTreeOf}
 use Rattle.drf_tree.proofs.change.Climb.{AreChanged, AreMarked, beside_from, some_part, way_from}
 use Rattle.drf_tree.proofs.sums.Move.{Amounts, AreMoved, IsMoved, key_again, none, not_moved, sum_after, total_under}
 

@@ -1,23 +1,12 @@
 -- A tree where a role is given a weight.
-use Rattle.std.specs.Prelude.{◌≡◌, ◌≢◌, ℕ, Bool, true, false, List, [], ◌∷◌, ◌++◌, Option, Some, length, slice_get, slice_index_or, slice_set}
-use Rattle.std.proofs.Common.{refl, sym, ap, subst, ◌∙◌, inl, inr, arith, get_or-set_same, get_or-set_other, length-set}
+use Rattle.std.proofs.Common.{refl, sym, ap, subst, ◌∙◌, inl, inr, arith, get_or-set_same, get_or-set_other, length-set, ◌≡◌, ◌≢◌, ℕ, Bool, true, false, List, [], ◌∷◌, ◌++◌, Option, Some, length, slice_get, slice_index_or, slice_set}
 use Rattle.std.proofs.lemmas.Bool.{cases_Bool, cases_eq}
-use Rattle.drf_role.specs.Path.{Path, same_path}
-use Rattle.drf_role.specs.PathLaws.{same_path-true}
+use Rattle.drf_tree.proofs.Names.{Path, same_path, same_path-true, each_from_both, Key, key_by, Child, Place, Sum, Tree, IsSameKey, child_name, children_at, is_live, path_at, AreRight, AreSums, IsChildOf, IsMarkedOrRight, IsRight, IsSumOf, IsTreeOf}
 use Rattle.drf_rows.specs.Held.{weight_of}
-use Rattle.drf_bundle.specs.ListLaws.{each_from_both}
 use Rattle.drf_row_laws.specs.WeightLaws.{weight_of-set}
 use Rattle.drf_rows.specs.Weights.{weights_with}
 use Rattle.drf_rows.specs.declared.rows.WeightRow.{WeightRow}
 use Rattle.drf_sorter.specs.Content.{Content, standing_in, with_weight}
-use Rattle.drf_sorter.specs.Keys.{Key, key_by}
-use Rattle.drf_tree.specs.declared.family.Child.{Child}
-use Rattle.drf_tree.specs.declared.node.Place.{Place}
-use Rattle.drf_tree.specs.declared.node.Sum.{Sum}
-use Rattle.drf_tree.specs.declared.tree.Tree.{Tree}
-use Rattle.drf_tree.specs.Family.{IsSameKey, child_name}
-use Rattle.drf_tree.specs.Nodes.{children_at, is_live, path_at}
-use Rattle.drf_tree.specs.Tree.{AreRight, AreSums, IsChildOf, IsMarkedOrRight, IsRight, IsSumOf, IsTreeOf}
 use Rattle.drf_tree.proofs.shape.Node.{live_within}
 use Rattle.drf_tree.proofs.sums.Move.{key_again}
 use Rattle.drf_tree.proofs.shape.Slice.{get_set_same, get_set_other}

@@ -1,32 +1,16 @@
 -- A bare node goes, and the tree is still that of the same clients.
-use Rattle.std.specs.Prelude.{◌≡◌, ◌≢◌, ◌<◌, ◌+◌, ◌==◌, ℕ, Bool, true, false, ◌||◌, cond, List, [], ◌∷◌, ◌++◌, Option, None, Some, filter, length, map, slice_get, slice_index_or, slice_set}
 use Rattle.std.specs.List.{AllByRecursion, list_any}
 use Rattle.std.specs.Option.{is_some, option_map_or}
 use Rattle.std.specs.Cmp.Lexicographic.{bytes_decides}
-use Rattle.std.proofs.Common.{refl, sym, ap, subst, ◌∙◌, inl, inr, arith, append_assoc, get_or, length-set, get_or-set_same, get_or-set_other}
+use Rattle.std.proofs.Common.{refl, sym, ap, subst, ◌∙◌, inl, inr, arith, append_assoc, get_or, length-set, get_or-set_same, get_or-set_other, ◌≡◌, ◌≢◌, ◌<◌, ◌+◌, ◌==◌, ℕ, Bool, true, false, ◌||◌, cond, List, [], ◌∷◌, ◌++◌, Option, None, Some, filter, length, map, slice_get, slice_index_or, slice_set}
 use Rattle.std.proofs.lemmas.Bool.{true≢false, false≢true, and_parts, cases_Bool, cases_eq, or_cases}
 use Rattle.std.proofs.lemmas.Option.{slice_get-get_or}
-use Rattle.drf_role.specs.Text.{Text, same_text}
-use Rattle.drf_role.specs.Path.{Path, begins_with, same_path}
-use Rattle.drf_role.specs.PathLaws.{same_path-true}
-use Rattle.drf_bundle.specs.ListLaws.{each_from_both}
+use Rattle.drf_tree.proofs.Names.{Text, same_text, Path, begins_with, same_path, same_path-true, each_from_both, key_by, key_of, Child, Family, Place, Sum, Tree, IsShapeOf, is_bare_at, IsGone, IsSameKey, child_name, Defers, children_at, is_live, is_node, parent_at, path_at, place_at, IsChildOf, IsMarkedOrRight, IsSumOf, IsTreeOf, IsTidyBut}
 use Rattle.drf_sorter.specs.Content.{Content, Ranked, clients_under, standing_in}
-use Rattle.drf_sorter.specs.Keys.{key_by, key_of}
-use Rattle.drf_tree.specs.declared.family.Child.{Child}
-use Rattle.drf_tree.specs.declared.family.Family.{Family}
-use Rattle.drf_tree.specs.declared.node.Place.{Place}
-use Rattle.drf_tree.specs.declared.node.Sum.{Sum}
-use Rattle.drf_tree.specs.declared.tree.Tree.{Tree}
-use Rattle.drf_tree.specs.Changes.{IsShapeOf, is_bare_at}
-use Rattle.drf_tree.specs.Family.{IsGone, IsSameKey, child_name}
-use Rattle.drf_tree.specs.Marks.{Defers}
-use Rattle.drf_tree.specs.Nodes.{children_at, is_live, is_node, parent_at, path_at, place_at}
-use Rattle.drf_tree.specs.Tree.{IsChildOf, IsMarkedOrRight, IsSumOf, IsTreeOf}
 use Rattle.drf_tree.proofs.change.Climb.{leaf_other}
 use Rattle.drf_tree.proofs.marks.Flags.{defers-both}
 use Rattle.drf_tree.proofs.shape.Node.{live_within, node_within}
 use Rattle.drf_tree.proofs.shape.Path.{begins_by}
-use Rattle.drf_tree.specs.Tidy.{IsTidyBut}
 use Rattle.drf_tree.proofs.growth.Shape.{shape_from, shape_in}
 use Rattle.drf_tree.proofs.growth.Tidy.{gone_tidy}
 use Rattle.drf_tree.proofs.shape.Way.{equal, not_equal, shorter_above}

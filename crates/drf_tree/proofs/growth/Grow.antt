@@ -1,21 +1,9 @@
 -- Nodes are made along a client's path, from the root down.
-use Rattle.std.specs.Prelude.{◌≡◌, ◌≢◌, ◌≤◌, ◌<◌, ◌+◌, ℕ, true, false, codes, List, [], ◌∷◌, ◌++◌, Some, drop, length, map, slice_get, take}
 use Rattle.std.specs.List.{list_any}
-use Rattle.std.proofs.Common.{refl, sym, ap, subst, ◌∙◌, arith, length-append}
+use Rattle.std.proofs.Common.{refl, sym, ap, subst, ◌∙◌, arith, length-append, ◌≡◌, ◌≢◌, ◌≤◌, ◌<◌, ◌+◌, ℕ, true, false, codes, List, [], ◌∷◌, ◌++◌, Some, drop, length, map, slice_get, take, length-take-le, take-append-drop, take-take, take_at}
 use Rattle.std.proofs.lemmas.Bool.{true≢false, false_from_ne_true}
-use Rattle.std.proofs.lemmas.List.{length-take-le, take-append-drop, take-take, take_at}
 use Rattle.std.proofs.lemmas.Option.{slice_get_within}
-use Rattle.drf_role.specs.Text.{Text, same_text}
-use Rattle.drf_role.specs.Path.{Path, IsClientPath, IsNodePath, begins_with}
-use Rattle.drf_role.specs.PathLaws.{client_paths-apart}
-use Rattle.drf_sorter.specs.Content.{Content, has_node}
-use Rattle.drf_tree.specs.declared.tree.Tree.{Tree}
-use Rattle.drf_tree.specs.Changes.{IsOneLonger}
-use Rattle.drf_tree.specs.Family.{child_name}
-use Rattle.drf_tree.specs.Marks.{Spends}
-use Rattle.drf_tree.specs.Nodes.{children_at, client_at, is_live, is_node, path_at}
-use Rattle.drf_tree.specs.Tidy.{IsOneMore, IsTidy, IsTidyBut}
-use Rattle.drf_tree.specs.Tree.{IsTotalFree, IsTreeOf}
+use Rattle.drf_tree.proofs.Names.{Text, same_text, Path, IsClientPath, IsNodePath, begins_with, client_paths-apart, Content, has_node, Tree, IsOneLonger, child_name, Spends, children_at, client_at, is_live, is_node, path_at, IsOneMore, IsTidy, IsTidyBut, IsTotalFree, IsTreeOf}
 use Rattle.drf_tree.proofs.change.Climb.{node_from_live}
 use Rattle.drf_tree.proofs.marks.Flags.{spends-both}
 use Rattle.drf_tree.proofs.shape.Find.{no_such, not_below, take_one_more, take_whole}

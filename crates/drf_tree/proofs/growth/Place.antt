@@ -1,10 +1,8 @@
 -- No number below the first free one is free, whatever is put and freed.
-use Rattle.std.specs.Prelude.{◌≡◌, ◌≢◌, ◌<◌, ◌+◌, ◌==◌, ◌||◌, ◌++◌, ◌∷◌, [], ℕ, zero, suc, Bool, true, false, max, min, List, Option, None, Some, length, slice_set}
 use Rattle.std.specs.Option.{is_some}
-use Rattle.std.proofs.Common.{refl, ap, ◌∙◌, inl, inr, arith, get_or-set_other, get_or-set_same}
+use Rattle.std.proofs.Common.{refl, ap, ◌∙◌, inl, inr, arith, get_or-set_other, get_or-set_same, ◌≡◌, ◌≢◌, ◌<◌, ◌+◌, ◌==◌, ◌||◌, ◌++◌, ◌∷◌, [], ℕ, zero, suc, Bool, true, false, max, min, List, Option, None, Some, length, slice_set}
 use Rattle.std.proofs.lemmas.Bool.{cases_eq}
-use Rattle.drf_tree.specs.declared.node.Place.{Place}
-use Rattle.drf_tree.specs.Nodes.{is_node, place_at}
+use Rattle.drf_tree.proofs.Names.{Place, is_node, place_at}
 use Rattle.drf_tree.specs.Places.{AreTaken}
 use Rattle.drf_tree.proofs.growth.Vacant.{read_more}
 

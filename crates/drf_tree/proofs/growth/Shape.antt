@@ -1,20 +1,10 @@
 -- The shape of a tree by what stands at each number: where a node comes and where one goes.
-use Rattle.std.specs.Prelude.{◌≡◌, ◌≢◌, ◌<◌, ◌==◌, ℕ, Bool, true, false, ◌||◌, List, [], ◌∷◌, ◌++◌, Option, None, Some, length, map, slice_index_or}
 use Rattle.std.specs.List.{AllByRecursion, IsDistinct, list_any}
 use Rattle.std.specs.Option.{is_some, option_map_or}
-use Rattle.std.proofs.Common.{refl, sym, ap, subst, ◌∙◌, inl, inr}
+use Rattle.std.proofs.Common.{refl, sym, ap, subst, ◌∙◌, inl, inr, ◌≡◌, ◌≢◌, ◌<◌, ◌==◌, ℕ, Bool, true, false, ◌||◌, List, [], ◌∷◌, ◌++◌, Option, None, Some, length, map, slice_index_or}
 use Rattle.std.proofs.lemmas.Bool.{true≢false, false≢true, cases_Bool, cases_eq, or_cases}
 use Rattle.std.specs.Cmp.Lexicographic.{bytes_decides}
-use Rattle.drf_role.specs.Text.{Text, same_text}
-use Rattle.drf_role.specs.Path.{Path, IsClientPath, IsNodePath}
-use Rattle.drf_bundle.specs.ListLaws.{each_from}
-use Rattle.drf_tree.specs.declared.family.Child.{Child}
-use Rattle.drf_tree.specs.declared.family.Family.{Family}
-use Rattle.drf_tree.specs.declared.node.Place.{Place}
-use Rattle.drf_tree.specs.declared.node.Sum.{Sum}
-use Rattle.drf_tree.specs.Family.{IsWith, child_name, has_child}
-use Rattle.drf_tree.specs.Nodes.{children_at, place_at}
-use Rattle.drf_tree.specs.Tree.{IsChildOf, IsShape}
+use Rattle.drf_tree.proofs.Names.{Text, same_text, Path, IsClientPath, IsNodePath, each_from, Child, Family, Place, Sum, IsWith, child_name, has_child, children_at, place_at, IsChildOf, IsShape}
 use Rattle.drf_tree.proofs.shape.Name.{same_text-swap}
 use Rattle.drf_tree.proofs.shape.Way.{equal_self}
 

@@ -1,32 +1,17 @@
 -- A node without clients comes, and the tree is still that of the same clients.
-use Rattle.std.specs.Prelude.{◌≡◌, ◌≢◌, ◌<◌, ◌-◌, ◌*◌, ◌==◌, ℕ, Bool, true, false, ◌||◌, cond, nat_lt, List, [], ◌∷◌, ◌++◌, Option, None, Some, IfSome, filter, length, map, slice_get, slice_index_or, slice_set, sum_by}
 use Rattle.std.specs.Cmp.{nat_cmp_total}
 use Rattle.std.specs.List.{AllByRecursion, list_any}
 use Rattle.std.specs.Option.{is_some, option_map_or}
 use Rattle.std.specs.Ordering.{nat_cmp}
 use Rattle.std.specs.declared.cmp.Ordering.TheVariants.{Equal}
-use Rattle.std.proofs.Common.{refl, sym, ap, subst, ◌∙◌, inl, inr, arith, length-set, get_or-set_same, get_or-set_other}
+use Rattle.std.proofs.Common.{refl, sym, ap, subst, ◌∙◌, inl, inr, arith, length-set, get_or-set_same, get_or-set_other, ◌≡◌, ◌≢◌, ◌<◌, ◌-◌, ◌*◌, ◌==◌, ℕ, Bool, true, false, ◌||◌, cond, nat_lt, List, [], ◌∷◌, ◌++◌, Option, None, Some, IfSome, filter, length, map, slice_get, slice_index_or, slice_set, sum_by}
 use Rattle.std.proofs.lemmas.Bool.{true≢false, cases_Bool, cases_eq, or_right}
 use Rattle.std.proofs.lemmas.Cmp.{tied_itself}
 use Rattle.std.proofs.lemmas.Option.{get_or_from_slice_get, same_Some}
-use Rattle.drf_bundle.specs.declared.quantities.Entry.{Entry}
-use Rattle.drf_role.specs.Text.{Text, same_text}
-use Rattle.drf_role.specs.Path.{Path, IsClientPath, IsNodePath, begins_with, same_path}
+use Rattle.drf_tree.proofs.Names.{Entry, Text, same_text, Path, IsClientPath, IsNodePath, begins_with, same_path, each_from, Fraction, greatest, is_less, weighted_share_of, Key, key_by, key_of, Child, Family, Place, Sum, Tree, IsKeyOfNothing, IsOneLonger, IsShapeOf, IsSameKey, IsWith, child_name, children_at, is_live, is_node, last_part, path_at, place_at, IsMarkedOrRight, IsSumOf, IsTreeOf}
 use Rattle.drf_rows.specs.Held.{weight_of}
-use Rattle.drf_bundle.specs.ListLaws.{each_from}
-use Rattle.drf_rows.specs.Share.{Fraction, greatest, is_less, weighted_share_of}
 use Rattle.drf_sorter.specs.Content.{Content, Ranked, clients_under, has_node, standing_in}
 use Rattle.drf_sorter.specs.Fractions.{fraction_cmp, held_fractions}
-use Rattle.drf_sorter.specs.Keys.{Key, key_by, key_of}
-use Rattle.drf_tree.specs.declared.family.Child.{Child}
-use Rattle.drf_tree.specs.declared.family.Family.{Family}
-use Rattle.drf_tree.specs.declared.node.Place.{Place}
-use Rattle.drf_tree.specs.declared.node.Sum.{Sum}
-use Rattle.drf_tree.specs.declared.tree.Tree.{Tree}
-use Rattle.drf_tree.specs.Changes.{IsKeyOfNothing, IsOneLonger, IsShapeOf}
-use Rattle.drf_tree.specs.Family.{IsSameKey, IsWith, child_name}
-use Rattle.drf_tree.specs.Nodes.{children_at, is_live, is_node, last_part, path_at, place_at}
-use Rattle.drf_tree.specs.Tree.{IsMarkedOrRight, IsSumOf, IsTreeOf}
 use Rattle.drf_tree.proofs.growth.Bare.{none_under}
 use Rattle.drf_tree.proofs.shape.Node.{last_is, node_within}
 use Rattle.drf_tree.proofs.growth.Shape.{IsShapeIn, shape_from, shape_in, sprouted}
@@ -251,13 +236,6 @@ module _ (old new : Tree) (shape : IsShapeOf old) (node parent : ℕ) (place : P
 
   apart : parent ≢ node
   apart same = true≢false (sym there ∙ ap (is_node old.places.items) same ∙ vacant)
-
-  not_live : is_live old.places.items node ≡ false
-  not_live = second (node == 0) (is_live old.places.items node) vacant
-    where
-      second : (a b : Bool) → (a || b) ≡ false → b ≡ false
-      second true b bad = absurd (true≢false bad)
-      second false b is = is
 
   module _ (content : Content) (of : IsTreeOf content old) (weighs : weight ≡ weight_of content.weights place.path)
       (nobody : has_node content place.path ≡ false) where

@@ -1,23 +1,10 @@
 -- Nodes that are for nobody are those on the way to who came last or left, and go.
-use Rattle.std.specs.Prelude.{◌≡◌, ◌≢◌, ◌<◌, ◌==◌, ℕ, Bool, true, false, not, ◌||◌, ◌&&◌, cond, List, [], ◌∷◌, ◌++◌, Option, None, Some, ◌⊎◌, drop, filter, length, map, slice_get, slice_set}
 use Rattle.std.specs.List.{AllByRecursion, list_any}
 use Rattle.std.specs.Option.{is_some, option_map_or}
-use Rattle.std.proofs.Common.{refl, sym, ap, subst, ◌∙◌, inl, inr, arith, length-append, get_or-set_other, get_or-set_same}
+use Rattle.std.proofs.Common.{refl, sym, ap, subst, ◌∙◌, inl, inr, arith, length-append, get_or-set_other, get_or-set_same, ◌≡◌, ◌≢◌, ◌<◌, ◌==◌, ℕ, Bool, true, false, not, ◌||◌, ◌&&◌, cond, List, [], ◌∷◌, ◌++◌, Option, None, Some, ◌⊎◌, drop, filter, length, map, slice_get, slice_set, append-nil}
 use Rattle.std.proofs.lemmas.Bool.{true≢false, false≢true, cases_Bool, cases_eq, or_cases, or_right}
-use Rattle.std.proofs.lemmas.List.{append-nil}
 use Rattle.std.proofs.lemmas.List.Folds.{list_any-append}
-use Rattle.drf_role.specs.Path.{Path, begins_with, same_path}
-use Rattle.drf_role.specs.PathLaws.{same_path-true}
-use Rattle.drf_sorter.specs.Content.{Content, Ranked, has_node, with_change, with_client, without_client}
-use Rattle.drf_tree.specs.declared.family.Child.{Child}
-use Rattle.drf_tree.specs.declared.node.Place.{Place}
-use Rattle.drf_tree.specs.declared.node.Sum.{Sum}
-use Rattle.drf_tree.specs.declared.tree.Tree.{Tree}
-use Rattle.drf_tree.specs.Changes.{IsShapeOf, is_bare_at}
-use Rattle.drf_tree.specs.Family.{child_name}
-use Rattle.drf_tree.specs.Nodes.{children_at, is_live, parent_at, path_at, place_at}
-use Rattle.drf_tree.specs.Tidy.{IsOneMore, IsTidy, IsTidyBut}
-use Rattle.drf_tree.specs.Tree.{IsChildOf, IsTreeOf}
+use Rattle.drf_tree.proofs.Names.{Path, begins_with, same_path, same_path-true, Content, Ranked, has_node, with_change, with_client, without_client, Child, Place, Sum, Tree, IsShapeOf, is_bare_at, child_name, children_at, is_live, parent_at, path_at, place_at, IsOneMore, IsTidy, IsTidyBut, IsChildOf, IsTreeOf}
 use Rattle.drf_tree.proofs.sums.Content.{paths_stay, step}
 use Rattle.drf_tree.proofs.shape.Path.{begins_by, begins_front, begins_itself, begins_long, begins_to, begins_trans}
 use Rattle.drf_tree.proofs.shape.Way.{above_of, equal_self, shorter_above, top_is}

@@ -1,21 +1,9 @@
 -- One more number, that is free.
-use Rattle.std.specs.Prelude.{◌≡◌, ◌<◌, ◌+◌, ◌==◌, ◌||◌, ℕ, zero, suc, true, false, List, [], ◌∷◌, ◌++◌, Option, None, length, map, slice_get, slice_index_or}
 use Rattle.std.specs.List.{AllByRecursion, list_any}
 use Rattle.std.specs.Option.{is_some, option_map_or}
-use Rattle.std.proofs.Common.{refl, sym, ap, subst, ◌∙◌, inl, inr, arith, length-append}
-use Rattle.drf_role.specs.Text.{same_text}
-use Rattle.drf_role.specs.Path.{Path, same_path}
-use Rattle.drf_bundle.specs.ListLaws.{each_from}
+use Rattle.std.proofs.Common.{refl, sym, ap, subst, ◌∙◌, inl, inr, arith, length-append, ◌≡◌, ◌<◌, ◌+◌, ◌==◌, ◌||◌, ℕ, zero, suc, true, false, List, [], ◌∷◌, ◌++◌, Option, None, length, map, slice_get, slice_index_or}
+use Rattle.drf_tree.proofs.Names.{same_text, Path, same_path, each_from, key_by, key_of, Child, Place, Sum, Tree, IsSameTree, IsShapeOf, IsSameKey, child_name, children_at, is_live, path_at, place_at, IsMarkedOrRight, IsSumOf, IsTreeOf}
 use Rattle.drf_sorter.specs.Content.{Content, Ranked, standing_in}
-use Rattle.drf_sorter.specs.Keys.{key_by, key_of}
-use Rattle.drf_tree.specs.declared.family.Child.{Child}
-use Rattle.drf_tree.specs.declared.node.Place.{Place}
-use Rattle.drf_tree.specs.declared.node.Sum.{Sum}
-use Rattle.drf_tree.specs.declared.tree.Tree.{Tree}
-use Rattle.drf_tree.specs.Changes.{IsSameTree, IsShapeOf}
-use Rattle.drf_tree.specs.Family.{IsSameKey, child_name}
-use Rattle.drf_tree.specs.Nodes.{children_at, is_live, path_at, place_at}
-use Rattle.drf_tree.specs.Tree.{IsMarkedOrRight, IsSumOf, IsTreeOf}
 use Rattle.drf_tree.proofs.shape.Node.{live_within}
 use Rattle.drf_tree.proofs.growth.Shape.{shape_from, shape_in, shape_seen}
 

@@ -1,19 +1,13 @@
 -- What holds of a family holds of it with a child more, and with one less.
-use Rattle.std.specs.Prelude.{◌≡◌, ◌<◌, ℕ, Bool, ◌||◌, List, [], ◌∷◌, ◌++◌, Option, length, map, slice_set}
 use Rattle.std.specs.List.{AllByRecursion, IsDistinct, list_any}
 use Rattle.std.specs.List.Sorted.{IsPermutation}
 use Rattle.std.specs.Cmp.Lexicographic.{nat_list_eq_equiv}
 use Rattle.std.specs.Option.{option_map_or}
-use Rattle.std.proofs.Common.{◌≢◌, sym, ap, subst, inl, inr}
+use Rattle.std.proofs.Common.{◌≢◌, sym, ap, subst, inl, inr, ◌≡◌, ◌<◌, ℕ, Bool, ◌||◌, List, [], ◌∷◌, ◌++◌, Option, length, map, slice_set}
 use Rattle.std.proofs.lemmas.Bool.{cases_eq}
 use Rattle.std.proofs.lemmas.List.Sorted.{IsPermutation-map, IsPermutation-middle, list_any-IsPermutation}
 use Rattle.std.proofs.lemmas.Map.Keys.{IsDistinct-IsPermutation}
-use Rattle.drf_role.specs.Text.{same_text}
-use Rattle.drf_bundle.specs.ListLaws.{each_append, each_parts}
-use Rattle.drf_tree.specs.declared.family.Child.{Child}
-use Rattle.drf_tree.specs.declared.family.Family.{Family}
-use Rattle.drf_tree.specs.Family.{IsWith, child_name}
-use Rattle.drf_tree.specs.Nodes.{children_at}
+use Rattle.drf_tree.proofs.Names.{same_text, each_append, each_parts, Child, Family, IsWith, child_name, children_at}
 use Rattle.drf_tree.proofs.shape.Slice.{get_set_other, get_set_same}
 
 -- ---- a child more

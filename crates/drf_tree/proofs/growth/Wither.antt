@@ -1,17 +1,11 @@
 -- The shape of a tree where a bare node goes.
-use Rattle.std.specs.Prelude.{◌≡◌, ◌≢◌, ◌==◌, ℕ, Bool, true, false, ◌||◌, List, [], ◌∷◌, ◌++◌, Option, None, Some, map}
 use Rattle.std.specs.List.{AllByRecursion, IsDistinct}
 use Rattle.std.specs.Option.{is_some, option_map_or}
-use Rattle.std.proofs.Common.{sym, ap, subst, ◌∙◌, inl, inr}
+use Rattle.std.proofs.Common.{sym, ap, subst, ◌∙◌, inl, inr, ◌≡◌, ◌≢◌, ◌==◌, ℕ, Bool, true, false, ◌||◌, List, [], ◌∷◌, ◌++◌, Option, None, Some, map}
 use Rattle.std.proofs.lemmas.Bool.{true≢false, false≢true, cases_eq}
 use Rattle.std.specs.Cmp.Lexicographic.{bytes_decides}
 use Rattle.std.proofs.lemmas.List.{same_from_push}
-use Rattle.drf_role.specs.Text.{same_text}
-use Rattle.drf_role.specs.Path.{Path, IsClientPath, IsNodePath}
-use Rattle.drf_bundle.specs.ListLaws.{each_from, each_from_both}
-use Rattle.drf_tree.specs.declared.family.Child.{Child}
-use Rattle.drf_tree.specs.declared.node.Place.{Place}
-use Rattle.drf_tree.specs.Family.{IsGone, child_name, has_child}
+use Rattle.drf_tree.proofs.Names.{same_text, Path, IsClientPath, IsNodePath, each_from, each_from_both, Child, Place, IsGone, child_name, has_child}
 use Rattle.drf_tree.proofs.growth.Shape.{IsChildIn, IsShapeIn, any_less, client_in, differs, each_less, each_of, live_in, node_in, once_less, parent_in, path_in}
 use Rattle.drf_tree.proofs.shape.Way.{not_equal}
 

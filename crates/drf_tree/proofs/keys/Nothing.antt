@@ -1,21 +1,12 @@
 -- Who holds nothing has the same share of any total.
-use Rattle.std.specs.Prelude.{◌≡◌, ◌<◌, ◌*◌, ◌++◌, ◌∷◌, ℕ, false, nat_lt, List, []}
 use Rattle.std.specs.List.{list_any}
-use Rattle.std.proofs.Common.{refl, sym, ap, ◌∙◌, arith, inl, inr}
+use Rattle.std.proofs.Common.{refl, sym, ap, ◌∙◌, arith, inl, inr, ◌≡◌, ◌<◌, ◌*◌, ◌++◌, ◌∷◌, ℕ, false, nat_lt, List, []}
 use Rattle.std.proofs.lemmas.Bool.{cases_Bool, ltb-false, or_parts}
-use Rattle.drf_bundle.specs.Quantities.{amount_of}
-use Rattle.drf_bundle.specs.declared.quantities.Entry.{Entry}
-use Rattle.drf_role.specs.Path.{Path}
-use Rattle.drf_role.specs.Text.{Text, same_text}
+use Rattle.drf_tree.proofs.Names.{amount_of, Entry, Path, Text, same_text, Key, key_of, Sum, IsSameKey, holds_any, IsSumOf}
 use Rattle.drf_sorter.specs.Content.{Content, standing_in}
-use Rattle.drf_sorter.specs.Keys.{Key, key_of}
 use Rattle.drf_sorter.specs.Served.{Weighs}
 use Rattle.drf_sorter.specs.laws.FractionLaws.{fraction_cmp-congr}
 use Rattle.drf_sorter.specs.laws.OrderLaws.{weighted_share-above}
-use Rattle.drf_tree.specs.declared.node.Sum.{Sum}
-use Rattle.drf_tree.specs.Family.{IsSameKey}
-use Rattle.drf_tree.specs.Nodes.{holds_any}
-use Rattle.drf_tree.specs.Tree.{IsSumOf}
 use Rattle.drf_tree.proofs.growth.Sprout.{same_nothing, share_of_nothing}
 
 -- no amount is above 0

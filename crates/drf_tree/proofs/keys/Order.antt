@@ -1,25 +1,18 @@
 -- Keys that are right stand as the order of clients says.
-use Rattle.std.specs.Prelude.{◌≡◌, ◌<◌, true, false, not, List, [], ◌∷◌, ◌++◌, map}
 use Rattle.std.specs.declared.cmp.Ordering.{Ordering}
 use Rattle.std.specs.declared.cmp.Ordering.TheVariants.{Equal}
 use Rattle.std.specs.List.{AllByRecursion, IsDistinct, list_all}
 use Rattle.std.specs.Ordering.{nat_cmp, is_lt, ordering_reverse, ordering_then}
 use Rattle.std.specs.Cmp.Lexicographic.{slice_cmp}
-use Rattle.std.proofs.Common.{◌≢◌, refl, sym, ap, ◌∙◌}
+use Rattle.std.proofs.Common.{◌≢◌, refl, sym, ap, ◌∙◌, ◌≡◌, ◌<◌, true, false, not, List, [], ◌∷◌, ◌++◌, map}
 use Rattle.std.proofs.lemmas.Bool.{true≢false, and_from, and_parts}
 use Rattle.std.proofs.lemmas.Map.Keys.{IsDistinct-head, IsDistinct-tail}
-use Rattle.drf_role.specs.Text.{Text, same_text}
-use Rattle.drf_role.specs.TextLaws.{same_itself}
-use Rattle.drf_role.specs.Path.{Path}
+use Rattle.drf_tree.proofs.Names.{Text, same_text, same_itself, Path, Key, key_by, key_cmp, key_of, Child, IsSameKey, are_sorted, child_name, is_not_behind, are_ahead}
 use Rattle.drf_rows.specs.Share.{Fraction, Standing, is_ahead}
 use Rattle.drf_sorter.specs.Fractions.{fraction_cmp}
 use Rattle.drf_sorter.specs.laws.FractionLaws.{fraction_cmp-antisymm, fraction_cmp-congr}
-use Rattle.drf_sorter.specs.Keys.{Key, key_by, key_cmp, key_of}
 use Rattle.drf_sorter.specs.laws.OrderLaws.{is_ahead-is, is_ahead-total, weighted_share-above}
 use Rattle.drf_sorter.specs.Served.{Weighs}
-use Rattle.drf_tree.specs.declared.family.Child.{Child}
-use Rattle.drf_tree.specs.Family.{IsSameKey, are_sorted, child_name, is_not_behind}
-use Rattle.drf_tree.specs.Walk.{are_ahead}
 
 -- fractions of the same value compare in the same way
 fraction_cmp-same : (a b f g : Fraction) → 0 < a.whole → 0 < b.whole → 0 < f.whole → 0 < g.whole

@@ -1,37 +1,21 @@
 -- A key that is computed anew is right, and nothing else is touched.
-use Rattle.std.specs.Prelude.{◌≡◌, ◌≤◌, ◌<◌, ◌*◌, ℕ, Bool, true, false, IsTrue, List, [], ◌∷◌, ◌++◌, Option, None, Some, ◌⊎◌, find, length, map, slice_set}
 use Rattle.std.specs.List.{AllByRecursion, IsDistinct}
 use Rattle.std.specs.List.Sorted.{IsPermutation}
 use Rattle.std.specs.Cmp.{nat_cmp_total}
 use Rattle.std.specs.Option.{option_map_or}
-use Rattle.std.proofs.Common.{◌≢◌, refl, sym, ap, subst, ◌∙◌, inl, inr, arith}
-use Rattle.std.proofs.lemmas.Bool.{true≢false}
+use Rattle.std.proofs.Common.{◌≢◌, refl, sym, ap, subst, ◌∙◌, inl, inr, arith, ◌≡◌, ◌≤◌, ◌<◌, ◌*◌, ℕ, Bool, true, false, IsTrue, List, [], ◌∷◌, ◌++◌, Option, None, Some, ◌⊎◌, find, length, map, slice_set, true≢false}
 use Rattle.std.proofs.lemmas.Cmp.{tied_itself}
 use Rattle.std.proofs.lemmas.Map.Keys.{IsDistinct-head}
-use Rattle.drf_bundle.specs.Quantities.{amount_of}
-use Rattle.drf_role.specs.Text.{Text, same_text}
-use Rattle.drf_role.specs.TextLaws.{same_itself}
-use Rattle.drf_role.specs.Path.{Path, begins_with, same_path}
+use Rattle.drf_tree.proofs.Names.{amount_of, Text, same_text, same_itself, Path, begins_with, same_path, each_from_both, Key, key_by, key_of, plain_content, Child, Family, Place, Sum, Tree, CanKey, IsRenewed, IsSameKey, child_name, key_for, known, children_at, is_live, parent_at, path_at, AreRight, IsChildOf, IsComplete, IsMarkedOrRight, IsRight, IsShape, IsSumOf, IsTreeBut}
 use Rattle.drf_rows.specs.Held.{weight_of}
-use Rattle.drf_bundle.specs.ListLaws.{each_from_both}
 use Rattle.drf_rows.specs.Weights.{are_weights}
 use Rattle.drf_rows.specs.declared.rows.WeightRow.{WeightRow}
 use Rattle.drf_sorter.specs.Content.{Content, IsSound, standing_in}
 use Rattle.drf_sorter.specs.Fractions.{dominant_of, fraction_cmp, weigh}
-use Rattle.drf_sorter.specs.Keys.{Key, key_by, key_of}
 use Rattle.drf_sorter.specs.laws.OrderLaws.{weighted_share-above}
-use Rattle.drf_sorter.specs.Plain.{plain_content}
 use Rattle.drf_sorter.specs.Served.{Weighs}
 use Rattle.drf_sorter.specs.declared.plain.PlainSorter.{PlainSorter}
 use Rattle.drf_row_laws.specs.WeightLaws.{weight-found}
-use Rattle.drf_tree.specs.declared.family.Child.{Child}
-use Rattle.drf_tree.specs.declared.family.Family.{Family}
-use Rattle.drf_tree.specs.declared.node.Place.{Place}
-use Rattle.drf_tree.specs.declared.node.Sum.{Sum}
-use Rattle.drf_tree.specs.declared.tree.Tree.{Tree}
-use Rattle.drf_tree.specs.Family.{CanKey, IsRenewed, IsSameKey, child_name, key_for, known}
-use Rattle.drf_tree.specs.Nodes.{children_at, is_live, parent_at, path_at}
-use Rattle.drf_tree.specs.Tree.{AreRight, IsChildOf, IsComplete, IsMarkedOrRight, IsRight, IsShape, IsSumOf, IsTreeBut}
 use Rattle.drf_tree.proofs.sums.Fit.{part_less}
 use Rattle.drf_tree.proofs.shape.Node.{node_within}
 use Rattle.drf_tree.proofs.shape.SameFamily.{each_unmapped, renewed_known, same_complete, same_name, same_shape}

@@ -1,28 +1,14 @@
 -- A family whose stale keys are computed anew is right, and nothing else is touched.
-use Rattle.std.specs.Prelude.{◌≡◌, ◌<◌, ℕ, Bool, true, false, List, [], ◌∷◌, ◌++◌, Option, Some, length, map, slice_get, slice_index_or, slice_set}
 use Rattle.std.specs.List.{AllByRecursion, IsDistinct}
 use Rattle.std.specs.List.Sorted.{IsPermutation}
-use Rattle.std.proofs.Common.{◌≢◌, refl, sym, ap, subst, ◌∙◌, inl, inr, arith, get_or}
+use Rattle.std.proofs.Common.{◌≢◌, refl, sym, ap, subst, ◌∙◌, inl, inr, arith, get_or, ◌≡◌, ◌<◌, ℕ, Bool, true, false, List, [], ◌∷◌, ◌++◌, Option, Some, length, map, slice_get, slice_index_or, slice_set}
 use Rattle.std.proofs.lemmas.Bool.{true≢false, cases_Bool, eqb-true}
 use Rattle.std.proofs.lemmas.Option.{slice_get-get_or}
-use Rattle.drf_role.specs.Text.{same_text}
-use Rattle.drf_role.specs.TextLaws.{same_itself}
-use Rattle.drf_bundle.specs.ListLaws.{each_at, each_from, each_from_both, each_map}
+use Rattle.drf_tree.proofs.Names.{same_text, same_itself, each_at, each_from, each_from_both, each_map, key_by, key_of, plain_content, Child, Family, Place, Sum, Tree, IsShapeOf, AreFresh, CanKeyAt, IsFresh, IsKeyed, WasRight, child_name, has_child, is_same, known, numbers_of, children_at, is_live, parent_at, path_at, AreRight, IsChildOf, IsMarkedOrRight, IsRight, IsSumOf, IsTreeOf}
 use Rattle.drf_sorter.specs.Content.{Content, IsSound, standing_in}
-use Rattle.drf_sorter.specs.Keys.{key_by, key_of}
 use Rattle.drf_sorter.specs.laws.OrderLaws.{weighted_share-above}
-use Rattle.drf_sorter.specs.Plain.{plain_content}
 use Rattle.drf_sorter.specs.Served.{Weighs}
 use Rattle.drf_sorter.specs.declared.plain.PlainSorter.{PlainSorter}
-use Rattle.drf_tree.specs.declared.family.Child.{Child}
-use Rattle.drf_tree.specs.declared.family.Family.{Family}
-use Rattle.drf_tree.specs.declared.node.Place.{Place}
-use Rattle.drf_tree.specs.declared.node.Sum.{Sum}
-use Rattle.drf_tree.specs.declared.tree.Tree.{Tree}
-use Rattle.drf_tree.specs.Changes.{IsShapeOf}
-use Rattle.drf_tree.specs.Family.{AreFresh, CanKeyAt, IsFresh, IsKeyed, WasRight, child_name, has_child, is_same, known, numbers_of}
-use Rattle.drf_tree.specs.Nodes.{children_at, is_live, parent_at, path_at}
-use Rattle.drf_tree.specs.Tree.{AreRight, IsChildOf, IsMarkedOrRight, IsRight, IsSumOf, IsTreeOf}
 use Rattle.drf_tree.proofs.shape.Node.{live_within}
 use Rattle.drf_tree.proofs.keys.Renew.{IsRepaired, can_key, key_is, same_key}
 use Rattle.drf_tree.proofs.shape.SameFamily.{children_now, each_unmapped, same_complete, same_name, same_shape}

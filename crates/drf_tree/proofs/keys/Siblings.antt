@@ -1,5 +1,4 @@
 -- Siblings stay in order when one is put in, or taken out.
-use Rattle.std.specs.Prelude.{◌≡◌, ◌≤◌, ◌<◌, ℕ, zero, suc, Bool, true, false, not, ◌&&◌, cond, List, [], ◌∷◌, ◌++◌, Option, None, Some, ◌==◌, length, map, take, drop, slice_get, slice_index_or}
 use Rattle.std.specs.declared.cmp.Ordering.{Ordering}
 use Rattle.std.specs.declared.cmp.Ordering.TheVariants.{Equal, Greater, Less}
 use Rattle.std.specs.Cmp.{IsTotalOrder, IsStrictWeakOrder, nat_cmp_total}
@@ -9,8 +8,7 @@ use Rattle.std.specs.Option.{is_some}
 use Rattle.std.specs.List.Sorted.{IsPartitionedBy, IsSorted}
 use Rattle.std.specs.Ordering.{is_lt, nat_cmp, ordering_then}
 use Rattle.std.specs.String.{string_bytes}
-use Rattle.std.proofs.Common.{refl, sym, ap, ◌∙◌, inl, inr, arith}
-use Rattle.std.proofs.lemmas.List.{take-append-drop}
+use Rattle.std.proofs.Common.{refl, sym, ap, ◌∙◌, inl, inr, arith, ◌≡◌, ◌≤◌, ◌<◌, ℕ, zero, suc, Bool, true, false, not, ◌&&◌, cond, List, [], ◌∷◌, ◌++◌, Option, None, Some, ◌==◌, length, map, take, drop, slice_get, slice_index_or, take-append-drop}
 use Rattle.drf_row_laws.specs.EndingLaws.{split_at}
 use Rattle.std.proofs.lemmas.Bool.{true≢false, cases_Bool, and_from, and_parts, eqb-true, not-true}
 use Rattle.std.proofs.lemmas.Cmp.{then_total, on_total}
@@ -19,11 +17,9 @@ use Rattle.std.proofs.lemmas.List.Sorted.{sorted_far}
 use Rattle.std.proofs.lemmas.List.Quantifiers.{position-Some}
 use Rattle.std.proofs.lemmas.Option.{slice_get_read}
 use Rattle.drf_sorter.specs.declared.key.Key as made
-use Rattle.drf_sorter.specs.Keys.{key_by, key_cmp}
+use Rattle.drf_tree.proofs.Names.{key_by, key_cmp, Child, IsWith, are_sorted, has_child, is_before, is_not_behind, seen}
 use Rattle.drf_bundle.specs.laws.ListLaws.{position-none}
 use Rattle.drf_sorter.specs.laws.ShareLaws.{share_total}
-use Rattle.drf_tree.specs.declared.family.Child.{Child}
-use Rattle.drf_tree.specs.Family.{IsWith, are_sorted, has_child, is_before, is_not_behind, seen}
 
 -- ---- the order of keys
 

@@ -1,16 +1,11 @@
 -- One child after the other whose key is computed anew where it is marked.
-use Rattle.std.specs.Prelude.{◌≡◌, ◌<◌, ◌+◌, ◌==◌, ℕ, Bool, true, false, List, [], ◌∷◌, Some, drop, length, map, slice_get, slice_index_or, slice_set, suc, take, zero}
 use Rattle.std.specs.List.{AllByRecursion, IsDistinct}
-use Rattle.std.proofs.Common.{◌≢◌, sym, ap, subst, ◌∙◌, inl, inr, arith, get_or}
+use Rattle.std.proofs.Common.{◌≢◌, sym, ap, subst, ◌∙◌, inl, inr, arith, get_or, ◌≡◌, ◌<◌, ◌+◌, ◌==◌, ℕ, Bool, true, false, List, [], ◌∷◌, Some, drop, length, map, slice_get, slice_index_or, slice_set, suc, take, zero}
 use Rattle.std.proofs.Math.Seq.{drop-cons, map-set_same, take-suc-set}
 use Rattle.std.proofs.lemmas.Bool.{true≢false, false≢true, cases_Bool, cases_eq}
 use Rattle.std.proofs.lemmas.List.{drop-set-lt, get_or-set_other, length-map, length-set}
 use Rattle.std.proofs.lemmas.Map.Keys.{IsDistinct-head, IsDistinct-tail}
-use Rattle.drf_bundle.specs.ListLaws.{each_append, each_from_both, list_any_at}
-use Rattle.drf_tree.specs.declared.family.Child.{Child}
-use Rattle.drf_tree.specs.declared.node.Sum.{Sum}
-use Rattle.drf_bundle.specs.declared.quantities.Entry.{Entry}
-use Rattle.drf_tree.specs.Family.{IsFresh, IsKeyed, WasRight, has_child, is_same, known, numbers_of}
+use Rattle.drf_tree.proofs.Names.{each_append, each_from_both, list_any_at, Child, Sum, Entry, IsFresh, IsKeyed, WasRight, has_child, is_same, known, numbers_of}
 use Rattle.drf_tree.proofs.marks.Flags.{down_at}
 use Rattle.drf_tree.proofs.shape.SameFamily.{each_unmapped}
 use Rattle.drf_tree.proofs.shape.Way.{equal_self}

@@ -1,24 +1,12 @@
 -- The lines of the nodes, by their sums.
-use Rattle.std.specs.Prelude.{◌≡◌, ◌≤◌, ◌<◌, ◌+◌, ℕ, zero, suc, true, List, [], ◌∷◌, ◌++◌, Option, Some, length, map, slice_get, take}
 use Rattle.std.specs.List.{list_any, AllByRecursion}
 use Rattle.std.specs.Option.{is_some, option_map_or}
-use Rattle.std.proofs.Common.{refl, sym, ap, subst, ◌∙◌, inl, inr, arith}
+use Rattle.std.proofs.Common.{refl, sym, ap, subst, ◌∙◌, inl, inr, arith, ◌≡◌, ◌≤◌, ◌<◌, ◌+◌, ℕ, zero, suc, true, List, [], ◌∷◌, ◌++◌, Option, Some, length, map, slice_get, take}
 use Rattle.std.proofs.lemmas.Bool.{cases_Bool, false≢true, or_cases}
-use Rattle.drf_bundle.specs.Quantities.{amount_of, is_in_order}
-use Rattle.drf_bundle.specs.declared.quantities.Entry.{Entry}
-use Rattle.drf_role.specs.Path.{Path}
-use Rattle.drf_role.specs.Text.{Text, same_text}
-use Rattle.drf_role.specs.TextLaws.{same_from_test}
+use Rattle.drf_tree.proofs.Names.{amount_of, is_in_order, Entry, Path, Text, same_text, same_from_test, Child, Place, Sum, Tree, child_name, children_at, is_live, is_node, path_at, place_at, IsChildOf, IsTreeOf}
 use Rattle.drf_sorter.specs.Content.{Content, has_node, standing_in}
 use Rattle.drf_sorter.specs.laws.LineLaws.{IsLineOf-with}
 use Rattle.drf_sorter.specs.Lines.{IsLineOf, line_with}
-use Rattle.drf_tree.specs.declared.family.Child.{Child}
-use Rattle.drf_tree.specs.declared.node.Place.{Place}
-use Rattle.drf_tree.specs.declared.node.Sum.{Sum}
-use Rattle.drf_tree.specs.declared.tree.Tree.{Tree}
-use Rattle.drf_tree.specs.Family.{child_name}
-use Rattle.drf_tree.specs.Nodes.{children_at, is_live, is_node, path_at, place_at}
-use Rattle.drf_tree.specs.Tree.{IsChildOf, IsTreeOf}
 use Rattle.drf_tree.proofs.change.Climb.{node_from_live, some_part}
 use Rattle.drf_tree.proofs.shape.Find.{not_below, take_one_more, take_whole}
 use Rattle.drf_tree.proofs.sums.Share.{somebody, sum_is}

@@ -1,16 +1,8 @@
 -- Numbers that are listed, one more at a time.
-use Rattle.std.specs.Prelude.{◌≡◌, ◌<◌, ◌+◌, ◌==◌, ◌⊎◌, ℕ, Bool, false, true, List, [], ◌∷◌, ◌++◌, get_or, length, take}
 use Rattle.std.specs.List.{list_any}
-use Rattle.std.proofs.Common.{sym, ap, ◌∙◌, inl, inr}
+use Rattle.std.proofs.Common.{sym, ap, ◌∙◌, inl, inr, ◌≡◌, ◌<◌, ◌+◌, ◌==◌, ◌⊎◌, ℕ, Bool, false, true, List, [], ◌∷◌, ◌++◌, get_or, length, take}
 use Rattle.std.proofs.lemmas.Bool.{eqb-true, false≢true, or_cases, or_left, or_right}
 use Rattle.std.proofs.lemmas.List.{take_more}
-
-pub any_front : {X : Type 0} (p : X → Bool) (xs ys : List X) → list_any p xs ≡ true → list_any p (xs ++ ys) ≡ true
-any_front p [] ys some = absurd (false≢true some)
-any_front p (x ∷ xs) ys some = elim (or_cases (p x) (list_any p xs) some) [
-  | inl here ↦ or_left (p x) (list_any p (xs ++ ys)) here
-  | inr past ↦ or_right (p x) (list_any p (xs ++ ys)) (any_front p xs ys past)
-]
 
 pub any_parts : {X : Type 0} (p : X → Bool) (xs : List X) (x : X) → list_any p (xs ++ x ∷ []) ≡ true
     → (list_any p xs ≡ true) ⊎ (p x ≡ true)

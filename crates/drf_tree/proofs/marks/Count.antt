@@ -1,19 +1,10 @@
 -- No more nodes are marked than there are.
-use Rattle.std.specs.Prelude.{◌≡◌, ◌≤◌, ℕ, suc, Bool, true, false, List, [], ◌∷◌, length, slice_index_or}
 use Rattle.std.specs.List.{AllByRecursion, IsDistinct, list_any}
 use Rattle.std.specs.Cmp.Lexicographic.{lists_equiv, nat_list_eq_equiv}
-use Rattle.std.proofs.Common.{refl, sym, subst, inl, inr, arith}
+use Rattle.std.proofs.Common.{refl, sym, subst, inl, inr, arith, ◌≡◌, ◌≤◌, ℕ, suc, Bool, true, false, List, [], ◌∷◌, length, slice_index_or}
 use Rattle.std.proofs.lemmas.Bool.{false≢true, false_from_ne_true, or_cases}
 use Rattle.std.proofs.lemmas.Map.Made.{length-le_from_is_member}
-use Rattle.drf_role.specs.Path.{Path, IsNodePath, same_path}
-use Rattle.drf_role.specs.PathLaws.{same_path-true}
-use Rattle.drf_bundle.specs.ListLaws.{count_by-cons}
-use Rattle.drf_sorter.specs.Content.{Content, HasNodes}
-use Rattle.drf_tree.specs.declared.tree.Tree.{Tree}
-use Rattle.drf_tree.specs.Changes.{IsShapeOf}
-use Rattle.drf_tree.specs.Marks.{marked_in}
-use Rattle.drf_tree.specs.Nodes.{path_at}
-use Rattle.drf_tree.specs.Tidy.{IsTidy}
+use Rattle.drf_tree.proofs.Names.{Path, IsNodePath, same_path, same_path-true, count_by-cons, Content, HasNodes, Tree, IsShapeOf, marked_in, path_at, IsTidy}
 
 -- the paths of the numbers that are marked
 abbrev marked_paths : (ℕ → Path) → List Bool → List Path

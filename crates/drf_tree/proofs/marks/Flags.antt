@@ -1,10 +1,8 @@
 -- Marks that are set and taken back, one at a time.
-use Rattle.std.specs.Prelude.{◌≡◌, ◌≤◌, ◌<◌, ◌+◌, ◌-◌, ◌^◌, ℕ, min, zero, suc, Bool, true, false, List, [], ◌∷◌, cond, length, slice_index_or, slice_set}
-use Rattle.std.proofs.Common.{refl, ap, ◌∙◌, arith}
+use Rattle.std.proofs.Common.{refl, ap, ◌∙◌, arith, ◌≡◌, ◌≤◌, ◌<◌, ◌+◌, ◌-◌, ◌^◌, ℕ, min, zero, suc, Bool, true, false, List, [], ◌∷◌, cond, length, slice_index_or, slice_set}
 use Rattle.std.proofs.Math.Nat.{min-le_left}
 use Rattle.std.proofs.lemmas.List.Sums.{count_by-le-length, sum_by-set}
-use Rattle.drf_bundle.specs.ListLaws.{count_by-cons}
-use Rattle.drf_tree.specs.Marks.{Defers, Flags, Spends, marked_in}
+use Rattle.drf_tree.proofs.Names.{count_by-cons, Defers, Flags, Spends, marked_in}
 
 abbrev pub one_if : Bool → ℕ
 one_if flag = cond flag 1 0

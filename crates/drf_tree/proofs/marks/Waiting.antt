@@ -1,13 +1,10 @@
 -- The numbers that wait to be looked at, and the marks of their nodes.
-use Rattle.std.specs.Prelude.{◌≡◌, ◌≤◌, ◌<◌, ◌+◌, ◌==◌, ℕ, zero, suc, Bool, true, false, List, [], ◌∷◌, ◌++◌, ◌||◌, length, slice_index_or, slice_set}
 use Rattle.std.specs.List.{list_any}
-use Rattle.std.proofs.Common.{refl, sym, ap, ◌∙◌, inl, inr, arith, eq-eqb, length-append}
+use Rattle.std.proofs.Common.{refl, sym, ap, ◌∙◌, inl, inr, arith, eq-eqb, length-append, ◌≡◌, ◌≤◌, ◌<◌, ◌+◌, ◌==◌, ℕ, zero, suc, Bool, true, false, List, [], ◌∷◌, ◌++◌, ◌||◌, length, slice_index_or, slice_set, get_or-set_other, get_or-set_same, length-set}
 use Rattle.std.proofs.lemmas.Bool.{cases_Bool, cases_eq, false≢true, ne_eqb}
-use Rattle.std.proofs.lemmas.List.{get_or-set_other, get_or-set_same, length-set}
 use Rattle.std.proofs.lemmas.List.Folds.{list_any-append}
 use Rattle.std.proofs.lemmas.List.Sums.{sum_by-append, sum_by-set}
-use Rattle.drf_bundle.specs.ListLaws.{each_append, each_from, each_parts}
-use Rattle.drf_tree.specs.Marks.{AreWaiting, marked_in}
+use Rattle.drf_tree.proofs.Names.{each_append, each_from, each_parts, AreWaiting, marked_in}
 use Rattle.drf_tree.proofs.marks.Flags.{all_clear, down_at, few_marked, marked_once, one_if}
 
 -- ---- one number more

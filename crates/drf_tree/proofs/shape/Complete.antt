@@ -1,26 +1,13 @@
 -- Each part of a path on the way to a node is a child's name, so a new client at a leaf leaves the ways complete.
-use Rattle.std.specs.Prelude.{◌≡◌, ◌≤◌, ◌+◌, ℕ, zero, suc, Bool, true, false, ◌||◌, ◌==◌, List, [], ◌∷◌, ◌++◌, Option, drop, length, map}
 use Rattle.std.specs.Cmp.{IsEquivalence}
 use Rattle.std.specs.Cmp.Lexicographic.{lists_equiv, nat_list_eq_equiv}
 use Rattle.std.specs.List.{AllByRecursion, IsDistinct, list_any}
-use Rattle.std.proofs.Common.{refl, sym, ap, subst, ◌∙◌, inl, inr, arith, length-append, append_assoc}
+use Rattle.std.proofs.Common.{refl, sym, ap, subst, ◌∙◌, inl, inr, arith, length-append, append_assoc, ◌≡◌, ◌≤◌, ◌+◌, ℕ, zero, suc, Bool, true, false, ◌||◌, ◌==◌, List, [], ◌∷◌, ◌++◌, Option, drop, length, map}
 use Rattle.std.proofs.lemmas.Bool.{true≢false, false≢true, or_cases}
 use Rattle.std.proofs.lemmas.List.{append-nil, map-append, same_from_push}
 use Rattle.std.proofs.lemmas.List.Folds.{list_any-append}
 use Rattle.std.proofs.lemmas.Map.Keys.{IsDistinct-push}
-use Rattle.drf_role.specs.Text.{Text, same_text}
-use Rattle.drf_role.specs.TextLaws.{same_itself}
-use Rattle.drf_role.specs.Path.{Path, IsClientPath, begins_with, same_path}
-use Rattle.drf_role.specs.PathLaws.{same_path-swap, same_path-true}
-use Rattle.drf_bundle.specs.ListLaws.{each_append}
-use Rattle.drf_sorter.specs.Content.{Content, Ranked, has_client, with_client}
-use Rattle.drf_tree.specs.declared.family.Child.{Child}
-use Rattle.drf_tree.specs.declared.family.Family.{Family}
-use Rattle.drf_tree.specs.declared.node.Place.{Place}
-use Rattle.drf_tree.specs.declared.node.Sum.{Sum}
-use Rattle.drf_tree.specs.Family.{child_name, has_child}
-use Rattle.drf_tree.specs.Nodes.{children_at, is_live, is_node, parent_at, path_at}
-use Rattle.drf_tree.specs.Tree.{IsChildOf, IsComplete, IsShape}
+use Rattle.drf_tree.proofs.Names.{Text, same_text, same_itself, Path, IsClientPath, begins_with, same_path, same_path-swap, same_path-true, each_append, Content, Ranked, has_client, with_client, Child, Family, Place, Sum, child_name, has_child, children_at, is_live, is_node, parent_at, path_at, IsChildOf, IsComplete, IsShape}
 use Rattle.drf_tree.proofs.shape.Path.{begins_by, begins_front, begins_long, begins_to}
 use Rattle.drf_tree.proofs.shape.Way.{above_of, equal, live_from, shorter_above, top_is}
 

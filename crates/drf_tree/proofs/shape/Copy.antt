@@ -1,26 +1,12 @@
 -- A tree of which the families have the same keys and numbers is one of the same clients.
-use Rattle.std.specs.Prelude.{◌≡◌, ◌==◌, ℕ, Bool, true, false, List, [], ◌∷◌, ◌++◌, Option, None, Some, ◌⊎◌, length, map, slice_get, slice_index_or}
 use Rattle.std.specs.List.{AllByRecursion, IsDistinct, list_any}
 use Rattle.std.specs.Option.{option_map, option_map_or}
-use Rattle.std.proofs.Common.{refl, sym, ap, subst, ◌∙◌, arith}
+use Rattle.std.proofs.Common.{refl, sym, ap, subst, ◌∙◌, arith, ◌≡◌, ◌==◌, ℕ, Bool, true, false, List, [], ◌∷◌, ◌++◌, Option, None, Some, ◌⊎◌, length, map, slice_get, slice_index_or}
 use Rattle.std.proofs.lemmas.List.{length-map, nil_from_length}
 use Rattle.std.proofs.lemmas.Option.{slice_get-map}
 use Rattle.std.proofs.lemmas.Simd.{map-map}
-use Rattle.drf_role.specs.Text.{Text, same_text}
-use Rattle.drf_bundle.specs.ListLaws.{list_any-map}
+use Rattle.drf_tree.proofs.Names.{Text, same_text, list_any-map, Key, key_of, Child, Family, Place, Sum, Tree, Frame, IsSameKey, child_name, has_child, seen, Flags, children_at, family_at, is_live, parent_at, path_at, seen_in, IsSettled, AreRight, AreSums, IsChildOf, IsComplete, IsMarkedOrRight, IsShape, IsTreeOf}
 use Rattle.drf_sorter.specs.Content.{Content, standing_in}
-use Rattle.drf_sorter.specs.Keys.{Key, key_of}
-use Rattle.drf_tree.specs.declared.family.Child.{Child}
-use Rattle.drf_tree.specs.declared.family.Family.{Family}
-use Rattle.drf_tree.specs.declared.node.Place.{Place}
-use Rattle.drf_tree.specs.declared.node.Sum.{Sum}
-use Rattle.drf_tree.specs.declared.tree.Tree.{Tree}
-use Rattle.drf_tree.specs.declared.walk.Frame.{Frame}
-use Rattle.drf_tree.specs.Family.{IsSameKey, child_name, has_child, seen}
-use Rattle.drf_tree.specs.Marks.{Flags}
-use Rattle.drf_tree.specs.Nodes.{children_at, family_at, is_live, parent_at, path_at, seen_in}
-use Rattle.drf_tree.specs.Queue.{IsSettled}
-use Rattle.drf_tree.specs.Tree.{AreRight, AreSums, IsChildOf, IsComplete, IsMarkedOrRight, IsShape, IsTreeOf}
 use Rattle.drf_tree.proofs.keys.Renew.{IsRepaired}
 
 -- ---- children that are seen alike

@@ -1,17 +1,8 @@
 -- Going down along the parts of a path.
-use Rattle.std.specs.Prelude.{◌≡◌, ◌≢◌, ◌≤◌, ◌+◌, ℕ, zero, suc, Bool, true, false, ◌||◌, List, [], ◌∷◌, ◌++◌, Some, drop, length, map, slice_get, take}
 use Rattle.std.specs.List.{list_any}
-use Rattle.std.proofs.Common.{refl, sym, ap, subst, ◌∙◌, inl, inr, arith, append_assoc}
+use Rattle.std.proofs.Common.{refl, sym, ap, subst, ◌∙◌, inl, inr, arith, append_assoc, ◌≡◌, ◌≢◌, ◌≤◌, ◌+◌, ℕ, zero, suc, Bool, true, false, ◌||◌, List, [], ◌∷◌, ◌++◌, Some, drop, length, map, slice_get, take}
 use Rattle.std.proofs.lemmas.Bool.{false≢true, or_cases, or_left, or_right}
-use Rattle.drf_role.specs.Text.{Text, same_text}
-use Rattle.drf_role.specs.Path.{Path, begins_with, same_path}
-use Rattle.drf_role.specs.PathLaws.{path_decides}
-use Rattle.drf_sorter.specs.Content.{Content, Ranked, has_node}
-use Rattle.drf_tree.specs.declared.tree.Tree.{Tree}
-use Rattle.drf_tree.specs.Changes.{IsShapeOf}
-use Rattle.drf_tree.specs.Family.{child_name}
-use Rattle.drf_tree.specs.Nodes.{children_at, is_live, is_node, path_at}
-use Rattle.drf_tree.specs.Tree.{IsTreeOf}
+use Rattle.drf_tree.proofs.Names.{Text, same_text, Path, begins_with, same_path, path_decides, Content, Ranked, has_node, Tree, IsShapeOf, child_name, children_at, is_live, is_node, path_at, IsTreeOf}
 use Rattle.drf_tree.proofs.shape.Complete.{way_named}
 use Rattle.drf_tree.proofs.shape.Path.{begins_by, begins_itself, begins_to}
 

@@ -1,24 +1,13 @@
 -- A child by its name.
-use Rattle.std.specs.Prelude.{◌≡◌, ◌≢◌, ◌==◌, ℕ, Bool, true, false, ◌&&◌, List, [], ◌∷◌, ◌++◌, Option, None, Some, length, map, slice_get, slice_index_or}
 use Rattle.std.specs.List.{AllByRecursion, list_any, position}
 use Rattle.std.specs.Option.{option_map_or}
 use Rattle.std.specs.Cmp.Lexicographic.{bytes_decides}
-use Rattle.std.proofs.Common.{sym, ap, ◌∙◌}
+use Rattle.std.proofs.Common.{sym, ap, ◌∙◌, ◌≡◌, ◌≢◌, ◌==◌, ℕ, Bool, true, false, ◌&&◌, List, [], ◌∷◌, ◌++◌, Option, None, Some, length, map, slice_get, slice_index_or}
 use Rattle.std.proofs.lemmas.Bool.Decides.{same_from_decides, Decides-like}
 use Rattle.std.proofs.lemmas.List.Quantifiers.{position-Some}
 use Rattle.std.proofs.lemmas.Option.{slice_get-get_or}
-use Rattle.drf_role.specs.Text.{Text, same_text}
-use Rattle.drf_bundle.specs.ListLaws.{each_at, list_any-map}
+use Rattle.drf_tree.proofs.Names.{Text, same_text, each_at, list_any-map, Child, Family, Place, Sum, Tree, is_bare_at, child_name, children_at, is_live, path_at, IsChildOf}
 use Rattle.drf_bundle.specs.laws.ListLaws.{position-none}
-use Rattle.drf_tree.specs.declared.family.Child.{Child}
-use Rattle.drf_tree.specs.declared.family.Family.{Family}
-use Rattle.drf_tree.specs.declared.node.Place.{Place}
-use Rattle.drf_tree.specs.declared.node.Sum.{Sum}
-use Rattle.drf_tree.specs.declared.tree.Tree.{Tree}
-use Rattle.drf_tree.specs.Changes.{is_bare_at}
-use Rattle.drf_tree.specs.Family.{child_name}
-use Rattle.drf_tree.specs.Nodes.{children_at, is_live, path_at}
-use Rattle.drf_tree.specs.Tree.{IsChildOf}
 use Rattle.drf_tree.proofs.shape.Way.{not_equal}
 
 pub same_text-swap : (a b : Text) → same_text a b ≡ same_text b a

@@ -1,24 +1,11 @@
 -- What stands at the number of a node.
-use Rattle.std.specs.Prelude.{◌≡◌, ◌<◌, ◌+◌, ◌==◌, ◌-◌, ◌^◌, ℕ, zero, suc, Bool, true, false, List, [], ◌∷◌, ◌++◌, Option, None, Some, length, map, slice_get, slice_index_or}
 use Rattle.std.specs.List.{AllByRecursion}
 use Rattle.std.specs.Option.{is_some, option_map_or}
-use Rattle.std.proofs.Common.{refl, sym, ap, subst, ◌∙◌, inl, inr, arith, length-append}
+use Rattle.std.proofs.Common.{refl, sym, ap, subst, ◌∙◌, inl, inr, arith, length-append, ◌≡◌, ◌<◌, ◌+◌, ◌==◌, ◌-◌, ◌^◌, ℕ, zero, suc, Bool, true, List, [], ◌∷◌, ◌++◌, Option, None, Some, length, map, slice_get, slice_index_or}
 use Rattle.std.proofs.lemmas.Bool.{true≢false, cases_lt, eqb-true, or_cases, or_right}
 use Rattle.std.proofs.lemmas.List.{get_or-append-add, get_or_past, length-map}
 use Rattle.std.proofs.lemmas.Option.{same_Some, slice_get_read, slice_get_past}
-use Rattle.drf_role.specs.Text.{Text}
-use Rattle.drf_role.specs.Path.{Path, IsClientPath}
-use Rattle.drf_tree.specs.declared.family.Child.{Child}
-use Rattle.drf_tree.specs.declared.family.Family.{Family}
-use Rattle.drf_tree.specs.declared.node.Place.{Place}
-use Rattle.drf_tree.specs.declared.node.Sum.{Sum}
-use Rattle.drf_tree.specs.declared.tree.Tree.{Tree}
-use Rattle.drf_tree.specs.Changes.{IsShapeOf}
-use Rattle.drf_tree.specs.Family.{child_name, numbers_of}
-use Rattle.drf_tree.specs.Nodes.{children_at, family_at, is_live, is_node, last_part, parent_at, path_at}
-use Rattle.drf_tree.specs.Queue.{active_at}
-use Rattle.drf_tree.specs.Tree.{IsChildOf, IsShape}
-use Rattle.drf_tree.specs.Walk.{IsChild}
+use Rattle.drf_tree.proofs.Names.{Text, Path, IsClientPath, Child, Family, Place, Sum, Tree, IsShapeOf, child_name, numbers_of, children_at, family_at, is_live, is_node, last_part, parent_at, path_at, active_at, IsChildOf, IsShape, IsChild}
 use Rattle.drf_tree.proofs.walk.Clients.{none_below}
 
 -- ---- lists by number
@@ -137,24 +124,3 @@ sum_within tree shape node place i some =
     let child : IsMember tree.places.items node i =
     member tree.places.items tree.families.items tree.marks.stale tree.sums.items shape node place i some in
     omega (arith, live_within tree.places.items i child.live, shape.sums_long)
-
--- the same nodes with other flags
-pub flags_changed : (tree : Tree) → IsShapeOf tree → (stale : List Bool) → length stale ≡ length tree.places.items
-    → ((i : ℕ) → slice_index_or stale i false ≡ true → is_live tree.places.items i ≡ true)
-    → IsShape tree.places.items tree.families.items stale tree.sums.items
-flags_changed tree shape stale long live = record {
-  some = shape.some;
-  sums_long = shape.sums_long;
-  families_long = shape.families_long;
-  stale_long = long;
-  root = shape.root;
-  children = shape.children;
-  kept = shape.kept;
-  once = shape.once;
-  distinct = shape.distinct;
-  right = shape.right;
-  clients = shape.clients;
-  others = shape.others;
-  free = shape.free;
-  unmarked = live;
-}

@@ -1,11 +1,8 @@
 -- Paths that begin with others.
-use Rattle.std.specs.Prelude.{◌≡◌, ◌≤◌, true, [], ◌∷◌, ◌++◌, drop, length}
 use Rattle.std.specs.Cmp.Lexicographic.{bytes_decides}
-use Rattle.std.proofs.Common.{refl, sym, ap, ◌∙◌, append_assoc, arith, length-append}
-use Rattle.std.proofs.lemmas.List.{append-nil}
+use Rattle.std.proofs.Common.{refl, sym, ap, ◌∙◌, append_assoc, arith, length-append, ◌≡◌, ◌≤◌, true, [], ◌∷◌, ◌++◌, drop, length, append-nil}
 use Rattle.std.proofs.lemmas.Slice.Eq.{starts_is}
-use Rattle.drf_role.specs.Text.{Text}
-use Rattle.drf_role.specs.Path.{Path, begins_with}
+use Rattle.drf_tree.proofs.Names.{Text, Path, begins_with}
 
 pub begins_to : (path node : Path) → begins_with path node ≡ true → path ≡ node ++ drop (length node) path
 begins_to path node begins = (starts_is bytes_decides path node (begins_with path node) refl).0 begins

@@ -1,20 +1,10 @@
 -- The root alone.
-use Rattle.std.specs.Prelude.{◌≡◌, ℕ, zero, suc, true, false, List, [], ◌∷◌, Option, None, Some, length, map, slice_index_or}
 use Rattle.std.specs.Option.{is_some, option_map_or}
 use Rattle.std.specs.List.{AllByRecursion, IsDistinct}
-use Rattle.std.proofs.Common.{refl, sym, ap, subst, ◌∙◌, arith}
+use Rattle.std.proofs.Common.{refl, sym, ap, subst, ◌∙◌, arith, ◌≡◌, ℕ, zero, suc, true, false, List, [], ◌∷◌, Option, None, Some, length, map, slice_index_or}
 use Rattle.std.proofs.lemmas.Bool.{true≢false, false≢true}
-use Rattle.drf_sorter.specs.Content.{empty}
-use Rattle.drf_tree.specs.declared.family.Child.{Child}
-use Rattle.drf_tree.specs.declared.node.Place.{Place}
-use Rattle.drf_tree.specs.declared.tree.Tree.{Tree}
-use Rattle.drf_tree.specs.Family.{child_name}
-use Rattle.drf_tree.specs.Nodes.{children_at, client_at, is_live, place_at}
-use Rattle.drf_tree.specs.Tidy.{IsTidy}
-use Rattle.drf_tree.specs.Tree.{IsMarkedOrRight, IsTreeOf}
+use Rattle.drf_tree.proofs.Names.{empty, Child, Place, Tree, child_name, children_at, client_at, is_live, place_at, IsTidy, IsMarkedOrRight, IsTreeOf, Path, same_text}
 use Rattle.drf_tree.proofs.growth.Shape.{IsChildIn, shape_from}
-use Rattle.drf_role.specs.Path.{Path}
-use Rattle.drf_role.specs.Text.{same_text}
 
 none_at : (i : ℕ) → place_at (None ∷ []) i ≡ None
 none_at zero = refl

@@ -1,25 +1,12 @@
 -- A family in the place of one with children of the same numbers and names.
-use Rattle.std.specs.Prelude.{◌≡◌, ◌<◌, ◌==◌, ℕ, Bool, true, false, List, [], ◌∷◌, ◌++◌, Option, length, map, slice_set}
 use Rattle.std.specs.List.{AllByRecursion, IsDistinct, list_any}
 use Rattle.std.specs.List.Sorted.{IsPermutation}
-use Rattle.std.proofs.Common.{refl, sym, ap, subst, ◌∙◌}
-use Rattle.std.proofs.lemmas.Bool.{true≢false}
+use Rattle.std.proofs.Common.{refl, sym, ap, subst, ◌∙◌, ◌≡◌, ◌<◌, ◌==◌, ℕ, Bool, true, false, List, [], ◌∷◌, ◌++◌, Option, length, map, slice_set, true≢false}
 use Rattle.std.proofs.lemmas.List.{length-set, same_from_push}
 use Rattle.std.proofs.lemmas.List.Elements.{All-from_recursion, recursion_from_All}
 use Rattle.std.proofs.lemmas.List.Sorted.{All-permutation, IsPermutation-map, IsPermutation-sym, IsPermutation-trans, list_any-IsPermutation}
 use Rattle.std.proofs.lemmas.Map.Keys.{IsDistinct-IsPermutation}
-use Rattle.drf_role.specs.Text.{Text, same_text}
-use Rattle.drf_role.specs.Path.{Path, same_path}
-use Rattle.drf_bundle.specs.ListLaws.{each_from, each_map, list_any-map}
-use Rattle.drf_sorter.specs.Content.{Content}
-use Rattle.drf_tree.specs.declared.family.Child.{Child}
-use Rattle.drf_tree.specs.declared.family.Family.{Family}
-use Rattle.drf_tree.specs.declared.node.Place.{Place}
-use Rattle.drf_tree.specs.declared.tree.Tree.{Tree}
-use Rattle.drf_tree.specs.Changes.{IsShapeOf}
-use Rattle.drf_tree.specs.Family.{IsWith, child_name, has_child, known}
-use Rattle.drf_tree.specs.Nodes.{children_at, is_live, is_node, parent_at, path_at}
-use Rattle.drf_tree.specs.Tree.{IsChildOf, IsComplete, IsShape}
+use Rattle.drf_tree.proofs.Names.{Text, same_text, Path, same_path, each_from, each_map, list_any-map, Content, Child, Family, Place, Tree, IsShapeOf, IsWith, child_name, has_child, known, children_at, is_live, is_node, parent_at, path_at, IsChildOf, IsComplete, IsShape}
 use Rattle.drf_tree.proofs.shape.Way.{equal_self}
 use Rattle.drf_tree.proofs.growth.With.{each_family, moved_to_front, names_flip}
 

@@ -1,18 +1,10 @@
 -- A node and the one above it.
-use Rattle.std.specs.Prelude.{◌≡◌, ◌≢◌, ◌<◌, ◌+◌, ◌==◌, ℕ, Bool, true, false, List, [], ◌∷◌, Option, length}
 use Rattle.std.specs.List.{AllByRecursion}
 use Rattle.std.specs.Option.{option_map_or}
-use Rattle.std.proofs.Common.{sym, ap, ◌∙◌, inl, inr, arith, length-append}
+use Rattle.std.proofs.Common.{sym, ap, ◌∙◌, inl, inr, arith, length-append, ◌≡◌, ◌≢◌, ◌<◌, ◌+◌, ◌==◌, ℕ, Bool, true, false, List, [], ◌∷◌, Option, length}
 use Rattle.std.proofs.lemmas.Bool.{false≢true, cases_Bool, or_cases}
 use Rattle.std.proofs.lemmas.Bool.Decides.{nat_tests}
-use Rattle.drf_tree.specs.declared.family.Child.{Child}
-use Rattle.drf_tree.specs.declared.family.Family.{Family}
-use Rattle.drf_tree.specs.declared.node.Place.{Place}
-use Rattle.drf_tree.specs.declared.node.Sum.{Sum}
-use Rattle.drf_tree.specs.Changes.{IsOneLonger}
-use Rattle.drf_tree.specs.Family.{child_name, has_child}
-use Rattle.drf_tree.specs.Nodes.{children_at, is_live, is_node, parent_at, path_at}
-use Rattle.drf_tree.specs.Tree.{IsChildOf, IsShape}
+use Rattle.drf_tree.proofs.Names.{Child, Family, Place, Sum, IsOneLonger, child_name, has_child, children_at, is_live, is_node, parent_at, path_at, IsChildOf, IsShape}
 
 pub equal : (m i : ℕ) → (m == i) ≡ true → m ≡ i
 equal m i same = grind (arith, nat_tests)

@@ -1,14 +1,10 @@
 -- What a change of one client does to the sums below a node.
-use Rattle.std.specs.Prelude.{◌≡◌, ◌+◌, ℕ, Bool, true, false, ◌||◌, cond, if◌then◌else◌, List, [], ◌∷◌, filter, map, sum_by}
 use Rattle.std.specs.List.{AllByRecursion, IsDistinct, list_any}
-use Rattle.std.proofs.Common.{refl, sym, ap, subst, ◌∙◌, inl, inr, arith}
+use Rattle.std.proofs.Common.{refl, sym, ap, subst, ◌∙◌, inl, inr, arith, ◌≡◌, ◌+◌, ℕ, Bool, true, false, ◌||◌, cond, if◌then◌else◌, List, [], ◌∷◌, filter, map, sum_by}
 use Rattle.std.proofs.lemmas.Bool.{false≢true, cases_Bool}
 use Rattle.std.proofs.lemmas.List.Sums.{sum_by-cons}
 use Rattle.std.proofs.lemmas.Map.Keys.{IsDistinct-head, IsDistinct-tail}
-use Rattle.drf_role.specs.Path.{Path, begins_with, same_path}
-use Rattle.drf_role.specs.PathLaws.{same_path-swap, same_path-true}
-use Rattle.drf_bundle.specs.ListLaws.{sum_by-filter}
-use Rattle.drf_sorter.specs.Content.{Ranked}
+use Rattle.drf_tree.proofs.Names.{Path, begins_with, same_path, same_path-swap, same_path-true, sum_by-filter, Ranked}
 
 -- a value of each client below a node, and 0 of the others
 abbrev pub below : Path → (Ranked → ℕ) → Ranked → ℕ

@@ -1,10 +1,7 @@
 -- What a node has is within what the nodes above it have, and within the cluster.
-use Rattle.std.specs.Prelude.{◌≡◌, ◌≤◌, ℕ, Bool, true, false, cond, List, filter, sum_by}
-use Rattle.std.proofs.Common.{refl, ap, arith}
+use Rattle.std.proofs.Common.{refl, ap, arith, ◌≡◌, ◌≤◌, ℕ, Bool, true, false, cond, List, filter, sum_by}
 use Rattle.std.proofs.lemmas.List.Sums.{sum_by-le-sum_by}
-use Rattle.drf_role.specs.Path.{Path, begins_with}
-use Rattle.drf_bundle.specs.ListLaws.{cond_le, sum_by-filter}
-use Rattle.drf_sorter.specs.Content.{Content, Ranked, clients_under}
+use Rattle.drf_tree.proofs.Names.{Path, begins_with, cond_le, sum_by-filter, Content, Ranked, clients_under}
 use Rattle.drf_tree.proofs.shape.Path.{begins_trans}
 
 narrower_at : (n : ℕ) (a b : Bool) → (a ≡ true → b ≡ true) → cond a n 0 ≤ cond b n 0

@@ -1,24 +1,13 @@
 -- What the nodes on the way to a client have room for, and what they have at least.
-use Rattle.std.specs.Prelude.{◌≡◌, ◌≤◌, ◌<◌, ◌+◌, ◌-◌, ◌^◌, ℕ, Bool, true, cond, ◌||◌, List, [], ◌∷◌, Some, filter, length, map, slice_get, sum_by}
 use Rattle.std.specs.List.{AllByRecursion, list_any}
-use Rattle.std.proofs.Common.{refl, sym, ap, subst, ◌∙◌, inl, inr, arith, get_or}
+use Rattle.std.proofs.Common.{refl, sym, ap, subst, ◌∙◌, inl, inr, arith, get_or, ◌≡◌, ◌≤◌, ◌<◌, ◌+◌, ◌-◌, ◌^◌, ℕ, Bool, true, cond, ◌||◌, List, [], ◌∷◌, Some, filter, length, map, slice_get, sum_by}
 use Rattle.std.proofs.lemmas.Bool.{false≢true, cases_Bool, or_cases}
 use Rattle.std.proofs.lemmas.List.{length-map}
 use Rattle.std.proofs.lemmas.List.Sums.{sum_by-cons}
 use Rattle.std.proofs.lemmas.Option.{slice_get-get_or}
-use Rattle.drf_bundle.specs.Quantities.{amount_of}
-use Rattle.drf_bundle.specs.declared.quantities.Entry.{Entry}
-use Rattle.drf_role.specs.Path.{Path, IsClientPath, begins_with, same_path}
-use Rattle.drf_role.specs.PathLaws.{same_path-true}
-use Rattle.drf_bundle.specs.ListLaws.{each_from, length-filter_le}
+use Rattle.drf_tree.proofs.Names.{amount_of, Entry, Path, IsClientPath, begins_with, same_path, same_path-true, each_from, length-filter_le, plain_content, ranked, Sum, Tree, CanLower, CanLowerAt, HasRoomFor, IsLeast, IsLowerable, OnWay, lowered, client_at, is_live, path_at, IsSumOf, IsTreeOf}
 use Rattle.drf_sorter.specs.Content.{Content, HasCharge, HasChargeAt, Holds, HoldsAt, IsSound, Ranked, charged, clients_under, has_client, refunded, standing_in, with_change}
-use Rattle.drf_sorter.specs.Plain.{plain_content, ranked}
 use Rattle.drf_sorter.specs.declared.plain.PlainSorter.{PlainSorter}
-use Rattle.drf_tree.specs.declared.node.Sum.{Sum}
-use Rattle.drf_tree.specs.declared.tree.Tree.{Tree}
-use Rattle.drf_tree.specs.Changes.{CanLower, CanLowerAt, HasRoomFor, IsLeast, IsLowerable, OnWay, lowered}
-use Rattle.drf_tree.specs.Nodes.{client_at, is_live, path_at}
-use Rattle.drf_tree.specs.Tree.{IsSumOf, IsTreeOf}
 use Rattle.drf_tree.proofs.change.Charge.{of_charged}
 use Rattle.drf_tree.proofs.change.Climb.{live_on_way}
 use Rattle.drf_tree.proofs.shape.Node.{live_within}

@@ -1,20 +1,10 @@
 -- What the clients below a node come to, before and after a change of one client.
-use Rattle.std.specs.Prelude.{◌≡◌, ◌+◌, ◌*◌, ℕ, Bool, true, false, cond, List, [], ◌∷◌, ◌++◌, filter, length, map, sum_by, nat_lt}
 use Rattle.std.specs.List.{AllByRecursion, IsDistinct}
-use Rattle.std.proofs.Common.{refl, sym, ap, ◌∙◌, arith}
+use Rattle.std.proofs.Common.{refl, sym, ap, ◌∙◌, arith, ◌≡◌, ◌+◌, ◌*◌, ℕ, Bool, true, false, cond, List, [], ◌∷◌, ◌++◌, filter, length, map, sum_by, nat_lt}
 use Rattle.std.proofs.lemmas.List.Sums.{sum_by-append, sum_by-cons}
-use Rattle.drf_bundle.specs.Quantities.{amount_of}
-use Rattle.drf_bundle.specs.declared.quantities.Entry.{Entry}
-use Rattle.drf_role.specs.Text.{Text}
-use Rattle.drf_role.specs.Path.{Path, begins_with, same_path}
-use Rattle.drf_role.specs.PathLaws.{same_path-true}
+use Rattle.drf_tree.proofs.Names.{amount_of, Entry, Text, Path, begins_with, same_path, same_path-true, each_from, sum_by-filter, greatest, Key, key_of, Sum, IsSumOf}
 use Rattle.drf_rows.specs.Held.{weight_of}
-use Rattle.drf_bundle.specs.ListLaws.{each_from, sum_by-filter}
-use Rattle.drf_rows.specs.Share.{greatest}
 use Rattle.drf_sorter.specs.Content.{Content, Ranked, clients_under, has_client, standing_in, with_change, with_client}
-use Rattle.drf_sorter.specs.Keys.{Key, key_of}
-use Rattle.drf_tree.specs.declared.node.Sum.{Sum}
-use Rattle.drf_tree.specs.Tree.{IsSumOf}
 use Rattle.drf_tree.proofs.sums.Content.{below, step, sum_below, sum_moved, sum_stays}
 
 -- what some clients have

@@ -1,12 +1,9 @@
 -- What a node has is what the others have, and what the client that goes has.
-use Rattle.std.specs.Prelude.{◌≡◌, ◌≢◌, ◌+◌, ℕ, Bool, true, false, not, cond, List, [], ◌∷◌, filter, map, sum_by}
 use Rattle.std.specs.List.{AllByRecursion}
-use Rattle.std.proofs.Common.{refl, sym, ap, subst, ◌∙◌, inl, inr, arith}
+use Rattle.std.proofs.Common.{refl, sym, ap, subst, ◌∙◌, inl, inr, arith, ◌≡◌, ◌≢◌, ◌+◌, ℕ, Bool, true, false, not, cond, List, [], ◌∷◌, filter, map, sum_by}
 use Rattle.std.proofs.lemmas.Bool.{false≢true, cases_Bool}
 use Rattle.std.proofs.lemmas.List.Sums.{sum_by-cons}
-use Rattle.drf_role.specs.Path.{Path, IsClientPath, begins_with, same_path}
-use Rattle.drf_role.specs.PathLaws.{client_paths-apart, path_decides, same_path-true}
-use Rattle.drf_sorter.specs.Content.{Ranked}
+use Rattle.drf_tree.proofs.Names.{Path, IsClientPath, begins_with, same_path, client_paths-apart, path_decides, same_path-true, Ranked}
 use Rattle.drf_tree.proofs.sums.Content.{below}
 use Rattle.drf_tree.proofs.shape.Path.{begins_itself}
 

@@ -1,20 +1,12 @@
 -- The shares of a node, from its sum.
-use Rattle.std.specs.Prelude.{◌≡◌, ◌≤◌, ◌<◌, ℕ, Bool, true, false, cond, ◌||◌, List, [], ◌∷◌, Some, filter, length, slice_get}
 use Rattle.std.specs.List.{list_any}
-use Rattle.std.proofs.Common.{refl, subst, ◌∙◌, arith}
-use Rattle.drf_bundle.specs.Quantities.{amount_of}
-use Rattle.drf_role.specs.Path.{Path, begins_with}
-use Rattle.drf_role.specs.Text.{Text}
-use Rattle.drf_rows.specs.Share.{share_of}
+use Rattle.std.proofs.Common.{refl, subst, ◌∙◌, arith, ◌≡◌, ◌≤◌, ◌<◌, ℕ, Bool, true, false, cond, ◌||◌, List, [], ◌∷◌, Some, filter, length, slice_get}
+use Rattle.drf_tree.proofs.Names.{amount_of, Path, begins_with, Text, share_of, Sum, Tree, is_live, path_at, IsSumOf, IsTreeOf}
 use Rattle.drf_sorter.specs.Content.{Content, IsSound, Ranked, has_node, standing_in}
 use Rattle.drf_sorter.specs.laws.FractionLaws.{same_as_weighed}
 use Rattle.drf_sorter.specs.Fractions.{dominant_of, weigh}
 use Rattle.drf_sorter.specs.Share.{IsShareOf, fraction_of}
 use Rattle.drf_sorter.specs.declared.share.Share.{Share}
-use Rattle.drf_tree.specs.declared.node.Sum.{Sum}
-use Rattle.drf_tree.specs.declared.tree.Tree.{Tree}
-use Rattle.drf_tree.specs.Nodes.{is_live, path_at}
-use Rattle.drf_tree.specs.Tree.{IsSumOf, IsTreeOf}
 use Rattle.drf_tree.proofs.keys.Renew.{sum_within}
 
 -- some pass a test where not none of them does

@@ -1,14 +1,9 @@
 -- What the walk comes to below one node: nobody where no client is, one where it is a client, and only what begins with its path.
-use Rattle.std.specs.Prelude.{◌≡◌, ℕ, zero, suc, Bool, true, false, ◌||◌, List, [], ◌∷◌, ◌++◌, flat_map}
 use Rattle.std.specs.List.{AllByRecursion, list_all, list_any}
-use Rattle.std.proofs.Common.{◌≢◌, refl, sym, ap, subst, ◌∙◌, inl, inr, append_assoc}
+use Rattle.std.proofs.Common.{◌≢◌, refl, sym, ap, subst, ◌∙◌, inl, inr, append_assoc, ◌≡◌, ℕ, zero, suc, Bool, true, false, ◌||◌, List, [], ◌∷◌, ◌++◌, flat_map, append-nil}
 use Rattle.std.proofs.lemmas.Bool.{true≢false, false≢true, and_from, cases_Bool, false_from_ne_true, or_cases, or_left, or_right}
-use Rattle.std.proofs.lemmas.List.{append-nil}
 use Rattle.std.proofs.lemmas.List.Folds.{list_all-append}
-use Rattle.drf_role.specs.Text.{Text}
-use Rattle.drf_role.specs.Path.{Path, IsClientPath, begins_with, same_path}
-use Rattle.drf_role.specs.PathLaws.{client_paths-apart, path_decides}
-use Rattle.drf_tree.specs.Walk.{IsChild, own, walk}
+use Rattle.drf_tree.proofs.Names.{Text, Path, IsClientPath, begins_with, same_path, client_paths-apart, path_decides, IsChild, own, walk}
 use Rattle.drf_tree.proofs.walk.Clients.{each_any}
 use Rattle.drf_tree.proofs.shape.Path.{begins_above, begins_itself}
 use Rattle.drf_tree.proofs.walk.Members.{found_in}

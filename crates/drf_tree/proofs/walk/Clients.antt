@@ -1,18 +1,12 @@
 -- The paths of active clients.
-use Rattle.std.specs.Prelude.{◌≡◌, ◌≢◌, ◌≤◌, ◌<◌, Bool, true, false, ◌||◌, cond, nat_lt, List, [], ◌∷◌, ◌++◌, codes, filter, length, map}
 use Rattle.std.specs.List.{AllByRecursion, IsDistinct, list_any}
 use Rattle.std.specs.Cmp.Lexicographic.{bytes_decides}
-use Rattle.std.proofs.Common.{refl, sym, ap, subst, ◌∙◌, inl, inr, append_assoc, arith, length-append}
+use Rattle.std.proofs.Common.{refl, sym, ap, subst, ◌∙◌, inl, inr, append_assoc, arith, length-append, ◌≡◌, ◌≢◌, ◌≤◌, ◌<◌, Bool, true, false, ◌||◌, cond, nat_lt, List, [], ◌∷◌, ◌++◌, codes, filter, length, map, append-nil}
 use Rattle.std.proofs.lemmas.Bool.{true≢false, false≢true, cases_Bool, lt-ltb, or_cases, or_left, or_right}
-use Rattle.std.proofs.lemmas.List.{append-nil}
 use Rattle.std.proofs.lemmas.Map.Keys.{IsDistinct-head, IsDistinct-tail, IsDistinct-cons}
 use Rattle.std.proofs.lemmas.Slice.Eq.{starts_is}
-use Rattle.drf_role.specs.Text.{Text}
-use Rattle.drf_role.specs.Path.{Path, IsClientPath, IsNodePath, begins_with, same_path}
-use Rattle.drf_role.specs.PathLaws.{client_paths-apart, same_path-true}
+use Rattle.drf_tree.proofs.Names.{Text, Path, IsClientPath, IsNodePath, begins_with, same_path, client_paths-apart, same_path-true, Ranked, most_parts}
 use Rattle.drf_role.specs.Role.{IsRole}
-use Rattle.drf_sorter.specs.Content.{Ranked}
-use Rattle.drf_tree.specs.Queue.{most_parts}
 
 abbrev pub paths_in : List Ranked → List Path
 paths_in cs = map (λ c. c.path) cs

@@ -1,12 +1,7 @@
 -- A walk by frames, step by step: what it still comes to stays, and the steps that are left are fewer.
-use Rattle.std.specs.Prelude.{◌≡◌, ◌+◌, ℕ, zero, suc, List, [], ◌∷◌, ◌++◌, None, Some, drop, flat_map, length, slice_get, sum_by}
-use Rattle.std.proofs.Common.{refl, sym, ap, ◌∙◌, append_assoc, arith}
-use Rattle.std.proofs.lemmas.List.{append-nil}
+use Rattle.std.proofs.Common.{refl, sym, ap, ◌∙◌, append_assoc, arith, ◌≡◌, ◌+◌, ℕ, zero, suc, List, [], ◌∷◌, ◌++◌, None, Some, drop, flat_map, length, slice_get, sum_by, append-nil}
 use Rattle.std.proofs.lemmas.Option.{same_Some}
-use Rattle.drf_role.specs.Path.{Path}
-use Rattle.drf_tree.specs.declared.walk.Frame.{Frame}
-use Rattle.drf_tree.specs.Queue.{pending}
-use Rattle.drf_tree.specs.Walk.{walk}
+use Rattle.drf_tree.proofs.Names.{Path, Frame, pending, walk}
 
 -- ---- lists by place
 

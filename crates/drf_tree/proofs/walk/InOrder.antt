@@ -1,15 +1,10 @@
 -- The walk is in order.
-use Rattle.std.specs.Prelude.{◌≡◌, zero, suc, true, false, List, [], ◌∷◌, ◌++◌, flat_map, map, ℕ}
 use Rattle.std.specs.List.{list_all, list_any, AllByRecursion}
-use Rattle.std.proofs.Common.{refl, sym, ap, subst, ◌∙◌, inl, inr, append_assoc}
+use Rattle.std.proofs.Common.{refl, sym, ap, subst, ◌∙◌, inl, inr, append_assoc, ◌≡◌, zero, suc, true, false, List, [], ◌∷◌, ◌++◌, flat_map, map, ℕ, append-nil}
 use Rattle.std.proofs.lemmas.Bool.{true≢false, cases_Bool, and_from, and_parts}
-use Rattle.std.proofs.lemmas.List.{append-nil}
-use Rattle.drf_role.specs.Text.{Text, same_text}
-use Rattle.drf_role.specs.TextLaws.{same_from_test, same_itself}
-use Rattle.drf_role.specs.Path.{Path, same_path}
+use Rattle.drf_tree.proofs.Names.{Text, same_text, same_from_test, same_itself, Path, same_path, walk, are_ahead, IsChild, AreFamilies}
 use Rattle.drf_rows.specs.Share.{Standing, is_ahead, stands_before_below, stands_before, is_serving_order}
 use Rattle.drf_row_laws.specs.ServingOrder.{is_ahead-back}
-use Rattle.drf_tree.specs.Walk.{walk, are_ahead, IsChild, AreFamilies}
 use Rattle.drf_tree.proofs.walk.Below.{all_join, beneath}
 
 -- a child that is ahead of another has another name

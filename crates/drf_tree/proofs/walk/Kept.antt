@@ -1,22 +1,11 @@
 -- A sorter is kept where its walk stands over the same places and families.
-use Rattle.std.specs.Prelude.{◌≡◌, Bool, true, false, cond, List, [], ◌∷◌, Option, filter, map}
-use Rattle.std.proofs.Common.{ap, arith, refl, subst, sym, ◌∙◌}
+use Rattle.std.proofs.Common.{ap, arith, refl, subst, sym, ◌∙◌, ◌≡◌, Bool, true, false, cond, List, [], ◌∷◌, Option, filter, map}
 use Rattle.std.proofs.lemmas.Bool.{false≢true}
-use Rattle.drf_role.specs.Path.{Path, same_path}
-use Rattle.drf_sorter.specs.Content.{Content, Ranked, active_paths, with_change}
-use Rattle.drf_sorter.specs.Plain.{plain_content}
+use Rattle.drf_tree.proofs.Names.{Path, same_path, Content, Ranked, active_paths, with_change, plain_content, Family, Place, Tree, Frame, family_at, path_at, IsTidy, IsTotalFree, IsTreeOf, own}
 use Rattle.drf_sorter.specs.declared.plain.PlainSorter.{PlainSorter}
-use Rattle.drf_tree.specs.declared.family.Family.{Family}
-use Rattle.drf_tree.specs.declared.node.Place.{Place}
-use Rattle.drf_tree.specs.declared.tree.Tree.{Tree}
-use Rattle.drf_tree.specs.declared.walk.Frame.{Frame}
 use Rattle.drf_tree.specs.declared.walk.Walk.{Walk}
-use Rattle.drf_tree.specs.Nodes.{family_at, path_at}
 use Rattle.drf_tree.specs.Queue.{AreFrames, IsSettled, frames_queue, most_parts, pending, queue_in}
 use Rattle.drf_tree.specs.Sorter.{AreInStep}
-use Rattle.drf_tree.specs.Tidy.{IsTidy}
-use Rattle.drf_tree.specs.Tree.{IsTotalFree, IsTreeOf}
-use Rattle.drf_tree.specs.Walk.{own}
 use Rattle.drf_tree.proofs.sums.Content.{step}
 
 -- nothing is said of a tree that hangs on the total

@@ -1,12 +1,7 @@
 -- Frames whose nodes stand below one another.
 use Rattle.std.specs.Prelude.{◌≡◌, true, List, [], ◌∷◌, ◌++◌, Option}
 use Rattle.std.specs.List.{AllByRecursion}
-use Rattle.drf_role.specs.Path.{begins_with}
-use Rattle.drf_bundle.specs.ListLaws.{each_append, each_parts}
-use Rattle.drf_tree.specs.declared.node.Place.{Place}
-use Rattle.drf_tree.specs.declared.walk.Frame.{Frame}
-use Rattle.drf_tree.specs.Nodes.{path_at}
-use Rattle.drf_tree.specs.Queue.{AreNested}
+use Rattle.drf_tree.proofs.Names.{begins_with, each_append, each_parts, Place, Frame, path_at, AreNested}
 
 module _ (places : List (Option Place)) where
   -- the node of the second stands at or below that of the first

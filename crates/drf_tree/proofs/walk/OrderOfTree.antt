@@ -1,23 +1,11 @@
 -- The walk of a tree without marks is the order of its active clients.
-use Rattle.std.specs.Prelude.{◌≡◌, ◌≤◌, ℕ, true, List, [], ◌∷◌, ◌++◌, Option, None, Some, length, slice_get}
 use Rattle.std.specs.List.{AllByRecursion, list_any}
 use Rattle.std.specs.Option.{option_map_or}
-use Rattle.std.proofs.Common.{refl, sym, ap, ◌∙◌, inl, inr}
-use Rattle.std.proofs.lemmas.Bool.{true≢false}
-use Rattle.drf_role.specs.Text.{same_text}
-use Rattle.drf_role.specs.Path.{IsClientPath, same_path}
-use Rattle.drf_bundle.specs.ListLaws.{each_from}
+use Rattle.std.proofs.Common.{refl, sym, ap, ◌∙◌, inl, inr, ◌≡◌, ◌≤◌, ℕ, true, List, [], ◌∷◌, ◌++◌, Option, None, Some, length, slice_get, true≢false}
+use Rattle.drf_tree.proofs.Names.{same_text, IsClientPath, same_path, each_from, Family, Place, Tree, are_sorted, marked_in, children_at, family_at, is_node, last_part, path_at, IsMarkedOrRight, IsTreeOf, AreFamilies, are_ahead}
 use Rattle.drf_sorter.specs.Content.{Content, IsOrderOf, active_paths, standing_in}
 use Rattle.drf_sorter.specs.Served.{Weighs}
-use Rattle.drf_tree.specs.declared.family.Family.{Family}
-use Rattle.drf_tree.specs.declared.node.Place.{Place}
-use Rattle.drf_tree.specs.declared.tree.Tree.{Tree}
-use Rattle.drf_tree.specs.Family.{are_sorted}
-use Rattle.drf_tree.specs.Marks.{marked_in}
-use Rattle.drf_tree.specs.Nodes.{children_at, family_at, is_node, last_part, path_at}
 use Rattle.drf_tree.specs.Queue.{most_parts, order_in}
-use Rattle.drf_tree.specs.Tree.{IsMarkedOrRight, IsTreeOf}
-use Rattle.drf_tree.specs.Walk.{AreFamilies, are_ahead}
 use Rattle.drf_tree.proofs.walk.Clients.{any_active, distinct_active, each_any, kept_active, short}
 use Rattle.drf_tree.proofs.keys.Order.{IsRightAt, ordered_names}
 use Rattle.drf_tree.proofs.marks.Flags.{none_marked}

@@ -1,25 +1,11 @@
 -- Clients that a walk passes by together: those that its later frames still come to.
-use Rattle.std.specs.Prelude.{◌≡◌, ◌<◌, ◌+◌, ◌-◌, ℕ, zero, suc, Bool, true, List, [], ◌∷◌, ◌++◌, Option, Some, drop, flat_map, length, slice_get, take}
 use Rattle.std.specs.List.{AllByRecursion, list_all}
-use Rattle.std.proofs.Common.{refl, sym, ap, subst, ◌∙◌, arith, length-append, take-append-drop}
+use Rattle.std.proofs.Common.{refl, sym, ap, subst, ◌∙◌, arith, length-append, take-append-drop, ◌≡◌, ◌<◌, ◌+◌, ◌-◌, ℕ, zero, suc, Bool, true, List, [], ◌∷◌, ◌++◌, Option, Some, drop, flat_map, length, slice_get, take, length-take-le}
 use Rattle.std.proofs.Math.Seq.{take-append_seam}
 use Rattle.std.proofs.lemmas.Bool.{and_parts}
-use Rattle.std.proofs.lemmas.List.{length-take-le}
 use Rattle.std.proofs.lemmas.Option.{same_Some}
-use Rattle.drf_role.specs.Text.{Text}
-use Rattle.drf_role.specs.Path.{Path, begins_with}
-use Rattle.drf_bundle.specs.ListLaws.{each_from, each_parts}
-use Rattle.drf_sorter.specs.Content.{Content, active_paths}
+use Rattle.drf_tree.proofs.Names.{Text, Path, begins_with, each_from, each_parts, Content, active_paths, Family, Place, Tree, Frame, IsShapeOf, children_at, family_at, is_node, last_part, path_at, AreFrames, IsSettled, frames_queue, most_parts, pending, IsTreeOf, IsChild, walk}
 use Rattle.drf_sorter.specs.Passed.{IsPassedFront}
-use Rattle.drf_tree.specs.declared.family.Family.{Family}
-use Rattle.drf_tree.specs.declared.node.Place.{Place}
-use Rattle.drf_tree.specs.declared.tree.Tree.{Tree}
-use Rattle.drf_tree.specs.declared.walk.Frame.{Frame}
-use Rattle.drf_tree.specs.Changes.{IsShapeOf}
-use Rattle.drf_tree.specs.Nodes.{children_at, family_at, is_node, last_part, path_at}
-use Rattle.drf_tree.specs.Queue.{AreFrames, IsSettled, frames_queue, most_parts, pending}
-use Rattle.drf_tree.specs.Tree.{IsTreeOf}
-use Rattle.drf_tree.specs.Walk.{IsChild, walk}
 use Rattle.drf_tree.proofs.walk.Frames.{pending_apart}
 use Rattle.drf_tree.proofs.walk.Nested.{nested_parts}
 use Rattle.drf_tree.proofs.shape.Node.{children_are}

@@ -1,26 +1,13 @@
 -- A step of a walk along a tree: it keeps what the walk comes to.
-use Rattle.std.specs.Prelude.{◌≡◌, ◌≤◌, ◌<◌, ◌+◌, ◌-◌, ◌==◌, ℕ, zero, suc, Bool, true, false, nat_lt, List, [], ◌∷◌, ◌++◌, Option, None, Some, ◌⊎◌, codes, drop, flat_map, length, slice_get, sum_by}
 use Rattle.std.specs.List.{AllByRecursion, list_any}
 use Rattle.std.specs.Option.{is_some, option_map_or}
-use Rattle.std.proofs.Common.{refl, sym, ap, subst, ◌∙◌, inl, inr, append_assoc, arith, length-append}
+use Rattle.std.proofs.Common.{refl, sym, ap, subst, ◌∙◌, inl, inr, append_assoc, arith, length-append, ◌≡◌, ◌≤◌, ◌<◌, ◌+◌, ◌-◌, ◌==◌, ℕ, zero, suc, Bool, true, false, nat_lt, List, [], ◌∷◌, ◌++◌, Option, None, Some, ◌⊎◌, codes, drop, flat_map, length, slice_get, sum_by, append-nil}
 use Rattle.std.proofs.lemmas.Bool.{false≢true, lt-ltb, or_right}
-use Rattle.std.proofs.lemmas.List.{append-nil}
 use Rattle.std.proofs.lemmas.List.Sums.{sum_by-cons}
 use Rattle.std.proofs.lemmas.Option.{same_Some, slice_get_cases}
-use Rattle.drf_role.specs.Path.{Path, IsClientPath, begins_with}
-use Rattle.drf_bundle.specs.ListLaws.{each_append, each_from, each_parts}
-use Rattle.drf_sorter.specs.Content.{Content, active_paths, clients_under}
-use Rattle.drf_tree.specs.declared.family.Family.{Family}
-use Rattle.drf_tree.specs.declared.node.Place.{Place}
-use Rattle.drf_tree.specs.declared.node.Sum.{Sum}
-use Rattle.drf_tree.specs.declared.tree.Tree.{Tree}
-use Rattle.drf_tree.specs.declared.walk.Frame.{Frame}
+use Rattle.drf_tree.proofs.Names.{Path, IsClientPath, begins_with, each_append, each_from, each_parts, Content, active_paths, clients_under, Family, Place, Sum, Tree, Frame, IsShapeOf, children_at, client_at, family_at, is_live, is_node, last_part, path_at, IsTreeOf, own, walk}
 use Rattle.drf_tree.specs.declared.walk.Next.TheVariants.{Client, End, Nobody, Node}
-use Rattle.drf_tree.specs.Changes.{IsShapeOf}
-use Rattle.drf_tree.specs.Nodes.{children_at, client_at, family_at, is_live, is_node, last_part, path_at}
 use Rattle.drf_tree.specs.Queue.{AreFrames, IsAtClient, IsNext, IsSettled, active_at, frames_queue, most_parts, onward, order_in, pending, queue_in}
-use Rattle.drf_tree.specs.Tree.{IsTreeOf}
-use Rattle.drf_tree.specs.Walk.{own, walk}
 use Rattle.drf_tree.proofs.walk.Clients.{active_in, any_below, kept_active, node_short}
 use Rattle.drf_tree.proofs.walk.Frames.{drop_next, drop_past, left, left_last, pending_last, size}
 use Rattle.drf_tree.proofs.walk.Nested.{IsBelow, nested_last, nested_more, nested_parts}

@@ -1,9 +1,5 @@
 use Rattle.std.proofs.Common.{◌≡◌, ◌+◌, true, false, sym, ap, ◌∙◌, refl, get_or, set}
-use Rattle.drf_role.specs.Path.{same_path}
-use Rattle.drf_rows.specs.Client.{Client}
-use Rattle.drf_rows.specs.Cycle.{counted}
-use Rattle.drf_rows.specs.Holdings.{of_offer}
-use Rattle.drf_rows.specs.declared.rows.ClientRow.{ClientRow}
+use Rattle.drf_tables.proofs.tables.Names.{same_path, Client, counted, of_offer, ClientRow}
 use Rattle.drf_tables.proofs.cycle.Counted.{map_next, counted_here, counted_other}
 use Rattle.drf_tables.proofs.cycle.count_at.Goals as goal
 use Rattle.drf_tables.proofs.cycle.count_at.Goals.{then-eq, else-eq}

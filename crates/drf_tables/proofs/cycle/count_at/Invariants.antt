@@ -1,6 +1,5 @@
 use Rattle.std.proofs.Common.{◌≡◌, ◌++◌, map, take, drop}
-use Rattle.drf_rows.specs.Cycle.{counted}
-use Rattle.drf_rows.specs.Holdings.{of_offer}
+use Rattle.drf_tables.proofs.tables.Names.{counted, of_offer}
 use Rattle.drf_tables.proofs.cycle.count_at.Given as goal
 
 abbrev pub invariant-loop-client : goal.invariant-loop-client

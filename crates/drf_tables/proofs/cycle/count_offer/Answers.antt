@@ -2,13 +2,7 @@ use Rattle.std.proofs.Common.{◌≡◌, false, length, sym, ap, ◌∙◌, refl
 use Rattle.std.specs.Vec.{with_items}
 use Rattle.std.specs.Map.{lookup}
 use Rattle.std.proofs.lemmas.List.{with_items_is}
-use Rattle.drf_role.specs.Text.{Text, same_text}
-use Rattle.drf_rows.specs.Client.{Client}
-use Rattle.drf_rows.specs.Cycle.{counted, count_offer}
-use Rattle.drf_rows.specs.Holdings.{of_offer}
-use Rattle.drf_bundle.specs.ListLaws.{each_at}
-use Rattle.drf_tables.specs.cycle.Counting.{CanCount}
-use Rattle.drf_tables.specs.Inside.{framework_row, framework_rows}
+use Rattle.drf_tables.proofs.tables.Names.{Text, same_text, Client, counted, count_offer, of_offer, each_at, CanCount, framework_row, framework_rows}
 use Rattle.drf_tables.proofs.registry.Entries.{key_at, key_found, row_at, changed_at, known-lookup}
 use Rattle.drf_tables.proofs.cycle.Counted.{count_offer-here, count_offer-other, counting-unknown}
 use Rattle.drf_tables.proofs.cycle.count_offer.Goals as goal

@@ -1,9 +1,5 @@
 use Rattle.std.proofs.Common.{◌≡◌, ◌+◌, ◌∷◌, List, length, sym, ap, ◌∙◌, arith}
-use Rattle.drf_rows.specs.Consistent.{are_distinct}
-use Rattle.drf_rows.specs.declared.rows.FrameworkRow.{FrameworkRow}
-use Rattle.drf_rows.specs.declared.rows.OfferRow.{OfferRow}
-use Rattle.drf_tables.specs.cycle.Counting.{counting_all}
-use Rattle.drf_tables.specs.Inside.{framework_rows}
+use Rattle.drf_tables.proofs.tables.Names.{are_distinct, FrameworkRow, OfferRow, counting_all, framework_rows}
 use Rattle.drf_tables.proofs.cycle.Counted.{CanCountAll-counting, names-counting}
 use Rattle.drf_tables.proofs.cycle.count_offers.Goals as goal
 

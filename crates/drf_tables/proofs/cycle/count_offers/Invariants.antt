@@ -1,7 +1,5 @@
 use Rattle.std.proofs.Common.{◌≡◌, true, map, length}
-use Rattle.drf_rows.specs.Consistent.{are_distinct}
-use Rattle.drf_tables.specs.cycle.Counting.{counting_all, CanCountAll}
-use Rattle.drf_tables.specs.Inside.{framework_rows}
+use Rattle.drf_tables.proofs.tables.Names.{are_distinct, counting_all, CanCountAll, framework_rows}
 use Rattle.drf_tables.proofs.cycle.count_offers.Given as goal
 
 abbrev pub invariant-loop-offer : goal.invariant-loop-offer

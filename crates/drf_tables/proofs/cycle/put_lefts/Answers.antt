@@ -1,8 +1,7 @@
 use Rattle.std.proofs.Common.{◌≡◌, ℕ, Option, Some, ◌∷◌, ◌<◌, List, length, map, slice_set, sym, ap, ◌∙◌, subst, arith}
 use Rattle.std.specs.List.{AllByRecursion}
 use Rattle.std.specs.Vec.Iter.{into_iter_items}
-use Rattle.drf_bundle.specs.declared.resource.Resource.{Resource}
-use Rattle.drf_tables.specs.Inside.{agent_row, frees_in, known_after}
+use Rattle.drf_tables.proofs.tables.Names.{Resource, agent_row, frees_in, known_after}
 use Rattle.drf_tables.specs.declared.tables.Left.{Left}
 use Rattle.drf_tables.proofs.registry.Known.{frees-free_at, length-free_at, rows-free_at}
 use Rattle.drf_tables.proofs.cycle.put_lefts.Goals as goal

@@ -1,9 +1,6 @@
-use Rattle.std.proofs.Common.{◌≡◌, Some, sym, ap, ◌∙◌}
-use Rattle.std.specs.Prelude.{option_copied}
+use Rattle.std.proofs.Common.{◌≡◌, Some, sym, ap, ◌∙◌, option_copied}
 use Rattle.drf_row_laws.specs.EndingLaws.{held-offer_at}
-use Rattle.drf_rows.specs.Offers.{offer_at}
-use Rattle.drf_rows.specs.declared.rows.OfferRow.{OfferRow}
-use Rattle.drf_rows.specs.declared.rows.Rows.{Rows}
+use Rattle.drf_tables.proofs.tables.Names.{offer_at, OfferRow, Rows}
 use Rattle.drf_row_laws.specs.OfferLaws.{offer_filter}
 use Rattle.drf_tables.proofs.filters.filter_offer.Goals as goal
 

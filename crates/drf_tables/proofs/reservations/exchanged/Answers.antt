@@ -1,10 +1,7 @@
-use Rattle.std.proofs.Common.{sym, ap, ◌∙◌, List}
-use Rattle.std.specs.Prelude.{Option}
+use Rattle.std.proofs.Common.{sym, ap, ◌∙◌, List, Option}
 use Rattle.std.specs.Option.{option_map_or}
-use Rattle.drf_bundle.specs.Bundle.{merged, refusal, rest}
+use Rattle.drf_tables.proofs.tables.Names.{merged, refusal, rest, Resource, exchanged}
 use Rattle.drf_bundle.specs.laws.FitLaws.{join_or_some}
-use Rattle.drf_bundle.specs.declared.resource.Resource.{Resource}
-use Rattle.drf_rows.specs.Totals.{exchanged}
 use Rattle.drf_row_laws.specs.TotalsLaws.{joined-exchanged}
 use Rattle.drf_tables.proofs.reservations.exchanged.Goals as goal
 

@@ -1,6 +1,5 @@
 use Rattle.std.proofs.Common.{List, sym, subst}
-use Rattle.drf_bundle.specs.declared.resource.Resource.{Resource}
-use Rattle.drf_rows.specs.Totals.{CanExchange}
+use Rattle.drf_tables.proofs.tables.Names.{Resource, CanExchange}
 use Rattle.drf_tables.proofs.reservations.exchanged_free.Goals as goal
 
 pub exchanged_part-requires-clause-can : goal.exchanged_part-requires-clause-can

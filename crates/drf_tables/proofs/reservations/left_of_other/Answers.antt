@@ -1,6 +1,5 @@
 use Rattle.std.proofs.Common.{◌≡◌, List, sym, ap, ◌∙◌}
-use Rattle.drf_bundle.specs.Bundle.{rest}
-use Rattle.drf_bundle.specs.declared.resource.Resource.{Resource}
+use Rattle.drf_tables.proofs.tables.Names.{rest, Resource}
 use Rattle.drf_tables.proofs.reservations.Moved.{other_left-nothing}
 use Rattle.drf_tables.proofs.reservations.left_of_other.Goals as goal
 

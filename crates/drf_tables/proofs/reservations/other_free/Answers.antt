@@ -1,8 +1,6 @@
 use Rattle.std.proofs.Common.{◌≡◌, List, Some, sym, ap, ◌∙◌, inl}
 use Rattle.std.specs.Option.{option_copied}
-use Rattle.drf_bundle.specs.Bundle.{rest}
-use Rattle.drf_bundle.specs.declared.resource.Resource.{Resource}
-use Rattle.drf_tables.specs.registry.Changing.{other_free}
+use Rattle.drf_tables.proofs.tables.Names.{rest, Resource, other_free}
 use Rattle.drf_tables.proofs.reservations.other_free.Goals as goal
 
 pub returns-in-Ok : goal.returns-in-Ok

@@ -1,9 +1,6 @@
 use Rattle.std.proofs.Common.{lit<, refl, sym, subst, Result, Option}
 use Rattle.std.proofs.lemmas.Str.Pattern.{split_once_first, strip_suffix_char}
-use Rattle.drf_role.specs.Text.{Text}
-use Rattle.drf_text.specs.Faults.{IsCutAs}
-use Rattle.drf_text.specs.Steps.{view_head}
-use Rattle.drf_text.specs.declared.fault.TextFault.{TextFault}
+use Rattle.drf_text.proofs.Names.{Text, IsCutAs, view_head, TextFault}
 use Rattle.drf_text.proofs.Cuts.{head_without_role, head_with_role, head_open}
 use Rattle.drf_text.proofs.piece.cut_head.Goals as goal
 

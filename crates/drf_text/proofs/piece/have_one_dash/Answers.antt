@@ -1,9 +1,7 @@
 use Rattle.std.proofs.Common.{lit<, rules, tests}
 use Rattle.std.proofs.lemmas.Iterator.Search.{all_from_yields_List}
 use Rattle.std.proofs.lemmas.Iterator.Splits.{YieldsList-from_str_split}
-use Rattle.drf_role.specs.Text.{Text}
-use Rattle.drf_text.specs.Blanks.{trimmed}
-use Rattle.drf_text.specs.Pieces.{has_one_dash}
+use Rattle.drf_text.proofs.Names.{Text, trimmed, has_one_dash}
 use Rattle.drf_text.proofs.piece.have_one_dash.Goals as goal
 
 pub returns : goal.returns

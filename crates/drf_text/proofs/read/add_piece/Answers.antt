@@ -1,9 +1,8 @@
 use Rattle.std.proofs.Common.{◌≡◌, Result, ap, ◌∙◌, arith}
 use Rattle.std.proofs.lemmas.Bool.Decides.{nat_tests}
 use Rattle.std.proofs.lemmas.Result.{err_from_is_err_and, on_ok_weaker, IfErr-weaker}
-use Rattle.drf_text.specs.Faults.{IsTold}
+use Rattle.drf_text.proofs.Names.{IsTold, TextFault}
 use Rattle.drf_text.specs.Steps.{◌>>=◌, put_said, bundle_step}
-use Rattle.drf_text.specs.declared.fault.TextFault.{TextFault}
 use Rattle.drf_text.specs.declared.said.Said.{Said}
 use Rattle.drf_text.proofs.Named.{said_named}
 use Rattle.drf_text.proofs.Together.{bundle_step_blank, bundle_step_piece}

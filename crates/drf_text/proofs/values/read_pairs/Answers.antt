@@ -4,10 +4,8 @@ use Rattle.std.proofs.lemmas.Iterator.Consumers.{YieldsList-turn, YieldsList-end
 use Rattle.std.proofs.lemmas.Iterator.Splits.{YieldsList-from_str_split}
 use Rattle.std.proofs.lemmas.List.{at_drop_more, at_drop_all, length_push}
 use Rattle.std.proofs.lemmas.Result.{err_from_is_err_and}
-use Rattle.drf_role.specs.Text.{Text}
-use Rattle.drf_text.specs.Blanks.{is_blank, trimmed}
+use Rattle.drf_text.proofs.Names.{Text, is_blank, trimmed, TextFault}
 use Rattle.drf_text.specs.Steps.{each_of, pair_in}
-use Rattle.drf_text.specs.declared.fault.TextFault.{TextFault}
 use Rattle.drf_text.proofs.Parts.{each_of-map, each_after, each_after-end, each_after-more, each_after-fault}
 use Rattle.drf_text.proofs.values.read_pairs.Goals as goal
 use Rattle.drf_text.proofs.values.read_pairs.Goals.{In-Some}

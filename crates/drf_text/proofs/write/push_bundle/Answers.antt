@@ -1,6 +1,5 @@
-use Rattle.std.proofs.Common.{ℕ, List, map, ap, sym, append-nil, ◌∙◌, ◌++◌, string_bytes}
+use Rattle.std.proofs.Common.{ℕ, List, map, ap, sym, append-nil, ◌∙◌, ◌++◌, string_bytes, take_all}
 use Rattle.std.specs.List.{join_with_byte}
-use Rattle.std.proofs.lemmas.List.{take_all}
 use Rattle.drf_bundle.specs.declared.resource.Resource.{Resource}
 use Rattle.drf_text.specs.Written.{resource_text, bundle_text}
 use Rattle.drf_text.proofs.Joined.{mapped_more}

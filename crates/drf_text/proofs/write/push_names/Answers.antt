@@ -1,6 +1,5 @@
-use Rattle.std.proofs.Common.{◌≡◌, map, take, ◌∙◌, ◌++◌, List, ℕ, string_bytes, sym, ap}
+use Rattle.std.proofs.Common.{◌≡◌, map, take, ◌∙◌, ◌++◌, List, ℕ, string_bytes, sym, ap, take_all}
 use Rattle.std.specs.List.{join_with_byte}
-use Rattle.std.proofs.lemmas.List.{take_all}
 use Rattle.std.specs.FinSet as set
 use Rattle.std.specs.Cmp.Lexicographic.{nat_list_cmp_total}
 use Rattle.drf_kinds.specs.Names.{text_cmp}

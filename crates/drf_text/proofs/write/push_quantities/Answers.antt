@@ -1,7 +1,6 @@
 use Rattle.std.proofs.Common.{All, ap, subst, ◌∙◌, ◌++◌, List, ℕ, string_bytes, take_all}
 use Rattle.std.proofs.lemmas.List.Elements.{All-more}
-use Rattle.drf_text.specs.RoundTrip.{IsEntry}
-use Rattle.drf_text.specs.Written.{quantity_text}
+use Rattle.drf_text.proofs.Names.{IsEntry, quantity_text}
 use Rattle.drf_text.proofs.Joined.{mapped_more}
 use Rattle.drf_text.proofs.QuantityText.{quantities_read}
 use Rattle.drf_text.proofs.write.push_quantities.Goals as goal

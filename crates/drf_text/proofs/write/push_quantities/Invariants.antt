@@ -1,7 +1,6 @@
 use Rattle.std.proofs.Common.{◌≡◌, ◌++◌, string_bytes, take, map, All}
 use Rattle.std.specs.List.{join_with_byte}
-use Rattle.drf_text.specs.RoundTrip.{IsEntry}
-use Rattle.drf_text.specs.Written.{quantity_text}
+use Rattle.drf_text.proofs.Names.{IsEntry, quantity_text}
 use Rattle.drf_text.proofs.write.push_quantities.Given as goal
 
 -- the text of those so far, and each is a label with an amount

@@ -1,6 +1,5 @@
 use Rattle.std.proofs.Common.{◌≡◌, List, ap, false, sym, ◌∙◌}
-use Rattle.drf_bundle.specs.Quantities.{is_named, with_amount}
-use Rattle.drf_bundle.specs.declared.quantities.Entry.{Entry}
+use Rattle.drf_tree.proofs.Names.{is_named, with_amount, Entry}
 use Rattle.drf_tree.proofs.change.Label.{named_few, named_now, named_still, named_zero}
 use Rattle.drf_tree.proofs.charge.name.Goals as goal
 

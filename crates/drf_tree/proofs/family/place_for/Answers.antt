@@ -1,7 +1,6 @@
 use Rattle.std.proofs.Common.{rules}
 use Rattle.std.proofs.lemmas.List.Sorted.{IsPartitionPoint-from_clause}
-use Rattle.drf_tree.specs.declared.family.Child.{Child}
-use Rattle.drf_tree.specs.Family.{is_before}
+use Rattle.drf_tree.proofs.Names.{Child, is_before}
 use Rattle.drf_tree.proofs.keys.Siblings.{back_all, front_all, parted}
 use Rattle.drf_tree.proofs.family.place_for.Goals as goal
 

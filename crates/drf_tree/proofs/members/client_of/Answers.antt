@@ -1,5 +1,4 @@
-use Rattle.std.specs.Prelude.{Some}
-use Rattle.std.proofs.Common.{ap, arith, subst, sym, ◌∙◌}
+use Rattle.std.proofs.Common.{ap, arith, subst, sym, ◌∙◌, Some}
 use Rattle.drf_role.specs.Path.{IsClientPath, Path}
 use Rattle.drf_tree.proofs.shape.Find.{take_whole}
 use Rattle.drf_tree.proofs.growth.Grow.{front_no_client}

@@ -1,6 +1,5 @@
 use Rattle.std.proofs.Common.{map}
-use Rattle.drf_rows.specs.Holdings.{of_task}
-use Rattle.drf_rows.specs.Quota.{held_unreserved}
+use Rattle.drf_tables.proofs.tables.Names.{of_task, held_unreserved}
 use Rattle.drf_holdings.specs.Listed.{task_row}
 use Rattle.drf_tables.proofs.limits.Counts.{IsPartly}
 use Rattle.drf_tables.proofs.limits.consuming.consume_tasks.Given as goal

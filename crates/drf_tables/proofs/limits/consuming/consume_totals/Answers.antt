@@ -1,9 +1,6 @@
 use Rattle.std.proofs.Common.{◌≡◌, ◌+◌, List, drop, map, ap, arith}
 use Rattle.std.proofs.lemmas.List.{drop_all}
-use Rattle.drf_gates.specs.filters.Slots.{filled}
-use Rattle.drf_gates.specs.quota.Allowance.{used_where}
-use Rattle.drf_rows.specs.Quota.{reserved_for}
-use Rattle.drf_tables.specs.Inside.{agent_row}
+use Rattle.drf_tables.proofs.tables.Names.{filled, used_where, reserved_for, agent_row}
 use Rattle.drf_tables.proofs.registry.Slots.{Entry, Slots}
 use Rattle.drf_tables.proofs.registry.Changes.{reserved-next}
 use Rattle.drf_tables.proofs.limits.consuming.consume_totals.Goals as goal

@@ -1,7 +1,5 @@
 use Rattle.std.proofs.Common.{drop, map}
-use Rattle.drf_gates.specs.filters.Slots.{filled}
-use Rattle.drf_rows.specs.Quota.{reserved_for}
-use Rattle.drf_tables.specs.Inside.{agent_row}
+use Rattle.drf_tables.proofs.tables.Names.{filled, reserved_for, agent_row}
 use Rattle.drf_tables.proofs.limits.Counts.{IsPartly}
 use Rattle.drf_tables.proofs.limits.consuming.consume_totals.Given as goal
 

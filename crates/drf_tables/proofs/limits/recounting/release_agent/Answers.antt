@@ -1,14 +1,6 @@
-use Rattle.std.proofs.Common.{◌≡◌, ◌≤◌, List, Option, Some, None, map, find, refl, sym, ap, ◌∙◌, subst}
-use Rattle.std.specs.Prelude.{IfSome}
+use Rattle.std.proofs.Common.{◌≡◌, ◌≤◌, List, Option, Some, None, map, find, refl, sym, ap, ◌∙◌, subst, IfSome}
 use Rattle.std.specs.Option.{option_copied, option_map, option_map_or}
-use Rattle.drf_role.specs.Path.{Path, same_path}
-use Rattle.drf_role.specs.Text.{Text, same_text}
-use Rattle.drf_rows.specs.Quota.{reserved_in}
-use Rattle.drf_rows.specs.declared.rows.AgentRow.{AgentRow}
-use Rattle.drf_gates.specs.quota.Allowance.{used_by}
-use Rattle.drf_tables.specs.Inside.{agent_row}
-use Rattle.drf_tables.specs.limits.Recounting.{IsRaisedIf}
-use Rattle.drf_tables.specs.declared.tables.Agent.{Agent}
+use Rattle.drf_tables.proofs.tables.Names.{Path, same_path, Text, same_text, reserved_in, AgentRow, used_by, agent_row, IsRaisedIf, Agent}
 use Rattle.drf_tables.proofs.registry.Entries.{found-lookup}
 use Rattle.drf_tables.proofs.limits.Recounted.{raised_nothing}
 use Rattle.drf_tables.proofs.limits.recounting.release_agent.Goals as goal

@@ -1,8 +1,6 @@
 use Rattle.std.proofs.Common.{◌≡◌, ◌++◌, ◌∷◌, [], Some, is_some, false, cond, length, ap, ◌∙◌, arith}
 use Rattle.std.specs.Map.{lookup}
-use Rattle.drf_role.specs.Text.{Text, same_text}
-use Rattle.drf_gates.specs.filters.Slots.{filled}
-use Rattle.drf_tables.specs.registry.Registered.{Registered}
+use Rattle.drf_tables.proofs.tables.Names.{Text, same_text, filled, Registered}
 use Rattle.drf_tables.proofs.registry.Entries.{from_ok}
 use Rattle.drf_tables.proofs.registry.Slots.{Slots, filled-push, filled-short, registry-push, slot_new}
 use Rattle.drf_tables.proofs.registry.Registry.add.Goals as goal

@@ -1,106 +1,66 @@
-use Rattle.std.proofs.Common.{◌≡◌, None, Some, true, length, map, set, take, sym, ap, ◌∙◌, subst, arith}
+use Rattle.std.proofs.Common.{◌≡◌, Option, None, Some, true, get_or, length, map, set, take, sym, ap, ◌∙◌, subst, arith}
 use Rattle.std.specs.List.{AllByRecursion}
 use Rattle.std.specs.Option.{option_copied, option_map}
-use Rattle.drf_bundle.specs.ListLaws.{each_at}
-use Rattle.drf_gates.specs.filters.Slots.{filled}
-use Rattle.drf_role.specs.Text.{Text, same_text}
-use Rattle.drf_row_laws.specs.ConsistentLaws.{same_text-swap}
-use Rattle.drf_tables.specs.registry.Changing.{CanExchangeAt, changed, with_exchanged}
-use Rattle.drf_tables.specs.registry.Registered.{Registered, slot_of}
-use Rattle.drf_tables.specs.declared.tables.Agent.{Agent}
-use Rattle.drf_tables.proofs.registry.Changes.{changed_slot, unchanged_slots}
-use Rattle.drf_tables.proofs.registry.Slots.{Entry, filled_at, no_gap, read_is, read_slot, registry-set, slot_found}
+use Rattle.drf_tables.proofs.tables.Names.{each_at, filled, Text, same_text, same_text-swap, CanExchangeAt, changed, with_exchanged, Registered, Agent}
+use Rattle.drf_tables.proofs.registry.Changes.{IsRewritten, rewritten, unchanged_slots}
+use Rattle.drf_tables.proofs.registry.Slots.{Entry, IsIn, filled_at, no_gap, read_slot, slot_found}
+use Rattle.drf_tables.proofs.registry.Registry.exchange.Goals.{In-Some, In-Some-index}
 use Rattle.drf_tables.proofs.registry.Registry.exchange.Goals as goal
 
 pub returns-in_default-clause-ok : goal.returns-in_default-clause-ok
 returns-in_default-clause-ok c =
-    let t = c.self.inside in
-    let name : Text = c.args.name.now in
-    let none : slot_of name t.slots.items ≡ None =
-    sym (c.self.invariant.found name) ∙ sym c.get.ensures.value ∙ ap option_copied c.in_default.is in
+    let name = c.args.name.now in
     let change = with_exchanged c.args.old.now c.args.new.now in
-    subst (λ (r : Registered). r.entries ≡ map (changed name change) r.entries) c.self.view_is (unchanged_slots name change t.slots.items none)
+    subst (λ (r : Registered). r.entries ≡ map (changed name change) r.entries) c.self.view_is (unchanged_slots name change c.self.inside.slots.items
+    (sym (c.self.invariant.found name) ∙ sym c.get.ensures.value ∙ ap option_copied c.in_default.is))
+
+here_at : (c : In-Some) → IsIn c.args.name.now c.self.inside.slots.items c.in-Some.place.now
+here_at c = slot_found _ _ _ (sym (c.self.invariant.found c.args.name.now) ∙ sym c.get.ensures.value ∙ ap option_copied c.in-Some.is)
 
 pub index-requires : goal.index-requires
-index-requires c =
-    let t = c.self.inside in
-    let name : Text = c.args.name.now in
-    let found : slot_of name t.slots.items ≡ Some c.in-Some.place.now =
-    sym (c.self.invariant.found name) ∙ sym c.get.ensures.value ∙ ap option_copied c.in-Some.is in
-    let here = slot_found name t.slots.items c.in-Some.place.now found in
-    let below = here.below in
-    let small = t.slots.ok.0 in
-    omega (arith, below, small)
+index-requires c = omega (arith, (here_at (goal.at.index-requires c).In-Some).below, c.self.inside.slots.ok.0)
 
 pub returns-in_default-index-clause-ok : goal.returns-in_default-index-clause-ok
 returns-in_default-index-clause-ok c =
-    let t = c.self.inside in
-    let name : Text = c.args.name.now in
-    let found : slot_of name t.slots.items ≡ Some c.in-Some.place.now =
-    sym (c.self.invariant.found name) ∙ sym c.get.ensures.value ∙ ap option_copied c.in-Some.is in
-    let here = slot_found name t.slots.items c.in-Some.place.now found in
-    absurd (no_gap t.slots.items c.in-Some.place.now c.index.result.now here.entry here.below c.index.ensures here.there c.in_default-index.is)
+    let here = here_at (goal.at.returns-in_default-index-clause-ok c).In-Some in
+    absurd (no_gap c.self.inside.slots.items c.in-Some.place.now c.index.result.now here.entry here.below c.index.ensures here.there c.in_default-index.is)
+
+there_at : (c : In-Some-index) → IsIn c.args.name.now c.self.inside.slots.items c.in-Some.place.now
+    → get_or c.self.inside.slots.items c.in-Some.place.now None ≡ Some c.in-Some-index.entry
+there_at c here = read_slot c.self.inside.slots.items _ c.index.result.now c.in-Some-index.entry here.below c.index.ensures c.in-Some-index.is
 
 pub exchanged_agent-requires : goal.exchanged_agent-requires
 exchanged_agent-requires c =
-    let t = c.self.inside in
+    let at = goal.at.exchanged_agent-requires c in
+    let slots = c.self.inside.slots.items in
     let name : Text = c.args.name.now in
-    let found : slot_of name t.slots.items ≡ Some c.in-Some.place.now =
-    sym (c.self.invariant.found name) ∙ sym c.get.ensures.value ∙ ap option_copied c.in-Some.is in
-    let here = slot_found name t.slots.items c.in-Some.place.now found in
+    let here = here_at at.In-Some in
     let e : Entry = c.in-Some-index.entry in
-    let place = c.in-Some.place.now in
-    let there = read_slot t.slots.items place c.index.result.now e here.below c.index.ensures c.in-Some-index.is in
+    let there = there_at at.In-Some-index here in
     let its = here.there in
     let same : here.entry ≡ e = cc in
     let named : same_text e.0 name ≡ true = same_text-swap e.0 name ∙ ap (λ (f : Entry). same_text name f.0) (sym same) ∙ here.named in
     let can : Entry → Type 0 = λ e. same_text e.0 name ≡ true → CanExchangeAt c.args.old.now c.args.new.now e.1 in
-    each_at can (filled t.slots.items) (length (filled (take place t.slots.items))) e
-    (subst (λ (r : Registered). AllByRecursion can r.entries) (sym c.self.view_is) c.requires) (filled_at t.slots.items place e there) named
+    each_at can (filled slots) (length (filled (take c.in-Some.place.now slots))) e
+    (subst (λ (r : Registered). AllByRecursion can r.entries) (sym c.self.view_is) c.requires) (filled_at slots _ e there) named
 
 pub index_mut-requires : goal.index_mut-requires
-index_mut-requires c =
-    let t = c.self.inside in
-    let name : Text = c.args.name.now in
-    let found : slot_of name t.slots.items ≡ Some c.in-Some.place.now =
-    sym (c.self.invariant.found name) ∙ sym c.get.ensures.value ∙ ap option_copied c.in-Some.is in
-    let here = slot_found name t.slots.items c.in-Some.place.now found in
-    let below = here.below in
-    let small = t.slots.ok.0 in
-    omega (arith, below, small)
+index_mut-requires c = omega (arith, (here_at (goal.at.index_mut-requires c).In-Some).below, c.self.inside.slots.ok.0)
+
+written_at : (c : In-Some-index) → IsIn c.args.name.now c.self.inside.slots.items c.in-Some.place.now → (w : Agent) (x slot : Option Entry)
+    → x ≡ get_or c.self.inside.slots.items c.in-Some.place.now x → slot ≡ option_map (λ (e : Entry). (e.0, w)) x
+    → let t = c.self.inside in
+    IsRewritten c.args.name.now t.slots.items (set t.slots.items c.in-Some.place.now slot) t.places.entries t.live c.in-Some-index.entry.1 w
+written_at c here w x slot = rewritten _ _ _ _ _ c.in-Some-index.entry (λ _. w) x slot c.self.invariant here (there_at c here)
 
 pub invariant_of-self : goal.invariant_of-self
 invariant_of-self c =
-    let t = c.self.inside in
-    let name : Text = c.args.name.now in
-    let found : slot_of name t.slots.items ≡ Some c.in-Some.place.now =
-    sym (c.self.invariant.found name) ∙ sym c.get.ensures.value ∙ ap option_copied c.in-Some.is in
-    let here = slot_found name t.slots.items c.in-Some.place.now found in
-    let e : Entry = c.in-Some-index.entry in
-    let place = c.in-Some.place.now in
-    let there = read_slot t.slots.items place c.index.result.now e here.below c.index.ensures c.in-Some-index.is in
-    let w : Agent = c.in_ok-agent.agent in
-    let put : c.put.new.slot ≡ Some (e.0, w) =
-    c.put.ensures
-    ∙ ap (option_map (λ (e : Entry). (e.0, c.in_ok-agent.agent)))
-    (read_is t.slots.items place c.index_mut.result.now e here.below c.index_mut.ensures.value there) in
-    registry-set t.slots.items _ t.places.entries t.live place e w c.self.invariant there (ap (set t.slots.items place) put)
+    let at = goal.at.invariant_of-self c in
+    (written_at at.In-Some-index (here_at at.In-Some) c.in_ok-agent.agent _ _ c.index_mut.ensures.value c.put.ensures).registry
 
 pub returns-clause-ok : goal.returns-clause-ok
 returns-clause-ok c =
-    let t = c.self.inside in
-    let name : Text = c.args.name.now in
-    let found : slot_of name t.slots.items ≡ Some c.in-Some.place.now =
-    sym (c.self.invariant.found name) ∙ sym c.get.ensures.value ∙ ap option_copied c.in-Some.is in
-    let here = slot_found name t.slots.items c.in-Some.place.now found in
-    let e : Entry = c.in-Some-index.entry in
-    let place = c.in-Some.place.now in
-    let there = read_slot t.slots.items place c.index.result.now e here.below c.index.ensures c.in-Some-index.is in
-    let w : Agent = c.in_ok-agent.agent in
-    let put : c.put.new.slot ≡ Some (e.0, w) =
-    c.put.ensures
-    ∙ ap (option_map (λ (e : Entry). (e.0, c.in_ok-agent.agent)))
-    (read_is t.slots.items place c.index_mut.result.now e here.below c.index_mut.ensures.value there) in
+    let at = goal.at.returns-clause-ok c in
     let change = with_exchanged c.args.old.now c.args.new.now in
-    changed_slot name change t.slots.items _ place e w c.self.invariant.apart found there (sym c.in_ok-agent.ensures) (ap (set t.slots.items place) put)
-    ∙ ap (λ (r : Registered). map (changed name change) r.entries) c.self.view_is
+    (written_at at.In-Some-index (here_at at.In-Some) c.in_ok-agent.agent _ _ c.index_mut.ensures.value c.put.ensures).entries change (sym c.in_ok-agent.ensures)
+    ∙ ap (λ (r : Registered). map (changed c.args.name.now change) r.entries) c.self.view_is

@@ -1,7 +1,6 @@
 use Rattle.std.proofs.Common.{is_some, ap, ◌∙◌}
 use Rattle.std.specs.Map.{lookup}
-use Rattle.drf_role.specs.Text.{same_text}
-use Rattle.drf_tables.specs.registry.Registered.{Registered}
+use Rattle.drf_tables.proofs.tables.Names.{same_text, Registered}
 use Rattle.drf_tables.proofs.registry.Slots.{slot-known}
 use Rattle.drf_tables.proofs.registry.Registry.has.Goals as goal
 

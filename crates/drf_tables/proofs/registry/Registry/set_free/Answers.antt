@@ -1,70 +1,40 @@
-use Rattle.std.proofs.Common.{◌≡◌, None, Some, map, set, sym, ap, ◌∙◌, subst, arith}
+use Rattle.std.proofs.Common.{◌≡◌, Option, Some, get_or, map, set, sym, ap, ◌∙◌, subst, arith}
 use Rattle.std.specs.Map.{lookup}
 use Rattle.std.specs.Option.{option_copied, option_map}
-use Rattle.drf_gates.specs.filters.Slots.{filled}
-use Rattle.drf_role.specs.Text.{Text, same_text}
-use Rattle.drf_tables.specs.registry.Changing.{changed}
-use Rattle.drf_tables.specs.registry.Registered.{Registered, slot_of}
-use Rattle.drf_tables.specs.declared.tables.Agent.{Agent}
-use Rattle.drf_tables.proofs.registry.Changes.{changed_slot, unchanged_slots}
-use Rattle.drf_tables.proofs.registry.Slots.{Entry, read_is, registry-set, slot_found}
+use Rattle.drf_tables.proofs.tables.Names.{filled, same_text, changed, Registered}
+use Rattle.drf_tables.proofs.registry.Changes.{IsRewritten, rewritten, unchanged_slots}
+use Rattle.drf_tables.proofs.registry.Slots.{Entry, IsIn, slot_found}
+use Rattle.drf_tables.proofs.registry.Registry.set_free.Goals.{In-Some}
 use Rattle.drf_tables.proofs.registry.Registry.set_free.Goals as goal
 
 pub returns-in_default : goal.returns-in_default
-returns-in_default c =
-    let t = c.self.inside in
-    let name : Text = c.args.name.now in
-    let none : slot_of name t.slots.items ≡ None =
-    sym (c.self.invariant.found name) ∙ sym c.get.ensures.value ∙ ap option_copied c.in_default.is in
-    λ change a known is.
-    subst (λ (r : Registered). r.entries ≡ map (changed name change) r.entries) c.self.view_is (unchanged_slots name change t.slots.items none)
+returns-in_default c = λ change a known is.
+    let name = c.args.name.now in
+    subst (λ (r : Registered). r.entries ≡ map (changed name change) r.entries) c.self.view_is (unchanged_slots name change c.self.inside.slots.items
+    (sym (c.self.invariant.found name) ∙ sym c.get.ensures.value ∙ ap option_copied c.in_default.is))
+
+here_at : (c : In-Some) → IsIn c.args.name.now c.self.inside.slots.items c.in-Some.place.now
+here_at c = slot_found _ _ _ (sym (c.self.invariant.found c.args.name.now) ∙ sym c.get.ensures.value ∙ ap option_copied c.in-Some.is)
 
 pub index_mut-requires : goal.index_mut-requires
-index_mut-requires c =
-    let t = c.self.inside in
-    let name : Text = c.args.name.now in
-    let found : slot_of name t.slots.items ≡ Some c.in-Some.place.now =
-    sym (c.self.invariant.found name) ∙ sym c.get.ensures.value ∙ ap option_copied c.in-Some.is in
-    let here = slot_found name t.slots.items c.in-Some.place.now found in
-    let below = here.below in
-    let small = t.slots.ok.0 in
-    omega (arith, below, small)
+index_mut-requires c = omega (arith, (here_at (goal.at.index_mut-requires c).In-Some).below, c.self.inside.slots.ok.0)
+
+written_at : (c : In-Some) (x slot : Option Entry) → x ≡ get_or c.self.inside.slots.items c.in-Some.place.now x
+    → slot ≡ option_map (λ (e : Entry). (e.0, record e.1 { free = c.args.free })) x
+    → let t = c.self.inside in let old = (here_at c).entry.1 in
+    IsRewritten c.args.name.now t.slots.items (set t.slots.items c.in-Some.place.now slot) t.places.entries t.live old (record old { free = c.args.free })
+written_at c x slot = rewritten _ _ _ _ _ _ (λ a. record a { free = c.args.free }) x slot c.self.invariant (here_at c) (here_at c).there
 
 pub invariant_of-self : goal.invariant_of-self
-invariant_of-self c =
-    let t = c.self.inside in
-    let name : Text = c.args.name.now in
-    let found : slot_of name t.slots.items ≡ Some c.in-Some.place.now =
-    sym (c.self.invariant.found name) ∙ sym c.get.ensures.value ∙ ap option_copied c.in-Some.is in
-    let here = slot_found name t.slots.items c.in-Some.place.now found in
-    let e : Entry = here.entry in
-    let place = c.in-Some.place.now in
-    let w : Agent = record e.1 { free = c.args.free } in
-    let put : c.put_free.new.slot ≡ Some (e.0, w) =
-    c.put_free.ensures
-    ∙ ap (option_map (λ (e : Entry). (e.0, record e.1 { free = c.args.free })))
-    (read_is t.slots.items place c.index_mut.result.now e here.below c.index_mut.ensures.value here.there) in
-    registry-set t.slots.items _ t.places.entries t.live place e w c.self.invariant here.there (ap (set t.slots.items place) put)
+invariant_of-self c = (written_at (goal.at.invariant_of-self c).In-Some _ _ c.index_mut.ensures.value c.put_free.ensures).registry
 
 pub returns : goal.returns
-returns c =
-    let t = c.self.inside in
-    let name : Text = c.args.name.now in
-    let found : slot_of name t.slots.items ≡ Some c.in-Some.place.now =
-    sym (c.self.invariant.found name) ∙ sym c.get.ensures.value ∙ ap option_copied c.in-Some.is in
-    let here = slot_found name t.slots.items c.in-Some.place.now found in
-    let e : Entry = here.entry in
-    let place = c.in-Some.place.now in
-    let w : Agent = record e.1 { free = c.args.free } in
-    let put : c.put_free.new.slot ≡ Some (e.0, w) =
-    c.put_free.ensures
-    ∙ ap (option_map (λ (e : Entry). (e.0, record e.1 { free = c.args.free })))
-    (read_is t.slots.items place c.index_mut.result.now e here.below c.index_mut.ensures.value here.there) in
-    λ change a known is.
-    let at : lookup (same_text name) (filled t.slots.items) ≡ Some a =
-    ap (λ (r : Registered). lookup (same_text name) r.entries) c.self.view_is ∙ known in
-    let its = here.value in
+returns c = λ change a known is.
+    let b = (goal.at.returns c).In-Some in
+    let e : Entry = (here_at b).entry in
+    let at : lookup (same_text c.args.name.now) (filled c.self.inside.slots.items) ≡ Some a =
+    ap (λ (r : Registered). lookup (same_text c.args.name.now) r.entries) c.self.view_is ∙ known in
+    let its = (here_at b).value in
     let same : e.1 ≡ a = cc in
-    changed_slot name change t.slots.items _ place e w c.self.invariant.apart found here.there
-    (ap change same ∙ is ∙ (λ i. record (sym same i) { free = c.args.free })) (ap (set t.slots.items place) put)
-    ∙ ap (λ (r : Registered). map (changed name change) r.entries) c.self.view_is
+    (written_at b _ _ c.index_mut.ensures.value c.put_free.ensures).entries change (ap change same ∙ is ∙ (λ i. record (sym same i) { free = c.args.free }))
+    ∙ ap (λ (r : Registered). map (changed c.args.name.now change) r.entries) c.self.view_is

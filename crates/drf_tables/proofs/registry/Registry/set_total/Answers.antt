@@ -1,100 +1,55 @@
-use Rattle.std.proofs.Common.{◌≡◌, List, None, Some, true, false, map, set, inl, inr, sym, ap, ◌∙◌, subst, arith}
+use Rattle.std.proofs.Common.{◌≡◌, Bool, Option, true, false, get_or, map, set, inl, inr, sym, ap, ◌∙◌, subst, arith}
 use Rattle.std.specs.Option.{option_copied, option_map}
-use Rattle.drf_bundle.specs.declared.resource.Resource.{Resource}
-use Rattle.drf_role.specs.Text.{Text}
-use Rattle.drf_tables.specs.registry.Changing.{changed, with_other}
-use Rattle.drf_tables.specs.registry.Registered.{Registered, slot_of}
-use Rattle.drf_tables.specs.declared.tables.Agent.{Agent}
-use Rattle.drf_tables.proofs.registry.Changes.{changed_slot, unchanged_slots}
-use Rattle.drf_tables.proofs.registry.Slots.{Entry, no_gap, read_is, read_slot, registry-set, slot_found}
+use Rattle.drf_tables.proofs.tables.Names.{changed, with_other, Registered, Agent}
+use Rattle.drf_tables.proofs.registry.Changes.{IsRewritten, rewritten, unchanged_slots}
+use Rattle.drf_tables.proofs.registry.Slots.{Entry, IsIn, no_gap, read_slot, slot_found}
+use Rattle.drf_tables.proofs.registry.Registry.set_total.Goals.{In-Some, In-Some-index}
 use Rattle.drf_tables.proofs.registry.Registry.set_total.Goals as goal
 
 pub returns-in_default : goal.returns-in_default
 returns-in_default c =
-    let t = c.self.inside in
-    let name : Text = c.args.name.now in
-    let none : slot_of name t.slots.items ≡ None =
-    sym (c.self.invariant.found name) ∙ sym c.get.ensures.value ∙ ap option_copied c.in_default.is in
+    let name = c.args.name.now in
     let change = with_other false c.args.total in
     record {
       kept = false;
-      same = subst (λ (r : Registered). r.entries ≡ map (changed name change) r.entries) c.self.view_is (unchanged_slots name change t.slots.items none);
+      same = subst (λ (r : Registered). r.entries ≡ map (changed name change) r.entries) c.self.view_is (unchanged_slots name change c.self.inside.slots.items
+          (sym (c.self.invariant.found name) ∙ sym c.get.ensures.value ∙ ap option_copied c.in_default.is));
     }
 
+here_at : (c : In-Some) → IsIn c.args.name.now c.self.inside.slots.items c.in-Some.place.now
+here_at c = slot_found _ _ _ (sym (c.self.invariant.found c.args.name.now) ∙ sym c.get.ensures.value ∙ ap option_copied c.in-Some.is)
+
 pub index-requires : goal.index-requires
-index-requires c =
-    let t = c.self.inside in
-    let name : Text = c.args.name.now in
-    let found : slot_of name t.slots.items ≡ Some c.in-Some.place.now =
-    sym (c.self.invariant.found name) ∙ sym c.get.ensures.value ∙ ap option_copied c.in-Some.is in
-    let here = slot_found name t.slots.items c.in-Some.place.now found in
-    let below = here.below in
-    let small = t.slots.ok.0 in
-    omega (arith, below, small)
+index-requires c = omega (arith, (here_at (goal.at.index-requires c).In-Some).below, c.self.inside.slots.ok.0)
 
 pub returns-in_default-index : goal.returns-in_default-index
 returns-in_default-index c =
-    let t = c.self.inside in
-    let name : Text = c.args.name.now in
-    let found : slot_of name t.slots.items ≡ Some c.in-Some.place.now =
-    sym (c.self.invariant.found name) ∙ sym c.get.ensures.value ∙ ap option_copied c.in-Some.is in
-    let here = slot_found name t.slots.items c.in-Some.place.now found in
-    absurd (no_gap t.slots.items c.in-Some.place.now c.index.result.now here.entry here.below c.index.ensures here.there c.in_default-index.is)
+    let here = here_at (goal.at.returns-in_default-index c).In-Some in
+    absurd (no_gap c.self.inside.slots.items c.in-Some.place.now c.index.result.now here.entry here.below c.index.ensures here.there c.in_default-index.is)
 
 pub index_mut-requires : goal.index_mut-requires
-index_mut-requires c =
-    let t = c.self.inside in
-    let name : Text = c.args.name.now in
-    let found : slot_of name t.slots.items ≡ Some c.in-Some.place.now =
-    sym (c.self.invariant.found name) ∙ sym c.get.ensures.value ∙ ap option_copied c.in-Some.is in
-    let here = slot_found name t.slots.items c.in-Some.place.now found in
-    let below = here.below in
-    let small = t.slots.ok.0 in
-    omega (arith, below, small)
+index_mut-requires c = omega (arith, (here_at (goal.at.index_mut-requires c).In-Some).below, c.self.inside.slots.ok.0)
+
+written_at : (c : In-Some-index) → IsIn c.args.name.now c.self.inside.slots.items c.in-Some.place.now → (w : Agent) (x slot : Option Entry)
+    → x ≡ get_or c.self.inside.slots.items c.in-Some.place.now x → slot ≡ option_map (λ (e : Entry). (e.0, w)) x
+    → let t = c.self.inside in
+    IsRewritten c.args.name.now t.slots.items (set t.slots.items c.in-Some.place.now slot) t.places.entries t.live c.in-Some-index.entry.1 w
+written_at c here w x slot =
+    rewritten _ _ _ _ _ c.in-Some-index.entry (λ _. w) x slot c.self.invariant here
+    (read_slot c.self.inside.slots.items _ c.index.result.now c.in-Some-index.entry here.below c.index.ensures c.in-Some-index.is)
 
 pub invariant_of-self : goal.invariant_of-self
 invariant_of-self c =
-    let t = c.self.inside in
-    let name : Text = c.args.name.now in
-    let found : slot_of name t.slots.items ≡ Some c.in-Some.place.now =
-    sym (c.self.invariant.found name) ∙ sym c.get.ensures.value ∙ ap option_copied c.in-Some.is in
-    let here = slot_found name t.slots.items c.in-Some.place.now found in
-    let e : Entry = c.in-Some-index.entry in
-    let place = c.in-Some.place.now in
-    let there = read_slot t.slots.items place c.index.result.now e here.below c.index.ensures c.in-Some-index.is in
-    let w : Agent = c.other_agent-agent.result in
-    let put : c.put.new.slot ≡ Some (e.0, w) =
-    c.put.ensures
-    ∙ ap (option_map (λ (e : Entry). (e.0, c.other_agent-agent.result)))
-    (read_is t.slots.items place c.index_mut.result.now e here.below c.index_mut.ensures.value there) in
-    registry-set t.slots.items _ t.places.entries t.live place e w c.self.invariant there (ap (set t.slots.items place) put)
+    let at = goal.at.invariant_of-self c in
+    (written_at at.In-Some-index (here_at at.In-Some) c.other_agent-agent.result _ _ c.index_mut.ensures.value c.put.ensures).registry
 
 pub returns : goal.returns
 returns c =
-    let t = c.self.inside in
-    let name : Text = c.args.name.now in
-    let found : slot_of name t.slots.items ≡ Some c.in-Some.place.now =
-    sym (c.self.invariant.found name) ∙ sym c.get.ensures.value ∙ ap option_copied c.in-Some.is in
-    let here = slot_found name t.slots.items c.in-Some.place.now found in
-    let e : Entry = c.in-Some-index.entry in
-    let place = c.in-Some.place.now in
-    let there = read_slot t.slots.items place c.index.result.now e here.below c.index.ensures c.in-Some-index.is in
-    let w : Agent = c.other_agent-agent.result in
-    let put : c.put.new.slot ≡ Some (e.0, w) =
-    c.put.ensures
-    ∙ ap (option_map (λ (e : Entry). (e.0, c.other_agent-agent.result)))
-    (read_is t.slots.items place c.index_mut.result.now e here.below c.index_mut.ensures.value there) in
-    let total : List Resource = c.args.total in
-    let written = ap (set t.slots.items place) put in
+    let at = goal.at.returns c in
+    let all = written_at at.In-Some-index (here_at at.In-Some) c.other_agent-agent.result _ _ c.index_mut.ensures.value c.put.ensures in
+    let change : Bool → Agent → Agent = λ kept. with_other kept c.args.total in
+    let view = λ (kept : Bool). ap (λ (r : Registered). map (changed c.args.name.now (change kept)) r.entries) c.self.view_is in
     elim c.other_agent-agent.ensures [
-      | inl is ↦ record {
-        kept = true;
-        same = changed_slot name (with_other true total) t.slots.items _ place e w c.self.invariant.apart found there (sym is) written
-            ∙ ap (λ (r : Registered). map (changed name (with_other true total)) r.entries) c.self.view_is;
-      }
-      | inr is ↦ record {
-        kept = false;
-        same = changed_slot name (with_other false total) t.slots.items _ place e w c.self.invariant.apart found there (sym is) written
-            ∙ ap (λ (r : Registered). map (changed name (with_other false total)) r.entries) c.self.view_is;
-      }
+      | inl is ↦ record { kept = true; same = all.entries (change true) (sym is) ∙ view true }
+      | inr is ↦ record { kept = false; same = all.entries (change false) (sym is) ∙ view false }
     ]

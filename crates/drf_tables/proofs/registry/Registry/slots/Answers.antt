@@ -1,8 +1,6 @@
 use Rattle.std.proofs.Common.{ap, sym, ◌∙◌}
 use Rattle.std.specs.Map.{keys_of}
-use Rattle.drf_gates.specs.filters.Slots.{filled}
-use Rattle.drf_rows.specs.Consistent.{are_distinct}
-use Rattle.drf_tables.specs.registry.Registered.{Registered}
+use Rattle.drf_tables.proofs.tables.Names.{filled, are_distinct, Registered}
 use Rattle.drf_tables.proofs.registry.Slots.{Slots}
 use Rattle.drf_tables.proofs.registry.Registry.slots.Goals as goal
 

@@ -1,7 +1,5 @@
 use Rattle.std.proofs.Common.{◌≡◌, List, ℕ, map, get_or, ap, ◌∙◌}
-use Rattle.drf_role.specs.Text.{Text}
-use Rattle.drf_gates.specs.filters.Slots.{filled}
-use Rattle.drf_tables.specs.registry.Registered.{ranks_of}
+use Rattle.drf_tables.proofs.tables.Names.{Text, filled, ranks_of}
 use Rattle.drf_tables.proofs.registry.Slots.{Slots, filled-all, registry-closed}
 use Rattle.drf_tables.proofs.registry.gaps.close_gaps.Goals as goal
 

@@ -1,5 +1,4 @@
-use Rattle.std.proofs.Common.{length, sym, ap, ◌∙◌, arith}
-use Rattle.std.proofs.lemmas.List.{take_all}
+use Rattle.std.proofs.Common.{length, sym, ap, ◌∙◌, arith, take_all}
 use Rattle.drf_gates.specs.filters.Slots.{filled}
 use Rattle.drf_tables.proofs.registry.Slots.{Slots, counted-none, counted-some, ranked_here}
 use Rattle.drf_tables.proofs.registry.gaps.ranked_among_gaps.Goals as goal

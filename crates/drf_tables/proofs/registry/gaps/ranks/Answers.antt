@@ -1,5 +1,4 @@
-use Rattle.std.proofs.Common.{◌≡◌, ◌+◌, ◌++◌, ◌∷◌, [], ℕ, List, sym, ap, ◌∙◌, length, take, arith}
-use Rattle.std.proofs.lemmas.List.{take_all}
+use Rattle.std.proofs.Common.{◌≡◌, ◌+◌, ◌++◌, ◌∷◌, [], ℕ, List, sym, ap, ◌∙◌, length, take, arith, take_all}
 use Rattle.drf_tables.specs.registry.Registered.{ranks_of}
 use Rattle.drf_tables.proofs.registry.Slots.{counted-none, counted-some, filled-short, length-ranks, ranks-next}
 use Rattle.drf_tables.proofs.registry.gaps.ranks.Goals as goal

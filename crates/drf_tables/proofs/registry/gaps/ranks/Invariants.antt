@@ -1,6 +1,5 @@
 use Rattle.std.proofs.Common.{◌≡◌, length, take}
-use Rattle.drf_gates.specs.filters.Slots.{filled}
-use Rattle.drf_tables.specs.registry.Registered.{ranks_of}
+use Rattle.drf_tables.proofs.tables.Names.{filled, ranks_of}
 use Rattle.drf_tables.proofs.registry.gaps.ranks.Given as goal
 
 abbrev pub invariant-loop-slot : goal.invariant-loop-slot

@@ -2,10 +2,7 @@ use Rattle.std.proofs.Common.{◌≡◌, false, length, sym, ap, ◌∙◌, refl
 use Rattle.std.specs.Vec.{with_items}
 use Rattle.std.specs.Map.{lookup}
 use Rattle.std.proofs.lemmas.List.{with_items_is}
-use Rattle.drf_role.specs.Text.{Text, same_text}
-use Rattle.drf_rows.specs.Client.{Client}
-use Rattle.drf_rows.specs.Members.{suppressed_at, suppressed_in}
-use Rattle.drf_tables.specs.Inside.{framework_row, framework_rows}
+use Rattle.drf_tables.proofs.tables.Names.{Text, same_text, Client, suppressed_at, suppressed_in, framework_row, framework_rows}
 use Rattle.drf_tables.proofs.registry.Entries.{key_at, key_found, changed_at, unknown_stay, known-lookup}
 use Rattle.drf_tables.proofs.agents.Suppressed.{suppressed-here, suppressed-other}
 use Rattle.drf_tables.proofs.registry.members.suppress.Goals as goal

@@ -1,6 +1,5 @@
 use Rattle.std.proofs.Common.{◌≡◌, ◌+◌, true, false, sym, ap, ◌∙◌, refl, get_or, set, if◌then◌else◌}
-use Rattle.drf_role.specs.Path.{same_path}
-use Rattle.drf_rows.specs.declared.rows.ClientRow.{ClientRow}
+use Rattle.drf_tables.proofs.tables.Names.{same_path, ClientRow}
 use Rattle.drf_tables.proofs.cycle.Counted.{map_next}
 use Rattle.drf_tables.proofs.registry.members.suppress_at.Goals as goal
 use Rattle.drf_tables.proofs.registry.members.suppress_at.Goals.{then-eq, else-eq}

@@ -1,6 +1,5 @@
 use Rattle.std.proofs.Common.{◌≡◌, ◌++◌, map, take, drop, if◌then◌else◌}
-use Rattle.drf_role.specs.Path.{same_path}
-use Rattle.drf_rows.specs.declared.rows.ClientRow.{ClientRow}
+use Rattle.drf_tables.proofs.tables.Names.{same_path, ClientRow}
 use Rattle.drf_tables.proofs.registry.members.suppress_at.Given as goal
 
 abbrev pub invariant-loop-client : goal.invariant-loop-client

@@ -1,11 +1,7 @@
 use Rattle.std.proofs.Common.{◌≡◌, Some, None, List, sym, ap, ◌∙◌, refl, arith}
 use Rattle.std.specs.Global.{Vec}
 use Rattle.std.specs.Map.{lookup}
-use Rattle.drf_role.specs.Text.{Text, same_text}
-use Rattle.drf_rows.specs.Consistent.{are_distinct}
-use Rattle.drf_rows.specs.declared.rows.ClientRow.{ClientRow}
-use Rattle.drf_tables.specs.cycle.Counting.{count_clients}
-use Rattle.drf_tables.specs.Inside.{framework_row, framework_rows}
+use Rattle.drf_tables.proofs.tables.Names.{Text, same_text, are_distinct, ClientRow, count_clients, framework_row, framework_rows}
 use Rattle.drf_tables.proofs.registry.Entries.{removed_entry, rows-filter, names-keys, removed-none, counted-removed}
 use Rattle.drf_tables.proofs.registry.members.take_framework.Goals as goal
 

@@ -1,7 +1,6 @@
 use Rattle.std.proofs.Common.{◌≡◌, map, length, true}
 use Rattle.std.specs.List.{AllByRecursion}
-use Rattle.drf_tables.specs.registry.Changing.{are_settled}
-use Rattle.drf_tables.specs.Inside.{agent_row, IsKnown}
+use Rattle.drf_tables.proofs.tables.Names.{are_settled, agent_row, IsKnown}
 use Rattle.drf_holdings.specs.Stored.{holdings_in}
 use Rattle.drf_tables.proofs.registry.settling.settle_all.Given as goal
 

@@ -1,9 +1,7 @@
 use Rattle.std.proofs.Common.{◌≡◌, ◌+◌, Some, sym, ap, ◌∙◌, subst, map, length, refl}
 use Rattle.std.specs.List.{AllByRecursion}
-use Rattle.indexmap.specs.IndexMap.{set_value_at}
+use Rattle.drf_tables.proofs.tables.Names.{set_value_at, are_settled, agent_row, IsKnown}
 use Rattle.drf_holdings.specs.Stored.{holdings_in}
-use Rattle.drf_tables.specs.registry.Changing.{are_settled}
-use Rattle.drf_tables.specs.Inside.{agent_row, IsKnown}
 use Rattle.drf_tables.proofs.registry.Entries.{value_at}
 use Rattle.drf_tables.proofs.registry.Known.{length-free_at, rows-free_at, settled-more, settled-set, known-set}
 use Rattle.drf_tables.proofs.registry.Slots.{Entry, written_free}

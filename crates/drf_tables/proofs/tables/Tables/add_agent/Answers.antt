@@ -1,25 +1,15 @@
 use Rattle.std.proofs.Common.{◌≡◌, ◌<◌, ◌&&◌, Bool, List, [], ◌∷◌, ◌++◌, Some, is_some, true, false, length, sym, ap, ◌∙◌, subst, refl, arith}
 use Rattle.std.specs.Map.{lookup}
 use Rattle.std.proofs.lemmas.List.Folds.{list_all-append}
-use Rattle.drf_role.specs.Text.{Text, same_text}
-use Rattle.drf_bundle.specs.Quantities.{amount_of, plus}
-use Rattle.drf_bundle.specs.declared.quantities.Entry.{Entry}
-use Rattle.drf_bundle.specs.declared.resource.Resource.{Resource}
-use Rattle.drf_bundle.specs.Bundle.{quantities_of}
-use Rattle.drf_rows.specs.Consistent.{IsAgent}
+use Rattle.drf_tables.proofs.tables.Names.{Text, same_text, amount_of, plus, Entry, Resource, quantities_of, IsAgent, has_agent, reserved_in, Rows, CountsAll, Stored, Agent}
 use Rattle.drf_row_laws.specs.RegistrationLaws.{new_agent, agent_added}
-use Rattle.drf_rows.specs.Members.{has_agent}
-use Rattle.drf_rows.specs.Quota.{reserved_in}
 use Rattle.drf_rows.specs.declared.limits.TheConstants.{LARGEST_AMOUNT}
-use Rattle.drf_rows.specs.declared.rows.Rows.{Rows}
 use Rattle.drf_tables.specs.Inside.{AreDerived, is_settled, rows_in, rows_of}
-use Rattle.drf_tables.specs.limits.Recounting.{CountsAll}
-use Rattle.drf_tables.specs.Stored.{Stored}
-use Rattle.drf_tables.specs.declared.tables.Agent.{Agent}
 use Rattle.drf_tables.proofs.tables.Fields.{has_agent-rows_in, rows_of-agent, sums_fit}
 use Rattle.drf_tables.proofs.tables.Kept.{AreDerived-agent_added}
 use Rattle.drf_tables.proofs.limits.Running.{counts-alike, kept-still}
 use Rattle.drf_tables.proofs.limits.Recounted.{adds_counted, consumption-agent_added, counts-consumed, counts-still, reserved_le}
+use Rattle.drf_tables.proofs.tables.Tables.add_agent.Goals.{After-add}
 use Rattle.drf_tables.proofs.tables.Tables.add_agent.Goals as goal
 
 pub plus-requires : goal.plus-requires
@@ -56,17 +46,23 @@ add-requires-clause-new c =
     ap (λ (es : List (Text × Agent)). is_some (lookup (same_text name) es)) c.reserve.ensures.same
     ∙ sym (has_agent-rows_in t name) ∙ ap (λ (s : Stored). has_agent s.rows name) c.self.view_is ∙ c.requires.new
 
+-- it comes last
+abbrev agent_of : List Resource → List Resource → Agent
+agent_of total free = record { total = total; active = true; free = Some free }
+
+last_at : (c : After-add) → c.add.new.self.entries ≡ c.self.inside.agents.entries ++ (c.args.name, agent_of c.args.total c.new.result) ∷ []
+last_at c = c.add.ensures ∙ ap (λ (es : List (Text × Agent)). es ++ (c.args.name, agent_of c.args.total c.new.result) ∷ []) c.reserve.ensures.same
+
 pub invariant_of-self-2 : goal.invariant_of-self-2
 invariant_of-self-2 c =
     let t = c.self.inside in
     let name = c.args.name in
     let total : List Resource = c.args.total in
-    let agent : Agent = record { total = total; active = true; free = Some c.new.result } in
+    let agent = agent_of total c.new.result in
     let new : has_agent (rows_in t) name ≡ false =
     ap (λ (s : Stored). has_agent s.rows name) c.self.view_is ∙ c.requires.new in
     let few : length (rows_in t).agents < 4096 = subst (λ (s : Stored). length s.rows.agents < 4096) (sym c.self.view_is) c.requires.few in
-    let last : c.add.new.self.entries ≡ t.agents.entries ++ (name, agent) ∷ [] =
-    c.add.ensures ∙ ap (λ (es : List (Text × Agent)). es ++ (name, agent) ∷ []) c.reserve.ensures.same in
+    let last = last_at (goal.at.invariant_of-self-2 c).After-add in
     let entries = c.add.new.self.entries in
     let after = c.consume_total.new.consumption in
     let rows : Rows = rows_of entries t.frameworks.entries t.holdings t.filters t.weights.entries t.limits t.clock t.next_offer t.events in
@@ -91,25 +87,17 @@ pub returns-clause-ok : goal.returns-clause-ok
 returns-clause-ok c =
     let t = c.self.inside in
     let name = c.args.name in
-    let agent : Agent = record { total = c.args.total; active = true; free = Some c.new.result } in
-    let new : has_agent (rows_in t) name ≡ false =
-    ap (λ (s : Stored). has_agent s.rows name) c.self.view_is ∙ c.requires.new in
-    let last : c.add.new.self.entries ≡ t.agents.entries ++ (name, agent) ∷ [] =
-    c.add.ensures ∙ ap (λ (es : List (Text × Agent)). es ++ (name, agent) ∷ []) c.reserve.ensures.same in
-    rows_of-agent t c.add.new.self.entries name agent last refl
+    let last = last_at (goal.at.returns-clause-ok c).After-add in
+    rows_of-agent t c.add.new.self.entries name (agent_of c.args.total c.new.result) last refl
     ∙ ap (λ (s : Stored). agent_added s.rows name c.args.total) c.self.view_is
 
 pub returns-clause-settled : goal.returns-clause-settled
 returns-clause-settled c =
     let t = c.self.inside in
     let name = c.args.name in
-    let agent : Agent = record { total = c.args.total; active = true; free = Some c.new.result } in
-    let new : has_agent (rows_in t) name ≡ false =
-    ap (λ (s : Stored). has_agent s.rows name) c.self.view_is ∙ c.requires.new in
-    let last : c.add.new.self.entries ≡ t.agents.entries ++ (name, agent) ∷ [] =
-    c.add.ensures ∙ ap (λ (es : List (Text × Agent)). es ++ (name, agent) ∷ []) c.reserve.ensures.same in
+    let last = last_at (goal.at.returns-clause-settled c).After-add in
     ap is_settled last
-    ∙ list_all-append (λ (e : Text × Agent). is_some e.1.free) t.agents.entries ((name, agent) ∷ [])
+    ∙ list_all-append (λ (e : Text × Agent). is_some e.1.free) t.agents.entries ((name, agent_of c.args.total c.new.result) ∷ [])
     ∙ by (is_settled t.agents.entries)
     ∙ ap (λ (s : Stored). s.settled) c.self.view_is
   where

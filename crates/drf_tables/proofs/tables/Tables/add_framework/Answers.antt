@@ -1,15 +1,9 @@
 use Rattle.std.proofs.Common.{◌≡◌, ◌<◌, ◌++◌, ◌∷◌, [], List, map, false, ap, subst, sym, ◌∙◌, refl}
 use Rattle.std.specs.List.{AllByRecursion}
-use Rattle.indexmap.specs.IndexMap.{insert_entry}
+use Rattle.drf_tables.proofs.tables.Names.{insert_entry, same_text, IsFramework, offers_counted, has_framework, ClientRow, FrameworkRow, Stored}
 use Rattle.drf_role.specs.Role.{IsRole}
-use Rattle.drf_role.specs.Text.{same_text}
-use Rattle.drf_rows.specs.Consistent.{IsFramework, offers_counted}
 use Rattle.drf_row_laws.specs.RegistrationLaws.{framework_added}
-use Rattle.drf_rows.specs.Members.{has_framework}
-use Rattle.drf_rows.specs.declared.rows.ClientRow.{ClientRow}
-use Rattle.drf_rows.specs.declared.rows.FrameworkRow.{FrameworkRow}
 use Rattle.drf_tables.specs.Inside.{rows_of, rows_in}
-use Rattle.drf_tables.specs.Stored.{Stored}
 use Rattle.drf_tables.proofs.registry.Entries.{from_ok}
 use Rattle.drf_tables.proofs.tables.Fields.{rows_of-framework}
 use Rattle.drf_tables.proofs.tables.Kept.{AreDerived-framework_added}

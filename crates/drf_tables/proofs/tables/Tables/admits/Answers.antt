@@ -1,8 +1,5 @@
 use Rattle.std.proofs.Common.{◌≡◌, Some, None, sym, ap, subst, ◌∙◌}
-use Rattle.drf_rows.specs.declared.rows.Rows.{Rows}
-use Rattle.drf_gates.specs.quota.Allowance.{quota_under}
-use Rattle.drf_tables.specs.limits.Recounting.{CountsAll}
-use Rattle.drf_tables.specs.Stored.{Stored}
+use Rattle.drf_tables.proofs.tables.Names.{Rows, quota_under, CountsAll, Stored}
 use Rattle.drf_tables.proofs.limits.Counts.{admits-unlimited, allowance-counted, none-unlimited}
 use Rattle.drf_tables.proofs.tables.Tables.admits.Goals as goal
 

@@ -1,11 +1,8 @@
-use Rattle.std.proofs.Common.{List, ap, ◌∙◌}
+use Rattle.std.proofs.Common.{List, ap, ◌∙◌, nat_lt}
 use Rattle.std.specs.List.{list_all}
 use Rattle.std.specs.Map.Iter.{deref}
-use Rattle.std.specs.Prelude.{nat_lt}
-use Rattle.drf_rows.specs.Offers.{is_empty}
-use Rattle.drf_rows.specs.declared.rows.OfferRow.{OfferRow}
+use Rattle.drf_tables.proofs.tables.Names.{is_empty, OfferRow, Stored}
 use Rattle.drf_tables.specs.Inside.{rows_of}
-use Rattle.drf_tables.specs.Stored.{Stored}
 use Rattle.drf_tables.proofs.tables.Standing.{none_first, none_from}
 use Rattle.drf_tables.proofs.tables.Tables.are_offers_below.Goals as goal
 

@@ -2,12 +2,8 @@ use Rattle.std.proofs.Common.{◌≡◌, true, Some, Option, find, is_some, sym,
 use Rattle.std.specs.Global.{Vec}
 use Rattle.std.specs.Map.{lookup}
 use Rattle.std.specs.Option.{option_copied, option_map}
-use Rattle.drf_role.specs.Text.{Text, same_text}
-use Rattle.drf_rows.specs.Members.{has_framework}
-use Rattle.drf_rows.specs.declared.rows.ClientRow.{ClientRow}
-use Rattle.drf_rows.specs.declared.rows.FrameworkRow.{FrameworkRow}
+use Rattle.drf_tables.proofs.tables.Names.{Text, same_text, has_framework, ClientRow, FrameworkRow, Stored}
 use Rattle.drf_tables.specs.Inside.{rows_of, rows_in, framework_row}
-use Rattle.drf_tables.specs.Stored.{Stored}
 use Rattle.drf_tables.proofs.registry.Entries.{found-lookup, is_some-copied}
 use Rattle.drf_tables.proofs.tables.Fields.{has_framework-rows_in}
 use Rattle.drf_tables.proofs.tables.Tables.clients.Goals as goal

@@ -1,11 +1,5 @@
 use Rattle.std.proofs.Common.{List, sym, ap, ◌∙◌, subst}
-use Rattle.drf_bundle.specs.declared.quantities.Entry.{Entry}
-use Rattle.drf_role.specs.Text.{Text}
-use Rattle.drf_rows.specs.declared.rows.Rows.{Rows}
-use Rattle.drf_tables.specs.Inside.{AreDerived, rows_in}
-use Rattle.drf_tables.specs.limits.Recounting.{CountsAll}
-use Rattle.drf_tables.specs.Stored.{Stored}
-use Rattle.drf_tables.specs.declared.tables.Agent.{Agent}
+use Rattle.drf_tables.proofs.tables.Names.{Entry, Text, Rows, AreDerived, rows_in, CountsAll, Stored, Agent}
 use Rattle.drf_tables.proofs.tables.Copies.{rows-copied}
 use Rattle.drf_tables.proofs.limits.Recounted.{counts-still}
 use Rattle.drf_tables.proofs.tables.Tables.copy.Goals as goal

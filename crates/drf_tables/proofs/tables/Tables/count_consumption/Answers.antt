@@ -1,10 +1,6 @@
 use Rattle.std.proofs.Common.{List, map, ap, subst, arith}
-use Rattle.drf_rows.specs.Holdings.{of_offer, of_task}
-use Rattle.drf_rows.specs.Quota.{held_unreserved, reserved_for}
-use Rattle.drf_rows.specs.declared.rows.OfferRow.{OfferRow}
+use Rattle.drf_tables.proofs.tables.Names.{of_offer, of_task, held_unreserved, reserved_for, OfferRow, IsRaisedBy, Usage, used_where, agent_row}
 use Rattle.drf_rows.specs.declared.rows.TaskRow.{TaskRow}
-use Rattle.drf_gates.specs.quota.Allowance.{IsRaisedBy, Usage, used_where}
-use Rattle.drf_tables.specs.Inside.{agent_row}
 use Rattle.drf_tables.proofs.reservations.Moved.{consumed_fits, counted-all}
 use Rattle.drf_tables.proofs.tables.Tables.count_consumption.Goals as goal
 

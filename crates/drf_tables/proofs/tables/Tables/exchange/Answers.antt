@@ -1,12 +1,9 @@
 use Rattle.std.proofs.Common.{sym, ap, ◌∙◌, subst}
-use Rattle.drf_rows.specs.Quota.{reserved_in}
-use Rattle.drf_rows.specs.Totals.{exchanged, with_total}
-use Rattle.drf_tables.specs.registry.Changing.{CanExchangeOn}
-use Rattle.drf_tables.specs.Inside.{rows_in}
-use Rattle.drf_tables.specs.Stored.{Stored}
+use Rattle.drf_tables.proofs.tables.Names.{reserved_in, exchanged, with_total, CanExchangeOn, rows_in, Stored}
 use Rattle.drf_tables.proofs.limits.Running.{counts-alike, counts-exchanged, exchange_adds, exchange_fits, kept-still}
 use Rattle.drf_tables.proofs.reservations.Moved.{can_each, rows-exchanged, kept-exchanged}
 use Rattle.drf_tables.proofs.limits.Recounted.{counts-back, counts-still, raised_fits}
+use Rattle.drf_tables.proofs.tables.Tables.exchange.Goals.{After-consume_total}
 use Rattle.drf_tables.proofs.tables.Tables.exchange.Goals as goal
 
 pub consume_total-requires : goal.consume_total-requires
@@ -17,12 +14,14 @@ consume_total-requires c =
     subst (λ (s : Stored). CanExchangeOn s.rows name c.args.old.now c.args.new.now) (sym c.self.view_is) c.requires in
     exchange_adds t c.self.invariant.kept c.self.invariant.consumed name c.args.old.now c.args.new.now can
 
+can_at : (c : After-consume_total) → CanExchangeOn (rows_in c.self.inside) c.args.agent.now c.args.old.now c.args.new.now
+can_at c = subst (λ (s : Stored). CanExchangeOn s.rows c.args.agent.now c.args.old.now c.args.new.now) (sym c.self.view_is) c.requires
+
 pub exchange-requires : goal.exchange-requires
 exchange-requires c =
     let t = c.self.inside in
     let name = c.args.agent.now in
-    let can : CanExchangeOn (rows_in t) name c.args.old.now c.args.new.now =
-    subst (λ (s : Stored). CanExchangeOn s.rows name c.args.old.now c.args.new.now) (sym c.self.view_is) c.requires in
+    let can = can_at (goal.at.exchange-requires c).After-consume_total in
     can_each t c.self.invariant.kept name c.args.old.now c.args.new.now can
 
 pub invariant_of-self : goal.invariant_of-self
@@ -36,8 +35,7 @@ pub release_total-requires : goal.release_total-requires
 release_total-requires c =
     let t = c.self.inside in
     let name = c.args.agent.now in
-    let can : CanExchangeOn (rows_in t) name c.args.old.now c.args.new.now =
-    subst (λ (s : Stored). CanExchangeOn s.rows name c.args.old.now c.args.new.now) (sym c.self.view_is) c.requires in
+    let can = can_at (goal.at.release_total-requires c).After-consume_total in
     exchange_fits t c.self.invariant.kept c.self.invariant.consumed name c.args.old.now c.args.new.now can
     c.consume_total.new.consumption c.in_ok-consume_total.ensures.ok
 
@@ -50,8 +48,7 @@ pub invariant_of-self-in-Ok : goal.invariant_of-self-in-Ok
 invariant_of-self-in-Ok c =
     let t = c.self.inside in
     let name = c.args.agent.now in
-    let can : CanExchangeOn (rows_in t) name c.args.old.now c.args.new.now =
-    subst (λ (s : Stored). CanExchangeOn s.rows name c.args.old.now c.args.new.now) (sym c.self.view_is) c.requires in
+    let can = can_at (goal.at.invariant_of-self-in-Ok c).After-consume_total in
     let entries = c.exchange.new.self.entries in
     record {
       kept = kept-exchanged t c.self.invariant.kept name c.args.old.now c.args.new.now can entries c.in-Ok.ensures.ok;
@@ -64,8 +61,7 @@ pub returns-in-Ok-clause-ok : goal.returns-in-Ok-clause-ok
 returns-in-Ok-clause-ok c =
     let t = c.self.inside in
     let name = c.args.agent.now in
-    let can : CanExchangeOn (rows_in t) name c.args.old.now c.args.new.now =
-    subst (λ (s : Stored). CanExchangeOn s.rows name c.args.old.now c.args.new.now) (sym c.self.view_is) c.requires in
+    let can = can_at (goal.at.returns-in-Ok-clause-ok c).After-consume_total in
     rows-exchanged t c.self.invariant.kept name c.args.old.now c.args.new.now can c.exchange.new.self.entries c.in-Ok.ensures.ok
     ∙ ap (λ (s : Stored). record s.rows { agents = with_total s.rows name (exchanged c.args.old.now c.args.new.now) }) c.self.view_is
 

@@ -1,10 +1,7 @@
-use Rattle.std.proofs.Common.{ap, subst, ◌∙◌}
-use Rattle.std.specs.Prelude.{max}
-use Rattle.drf_rows.specs.Consistent.{IsConsistent}
-use Rattle.drf_rows.specs.declared.rows.Rows.{Rows}
+use Rattle.std.proofs.Common.{ap, subst, ◌∙◌, max}
+use Rattle.drf_tables.proofs.tables.Names.{IsConsistent, Rows, Stored}
 use Rattle.drf_row_laws.specs.OfferLaws.{moment_early}
 use Rattle.drf_tables.specs.Inside.{rows_of}
-use Rattle.drf_tables.specs.Stored.{Stored}
 use Rattle.drf_tables.proofs.offers.Accepted.{rows_refused}
 use Rattle.drf_tables.proofs.tables.Tables.filter_declined.Goals as goal
 

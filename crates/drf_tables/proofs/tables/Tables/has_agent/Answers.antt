@@ -1,6 +1,5 @@
 use Rattle.std.proofs.Common.{sym, ap, ◌∙◌}
-use Rattle.drf_rows.specs.Members.{has_agent}
-use Rattle.drf_tables.specs.Stored.{Stored}
+use Rattle.drf_tables.proofs.tables.Names.{has_agent, Stored}
 use Rattle.drf_tables.proofs.tables.Fields.{has_agent-rows_in}
 use Rattle.drf_tables.proofs.tables.Tables.has_agent.Goals as goal
 

@@ -1,6 +1,5 @@
 use Rattle.std.proofs.Common.{sym, ap, ◌∙◌}
-use Rattle.drf_rows.specs.Members.{has_framework}
-use Rattle.drf_tables.specs.Stored.{Stored}
+use Rattle.drf_tables.proofs.tables.Names.{has_framework, Stored}
 use Rattle.drf_tables.proofs.tables.Fields.{has_framework-rows_in}
 use Rattle.drf_tables.proofs.tables.Tables.has_framework.Goals as goal
 

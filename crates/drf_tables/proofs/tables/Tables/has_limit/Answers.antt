@@ -1,7 +1,6 @@
 use Rattle.std.proofs.Common.{is_some, sym, ap, ◌∙◌}
-use Rattle.drf_rows.specs.Quota.{has_limit}
+use Rattle.drf_tables.proofs.tables.Names.{has_limit, Stored}
 use Rattle.drf_tables.specs.Inside.{rows_of}
-use Rattle.drf_tables.specs.Stored.{Stored}
 use Rattle.drf_tables.proofs.limits.Counts.{found_limit}
 use Rattle.drf_tables.proofs.registry.Entries.{is_some-copied}
 use Rattle.drf_tables.proofs.tables.Tables.has_limit.Goals as goal

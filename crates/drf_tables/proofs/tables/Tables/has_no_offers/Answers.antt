@@ -1,7 +1,6 @@
 use Rattle.std.proofs.Common.{◌≡◌, ◌==◌, ◌&&◌, ap, ◌∙◌}
-use Rattle.drf_rows.specs.Offers.{is_empty}
+use Rattle.drf_tables.proofs.tables.Names.{is_empty, Stored}
 use Rattle.drf_tables.specs.Inside.{rows_of}
-use Rattle.drf_tables.specs.Stored.{Stored}
 use Rattle.drf_tables.proofs.tables.Standing.{none_there}
 use Rattle.drf_tables.proofs.tables.Tables.has_no_offers.Goals as goal
 

@@ -2,15 +2,8 @@ use Rattle.std.proofs.Common.{◌≡◌, Option, Some, true, is_some, sym, ap, �
 use Rattle.std.specs.Map.{lookup}
 use Rattle.std.specs.Option.{option_copied, option_map}
 use Rattle.drf_tables.proofs.registry.Entries.{is_some-copied}
-use Rattle.drf_role.specs.Text.{Text, same_text}
-use Rattle.drf_bundle.specs.Bundle.{rest}
+use Rattle.drf_tables.proofs.tables.Names.{Text, same_text, rest, has_agent, agent_at, AgentRow, rows_in, agent_row, Stored, Agent}
 use Rattle.drf_rows.specs.Cycle.{free_of}
-use Rattle.drf_rows.specs.Members.{has_agent}
-use Rattle.drf_rows.specs.Totals.{agent_at}
-use Rattle.drf_rows.specs.declared.rows.AgentRow.{AgentRow}
-use Rattle.drf_tables.specs.Inside.{rows_in, agent_row}
-use Rattle.drf_tables.specs.Stored.{Stored}
-use Rattle.drf_tables.specs.declared.tables.Agent.{Agent}
 use Rattle.drf_tables.proofs.tables.Fields.{agent_at-rows_in, has_agent-rows_in}
 use Rattle.drf_tables.proofs.registry.Known.{known_in, left_free}
 use Rattle.drf_tables.proofs.tables.Tables.held_on.Goals as goal

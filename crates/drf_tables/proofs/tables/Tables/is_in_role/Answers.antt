@@ -3,13 +3,9 @@ use Rattle.std.specs.Global.{Vec}
 use Rattle.std.specs.List.{list_any}
 use Rattle.std.specs.Map.{lookup}
 use Rattle.std.specs.Option.{option_copied, option_map_or}
-use Rattle.drf_role.specs.Text.{same_text}
-use Rattle.drf_role.specs.Path.{same_path}
-use Rattle.drf_rows.specs.Client.{Client}
+use Rattle.drf_tables.proofs.tables.Names.{same_text, same_path, Client, ClientRow, Stored}
 use Rattle.drf_rows.specs.Step.{is_in_role}
-use Rattle.drf_rows.specs.declared.rows.ClientRow.{ClientRow}
 use Rattle.drf_tables.specs.Inside.{rows_of}
-use Rattle.drf_tables.specs.Stored.{Stored}
 use Rattle.drf_tables.proofs.registry.Entries.{registered-lookup}
 use Rattle.drf_tables.proofs.agents.Changes.{frameworks_apart}
 use Rattle.drf_tables.proofs.tables.Tables.is_in_role.Goals as goal

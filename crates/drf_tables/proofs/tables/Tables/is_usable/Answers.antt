@@ -1,15 +1,9 @@
 use Rattle.std.proofs.Common.{◌≡◌, List, None, Some, true, is_some, sym, ap, ◌∙◌}
 use Rattle.std.specs.Map.{lookup}
 use Rattle.std.specs.Option.{option_copied, option_map}
-use Rattle.drf_role.specs.Text.{Text, same_text}
-use Rattle.drf_bundle.specs.Bundle.{covers}
-use Rattle.drf_bundle.specs.declared.resource.Resource.{Resource}
+use Rattle.drf_tables.proofs.tables.Names.{Text, same_text, covers, Resource, agent_at, rows_in, agent_row, is_settled, Stored, Agent}
 use Rattle.drf_rows.specs.Cycle.{free_of}
 use Rattle.drf_rows.specs.TaskLaws.{covers_from}
-use Rattle.drf_rows.specs.Totals.{agent_at}
-use Rattle.drf_tables.specs.Inside.{rows_in, agent_row, is_settled}
-use Rattle.drf_tables.specs.Stored.{Stored}
-use Rattle.drf_tables.specs.declared.tables.Agent.{Agent}
 use Rattle.drf_tables.proofs.tables.Fields.{agent_at-rows_in}
 use Rattle.drf_tables.proofs.registry.Known.{free_found}
 use Rattle.drf_tables.proofs.tables.PutBack.{usable_free}

@@ -1,8 +1,7 @@
 use Rattle.std.proofs.Common.{◌≡◌, sym, ap, ◌∙◌, subst, arith, refl}
 use Rattle.drf_rows.specs.Endings.{without_ended, all_of}
-use Rattle.drf_rows.specs.Members.{framework_removed}
+use Rattle.drf_tables.proofs.tables.Names.{framework_removed, Stored}
 use Rattle.drf_tables.specs.Inside.{rows_of, rows_in}
-use Rattle.drf_tables.specs.Stored.{Stored}
 use Rattle.drf_tables.proofs.agents.Changes.{rows-gone, kept-gone}
 use Rattle.drf_tables.proofs.limits.Counts.{counts-same}
 use Rattle.drf_tables.proofs.tables.Tables.remove_framework.Goals as goal

@@ -1,9 +1,5 @@
 use Rattle.std.proofs.Common.{refl, sym, ap, ◌∙◌}
-use Rattle.drf_rows.specs.Members.{with_activity}
-use Rattle.drf_rows.specs.Quota.{reserved_for}
-use Rattle.drf_rows.specs.declared.rows.Rows.{Rows}
-use Rattle.drf_tables.specs.registry.Changing.{with_active}
-use Rattle.drf_tables.specs.Stored.{Stored}
+use Rattle.drf_tables.proofs.tables.Names.{with_activity, reserved_for, Rows, with_active, Stored}
 use Rattle.drf_tables.proofs.agents.Changes.{rows-active, kept-active}
 use Rattle.drf_tables.proofs.limits.Counts.{counts-same, reserved-with_activity}
 use Rattle.drf_tables.specs.Inside.{is_settled, rows_of, rows_in}

@@ -1,7 +1,6 @@
 use Rattle.std.proofs.Common.{List, Option, sym, subst}
 use Rattle.drf_rows.specs.declared.rows.LimitRow.{LimitRow}
-use Rattle.drf_gates.specs.quota.Allowance.{Usage}
-use Rattle.drf_tables.specs.Inside.{IsWhole}
+use Rattle.drf_tables.proofs.tables.Names.{Usage, IsWhole}
 use Rattle.drf_tables.proofs.reservations.Moved.{limit-set}
 use Rattle.drf_tables.proofs.tables.Tables.set_limit.Goals as goal
 

@@ -1,12 +1,5 @@
 use Rattle.std.proofs.Common.{◌≡◌, not, filter, sym, ap, ◌∙◌, subst}
-use Rattle.drf_role.specs.Text.{same_text}
-use Rattle.drf_bundle.specs.Bundle.{quantities_of}
-use Rattle.drf_bundle.specs.Quantities.{plus}
-use Rattle.drf_rows.specs.Held.{cluster_total}
-use Rattle.drf_rows.specs.Totals.{with_other_total}
-use Rattle.drf_tables.specs.registry.Changing.{CanHaveTotal}
-use Rattle.drf_tables.specs.Inside.{rows_in}
-use Rattle.drf_tables.specs.Stored.{Stored}
+use Rattle.drf_tables.proofs.tables.Names.{same_text, quantities_of, plus, cluster_total, with_other_total, CanHaveTotal, rows_in, Stored}
 use Rattle.drf_tables.proofs.reservations.Moved.{rows-other, kept-other}
 use Rattle.drf_tables.proofs.limits.Running.{agent_fits, counts-other, other_fits}
 use Rattle.drf_tables.proofs.tables.Tables.set_total.Goals as goal

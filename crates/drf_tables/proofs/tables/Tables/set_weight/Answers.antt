@@ -1,8 +1,6 @@
 use Rattle.std.proofs.Common.{◌≡◌, ap, ◌∙◌, refl}
-use Rattle.indexmap.specs.IndexMap.{insert_entry}
-use Rattle.drf_role.specs.Path.{same_path}
+use Rattle.drf_tables.proofs.tables.Names.{insert_entry, same_path, Stored}
 use Rattle.drf_tables.specs.Inside.{rows_of, rows_in}
-use Rattle.drf_tables.specs.Stored.{Stored}
 use Rattle.drf_tables.proofs.registry.Entries.{from_ok}
 use Rattle.drf_tables.proofs.tables.Weighed.{weight_set, rows_of-weight, AreDerived-weight_set}
 use Rattle.drf_tables.proofs.limits.Counts.{counts-same}

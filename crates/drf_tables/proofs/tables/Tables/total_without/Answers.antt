@@ -1,16 +1,9 @@
 use Rattle.std.proofs.Common.{◌≡◌, Bool, refl, false, not, Some, List, filter, find, is_some, sym, ap, ◌∙◌, subst, IsTrue}
 use Rattle.std.specs.Option.{option_copied, option_map}
-use Rattle.drf_role.specs.Text.{Text, same_text}
-use Rattle.drf_bundle.specs.Bundle.{quantities_of}
+use Rattle.drf_tables.proofs.tables.Names.{Text, same_text, quantities_of, Entry, cluster_total, has_agent, AgentRow, Stored, Agent}
 use Rattle.drf_bundle.specs.Quantities.{covers, minus, without_zeros}
-use Rattle.drf_bundle.specs.declared.quantities.Entry.{Entry}
 use Rattle.drf_row_laws.specs.EndingLaws.{each_past, filter-none}
-use Rattle.drf_rows.specs.Held.{cluster_total}
-use Rattle.drf_rows.specs.Members.{has_agent}
-use Rattle.drf_rows.specs.declared.rows.AgentRow.{AgentRow}
 use Rattle.drf_tables.specs.Inside.{rows_of, rows_in, agent_row}
-use Rattle.drf_tables.specs.Stored.{Stored}
-use Rattle.drf_tables.specs.declared.tables.Agent.{Agent}
 use Rattle.drf_tables.proofs.registry.Entries.{found-lookup}
 use Rattle.drf_tables.proofs.tables.Fields.{has_agent-rows_in}
 use Rattle.drf_tables.proofs.registry.Totals.{total-covers, total-without}

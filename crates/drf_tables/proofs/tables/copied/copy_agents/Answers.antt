@@ -1,9 +1,6 @@
-use Rattle.std.proofs.Common.{◌≡◌, true, List, [], ◌∷◌, ◌++◌, is_some, sym, ap, ◌∙◌}
+use Rattle.std.proofs.Common.{◌≡◌, true, List, [], ◌∷◌, ◌++◌, is_some, sym, ap, ◌∙◌, take_all}
 use Rattle.std.specs.Map.{keys_of, lookup}
-use Rattle.std.proofs.lemmas.List.{take_all}
-use Rattle.drf_gates.specs.filters.Slots.{filled}
-use Rattle.drf_role.specs.Text.{same_text}
-use Rattle.drf_rows.specs.Consistent.{are_distinct}
+use Rattle.drf_tables.proofs.tables.Names.{filled, same_text, are_distinct}
 use Rattle.drf_tables.proofs.registry.Slots.{Entry, Slots, filled-more, new_to_come, read_slot}
 use Rattle.drf_tables.proofs.tables.copied.copy_agents.Goals as goal
 

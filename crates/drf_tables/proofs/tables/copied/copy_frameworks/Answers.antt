@@ -1,9 +1,6 @@
 use Rattle.std.proofs.Common.{◌≡◌, List, ◌∷◌, ◌++◌, sym, ap, ◌∙◌}
 use Rattle.std.specs.Global.{Vec}
-use Rattle.indexmap.specs.IndexMap.{insert_entry}
-use Rattle.drf_role.specs.Text.{Text, same_text}
-use Rattle.drf_rows.specs.declared.rows.ClientRow.{ClientRow}
-use Rattle.drf_tables.specs.Inside.{framework_rows}
+use Rattle.drf_tables.proofs.tables.Names.{insert_entry, Text, same_text, ClientRow, framework_rows}
 use Rattle.drf_tables.proofs.tables.Copies.{framework_copied}
 use Rattle.drf_tables.proofs.tables.copied.copy_frameworks.Goals as goal
 

@@ -1,8 +1,6 @@
 use Rattle.std.proofs.Common.{List, [], ◌∷◌, ◌++◌, map, take, sym, ap, ◌∙◌}
 use Rattle.std.proofs.lemmas.List.{map-append, take_all}
-use Rattle.drf_gates.specs.filters.Slots.{filled}
-use Rattle.drf_rows.specs.declared.rows.AgentRow.{AgentRow}
-use Rattle.drf_tables.specs.Inside.{agent_row}
+use Rattle.drf_tables.proofs.tables.Names.{filled, AgentRow, agent_row}
 use Rattle.drf_tables.proofs.registry.Slots.{Slots, filled-more}
 use Rattle.drf_tables.proofs.tables.listing.agent_rows.Goals as goal
 

@@ -1,6 +1,5 @@
 use Rattle.std.proofs.Common.{◌≡◌, map, take}
-use Rattle.drf_gates.specs.filters.Slots.{filled}
-use Rattle.drf_tables.specs.Inside.{agent_row}
+use Rattle.drf_tables.proofs.tables.Names.{filled, agent_row}
 use Rattle.drf_tables.proofs.tables.listing.agent_rows.Given as goal
 
 abbrev pub invariant-loop-slot : goal.invariant-loop-slot

@@ -1,5 +1,4 @@
-use Rattle.std.proofs.Common.{ap, map, ◌∙◌}
-use Rattle.std.proofs.lemmas.List.{take_all}
+use Rattle.std.proofs.Common.{ap, map, ◌∙◌, take_all}
 use Rattle.drf_tree.specs.Family.{seen}
 use Rattle.drf_tree.proofs.keys.Siblings.{sorted_seen}
 use Rattle.drf_tree.proofs.family.Family.copy.Goals as goal

@@ -1,7 +1,6 @@
 use Rattle.std.proofs.Common.{◌≡◌, true, not, is_ok, drop, take, ◌∙◌, ap}
 use Rattle.std.specs.List.{list_all}
-use Rattle.drf_tree.specs.declared.family.Child.{Child}
-use Rattle.drf_tree.specs.Family.{are_sorted, is_before}
+use Rattle.drf_tree.proofs.Names.{Child, are_sorted, is_before}
 use Rattle.drf_tree.proofs.keys.Siblings.{sorted_tried, with_child}
 use Rattle.drf_tree.proofs.family.Family.insert.Goals as goal
 

@@ -3,9 +3,7 @@ use Rattle.std.specs.List.Sorted.{IsPermutation}
 use Rattle.std.proofs.Math.Seq.{take-append_seam}
 use Rattle.std.proofs.lemmas.List.{length-map}
 use Rattle.std.proofs.lemmas.List.Sorted.{IsPermutation-map}
-use Rattle.drf_role.specs.Text.{Text}
-use Rattle.drf_tree.specs.declared.family.Child.{Child}
-use Rattle.drf_tree.specs.Family.{IsFresh, known}
+use Rattle.drf_tree.proofs.Names.{Text, Child, IsFresh, known}
 use Rattle.drf_tree.proofs.shape.SameFamily.{each_moved}
 use Rattle.drf_tree.proofs.family.Family.renew_all.Goals as goal
 

@@ -1,7 +1,6 @@
 use Rattle.std.proofs.Common.{◌==◌, ap, ◌∙◌}
 use Rattle.std.specs.List.{position}
-use Rattle.drf_tree.specs.declared.family.Child.{Child}
-use Rattle.drf_tree.specs.Family.{are_sorted}
+use Rattle.drf_tree.proofs.Names.{Child, are_sorted}
 use Rattle.drf_tree.proofs.keys.Siblings.{child_found, found_place, sorted_remove, without_child}
 use Rattle.drf_tree.proofs.family.Family.take.Goals as goal
 

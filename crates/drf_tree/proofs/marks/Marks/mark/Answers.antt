@@ -1,6 +1,5 @@
-use Rattle.std.specs.Prelude.{◌≡◌, ◌<◌, ℕ, List, false, length, slice_index_or, slice_set, true}
 use Rattle.std.specs.Vec.{vec_capacity}
-use Rattle.std.proofs.Common.{ap, arith, subst, sym, ◌∙◌}
+use Rattle.std.proofs.Common.{ap, arith, subst, sym, ◌∙◌, ◌≡◌, ◌<◌, ℕ, List, false, length, slice_index_or, slice_set, true}
 use Rattle.std.proofs.lemmas.List.{get_or_read}
 use Rattle.drf_tree.specs.Marks.{AreWaiting, Flags}
 use Rattle.drf_tree.proofs.marks.Waiting.{has_room, marked_anew}

@@ -1,5 +1,4 @@
-use Rattle.std.proofs.Common.{◌≡◌, ◌<◌, ℕ, true, false, length}
-use Rattle.std.specs.Prelude.{slice_index_or}
+use Rattle.std.proofs.Common.{◌≡◌, ◌<◌, ℕ, true, false, length, slice_index_or}
 use Rattle.drf_tree.specs.Nodes.{is_holding}
 use Rattle.drf_tree.proofs.marks.Marks.mark_all.Given as goal
 

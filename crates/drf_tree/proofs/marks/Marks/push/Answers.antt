@@ -1,6 +1,5 @@
-use Rattle.std.specs.Prelude.{◌≡◌, ◌≤◌, ◌+◌, ◌++◌, ◌∷◌, [], Bool, ℕ, List, false, length}
 use Rattle.std.specs.Vec.{vec_capacity}
-use Rattle.std.proofs.Common.{ap, arith, subst, sym, ◌∙◌}
+use Rattle.std.proofs.Common.{ap, arith, subst, sym, ◌∙◌, ◌≡◌, ◌≤◌, ◌+◌, ◌++◌, ◌∷◌, [], Bool, ℕ, List, false, length}
 use Rattle.drf_tree.specs.Marks.{AreWaiting}
 use Rattle.drf_tree.proofs.marks.Waiting.{few_wait, one_number_more}
 use Rattle.drf_tree.proofs.marks.Marks.push.Goals as goal

@@ -1,6 +1,5 @@
-use Rattle.std.specs.Prelude.{◌≡◌, ◌++◌, ◌∷◌, [], Bool, ℕ, List, false, slice_index_or, slice_set}
 use Rattle.std.specs.Vec.{vec_capacity}
-use Rattle.std.proofs.Common.{ap, arith, refl, subst, sym, ◌∙◌}
+use Rattle.std.proofs.Common.{ap, arith, refl, subst, sym, ◌∙◌, ◌≡◌, ◌++◌, ◌∷◌, [], Bool, ℕ, List, false, slice_index_or, slice_set}
 use Rattle.std.proofs.lemmas.List.{get_or_read, nil_from_length}
 use Rattle.drf_tree.specs.Marks.{AreWaiting, marked_in}
 use Rattle.drf_tree.proofs.marks.Flags.{down_at}

@@ -1,5 +1,4 @@
-use Rattle.std.specs.Prelude.{None, slice_set}
-use Rattle.std.proofs.Common.{subst, sym}
+use Rattle.std.proofs.Common.{subst, sym, None, slice_set}
 use Rattle.drf_tree.specs.Places.{AreTaken}
 use Rattle.drf_tree.proofs.growth.Place.{taken_freed}
 use Rattle.drf_tree.proofs.places.Places.free.Goals as goal

@@ -1,5 +1,4 @@
-use Rattle.std.specs.Prelude.{List, Option}
-use Rattle.std.proofs.Common.{ap, subst, sym}
+use Rattle.std.proofs.Common.{ap, subst, sym, List, Option}
 use Rattle.drf_tree.specs.declared.node.Place.{Place}
 use Rattle.drf_tree.specs.Places.{AreTaken, Numbered}
 use Rattle.drf_tree.proofs.growth.Place.{taken_first}

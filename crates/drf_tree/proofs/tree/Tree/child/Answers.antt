@@ -1,10 +1,6 @@
 use Rattle.std.proofs.Common.{◌≡◌, ◌<◌, Bool, length, ap, sym, subst, ◌∙◌, arith}
 use Rattle.std.specs.List.{AllByRecursion, position}
-use Rattle.drf_tree.specs.declared.family.Child.{Child}
-use Rattle.drf_role.specs.Text.{same_text}
-use Rattle.drf_tree.specs.Family.{child_name}
-use Rattle.drf_tree.specs.Nodes.{children_at}
-use Rattle.drf_tree.specs.Tree.{IsChildOf}
+use Rattle.drf_tree.proofs.Names.{Child, same_text, child_name, children_at, IsChildOf}
 use Rattle.drf_tree.proofs.shape.Node.{family_read, node_within}
 use Rattle.drf_tree.proofs.shape.Name.{none_named, one_named}
 use Rattle.drf_tree.proofs.tree.Tree.child.Goals as goal

@@ -1,11 +1,11 @@
 use Rattle.std.proofs.Common.{◌≡◌, ◌-◌, [], ℕ, refl, sym, ap, subst, ◌∙◌, arith}
 use Rattle.drf_bundle.specs.laws.QuantitiesLaws.{covers_from}
-use Rattle.drf_tree.specs.declared.node.Sum.{Sum}
-use Rattle.drf_tree.specs.Nodes.{parent_at}
-use Rattle.drf_tree.proofs.change.Climb.{climb_less, climb_on, climb_start, climb_step, climb_was, leaf_other, marking_start, marking_step}
-use Rattle.drf_tree.proofs.change.Dismiss.{dismissed_tree, is_emptied, is_gone, least_read}
+use Rattle.drf_tree.proofs.Names.{Sum}
+use Rattle.drf_tree.proofs.change.Climb.{climb_above, climb_falls, climb_holds, climb_on, climb_start, climb_step, climb_was, leaf_other, marking_start, marking_step}
+use Rattle.drf_tree.proofs.change.Dismiss.{IsLeastSum, dismissed_tree, is_emptied, is_gone, least_read}
 use Rattle.drf_tree.proofs.sums.Move.{IsMoved, amounts_in, none}
 use Rattle.drf_tree.proofs.shape.Slice.{same_read}
+use Rattle.drf_tree.proofs.tree.Tree.dismiss.Goals.{After-replace-gone}
 use Rattle.drf_tree.proofs.tree.Tree.dismiss.Goals as goal
 
 pub loop-node-init : goal.loop-node-init
@@ -33,90 +33,55 @@ loop-node-init c =
           c.parent-node.ensures c.mark.ensures.flags c.mark.ensures.spends,
     )
 
+least_at : (c : After-replace-gone) → IsLeastSum c.args.self.now c.args.leaf c.replace-gone.result
+least_at c = least_read _ _ c.requires.least _ _ c.replace-gone.ensures.value c.index_mut.ensures.value
+
 pub lower-requires : goal.lower-requires
 lower-requires c =
-    let old = c.args.self.now in
-    let so = c.loop-node.invariant.0 in
-    let gone : Sum = c.replace-gone.result in
-    let s = c.index_mut-sum.result.now in
-    let least = least_read old c.args.leaf c.requires.least gone c.index_mut.result.now c.replace-gone.ensures.value c.index_mut.ensures.value in
-    covers_from s.held gone.held c.recall.ensures
-    (least.held c.loop-node.node s
-    (climb_on old c.loop-node.self c.requires.shape c.args.leaf c.loop-node.node (λ i. IsMoved (amounts_in gone) none) so c.loop-node-test.true)
-    (climb_was old c.loop-node.self c.requires.shape c.args.leaf c.loop-node.node (λ i. IsMoved (amounts_in gone) none) so c.loop-node-test.true s c.index_mut-sum.ensures.value))
+    let least = least_at (goal.at.lower-requires c).After-replace-gone in
+    covers_from _ c.replace-gone.result.held c.recall.ensures
+    (climb_holds _ _ c.requires.shape _ _ _ c.loop-node.invariant.0 c.loop-node-test.true _ least.held _ c.index_mut-sum.ensures.value)
 
 pub overflow_sub-sum : goal.overflow_sub-sum
 overflow_sub-sum c =
-    let old = c.args.self.now in
-    let so = c.loop-node.invariant.0 in
-    let gone : Sum = c.replace-gone.result in
-    let s = c.index_mut-sum.result.now in
-    let least = least_read old c.args.leaf c.requires.least gone c.index_mut.result.now c.replace-gone.ensures.value c.index_mut.ensures.value in
-    least.count c.loop-node.node s
-    (climb_on old c.loop-node.self c.requires.shape c.args.leaf c.loop-node.node (λ i. IsMoved (amounts_in gone) none) so c.loop-node-test.true)
-    (climb_was old c.loop-node.self c.requires.shape c.args.leaf c.loop-node.node (λ i. IsMoved (amounts_in gone) none) so c.loop-node-test.true s c.index_mut-sum.ensures.value)
+    let least = least_at (goal.at.overflow_sub-sum c).After-replace-gone in
+    climb_holds _ _ c.requires.shape _ _ _ c.loop-node.invariant.0 c.loop-node-test.true _ least.count _ c.index_mut-sum.ensures.value
 
 pub overflow_sub-sum-in-loop-node : goal.overflow_sub-sum-in-loop-node
 overflow_sub-sum-in-loop-node c =
-    let old = c.args.self.now in
-    let so = c.loop-node.invariant.0 in
-    let gone : Sum = c.replace-gone.result in
-    let s = c.index_mut-sum.result.now in
-    let least = least_read old c.args.leaf c.requires.least gone c.index_mut.result.now c.replace-gone.ensures.value c.index_mut.ensures.value in
-    least.clients c.loop-node.node s
-    (climb_on old c.loop-node.self c.requires.shape c.args.leaf c.loop-node.node (λ i. IsMoved (amounts_in gone) none) so c.loop-node-test.true)
-    (climb_was old c.loop-node.self c.requires.shape c.args.leaf c.loop-node.node (λ i. IsMoved (amounts_in gone) none) so c.loop-node-test.true s c.index_mut-sum.ensures.value)
+    let least = least_at (goal.at.overflow_sub-sum-in-loop-node c).After-replace-gone in
+    climb_holds _ _ c.requires.shape _ _ _ c.loop-node.invariant.0 c.loop-node-test.true _ least.clients _ c.index_mut-sum.ensures.value
 
 pub overflow_sub-sum-in-loop-node-2 : goal.overflow_sub-sum-in-loop-node-2
 overflow_sub-sum-in-loop-node-2 c =
-    let old = c.args.self.now in
-    let so = c.loop-node.invariant.0 in
-    let gone : Sum = c.replace-gone.result in
-    let s = c.index_mut-sum.result.now in
-    let least = least_read old c.args.leaf c.requires.least gone c.index_mut.result.now c.replace-gone.ensures.value c.index_mut.ensures.value in
-    least.active c.loop-node.node s
-    (climb_on old c.loop-node.self c.requires.shape c.args.leaf c.loop-node.node (λ i. IsMoved (amounts_in gone) none) so c.loop-node-test.true)
-    (climb_was old c.loop-node.self c.requires.shape c.args.leaf c.loop-node.node (λ i. IsMoved (amounts_in gone) none) so c.loop-node-test.true s c.index_mut-sum.ensures.value)
+    let least = least_at (goal.at.overflow_sub-sum-in-loop-node-2 c).After-replace-gone in
+    climb_holds _ _ c.requires.shape _ _ _ c.loop-node.invariant.0 c.loop-node-test.true _ least.active _ c.index_mut-sum.ensures.value
 
 pub loop-node-smaller : goal.loop-node-smaller
-loop-node-smaller c =
-    let old = c.args.self.now in
-    let so = c.loop-node.invariant.0 in
-    let gone : Sum = c.replace-gone.result in
-    let above : c.parent-node-in-loop-node.result ≡ parent_at old.places.items c.loop-node.node =
-    c.parent-node-in-loop-node.ensures ∙ ap (λ ps. parent_at ps.items c.loop-node.node) so.places in
-    let less = climb_less old c.loop-node.self c.requires.shape c.args.leaf c.loop-node.node (λ i. IsMoved (amounts_in gone) none) so c.loop-node-test.true in
-    rw above (omega (arith, less))
+loop-node-smaller c = climb_falls _ _ c.requires.shape _ _ _ c.loop-node.invariant.0 c.loop-node-test.true c.parent-node-in-loop-node.result c.parent-node-in-loop-node.ensures
 
 pub loop-node-preserved : goal.loop-node-preserved
 loop-node-preserved c =
-    let old = c.args.self.now in
     let so = c.loop-node.invariant.0 in
-    let marking = c.loop-node.invariant.1 in
     let gone : Sum = c.replace-gone.result in
     let s : Sum = c.index_mut-sum.result.now in
     let t : Sum = record s { held = c.lower.new.self; count = s.count - gone.count; clients = s.clients - gone.clients; active = s.active - gone.active } in
-    let least = least_read old c.args.leaf c.requires.least gone c.index_mut.result.now c.replace-gone.ensures.value c.index_mut.ensures.value in
-    let above : c.parent-node-in-loop-node.result ≡ parent_at old.places.items c.loop-node.node =
-    c.parent-node-in-loop-node.ensures ∙ ap (λ ps. parent_at ps.items c.loop-node.node) so.places in
-    let on = climb_on old c.loop-node.self c.requires.shape c.args.leaf c.loop-node.node (λ i. IsMoved (amounts_in gone) none) so c.loop-node-test.true in
-    let was = climb_was old c.loop-node.self c.requires.shape c.args.leaf c.loop-node.node (λ i. IsMoved (amounts_in gone) none) so c.loop-node-test.true s c.index_mut-sum.ensures.value in (
-      climb_step old c.loop-node.self c.requires.shape c.args.leaf c.loop-node.node (λ i. IsMoved (amounts_in gone) none) so c.loop-node-test.true
-          _ c.parent-node-in-loop-node.result s t above c.index_mut-sum.ensures.value
+    let least = least_at (goal.at.loop-node-preserved c).After-replace-gone in
+    let above = climb_above _ _ c.requires.shape _ _ _ so c.loop-node-test.true _ c.parent-node-in-loop-node.ensures in
+    let on = climb_on _ _ c.requires.shape _ _ _ so c.loop-node-test.true in
+    let was = climb_was _ _ c.requires.shape _ _ _ so c.loop-node-test.true s c.index_mut-sum.ensures.value in (
+      climb_step _ _ c.requires.shape _ _ _ so c.loop-node-test.true _ _ s t above c.index_mut-sum.ensures.value
           (is_gone gone s c.lower.new.self c.lower.ensures
           (least.held c.loop-node.node s on was) (least.count c.loop-node.node s on was) (least.clients c.loop-node.node s on was)
-          (least.active c.loop-node.node s on was))
-          refl refl refl,
-      marking_step old c.loop-node.self c.requires.shape c.args.leaf c.loop-node.node (λ i. IsMoved (amounts_in gone) none) so c.loop-node-test.true marking
-          _ c.parent-node-in-loop-node.result above c.mark-in-loop-node.ensures.flags c.mark-in-loop-node.ensures.spends,
+          (least.active c.loop-node.node s on was)) refl refl refl,
+      marking_step _ _ c.requires.shape _ _ _ so c.loop-node-test.true c.loop-node.invariant.1
+          _ _ above c.mark-in-loop-node.ensures.flags c.mark-in-loop-node.ensures.spends,
     )
 
 pub returns-clause-tree : goal.returns-clause-tree
 returns-clause-tree c content path tree at has =
-    let old = c.args.self.now in
-    let gone : Sum = c.replace-gone.result in
-    let least = least_read old c.args.leaf c.requires.least gone c.index_mut.result.now c.replace-gone.ensures.value c.index_mut.ensures.value in
-    dismissed_tree content path old c.loop-node.self c.args.leaf c.loop-node.node gone tree c.requires.live at least.there
+    let least = least_at (goal.at.returns-clause-tree c).After-replace-gone in
+    dismissed_tree content path c.args.self.now c.loop-node.self c.args.leaf c.loop-node.node c.replace-gone.result tree c.requires.live at least.there
     c.loop-node.invariant.0 c.loop-node.invariant.1 c.loop-node-test.false
 
 pub returns-clause-spends : goal.returns-clause-spends

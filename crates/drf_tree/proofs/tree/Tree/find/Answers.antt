@@ -1,5 +1,4 @@
-use Rattle.std.proofs.Common.{refl, sym, ap, ◌∙◌, arith}
-use Rattle.std.specs.Prelude.{◌++◌, ◌∷◌, []}
+use Rattle.std.proofs.Common.{refl, sym, ap, ◌∙◌, arith, ◌++◌, ◌∷◌, []}
 use Rattle.drf_role.specs.Path.{Path}
 use Rattle.drf_tree.proofs.change.Climb.{node_from_live}
 use Rattle.drf_tree.proofs.shape.Find.{no_such, not_below, take_one_more, take_whole}

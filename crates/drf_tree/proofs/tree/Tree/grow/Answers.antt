@@ -1,10 +1,6 @@
-use Rattle.std.specs.Prelude.{◌==◌, ◌||◌, [], Option, take}
 use Rattle.std.specs.Option.{is_some, option_map_or}
-use Rattle.std.proofs.Common.{ap, arith, subst, sym, ◌∙◌}
-use Rattle.drf_role.specs.Path.{Path}
-use Rattle.drf_sorter.specs.Plain.{plain_content}
-use Rattle.drf_tree.specs.declared.node.Place.{Place}
-use Rattle.drf_tree.specs.Tidy.{IsTidyBut}
+use Rattle.std.proofs.Common.{ap, arith, subst, sym, ◌∙◌, ◌==◌, ◌||◌, [], Option, take}
+use Rattle.drf_tree.proofs.Names.{Path, plain_content, Place, IsTidyBut}
 use Rattle.drf_tree.proofs.marks.Flags.{spends-both}
 use Rattle.drf_tree.proofs.shape.Find.{take_whole}
 use Rattle.drf_tree.proofs.growth.Tidy.{but_along}

@@ -1,8 +1,7 @@
 use Rattle.std.proofs.Common.{◌≡◌, length, refl, sym, ap, ◌∙◌, arith, true}
 use Rattle.std.specs.Bool.{◌==◌}
 use Rattle.std.proofs.lemmas.Option.{slice_get_read}
-use Rattle.drf_tree.specs.declared.family.Family.{Family}
-use Rattle.drf_tree.specs.declared.node.Sum.{Sum}
+use Rattle.drf_tree.proofs.Names.{Family, Sum}
 use Rattle.drf_tree.proofs.shape.Node.{live_within}
 use Rattle.drf_tree.proofs.shape.Name.{bare_is, bare_out, bare_then}
 use Rattle.drf_tree.proofs.tree.Tree.is_bare.Goals as goal

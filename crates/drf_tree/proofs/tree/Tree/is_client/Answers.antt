@@ -1,6 +1,5 @@
 use Rattle.std.proofs.Common.{Some, ap, sym, ◌∙◌}
-use Rattle.drf_role.specs.Path.{Path}
-use Rattle.drf_role.specs.PathLaws.{same_path-true}
+use Rattle.drf_tree.proofs.Names.{Path, same_path-true}
 use Rattle.drf_tree.proofs.tree.Tree.is_client.Goals as goal
 
 pub returns-in-Some : goal.returns-in-Some

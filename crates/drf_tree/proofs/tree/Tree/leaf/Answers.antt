@@ -1,9 +1,6 @@
-use Rattle.std.specs.Prelude.{◌≡◌, ℕ, List, None, Option, Some, true}
 use Rattle.std.specs.Option.{is_some, option_map_or}
-use Rattle.std.proofs.Common.{refl}
-use Rattle.drf_role.specs.Path.{Path}
-use Rattle.drf_tree.specs.declared.node.Place.{Place}
-use Rattle.drf_tree.specs.Nodes.{client_at, is_live, place_at}
+use Rattle.std.proofs.Common.{refl, ◌≡◌, ℕ, List, None, Option, Some, true}
+use Rattle.drf_tree.proofs.Names.{Path, Place, client_at, is_live, place_at}
 use Rattle.drf_tree.proofs.tree.Tree.leaf.Goals as goal
 
 -- a client stands somewhere

@@ -1,11 +1,7 @@
-use Rattle.std.proofs.Common.{◌≡◌, ◌==◌, ◌∙◌, ℕ, ap, arith, inl, inr, subst, sym, true}
+use Rattle.std.proofs.Common.{◌≡◌, ◌==◌, ◌∙◌, ℕ, ap, arith, inl, inr, subst, sym, true, take_all}
 use Rattle.std.specs.List.{list_any}
-use Rattle.std.proofs.lemmas.List.{take_all}
-use Rattle.drf_role.specs.Path.{Path}
-use Rattle.drf_sorter.specs.Content.{has_node}
+use Rattle.drf_tree.proofs.Names.{Path, has_node, plain_content, is_live, path_at}
 use Rattle.drf_sorter.specs.Lines.{AreLinesOf, has_line}
-use Rattle.drf_sorter.specs.Plain.{plain_content}
-use Rattle.drf_tree.specs.Nodes.{is_live, path_at}
 use Rattle.drf_tree.proofs.lines.Nodes.{node_of}
 use Rattle.drf_tree.proofs.lines.Numbers.{front_parts}
 use Rattle.drf_tree.proofs.shape.Node.{live_within}

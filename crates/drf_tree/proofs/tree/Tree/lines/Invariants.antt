@@ -1,9 +1,7 @@
 use Rattle.std.proofs.Common.{◌≡◌, ◌==◌, ℕ, take, true}
 use Rattle.std.specs.List.{AllByRecursion, list_any}
-use Rattle.drf_sorter.specs.Content.{has_node}
+use Rattle.drf_tree.proofs.Names.{has_node, plain_content, is_live, path_at}
 use Rattle.drf_sorter.specs.Lines.{IsLineOf, has_line}
-use Rattle.drf_sorter.specs.Plain.{plain_content}
-use Rattle.drf_tree.specs.Nodes.{is_live, path_at}
 use Rattle.drf_tree.proofs.tree.Tree.lines.Given as goal
 
 abbrev pub invariant-loop-node : goal.invariant-loop-node

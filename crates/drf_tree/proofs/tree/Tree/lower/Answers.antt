@@ -1,8 +1,7 @@
-use Rattle.std.proofs.Common.{◌≡◌, ◌-◌, refl, ap, ◌∙◌, arith}
+use Rattle.std.proofs.Common.{◌-◌, refl, arith}
 use Rattle.drf_bundle.specs.laws.QuantitiesLaws.{covers_from}
-use Rattle.drf_tree.specs.declared.node.Sum.{Sum}
-use Rattle.drf_tree.specs.Nodes.{parent_at}
-use Rattle.drf_tree.proofs.change.Climb.{climb_less, climb_on, climb_start, climb_step, climb_was, marking_start, marking_step}
+use Rattle.drf_tree.proofs.Names.{Sum}
+use Rattle.drf_tree.proofs.change.Climb.{climb_above, climb_falls, climb_holds, climb_on, climb_start, climb_step, climb_was, marking_start, marking_step}
 use Rattle.drf_tree.proofs.change.Lower.{is_lowered, lowered_tree, of_lowered}
 use Rattle.drf_tree.proofs.sums.Move.{IsMoved, none}
 use Rattle.drf_tree.proofs.tree.Tree.lower.Goals as goal
@@ -17,59 +16,28 @@ loop-node-init c = (
 
 pub lower-requires : goal.lower-requires
 lower-requires c =
-    let old = c.args.self.now in
-    let so = c.loop-node.invariant.0 in
-    let s = c.index_mut-sum.result.now in
-    covers_from s.held c.args.quantities.now c.recall.ensures
-    (c.requires.lowerable.held c.loop-node.node s
-    (climb_on old c.loop-node.self c.requires.shape c.args.leaf c.loop-node.node
-    (λ i. IsMoved (of_lowered c.args.quantities.now c.args.offers) none) so c.loop-node-test.true)
-    (climb_was old c.loop-node.self c.requires.shape c.args.leaf c.loop-node.node
-    (λ i. IsMoved (of_lowered c.args.quantities.now c.args.offers) none) so c.loop-node-test.true s c.index_mut-sum.ensures.value))
+    covers_from _ c.args.quantities.now c.recall.ensures
+    (climb_holds _ _ c.requires.shape _ _ _ c.loop-node.invariant.0 c.loop-node-test.true _ c.requires.lowerable.held _ c.index_mut-sum.ensures.value)
 
 pub overflow_sub-sum : goal.overflow_sub-sum
 overflow_sub-sum c =
-    let old = c.args.self.now in
-    let so = c.loop-node.invariant.0 in
-    let s = c.index_mut-sum.result.now in
-    c.requires.lowerable.count c.loop-node.node s
-    (climb_on old c.loop-node.self c.requires.shape c.args.leaf c.loop-node.node
-    (λ i. IsMoved (of_lowered c.args.quantities.now c.args.offers) none) so c.loop-node-test.true)
-    (climb_was old c.loop-node.self c.requires.shape c.args.leaf c.loop-node.node
-    (λ i. IsMoved (of_lowered c.args.quantities.now c.args.offers) none) so c.loop-node-test.true s c.index_mut-sum.ensures.value)
+    climb_holds _ _ c.requires.shape _ _ _ c.loop-node.invariant.0 c.loop-node-test.true _ c.requires.lowerable.count _ c.index_mut-sum.ensures.value
 
 pub loop-node-smaller : goal.loop-node-smaller
-loop-node-smaller c =
-    let old = c.args.self.now in
-    let so = c.loop-node.invariant.0 in
-    let above : c.parent-node.result ≡ parent_at old.places.items c.loop-node.node =
-    c.parent-node.ensures ∙ ap (λ ps. parent_at ps.items c.loop-node.node) so.places in
-    let less = climb_less old c.loop-node.self c.requires.shape c.args.leaf c.loop-node.node
-    (λ i. IsMoved (of_lowered c.args.quantities.now c.args.offers) none) so c.loop-node-test.true in
-    rw above (omega (arith, less))
+loop-node-smaller c = climb_falls _ _ c.requires.shape _ _ _ c.loop-node.invariant.0 c.loop-node-test.true c.parent-node.result c.parent-node.ensures
 
 pub loop-node-preserved : goal.loop-node-preserved
 loop-node-preserved c =
-    let old = c.args.self.now in
     let so = c.loop-node.invariant.0 in
-    let marking = c.loop-node.invariant.1 in
     let s : Sum = c.index_mut-sum.result.now in
     let t : Sum = record s { held = c.lower.new.self; count = s.count - c.args.offers } in
-    let above : c.parent-node.result ≡ parent_at old.places.items c.loop-node.node =
-    c.parent-node.ensures ∙ ap (λ ps. parent_at ps.items c.loop-node.node) so.places in
-    let on = climb_on old c.loop-node.self c.requires.shape c.args.leaf c.loop-node.node
-    (λ i. IsMoved (of_lowered c.args.quantities.now c.args.offers) none) so c.loop-node-test.true in
-    let was = climb_was old c.loop-node.self c.requires.shape c.args.leaf c.loop-node.node
-    (λ i. IsMoved (of_lowered c.args.quantities.now c.args.offers) none) so c.loop-node-test.true s c.index_mut-sum.ensures.value in (
-      climb_step old c.loop-node.self c.requires.shape c.args.leaf c.loop-node.node
-          (λ i. IsMoved (of_lowered c.args.quantities.now c.args.offers) none) so c.loop-node-test.true
-          _ c.parent-node.result s t above c.index_mut-sum.ensures.value
+    let above = climb_above _ _ c.requires.shape _ _ _ so c.loop-node-test.true _ c.parent-node.ensures in
+    let on = climb_on _ _ c.requires.shape _ _ _ so c.loop-node-test.true in
+    let was = climb_was _ _ c.requires.shape _ _ _ so c.loop-node-test.true s c.index_mut-sum.ensures.value in (
+      climb_step _ _ c.requires.shape _ _ _ so c.loop-node-test.true _ _ s t above c.index_mut-sum.ensures.value
           (is_lowered c.args.quantities.now c.args.offers s c.lower.new.self c.lower.ensures
-          (c.requires.lowerable.held c.loop-node.node s on was) (c.requires.lowerable.count c.loop-node.node s on was))
-          refl refl refl,
-      marking_step old c.loop-node.self c.requires.shape c.args.leaf c.loop-node.node
-          (λ i. IsMoved (of_lowered c.args.quantities.now c.args.offers) none) so c.loop-node-test.true marking
-          _ c.parent-node.result above c.mark.ensures.flags c.mark.ensures.spends,
+          (c.requires.lowerable.held c.loop-node.node s on was) (c.requires.lowerable.count c.loop-node.node s on was)) refl refl refl,
+      marking_step _ _ c.requires.shape _ _ _ so c.loop-node-test.true c.loop-node.invariant.1 _ _ above c.mark.ensures.flags c.mark.ensures.spends,
     )
 
 pub returns-clause-tree : goal.returns-clause-tree

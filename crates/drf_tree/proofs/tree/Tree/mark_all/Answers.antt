@@ -1,17 +1,9 @@
-use Rattle.std.specs.Prelude.{◌≡◌, List, false, slice_get}
 use Rattle.std.specs.Option.{option_map_or}
-use Rattle.std.proofs.Common.{refl, subst, sym, ◌∙◌, inl, inr}
+use Rattle.std.proofs.Common.{refl, subst, sym, ◌∙◌, inl, inr, ◌≡◌, List, false, slice_get}
 use Rattle.std.proofs.lemmas.Bool.{and_parts, cases_Bool}
-use Rattle.drf_bundle.specs.declared.quantities.Entry.{Entry}
-use Rattle.drf_role.specs.Path.{Path}
-use Rattle.drf_bundle.specs.ListLaws.{each_from_both}
+use Rattle.drf_tree.proofs.Names.{Entry, Path, each_from_both, key_by, Sum, child_name, children_at, holds_any, is_holding, is_live, path_at, IsChildOf, IsMarkedOrRight, IsSumOf}
 use Rattle.drf_sorter.specs.Content.{Content, standing_in}
-use Rattle.drf_sorter.specs.Keys.{key_by}
-use Rattle.drf_tree.specs.declared.node.Sum.{Sum}
-use Rattle.drf_tree.specs.Family.{child_name}
-use Rattle.drf_tree.specs.Nodes.{children_at, holds_any, is_holding, is_live, path_at}
-use Rattle.drf_tree.specs.Tree.{IsChildOf, IsMarkedOrRight, IsSumOf}
-use Rattle.drf_tree.proofs.shape.Node.{flags_changed}
+use Rattle.drf_tree.proofs.change.Tree.{shape_again}
 use Rattle.drf_tree.proofs.keys.Nothing.{key_of_none}
 use Rattle.drf_tree.proofs.keys.Repair.{sum_there}
 use Rattle.drf_tree.proofs.tree.Tree.mark_all.Goals as goal
@@ -39,7 +31,7 @@ returns-clause-tree c content total weighs of =
     record {
       paths = of.paths;
       distinct = of.distinct;
-      shape = flags_changed tree of.shape stale (c.mark_all.ensures.long ∙ of.shape.stale_long)
+      shape = shape_again tree.places.items tree.families.items tree.marks.stale stale tree.sums.items tree.sums.items of.shape c.mark_all.ensures.long refl
           (λ i up. elim (cases_Bool (is_holding places sums i)) [
             | inl holding ↦ (and_parts (is_live places i) (option_map_or holds_any (slice_get sums i) false) holding).0
             | inr nothing ↦ of.shape.unmarked i (sym (others i nothing) ∙ up)

@@ -1,7 +1,6 @@
-use Rattle.std.proofs.Common.{◌≡◌, refl, ap, ◌∙◌, arith}
-use Rattle.drf_tree.specs.declared.node.Sum.{Sum}
-use Rattle.drf_tree.specs.Nodes.{parent_at}
-use Rattle.drf_tree.proofs.change.Climb.{climb_less, climb_start, climb_step, climb_sum}
+use Rattle.std.proofs.Common.{refl}
+use Rattle.drf_tree.proofs.Names.{Sum}
+use Rattle.drf_tree.proofs.change.Climb.{climb_above, climb_falls, climb_start, climb_step, climb_sum}
 use Rattle.drf_tree.proofs.change.Label.{IsNamed, are_same, few_end, named_end, same_held, same_set, same_tree}
 use Rattle.drf_tree.proofs.tree.Tree.name_labels.Goals as goal
 
@@ -16,46 +15,30 @@ loop-node-init c = record {
 
 pub returns-in_err-name_all-clause-tree : goal.returns-in_err-name_all-clause-tree
 returns-in_err-name_all-clause-tree c content tree =
-    let old = c.args.self.now in
     let so = c.loop-node.invariant in
     let s : Sum = c.index_mut.result.now in
-    let at =
-    climb_sum old c.loop-node.self c.requires.shape c.args.leaf c.loop-node.node
-    (IsNamed c.args.quantities.now) so.climb c.loop-node-test.true s c.index_mut.ensures.value in
-    same_tree content old _ tree so.climb.places so.climb.families so.marks
-    (same_set old.sums.items c.loop-node.self.sums.items c.loop-node.node s (record s { held = c.name_all.new.held }) so.same at
+    let at = climb_sum _ _ c.requires.shape _ _ _ so.climb c.loop-node-test.true s c.index_mut.ensures.value in
+    same_tree content c.args.self.now _ tree so.climb.places so.climb.families so.marks
+    (same_set c.args.self.now.sums.items c.loop-node.self.sums.items c.loop-node.node s (record s { held = c.name_all.new.held }) so.same at
     (same_held s c.name_all.new.held c.name_all.ensures.same))
 
 pub loop-node-smaller : goal.loop-node-smaller
 loop-node-smaller c =
-    let old = c.args.self.now in
-    let so = c.loop-node.invariant.climb in
-    let above : c.parent-node.result ≡ parent_at old.places.items c.loop-node.node =
-    c.parent-node.ensures ∙ ap (λ ps. parent_at ps.items c.loop-node.node) so.places in
-    let less =
-    climb_less old c.loop-node.self c.requires.shape c.args.leaf c.loop-node.node
-    (IsNamed c.args.quantities.now) so c.loop-node-test.true in
-    rw above (omega (arith, less))
+    climb_falls _ _ c.requires.shape _ _ _ c.loop-node.invariant.climb c.loop-node-test.true c.parent-node.result c.parent-node.ensures
 
 pub loop-node-preserved : goal.loop-node-preserved
 loop-node-preserved c =
-    let old = c.args.self.now in
     let so = c.loop-node.invariant in
     let s : Sum = c.index_mut.result.now in
     let t : Sum = record s { held = c.name_all.new.held } in
-    let above : c.parent-node.result ≡ parent_at old.places.items c.loop-node.node =
-    c.parent-node.ensures ∙ ap (λ ps. parent_at ps.items c.loop-node.node) so.climb.places in
-    let at =
-    climb_sum old c.loop-node.self c.requires.shape c.args.leaf c.loop-node.node
-    (IsNamed c.args.quantities.now) so.climb c.loop-node-test.true s c.index_mut.ensures.value in
+    let above = climb_above _ _ c.requires.shape _ _ _ so.climb c.loop-node-test.true _ c.parent-node.ensures in
+    let at = climb_sum _ _ c.requires.shape _ _ _ so.climb c.loop-node-test.true s c.index_mut.ensures.value in
     record {
       climb =
-          climb_step old c.loop-node.self c.requires.shape c.args.leaf c.loop-node.node
-          (IsNamed c.args.quantities.now) so.climb c.loop-node-test.true
-          _ c.parent-node.result s t above c.index_mut.ensures.value (c.in_ok-name_all.ensures.named, c.name_all.ensures.few)
-          refl refl refl;
+          climb_step _ _ c.requires.shape _ _ _ so.climb c.loop-node-test.true _ _ s t above c.index_mut.ensures.value
+          (c.in_ok-name_all.ensures.named, c.name_all.ensures.few) refl refl refl;
       same =
-          same_set old.sums.items c.loop-node.self.sums.items c.loop-node.node s t so.same at
+          same_set c.args.self.now.sums.items c.loop-node.self.sums.items c.loop-node.node s t so.same at
           (same_held s c.name_all.new.held c.name_all.ensures.same);
       marks = so.marks;
     }

@@ -1,8 +1,5 @@
 use Rattle.std.proofs.Common.{◌++◌, ◌∷◌, [], List, Option, None, false, length, length-append, ap, ◌∙◌, arith}
-use Rattle.drf_tree.specs.declared.family.Family.{Family}
-use Rattle.drf_tree.specs.declared.node.Place.{Place}
-use Rattle.drf_tree.specs.declared.node.Sum.{Sum}
-use Rattle.drf_tree.specs.Nodes.{children_at}
+use Rattle.drf_tree.proofs.Names.{Family, Place, Sum, children_at}
 use Rattle.drf_tree.proofs.shape.Root.{opened, opened_tidy}
 use Rattle.drf_tree.proofs.tree.Tree.open.Goals as goal
 

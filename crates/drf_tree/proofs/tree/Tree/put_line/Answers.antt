@@ -2,15 +2,14 @@ use Rattle.std.proofs.Common.{◌≡◌, ◌∙◌, true, ap, arith, option_copi
 use Rattle.std.specs.List.{AllByRecursion}
 use Rattle.std.proofs.lemmas.Bool.{false≢true}
 use Rattle.std.proofs.lemmas.Result.{on_ok_weaker}
-use Rattle.drf_role.specs.Path.{Path}
+use Rattle.drf_tree.proofs.Names.{Path, plain_content, path_at, IsSumOf}
 use Rattle.drf_rows.specs.declared.report.NodeLine.{NodeLine}
 use Rattle.drf_sorter.specs.laws.LineLaws.{each-with, has_line-new, has_line-others}
 use Rattle.drf_sorter.specs.Lines.{IsLineOf, has_line, line_with, with_line}
-use Rattle.drf_sorter.specs.Plain.{plain_content}
-use Rattle.drf_tree.specs.Nodes.{path_at}
 use Rattle.drf_tree.proofs.lines.Nodes.{line_is, live_place, path_place}
 use Rattle.drf_tree.proofs.keys.Renew.{weighs_within}
 use Rattle.drf_tree.proofs.sums.Share.{held_within, nobody, sum_is}
+use Rattle.drf_tree.proofs.tree.Tree.put_line.Goals.{After-sum-sum}
 use Rattle.drf_tree.proofs.tree.Tree.put_line.Goals as goal
 
 pub returns-then-sum-eq0-clause-put : goal.returns-then-sum-eq0-clause-put
@@ -30,27 +29,23 @@ node_line-requires-clause-within c label =
     c.requires.sound label in
     rw (c.in_ok-held.ensures label, c.total.ensures) within
 
-pub node_line-requires-clause-weighs : goal.node_line-requires-clause-weighs
-node_line-requires-clause-weighs c =
+is_at : (c : After-sum-sum) → IsSumOf (plain_content c.args.ledger.now) c.in-Some.place.now.path c.sum-sum.result.now
+is_at c =
     let at = sym c.place.ensures ∙ ap option_copied c.in-Some.is in
     let content = plain_content c.args.ledger.now in
-    let tree = c.args.self.now in
-    let path = c.in-Some.place.now.path in
-    let is = sum_is content tree c.requires.tree c.args.node path
-    (live_place content tree c.requires.tree c.args.node c.in-Some.place.now at)
-    (path_place content tree c.requires.tree c.args.node c.in-Some.place.now at) c.sum-sum.result.now c.sum-sum.ensures in
-    omega (arith, is.weight, (weighs_within c.args.ledger.now path).0)
+    sum_is content c.args.self.now c.requires.tree c.args.node c.in-Some.place.now.path
+    (live_place content c.args.self.now c.requires.tree c.args.node c.in-Some.place.now at)
+    (path_place content c.args.self.now c.requires.tree c.args.node c.in-Some.place.now at) c.sum-sum.result.now c.sum-sum.ensures
+
+pub node_line-requires-clause-weighs : goal.node_line-requires-clause-weighs
+node_line-requires-clause-weighs c =
+    let is = is_at (goal.at.node_line-requires-clause-weighs c).After-sum-sum in
+    omega (arith, is.weight, (weighs_within c.args.ledger.now c.in-Some.place.now.path).0)
 
 pub node_line-requires-clause-light : goal.node_line-requires-clause-light
 node_line-requires-clause-light c =
-    let at = sym c.place.ensures ∙ ap option_copied c.in-Some.is in
-    let content = plain_content c.args.ledger.now in
-    let tree = c.args.self.now in
-    let path = c.in-Some.place.now.path in
-    let is = sum_is content tree c.requires.tree c.args.node path
-    (live_place content tree c.requires.tree c.args.node c.in-Some.place.now at)
-    (path_place content tree c.requires.tree c.args.node c.in-Some.place.now at) c.sum-sum.result.now c.sum-sum.ensures in
-    omega (arith, is.weight, (weighs_within c.args.ledger.now path).1)
+    let is = is_at (goal.at.node_line-requires-clause-light c).After-sum-sum in
+    omega (arith, is.weight, (weighs_within c.args.ledger.now c.in-Some.place.now.path).1)
 
 pub returns-clause-each : goal.returns-clause-each
 returns-clause-each c =

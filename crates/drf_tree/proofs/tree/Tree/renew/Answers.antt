@@ -1,16 +1,6 @@
-use Rattle.std.specs.Prelude.{◌≡◌, ◌<◌, ℕ, Bool, List, length, slice_index_or, slice_set, true}
-use Rattle.std.proofs.Common.{ap, arith, refl, subst, sym, ◌∙◌}
+use Rattle.std.proofs.Common.{ap, arith, refl, subst, sym, ◌∙◌, ◌≡◌, ◌<◌, ℕ, Bool, List, length, slice_index_or, slice_set, true}
 use Rattle.std.proofs.lemmas.Option.{slice_get_read}
-use Rattle.drf_bundle.specs.declared.quantities.Entry.{Entry}
-use Rattle.drf_sorter.specs.Content.{Content}
-use Rattle.drf_sorter.specs.Plain.{plain_content}
-use Rattle.drf_tree.specs.declared.family.Child.{Child}
-use Rattle.drf_tree.specs.declared.node.Sum.{Sum}
-use Rattle.drf_tree.specs.declared.tree.Tree.{Tree}
-use Rattle.drf_tree.specs.Changes.{IsShapeOf}
-use Rattle.drf_tree.specs.Family.{IsRenewed}
-use Rattle.drf_tree.specs.Nodes.{children_at, is_live, parent_at, path_at}
-use Rattle.drf_tree.specs.Tree.{AreRight, AreSums, IsShape, IsSumOf}
+use Rattle.drf_tree.proofs.Names.{Entry, Content, plain_content, Child, Sum, Tree, IsShapeOf, IsRenewed, children_at, is_live, parent_at, path_at, AreRight, AreSums, IsShape, IsSumOf}
 use Rattle.drf_tree.proofs.shape.Node.{family_read, live_within, node_within}
 use Rattle.drf_tree.proofs.keys.Renew.{IsRepaired, can_key, plain_weighs, renewed}
 use Rattle.drf_tree.proofs.tree.Tree.renew.Goals as goal

@@ -1,7 +1,5 @@
 use Rattle.std.proofs.Common.{◌≡◌, length}
-use Rattle.drf_sorter.specs.Plain.{plain_content}
-use Rattle.drf_tree.specs.Marks.{Spends}
-use Rattle.drf_tree.specs.Tree.{IsTreeOf}
+use Rattle.drf_tree.proofs.Names.{plain_content, Spends, IsTreeOf}
 use Rattle.drf_tree.proofs.tree.Tree.renew_all.Given as goal
 
 abbrev pub invariant-loop-node : goal.invariant-loop-node

@@ -1,11 +1,7 @@
-use Rattle.std.proofs.Common.{ap, subst, sym, ◌∙◌, ◌≡◌}
-use Rattle.std.specs.Prelude.{List, map}
+use Rattle.std.proofs.Common.{ap, subst, sym, ◌∙◌, ◌≡◌, List, map}
 use Rattle.std.specs.List.{AllByRecursion, IsDistinct}
 use Rattle.std.specs.List.Sorted.{IsPermutation}
-use Rattle.drf_sorter.specs.Plain.{plain_content}
-use Rattle.drf_tree.specs.declared.family.Child.{Child}
-use Rattle.drf_tree.specs.Family.{AreFresh, CanKeyAt, has_child, is_same, known, numbers_of}
-use Rattle.drf_tree.specs.Nodes.{children_at}
+use Rattle.drf_tree.proofs.Names.{plain_content, Child, AreFresh, CanKeyAt, has_child, is_same, known, numbers_of, children_at}
 use Rattle.drf_tree.proofs.shape.Node.{family_read}
 use Rattle.drf_tree.proofs.keys.Renew.{plain_weighs}
 use Rattle.drf_tree.proofs.keys.Repair.{can_key_all, numbers_once, repaired}

@@ -1,16 +1,9 @@
-use Rattle.std.specs.Prelude.{◌≡◌, ◌+◌, ℕ, Bool, false, true, List, ◌⊎◌, length, slice_index_or, slice_set}
-use Rattle.std.proofs.Common.{ap, arith, inl, inr, sym, ◌∙◌}
+use Rattle.std.proofs.Common.{refl, ap, arith, inl, inr, sym, ◌∙◌, ◌≡◌, ◌+◌, ℕ, Bool, false, true, List, ◌⊎◌, length, slice_index_or, slice_set, get_or-set_other, length-set}
 use Rattle.std.proofs.lemmas.Bool.{cases_eq, false≢true}
-use Rattle.std.proofs.lemmas.List.{get_or-set_other, length-set}
-use Rattle.drf_bundle.specs.ListLaws.{each_from}
-use Rattle.drf_sorter.specs.Content.{Content}
-use Rattle.drf_sorter.specs.Plain.{plain_content}
-use Rattle.drf_tree.specs.declared.tree.Tree.{Tree}
-use Rattle.drf_tree.specs.Marks.{Flags, marked_in}
-use Rattle.drf_tree.specs.Nodes.{children_at}
-use Rattle.drf_tree.specs.Tree.{IsMarkedOrRight, IsTreeBut, IsTreeOf}
+use Rattle.drf_tree.proofs.Names.{each_from, Content, plain_content, Tree, Flags, marked_in, children_at, IsMarkedOrRight, IsTreeBut, IsTreeOf}
+use Rattle.drf_tree.proofs.change.Tree.{shape_again}
 use Rattle.drf_tree.proofs.marks.Flags.{down_at, marked_less, renewed_one, spends-both}
-use Rattle.drf_tree.proofs.shape.Node.{flags_changed, live_within}
+use Rattle.drf_tree.proofs.shape.Node.{live_within}
 use Rattle.drf_tree.proofs.tree.Tree.repair.Goals as goal
 
 module _ (content : Content) (tree : Tree) (of : IsTreeOf content tree) (marks : Flags) where
@@ -22,7 +15,7 @@ module _ (content : Content) (tree : Tree) (of : IsTreeOf content tree) (marks :
   one_down node taken = record {
     paths = of.paths;
     distinct = of.distinct;
-    shape = flags_changed tree of.shape marks.stale (ap length taken ∙ length-set stale node false ∙ of.shape.stale_long)
+    shape = shape_again tree.places.items tree.families.items stale marks.stale tree.sums.items tree.sums.items of.shape (ap length taken ∙ length-set stale node false) refl
         (λ i up. elim (cases_eq i node) [
           | inl same ↦
               absurd (false≢true (sym (down_at stale node i same) ∙ ap (λ (fs : List Bool). slice_index_or fs i false) (sym taken) ∙ up))

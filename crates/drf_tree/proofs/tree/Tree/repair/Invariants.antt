@@ -1,7 +1,5 @@
 use Rattle.std.proofs.Common.{◌≡◌}
-use Rattle.drf_sorter.specs.Plain.{plain_content}
-use Rattle.drf_tree.specs.Marks.{Spends, marked_in}
-use Rattle.drf_tree.specs.Tree.{IsTreeOf}
+use Rattle.drf_tree.proofs.Names.{plain_content, Spends, marked_in, IsTreeOf}
 use Rattle.drf_tree.proofs.tree.Tree.repair.Given as goal
 
 abbrev pub invariant-loop-node : goal.invariant-loop-node

@@ -1,31 +1,25 @@
-use Rattle.std.specs.Prelude.{◌≢◌, ◌<◌, ℕ, Err, Ok, OnErr, Result, length, slice_set}
-use Rattle.std.proofs.Common.{◌≡◌, List, true, refl, sym, ap, subst, ◌∙◌, arith}
-use Rattle.drf_role.specs.Path.{Path}
-use Rattle.drf_tree.specs.declared.family.Child.{Child}
-use Rattle.drf_tree.specs.declared.node.Place.{Place}
-use Rattle.drf_tree.specs.declared.tree.Tree.{Tree}
-use Rattle.drf_tree.specs.Changes.{IsOneLonger, IsShapeOf}
-use Rattle.drf_tree.specs.Family.{IsWith}
-use Rattle.drf_tree.specs.Nodes.{is_live, is_node, path_at, place_at}
+use Rattle.std.proofs.Common.{◌≡◌, List, refl, sym, ap, subst, ◌∙◌, arith, ◌<◌, ℕ, Err, Ok, OnErr, Result, length, slice_set}
+use Rattle.drf_tree.proofs.Names.{Child, Place, IsShapeOf, IsWith, is_node, place_at}
 use Rattle.drf_tree.proofs.shape.Node.{family_read, node_within}
 use Rattle.drf_tree.proofs.growth.Tidy.{one_more}
 use Rattle.drf_tree.proofs.growth.Sprout.{IsReady, counted_shape, counted_tree, kept_tree, ready_seen, sprout_tree}
+use Rattle.drf_tree.proofs.tree.Tree.sprout.Goals.{In_ok-child}
 use Rattle.drf_tree.proofs.tree.Tree.sprout.Goals as goal
 
 -- what was asked of the tree holds after a number was found and a key was made
-ready_now : (old mid now : Tree) (parent : ℕ) (path : Path) → ((i : ℕ) → place_at mid.places.items i ≡ place_at old.places.items i)
-    → now.places ≡ mid.places → is_node old.places.items parent ≡ true → IsOneLonger (path_at old.places.items parent) path
-    → ((i : ℕ) → is_live old.places.items i ≡ true → path_at old.places.items i ≢ path)
-    → IsReady now.places.items parent path
-ready_now old mid now parent path at same there longer missing =
-    ready_seen old.places.items now.places.items parent path (λ i. ap (λ ps. place_at ps.items i) same ∙ at i)
-    (record { there = there; longer = longer; missing = missing })
+ready_at : (c : In_ok-child) → IsReady c.first_child.new.self.places.items c.args.parent c.args.path
+ready_at c =
+    ready_seen c.args.self.now.places.items _ c.args.parent c.args.path (λ i. ap (λ ps. place_at ps.items i) c.in_ok-child.ensures.places ∙ c.in_ok-node.ensures.places i)
+    (record { there = c.requires.parent; longer = c.requires.path; missing = c.requires.missing })
+
+shape_at : (c : In_ok-child) → IsShapeOf c.first_child.new.self
+shape_at c =
+    let e = c.in_ok-child.ensures in
+    counted_shape c.vacant.new.self c.first_child.new.self e.places e.sums e.families e.stale c.in_ok-node.ensures.shape
 
 -- the node above has a family
-family_within : (tree : Tree) → IsShapeOf tree → (parent : ℕ) (path : Path) → IsReady tree.places.items parent path
-    → parent < length tree.families.items
-family_within tree shape parent path ready =
-    omega (arith, node_within tree shape parent ready.there, shape.families_long)
+below_at : (c : In_ok-child) → c.args.parent < length c.first_child.new.self.families.items
+below_at c = omega (arith, node_within c.first_child.new.self (shape_at c) c.args.parent (ready_at c).there, (shape_at c).families_long)
 
 pub returns-in_err-child-clause-tree : goal.returns-in_err-child-clause-tree
 returns-in_err-child-clause-tree c content of weighs nobody =
@@ -52,33 +46,18 @@ returns-in_err-insert-clause-err c =
     on_err _ _ same
 
 pub index_mut-requires : goal.index_mut-requires
-index_mut-requires c =
-    let e = c.in_ok-child.ensures in
-    let v = c.in_ok-node.ensures in
-    let mid = c.vacant.new.self in
-    let now = c.first_child.new.self in
-    let ready = ready_now c.args.self.now mid now c.args.parent c.args.path v.places e.places c.requires.parent c.requires.path
-    c.requires.missing in
-    omega (
-      arith,
-      family_within now (counted_shape mid now e.places e.sums e.families e.stale v.shape) c.args.parent c.args.path ready,
-    )
+index_mut-requires c = omega (arith, below_at (goal.at.index_mut-requires c).In_ok-child)
 
 pub returns-in_err-insert-clause-tree : goal.returns-in_err-insert-clause-tree
 returns-in_err-insert-clause-tree c content of weighs nobody =
     let e = c.in_ok-child.ensures in
     let v = c.in_ok-node.ensures in
-    let mid = c.vacant.new.self in
     let now = c.first_child.new.self in
-    let parent = c.args.parent in
-    let shape = counted_shape mid now e.places e.sums e.families e.stale v.shape in
-    let ready = ready_now c.args.self.now mid now parent c.args.path v.places e.places c.requires.parent c.requires.path
-    c.requires.missing in
-    let below = family_within now shape parent c.args.path ready in
-    kept_tree now _ parent c.insert.new.self shape below
-    (c.in_err-insert.ensures.err ∙ sym (family_read now.families.items parent c.index_mut.result.now below c.index_mut.ensures.value))
+    let b = (goal.at.returns-in_err-insert-clause-tree c).In_ok-child in
+    kept_tree now _ c.args.parent c.insert.new.self (shape_at b) (below_at b)
+    (c.in_err-insert.ensures.err ∙ sym (family_read now.families.items c.args.parent c.index_mut.result.now (below_at b) c.index_mut.ensures.value))
     refl refl refl refl content
-    (counted_tree mid now e.places e.sums e.families e.stale v.shape content (v.tree content of))
+    (counted_tree c.vacant.new.self now e.places e.sums e.families e.stale v.shape content (v.tree content of))
 
 pub index_mut-requires-2 : goal.index_mut-requires-2
 index_mut-requires-2 c =
@@ -97,24 +76,20 @@ pub returns-clause-tree : goal.returns-clause-tree
 returns-clause-tree c content of weighs nobody =
     let e = c.in_ok-child.ensures in
     let v = c.in_ok-node.ensures in
-    let mid = c.vacant.new.self in
     let now = c.first_child.new.self in
     let parent = c.args.parent in
     let node = c.in_ok-node.node in
     let child : Child = c.in_ok-child.child in
     let place : Place = record { path = c.args.path; parent = parent; client = c.args.client } in
-    let shape = counted_shape mid now e.places e.sums e.families e.stale v.shape in
-    let ready = ready_now c.args.self.now mid now parent c.args.path v.places e.places c.requires.parent c.requires.path
-    c.requires.missing in
-    let below = family_within now shape parent c.args.path ready in
+    let b = (goal.at.returns-clause-tree c).In_ok-child in
     let with =
     subst (λ (cs : List Child). IsWith child cs c.insert.new.self.children.items)
-    (sym (family_read now.families.items parent c.index_mut.result.now below c.index_mut.ensures.value)) c.in_ok-insert.ensures.ok in
-    sprout_tree now _ shape node parent place child c.insert.new.self c.args.weight
+    (sym (family_read now.families.items parent c.index_mut.result.now (below_at b) c.index_mut.ensures.value)) c.in_ok-insert.ensures.ok in
+    sprout_tree now _ (shape_at b) node parent place child c.insert.new.self c.args.weight
     (omega (arith, v.free.there, ap (λ ps. length ps.items) e.places)) (ap (λ ps. is_node ps.items node) e.places ∙ v.free.free)
-    ready c.requires.right c.requires.client c.requires.other refl e.node e.key with c.put.ensures refl refl
+    (ready_at b) c.requires.right c.requires.client c.requires.other refl e.node e.key with c.put.ensures refl refl
     (ap (slice_set now.sums.items node) c.of_none.ensures) content
-    (counted_tree mid now e.places e.sums e.families e.stale v.shape content (v.tree content of))
+    (counted_tree c.vacant.new.self now e.places e.sums e.families e.stale v.shape content (v.tree content of))
     weighs nobody
 
 pub returns-clause-one : goal.returns-clause-one

@@ -1,9 +1,5 @@
-use Rattle.std.proofs.Common.{ap, subst, sym, ◌∙◌}
-use Rattle.std.specs.Prelude.{OnOk}
-use Rattle.drf_role.specs.Path.{IsNodePath, Path}
-use Rattle.drf_tree.specs.Tidy.{IsOneMore}
-use Rattle.drf_sorter.specs.Content.{has_node}
-use Rattle.drf_sorter.specs.Plain.{plain_content}
+use Rattle.std.proofs.Common.{ap, subst, sym, ◌∙◌, OnOk}
+use Rattle.drf_tree.proofs.Names.{IsNodePath, Path, IsOneMore, has_node, plain_content}
 use Rattle.drf_tree.proofs.growth.Grow.{front_right}
 use Rattle.drf_tree.proofs.tree.Tree.sprout_for.Goals as goal
 

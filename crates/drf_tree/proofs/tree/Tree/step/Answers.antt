@@ -1,6 +1,5 @@
 use Rattle.std.proofs.Common.{[], ◌++◌, ◌∷◌, ap, refl, sym, ◌∙◌}
-use Rattle.drf_role.specs.Path.{Path}
-use Rattle.drf_sorter.specs.Plain.{plain_content}
+use Rattle.drf_tree.proofs.Names.{Path, plain_content}
 use Rattle.drf_tree.proofs.shape.Find.{take_one_more}
 use Rattle.drf_tree.proofs.growth.Grow.{step_longer, step_missing, step_nobody}
 use Rattle.drf_tree.proofs.tree.Tree.step.Goals as goal

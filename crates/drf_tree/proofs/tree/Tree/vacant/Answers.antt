@@ -1,5 +1,4 @@
-use Rattle.std.specs.Prelude.{List, Option}
-use Rattle.std.proofs.Common.{[], arith, subst, sym}
+use Rattle.std.proofs.Common.{[], arith, subst, sym, List, Option}
 use Rattle.drf_tree.specs.declared.node.Place.{Place}
 use Rattle.drf_tree.specs.Places.{AreTaken}
 use Rattle.drf_tree.proofs.growth.Place.{taken_pushed}

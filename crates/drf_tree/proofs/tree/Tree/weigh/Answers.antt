@@ -1,5 +1,4 @@
-use Rattle.std.specs.Prelude.{length}
-use Rattle.std.proofs.Common.{arith, refl}
+use Rattle.std.proofs.Common.{arith, refl, length}
 use Rattle.std.proofs.lemmas.Option.{slice_get_read}
 use Rattle.drf_tree.proofs.shape.Node.{live_within}
 use Rattle.drf_tree.proofs.change.Weigh.{weighed_tree}

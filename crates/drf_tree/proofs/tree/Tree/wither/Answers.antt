@@ -1,12 +1,6 @@
-use Rattle.std.specs.Prelude.{ℕ, slice_index_or}
 use Rattle.std.specs.Vec.{with_item}
-use Rattle.std.proofs.Common.{◌≡◌, refl, sym, subst, arith, true, List}
-use Rattle.drf_tree.specs.declared.family.Child.{Child}
-use Rattle.drf_tree.specs.declared.family.Family.{Family}
-use Rattle.drf_tree.specs.Family.{IsGone}
-use Rattle.drf_tree.specs.declared.tree.Tree.{Tree}
-use Rattle.drf_tree.specs.Changes.{IsShapeOf}
-use Rattle.drf_tree.specs.Nodes.{children_at, is_live, parent_at}
+use Rattle.std.proofs.Common.{◌≡◌, refl, sym, subst, arith, true, List, ℕ, slice_index_or}
+use Rattle.drf_tree.proofs.Names.{Child, Family, IsGone, Tree, IsShapeOf, children_at, is_live, parent_at}
 use Rattle.drf_tree.proofs.growth.Bare.{wither_shape, wither_tree}
 use Rattle.drf_tree.proofs.shape.Node.{family_read, live_within, node_within}
 use Rattle.drf_tree.proofs.tree.Tree.wither.Goals as goal

@@ -1,20 +1,9 @@
-use Rattle.std.specs.Prelude.{◌≡◌, ◌<◌, ◌-◌, ◌∷◌, ◌++◌, [], ℕ, List, Option, None, Some, length, option_copied, slice_get, slice_index_or, suc, take}
 use Rattle.std.specs.Option.{option_map_or}
-use Rattle.std.proofs.Common.{ap, arith, refl, subst, sym, ◌∙◌}
+use Rattle.std.proofs.Common.{ap, arith, refl, subst, sym, ◌∙◌, ◌≡◌, ◌<◌, ◌-◌, ◌∷◌, ◌++◌, [], ℕ, List, Option, None, Some, length, option_copied, slice_get, slice_index_or, suc, take}
 use Rattle.std.proofs.lemmas.List.{drop_all, nil_from_length}
 use Rattle.std.proofs.lemmas.Option.{same_Some, slice_get_read}
-use Rattle.drf_role.specs.Path.{Path}
+use Rattle.drf_tree.proofs.Names.{Path, Content, Family, Place, Tree, Frame, IsShapeOf, numbers_of, client_at, path_at, place_at, AreFrames, IsAtClient, IsSettled, frames_queue, IsTreeOf}
 use Rattle.drf_row_laws.specs.EndingLaws.{split_at}
-use Rattle.drf_sorter.specs.Content.{Content}
-use Rattle.drf_tree.specs.declared.family.Family.{Family}
-use Rattle.drf_tree.specs.declared.node.Place.{Place}
-use Rattle.drf_tree.specs.declared.tree.Tree.{Tree}
-use Rattle.drf_tree.specs.declared.walk.Frame.{Frame}
-use Rattle.drf_tree.specs.Changes.{IsShapeOf}
-use Rattle.drf_tree.specs.Family.{numbers_of}
-use Rattle.drf_tree.specs.Nodes.{client_at, path_at, place_at}
-use Rattle.drf_tree.specs.Queue.{AreFrames, IsAtClient, IsSettled, frames_queue}
-use Rattle.drf_tree.specs.Tree.{IsTreeOf}
 use Rattle.drf_tree.proofs.shape.Node.{read_at}
 use Rattle.drf_tree.proofs.walk.Step.{first_is, frames_last, nobody_left, settled_last}
 use Rattle.drf_tree.proofs.walk.Walk.first.Goals as goal

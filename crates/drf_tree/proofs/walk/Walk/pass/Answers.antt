@@ -1,13 +1,7 @@
-use Rattle.std.specs.Prelude.{◌≡◌, ◌∷◌, ◌++◌, [], List, drop, length}
-use Rattle.std.proofs.Common.{ap, arith, subst, sym, ◌∙◌}
+use Rattle.std.proofs.Common.{ap, arith, subst, sym, ◌∙◌, ◌≡◌, ◌∷◌, ◌++◌, [], List, drop, length}
 use Rattle.std.proofs.lemmas.List.{append-nil, nil_from_length}
-use Rattle.drf_sorter.specs.Content.{Content}
-use Rattle.drf_tree.specs.declared.tree.Tree.{Tree}
-use Rattle.drf_tree.specs.declared.walk.Frame.{Frame}
+use Rattle.drf_tree.proofs.Names.{Content, Tree, Frame, IsShapeOf, AreFrames, IsSettled, frames_queue, onward, IsTreeOf}
 use Rattle.drf_tree.specs.declared.walk.Walk.{Walk}
-use Rattle.drf_tree.specs.Changes.{IsShapeOf}
-use Rattle.drf_tree.specs.Queue.{AreFrames, IsSettled, frames_queue, onward}
-use Rattle.drf_tree.specs.Tree.{IsTreeOf}
 use Rattle.drf_tree.proofs.walk.Step.{frames_onward, nobody_left, passed_on}
 use Rattle.drf_tree.proofs.walk.Walk.pass.Goals.{in-Some, in_default}
 use Rattle.drf_tree.proofs.walk.Walk.pass.Goals as goal

@@ -1,5 +1,4 @@
-use Rattle.std.specs.Prelude.{drop, take}
-use Rattle.std.proofs.Common.{ap, rules, subst, sym, take-append-drop, ◌∙◌}
+use Rattle.std.proofs.Common.{ap, rules, subst, sym, take-append-drop, ◌∙◌, drop, take}
 use Rattle.drf_sorter.specs.Passed.{IsPassedFront}
 use Rattle.drf_sorter.specs.laws.PassedLaws.{one_is_front}
 use Rattle.drf_tree.specs.Queue.{AreFrames, frames_queue}

@@ -1,12 +1,6 @@
-use Rattle.std.specs.Prelude.{◌≡◌, ◌∷◌, ◌++◌, [], ℕ, List}
-use Rattle.std.proofs.Common.{ap, subst, sym, ◌∙◌}
-use Rattle.drf_sorter.specs.Content.{Content}
-use Rattle.drf_tree.specs.declared.tree.Tree.{Tree}
-use Rattle.drf_tree.specs.declared.walk.Frame.{Frame}
+use Rattle.std.proofs.Common.{ap, subst, sym, ◌∙◌, ◌≡◌, ◌∷◌, ◌++◌, [], ℕ, List}
+use Rattle.drf_tree.proofs.Names.{Content, Tree, Frame, IsShapeOf, AreFrames, IsNext, IsSettled, onward, IsTreeOf}
 use Rattle.drf_tree.specs.declared.walk.Next.TheVariants.{Client, End, Nobody, Node}
-use Rattle.drf_tree.specs.Changes.{IsShapeOf}
-use Rattle.drf_tree.specs.Queue.{AreFrames, IsNext, IsSettled, onward}
-use Rattle.drf_tree.specs.Tree.{IsTreeOf}
 use Rattle.drf_tree.proofs.walk.Step.{IsStep, settled_at, step_down, step_end, step_nobody}
 use Rattle.drf_tree.proofs.walk.Walk.settle.Goals as goal
 

@@ -1,8 +1,5 @@
 use Rattle.std.proofs.Common.{◌≡◌}
-use Rattle.drf_sorter.specs.Content.{Content}
-use Rattle.drf_tree.specs.Nodes.{family_at}
-use Rattle.drf_tree.specs.Queue.{AreFrames, frames_queue, most_parts}
-use Rattle.drf_tree.specs.Tree.{IsTreeOf}
+use Rattle.drf_tree.proofs.Names.{Content, family_at, AreFrames, frames_queue, most_parts, IsTreeOf}
 use Rattle.drf_tree.proofs.walk.Frames.{left}
 use Rattle.drf_tree.proofs.walk.Walk.settle.Given as goal
 

@@ -1,7 +1,5 @@
-use Rattle.std.specs.Prelude.{◌∷◌, ◌++◌, [], List}
-use Rattle.std.proofs.Common.{ap, ◌∙◌}
-use Rattle.drf_tree.specs.declared.walk.Frame.{Frame}
-use Rattle.drf_tree.specs.Queue.{frames_queue}
+use Rattle.std.proofs.Common.{ap, ◌∙◌, ◌∷◌, ◌++◌, [], List}
+use Rattle.drf_tree.proofs.Names.{Frame, frames_queue}
 use Rattle.drf_tree.proofs.walk.Step.{top, top_queue}
 use Rattle.drf_tree.proofs.walk.Walk.start.Goals as goal
 

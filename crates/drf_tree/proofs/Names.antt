@@ -11,7 +11,7 @@ pub use Rattle.drf_sorter.specs.Content.{Content, HasNodes, Ranked, activated, a
 pub use Rattle.drf_sorter.specs.Keys.{Key, key_by, key_cmp, key_of}
 pub use Rattle.drf_sorter.specs.Plain.{plain_content, ranked}
 pub use Rattle.drf_tree.specs.Changes.{CanLower, CanLowerAt, HasRoomFor, IsKeyOfNothing, IsLeast, IsLowerable, IsOneLonger, IsSameTree, IsShapeOf, NamesFew, NamesFewOnWay, OnWay, is_bare_at, lowered}
-pub use Rattle.drf_tree.specs.Family.{AreFresh, CanKey, CanKeyAt, IsFresh, IsGone, IsKeyed, IsRenewed, IsSameKey, IsWith, WasRight, are_sorted, child_name, has_child, is_before, is_not_behind, is_same, key_for, known, numbers_of, seen}
+pub use Rattle.drf_tree.specs.Family.{AreFresh, CanKey, CanKeyAt, IsFresh, IsGone, IsKeyed, IsRenewed, IsSameKey, IsWith, WasRight, are_sorted, child_name, has_child, is_before, is_not_behind, is_same, key_for, known, numbers_of, seen, without_place}
 pub use Rattle.drf_tree.specs.Marks.{AreWaiting, Defers, Flags, Spends, marked_in, work_of}
 pub use Rattle.drf_tree.specs.Nodes.{children_at, client_at, family_at, holds_any, is_holding, is_live, is_node, last_part, parent_at, path_at, place_at, seen_in}
 pub use Rattle.drf_tree.specs.Queue.{AreFrames, AreNested, IsAtClient, IsNext, IsSettled, active_at, frames_queue, most_parts, onward, pending}

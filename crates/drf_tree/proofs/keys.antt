@@ -1,5 +1,6 @@
 -- Siblings in the order of their keys, and keys that are computed anew.
 pub mod Siblings
+pub mod Turned
 pub mod Order
 pub mod Renew
 pub mod Repair

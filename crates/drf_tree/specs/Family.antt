@@ -1,5 +1,5 @@
 -- Siblings in the order of their keys.
-use Rattle.std.specs.Prelude.{◌≡◌, ◌≤◌, ◌<◌, ◌^◌, ℕ, ◌==◌, Bool, false, true, not, ◌&&◌, List, [], ◌∷◌, ◌++◌, ◌⊎◌, Some, map, slice_get, slice_index_or}
+use Rattle.std.specs.Prelude.{◌≡◌, ◌≤◌, ◌<◌, ◌^◌, ℕ, ◌+◌, ◌==◌, Bool, false, true, not, ◌&&◌, List, [], ◌∷◌, ◌++◌, ◌⊎◌, Some, map, drop, take, slice_get, slice_index_or}
 use Rattle.std.specs.declared.cmp.Ordering.TheVariants.{Equal}
 use Rattle.std.specs.List.{AllByRecursion, list_all, list_any}
 use Rattle.std.specs.Ordering.{is_lt}
@@ -43,6 +43,10 @@ pub record IsWith (child : Child) (less more : List Child) : Type 0 where
   pub after : List Child
   pub less_is : less ≡ before ++ after
   pub more_is : more ≡ before ++ child ∷ after
+
+-- all but the child at a place
+abbrev pub without_place : ℕ → List Child → List Child
+without_place at children = take at children ++ drop (at + 1) children
 
 -- a child of that number is gone
 pub record IsGone (node : ℕ) (old new : List Child) : Type 0 where

@@ -6,7 +6,7 @@ ghost use Rattle.std.specs.String.{string_bytes};
 ghost use Rattle.std.specs.Vec.{vec_capacity, vec_len};
 ghost use Rattle.drf_role.specs.Text.{same_text};
 ghost use Rattle.drf_sorter.specs.Keys.{key_by};
-ghost use Rattle.drf_tree.specs.Family.{AreCopies, AreFresh, CanKey, CanKeyAt, IsKeyed, are_sorted, child_name, has_child, is_before, key_for, known, is_same, numbers_of};
+ghost use Rattle.drf_tree.specs.Family.{AreCopies, AreFresh, CanKey, CanKeyAt, IsKeyed, IsWith, are_sorted, child_name, has_child, is_before, key_for, known, is_same, numbers_of, without_place};
 ghost use Rattle.drf_tree.specs.Marks.{Spends};
 
 use crate::marks::Marks;
@@ -146,11 +146,9 @@ impl Family {
         ensures no_less { marks.old.made ≤ marks.new.made }
         ensures stale { marks.new.stale ≡ marks.old.stale }
     {
-        let mut child = self.take(node);
-        marks.renew(&mut child.key, total, sum);
-        let place = place_for(&self.children, &child.key);
-        // The child that was taken out left its room.
-        self.children.insert(place, child).unwrap();
+        let at = place_of(&self.children, node).unwrap();
+        marks.renew(&mut self.children[at].key, total, sum);
+        turn_to_place(&mut self.children, at);
     }
 
     /// Makes each key anew that may be stale, and puts the children into their places.
@@ -220,6 +218,37 @@ fn sort(children: &mut Vec<Child>)
 {
     if children.len() > 1 {
         children.sort_unstable();
+    }
+}
+
+/// How many of the others, which stand in order, stand before the child at a place.
+fn rank_of(children: &[Child], at: usize) -> usize
+    requires within { at < length children.now }
+    requires sorted { IsTrue (are_sorted (without_place at children.now)) }
+    ensures bound { result < length children.now }
+    ensures before { (d : Child) → list_all (λ c. is_before c.key (slice_index_or children.now at d).key) (take result (without_place at children.now)) ≡ true }
+    ensures after { (d : Child) → list_all (λ c. not (is_before c.key (slice_index_or children.now at d).key)) (drop result (without_place at children.now)) ≡ true }
+{
+    let key = &children[at].key;
+    let front = place_for(&children[..at], key);
+    if front < at {
+        return front;
+    }
+    at + place_for(&children[at + 1..], key)
+}
+
+/// Moves the child at a place, whose key is another now, to where it belongs among the others, which stand in order.
+fn turn_to_place(children: &mut [Child], at: usize)
+    requires within { at < length children.old }
+    requires sorted { IsTrue (are_sorted (without_place at children.old)) }
+    ensures sorted { IsTrue (are_sorted children.new) }
+    ensures put { (d : Child) → IsWith (slice_index_or children.old at d) (without_place at children.old) children.new }
+{
+    let place = rank_of(children, at);
+    if place < at {
+        children[place..at + 1].rotate_right(1);
+    } else {
+        children[at..place + 1].rotate_left(1);
     }
 }
 

@@ -51,7 +51,7 @@ list_all-remove p (y ∷ xs) ys x all =
     let parts = and_parts (p y) (list_all p (xs ++ x ∷ ys)) all in
     and_from (p y) (list_all p (xs ++ ys)) parts.0 (list_all-remove p xs ys x parts.1)
 
-list_all-at : {X : Type 0} (p : X → Bool) (xs : List X) (i : ℕ) (d : X) → i < length xs → list_all p xs ≡ true
+pub list_all-at : {X : Type 0} (p : X → Bool) (xs : List X) (i : ℕ) (d : X) → i < length xs → list_all p xs ≡ true
     → p (slice_index_or xs i d) ≡ true
 list_all-at p [] i d below all = absurd (omega (arith, below))
 list_all-at p (x ∷ xs) zero d below all = (and_parts (p x) (list_all p xs) all).0

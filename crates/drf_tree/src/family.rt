@@ -3,7 +3,6 @@ ghost use Rattle.std.specs.Prelude.{◌≡◌, ◌≢◌, ◌==◌, ◌≤◌, �
 ghost use Rattle.std.specs.List.{AllByRecursion, IsDistinct, list_all, position};
 ghost use Rattle.std.specs.List.Sorted.{IsPermutation};
 ghost use Rattle.std.specs.String.{string_bytes};
-ghost use Rattle.std.specs.Vec.{vec_capacity, vec_len};
 ghost use Rattle.drf_role.specs.Text.{same_text};
 ghost use Rattle.drf_sorter.specs.Keys.{key_by};
 ghost use Rattle.drf_tree.specs.Family.{AreCopies, AreFresh, CanKey, CanKeyAt, IsKeyed, IsWith, are_sorted, child_name, has_child, is_before, key_for, known, is_same, numbers_of, without_place};
@@ -96,7 +95,7 @@ pub(crate) struct Family {
 }
 
 impl Family {
-    ghost use Rattle.drf_tree.specs.Family.{IsWith, IsRenewed, IsGone};
+    ghost use Rattle.drf_tree.specs.Family.{IsRenewed, IsGone};
 
     pub(crate) fn new(alloc: Global) -> Family
         ensures { result.children.items ≡ [] }
@@ -134,7 +133,8 @@ impl Family {
         requires { has_child node self.old.children.items ≡ true }
         ensures { IsGone node self.old.children.items self.new.children.items }
     {
-        let _ = self.take(node);
+        let place = place_of(&self.children, node).unwrap();
+        self.children.remove(place);
     }
 
     /// Makes the key of a child anew from its sum, and puts the child into its place.
@@ -165,17 +165,6 @@ impl Family {
     {
         renew_keys(&mut self.children, marks, total, sums);
         sort(&mut self.children);
-    }
-
-    /// Takes a child out. Its room stays.
-    fn take(&mut self, node: usize) -> Child
-        requires { has_child node self.old.children.items ≡ true }
-        ensures node { result.node ≡ node }
-        ensures gone { IsWith result self.new.children.items self.old.children.items }
-        ensures room { vec_len self.new.children < vec_capacity self.new.children }
-    {
-        let place = place_of(&self.children, node).unwrap();
-        self.children.remove(place)
     }
 
     pub(crate) fn copy(&self) -> Result<Family, AllocError>
@@ -221,7 +210,7 @@ fn sort(children: &mut Vec<Child>)
     }
 }
 
-/// How many of the others, which stand in order, stand before the child at a place.
+/// How many of the others, which stand in order, belong before the child at a place.
 fn rank_of(children: &[Child], at: usize) -> usize
     requires within { at < length children.now }
     requires sorted { IsTrue (are_sorted (without_place at children.now)) }

@@ -2,7 +2,7 @@ use Rattle.std.proofs.Common.{◌==◌, ap, ◌∙◌}
 use Rattle.std.specs.List.{position}
 use Rattle.drf_tree.proofs.Names.{Child, are_sorted}
 use Rattle.drf_tree.proofs.keys.Siblings.{child_found, found_place, sorted_remove, without_child}
-use Rattle.drf_tree.proofs.family.Family.take.Goals as goal
+use Rattle.drf_tree.proofs.family.Family.remove.Goals as goal
 
 pub unwrap-place-requires : goal.unwrap-place-requires
 unwrap-place-requires c =
@@ -21,17 +21,15 @@ invariant_of-self c =
           ∙ sorted_remove children c.remove.result c.unwrap-place.result found.0 c.args.self.now.sorted;
     }
 
-pub returns-clause-node : goal.returns-clause-node
-returns-clause-node c =
-    (child_found c.args.node c.args.self.now.children.items c.place_of.result c.unwrap-place.result c.remove.result
-    (c.place_of.ensures ∙ ap (position (λ (x : Child). x.node == c.args.node)) c.deref.ensures.value)
-    c.unwrap-place.ensures c.remove.ensures.value).1
-
-pub returns-clause-gone : goal.returns-clause-gone
-returns-clause-gone c =
+pub returns : goal.returns
+returns c =
     let children = c.args.self.now.children.items in
     let found =
     child_found c.args.node children c.place_of.result c.unwrap-place.result c.remove.result
     (c.place_of.ensures ∙ ap (position (λ (x : Child). x.node == c.args.node)) c.deref.ensures.value)
     c.unwrap-place.ensures c.remove.ensures.value in
-    rw c.remove.ensures.items (without_child children c.remove.result c.unwrap-place.result found.0)
+    record {
+      child = c.remove.result;
+      node_is = found.1;
+      gone = rw c.remove.ensures.items (without_child children c.remove.result c.unwrap-place.result found.0);
+    }

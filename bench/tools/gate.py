@@ -26,6 +26,7 @@ PARTS = ["proof", "edits", "tests", "runs"]
 
 
 def load_rt():
+    sys.dont_write_bytecode = True
     loader = importlib.machinery.SourceFileLoader("rt", toolchain()[0])
     rt = importlib.util.module_from_spec(importlib.util.spec_from_loader("rt", loader))
     sys.modules["rt"] = rt

@@ -1,14 +1,15 @@
 -- Which bytes need an escape, many at once.
-use Rattle.std.proofs.Common.{◌≡◌, ℕ, zero, suc, ◌+◌, ◌*◌, ◌%◌, ◌^◌, ◌<◌, ◌≤◌, ltb, Bool, true, false, not, cond, eqb, T, List, [], ◌∷◌, ◌&&◌, map, length, drop, ◌⊎◌, inl, inr, refl, sym, ap, ap₂, ◌∙◌, subst, arith, w8, Fits, not-suc-le-zero}
-use Rattle.std.proofs.lemmas.Simd.{mask_l-mod, chunk-drop}
+use Rattle.std.proofs.Common.{◌≡◌, ℕ, zero, suc, ◌+◌, ◌*◌, ◌%◌, ◌^◌, ◌<◌, ◌≤◌, ltb, Bool, true, false, not, cond, eqb, T, get_or, List, [], ◌∷◌, ◌&&◌, map, length, drop, ◌⊎◌, inl, inr, refl, sym, ap, ap₂, ◌∙◌, subst, arith, w8, Fits, not-suc-le-zero}
+use Rattle.std.proofs.lemmas.Simd.{mask_l-mod, chunk-drop, none_from_empty_mask, run_in_chunk_le, run_in_chunk_fails, trailing_mask_l, length-chunk}
 use Rattle.std.proofs.lemmas.List.{length-map}
 use Rattle.std.proofs.lemmas.List.Folds.{list_all-append}
 use Rattle.std.proofs.lemmas.Bool.{cases_order, eq-eqb, ne_eqb}
-use Rattle.std.specs.List.{list_all}
+use Rattle.std.specs.List.{list_all, prefix_len}
 use lib.Bits.{bit_or}
+use lib.Count.{count_trailing_zeros}
 use lib.Lanes.{zip2, mask_l, top, Each1, chunk}
 use Rattle.json.specs.Run.{is_stop}
-use Rattle.drf_lines.specs.Written.{is_plain_byte}
+use Rattle.drf_lines.specs.Written.{is_plain_byte, ArePlainFrom}
 
 -- ---- a fact of each of the 256 bytes, by computation
 
@@ -95,3 +96,38 @@ module _ (i n : ℕ) (bytes : List ℕ) where
   -- a bit: they are not plain
   pub one_stops : 0 < mask_l (map is_stop (chunk i n bytes)) → list_all is_plain_byte (drop i bytes) ≡ false
   one_stops some = parts ∙ ap (λ b. b && list_all is_plain_byte (drop (i + n) bytes)) (ne_eqb _ 0 (λ e. omega (arith, some, e)))
+
+-- ---- what holds of each place from one up to another
+
+module _ (P : ℕ → Type 0) (from : ℕ) where
+  pub none_between : (k : ℕ) → from ≤ k → k < from → P k
+  none_between k after before = absurd (omega (arith, after, before))
+
+  pub more_between : (i to : ℕ) → ((k : ℕ) → from ≤ k → k < i → P k) → ((k : ℕ) → i ≤ k → k < to → P k) → (k : ℕ) → from ≤ k → k < to → P k
+  more_between i to first next k after before = go (cases_order k i)
+    where
+      go : (k ≡ i) ⊎ ((k < i) ⊎ (i < k)) → P k
+      go (inl e) = next k (omega (arith, e)) before
+      go (inr (inl less)) = first k after less
+      go (inr (inr more)) = next k (omega (arith, more)) before
+
+  pub one_more_between : (i : ℕ) → ((k : ℕ) → from ≤ k → k < i → P k) → P i → (k : ℕ) → from ≤ k → k < i + 1 → P k
+  one_more_between i first here = more_between i (i + 1) first (λ k after before. let e : i ≡ k = omega (arith, after, before) in subst P e here)
+
+-- the bytes of a load without a bit are plain, and so are those before its first bit
+module _ (bytes : List ℕ) (i n : ℕ) (room : i + n ≤ length bytes) where
+  pub plain_where_none : mask_l (map is_stop (chunk i n bytes)) ≡ 0 → ArePlainFrom bytes i (i + n)
+  plain_where_none none k after before = plain_is (get_or bytes k 0) ∙ ap not (none_from_empty_mask is_stop bytes i n 0 room none k after before)
+
+  module _ (few : n ≤ 64) (some : 0 < mask_l (map is_stop (chunk i n bytes))) where
+    abbrev pub before_bit : ℕ
+    before_bit = count_trailing_zeros 64 (mask_l (map is_stop (chunk i n bytes)))
+
+    counted : before_bit ≡ prefix_len (λ x. not (is_stop x)) (chunk i n bytes)
+    counted = trailing_mask_l is_stop 64 (chunk i n bytes) (omega (arith, length-chunk i n bytes room)) some
+
+    pub bit_within : before_bit ≤ n
+    bit_within = run_in_chunk_le is_stop bytes i n before_bit 0 room counted
+
+    pub plain_before_bit : ArePlainFrom bytes i (i + before_bit)
+    plain_before_bit k after before = plain_is (get_or bytes k 0) ∙ ap not (run_in_chunk_fails is_stop bytes i n before_bit 0 room counted k after before)

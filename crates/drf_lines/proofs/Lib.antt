@@ -8,6 +8,7 @@ pub mod Ranges
 pub mod KeyCounts
 pub mod KeyStarts
 pub mod LineReads
+pub mod UsualSteps
 pub mod Meanings
 pub mod Texts
 pub mod EachIn

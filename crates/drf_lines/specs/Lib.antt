@@ -3,6 +3,7 @@ pub mod Words
 pub mod Resources
 pub mod Object
 pub mod LineValue
+pub mod Usual
 pub mod AgentEvents
 pub mod ReservationEvents
 pub mod FrameworkEvents

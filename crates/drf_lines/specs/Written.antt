@@ -1,6 +1,6 @@
 -- What a line's writer has to know of the texts that it puts between quotes, and what it leaves alone.
 use Rattle.std.specs.Io.{StartsWith}
-use Rattle.std.specs.Prelude.{◌≡◌, ℕ, List, ◌++◌, Bool, true, not, ◌&&◌, ◌==◌, nat_le, Result, OnOk}
+use Rattle.std.specs.Prelude.{◌≡◌, ◌<◌, ◌≤◌, ℕ, List, ◌++◌, get_or, Bool, true, not, ◌&&◌, ◌==◌, nat_le, Result, OnOk}
 use Rattle.std.specs.Str.{IsUtf8}
 use Rattle.serde_json.specs.Data.{Members}
 use Rattle.serde_json.specs.Written.{members_text}
@@ -8,6 +8,10 @@ use Rattle.serde_json.specs.Written.{members_text}
 -- a byte that stands in a JSON string as it is (RFC 8259, section 7)
 abbrev pub is_plain_byte : ℕ → Bool
 is_plain_byte b = nat_le 32 b && (not (b == 34) && not (b == 92))
+
+-- the bytes from a place up to another stand so
+abbrev pub ArePlainFrom : List ℕ → ℕ → ℕ → Type 0
+ArePlainFrom text from to = (k : ℕ) → from ≤ k → k < to → is_plain_byte (get_or text k 0) ≡ true
 
 -- each text that stood at the beginning still stands there
 abbrev pub KeepsFront : List ℕ → List ℕ → Type 0

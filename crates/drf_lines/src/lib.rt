@@ -29,6 +29,7 @@ mod reservations;
 mod resources;
 mod state_line;
 mod tasks;
+mod usual;
 mod weights;
 mod words;
 

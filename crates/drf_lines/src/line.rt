@@ -1,8 +1,9 @@
 //! The reader of a line.
-ghost use Rattle.std.specs.Prelude.{◌≡◌, ◌≤◌, ◌++◌, length, Some, None, IsErrOf, IfOk, IfErr, OnOk};
+ghost use Rattle.std.specs.Prelude.{◌≡◌, ◌≤◌, ◌++◌, [], length, Some, None, IsErrOf, IfOk, IfErr, OnOk};
 ghost use Rattle.std.specs.Option.{ok_or};
 ghost use Rattle.std.specs.Str.{IsUtf8};
 ghost use Rattle.json.specs.Json.{value};
+ghost use Rattle.json.specs.Lex.{tokens};
 ghost use Rattle.json.specs.Value.{value_view};
 ghost use Rattle.serde_json.specs.Read.{read};
 ghost use Rattle.drf_lines.specs.declared.fault.LineFault.TheVariants.{NotJson};
@@ -24,6 +25,7 @@ use crate::range::is_in_range;
 use crate::reply::push_reply_after;
 use crate::reservations::read_its_reservation;
 use crate::state_line::read_state_object;
+use crate::usual::usual_value;
 use crate::weights::read_its_weight;
 use crate::words::KnownWords;
 use bumpalo::Bump;
@@ -47,7 +49,39 @@ fn next_value<'a>(arena: &'a Bump, reader: &mut Reader<'a>) -> Result<LineValue<
     }
 }
 
-/// The JSON value of a text. Strings of it that have escapes are written to the scratch.
+/// The JSON value that a text in any form is. Strings of it that have escapes are written to the scratch.
+fn any_value<'a>(
+    arena: &'a Bump,
+    scratch: &'a mut Scratch,
+    text: &'a str,
+) -> Result<LineValue<'a>, LineError>
+    ensures ok { IfOk result (λ found. value 127 (tokens text.now) ≡ Some (value_view found, [])) }
+    ensures err { IfErr result (λ error. IsRefused error (read text.now ≡ None)) }
+{
+    let mut reader = Reader::new(text, scratch)?;
+    let value = next_value(arena, &mut reader)?;
+    if reader.next().is_some() {
+        return Err(LineError::Fault(LineFault::NotJson));
+    }
+    Ok(value)
+}
+
+/// The JSON value that a text is. Most texts are in the usual form.
+fn whole_value<'a>(
+    arena: &'a Bump,
+    scratch: &'a mut Scratch,
+    text: &'a str,
+) -> Result<LineValue<'a>, LineError>
+    ensures ok { IfOk result (λ found. value 127 (tokens text.now) ≡ Some (value_view found, [])) }
+    ensures err { IfErr result (λ error. IsRefused error (read text.now ≡ None)) }
+{
+    if let Some(found) = usual_value(arena, text)? {
+        return Ok(found);
+    }
+    any_value(arena, scratch, text)
+}
+
+/// The JSON value of a text, whose numbers are in the range of a double.
 fn text_value<'a>(
     arena: &'a Bump,
     scratch: &'a mut Scratch,
@@ -55,11 +89,7 @@ fn text_value<'a>(
 ) -> Result<LineValue<'a>, LineError>
     ensures { IsReadAs line_view result (ok_or (read text.now) NotJson) }
 {
-    let mut reader = Reader::new(text, scratch)?;
-    let value = next_value(arena, &mut reader)?;
-    if reader.next().is_some() {
-        return Err(LineError::Fault(LineFault::NotJson));
-    }
+    let value = whole_value(arena, scratch, text)?;
     if !is_in_range(&value) {
         return Err(LineError::Fault(LineFault::NotJson));
     }

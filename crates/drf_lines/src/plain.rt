@@ -3,7 +3,7 @@ ghost use Rattle.std.specs.Prelude.{◌≡◌, ◌≤◌, length, drop, map};
 ghost use Rattle.std.specs.List.{list_all};
 ghost use Rattle.std.specs.Simd.Lanes.{mask_l};
 ghost use Rattle.json.specs.Run.{is_stop};
-ghost use Rattle.drf_lines.specs.Written.{is_plain_byte};
+ghost use Rattle.drf_lines.specs.Written.{is_plain_byte, ArePlainFrom};
 
 use std::simd::prelude::*;
 
@@ -76,4 +76,35 @@ pub fn is_plain(text: &str) -> bool
         i += 16;
     }
     is_plain_end(bytes, i)
+}
+
+/// Where the bytes end that a JSON string holds as they are, one after another.
+fn plain_end_slowly(bytes: &[u8], from: usize) -> usize
+    requires { from ≤ length bytes.now }
+    ensures bound { (from ≤ result) × (result ≤ length bytes.now) }
+    ensures plain { ArePlainFrom bytes.now from result }
+{
+    let mut i = from;
+    while i < bytes.len() && is_plain_byte(bytes[i]) {
+        i += 1;
+    }
+    i
+}
+
+/// The same, many at once.
+#[inline(always)]
+pub fn plain_end(bytes: &[u8], from: usize) -> usize
+    requires { from ≤ length bytes.now }
+    ensures bound { (from ≤ result) × (result ≤ length bytes.now) }
+    ensures plain { ArePlainFrom bytes.now from result }
+{
+    let mut i = from;
+    while bytes.len() - i >= 16 {
+        let found = stops_16(u8x16::from_slice(&bytes[i..]));
+        if found != 0 {
+            return i + found.trailing_zeros() as usize;
+        }
+        i += 16;
+    }
+    plain_end_slowly(bytes, i)
 }

@@ -1,4 +1,4 @@
-use Rattle.std.proofs.Common.{◌≡◌, [], sym, ap, ◌∙◌, rules}
+use Rattle.std.proofs.Common.{sym, ap, ◌∙◌}
 use Rattle.std.specs.Option.{ok_or}
 use Rattle.json.specs.Json.{value}
 use Rattle.json.specs.Lex.{tokens}
@@ -9,16 +9,9 @@ use Rattle.drf_lines.proofs.line.text_value.Goals as goal
 
 pub returns-then-not-is_in_range : goal.returns-then-not-is_in_range
 returns-then-not-is_in_range c =
-    ap (λ o. ok_or o NotJson) (
-    whole_out_of_range (value 127 (tokens c.args.text.now)) _ _
-    (rw c.in_ok-reader.ensures.ok at c.in_ok-value.ensures.ok)
-    (sym c.is_in_range.ensures ∙ c.if-not-is_in_range.true))
+    ap (λ o. ok_or o NotJson) (whole_out_of_range (value 127 (tokens c.args.text.now)) _ _ c.in_ok-value.ensures.ok (sym c.is_in_range.ensures ∙ c.if-not-is_in_range.true))
 
 pub returns : goal.returns
 unfolding line_view
 returns c =
-    let none : c.next_value.new.reader ≡ [] = search rules in
-    ap (λ o. ok_or o NotJson) (
-    whole_in_range (value 127 (tokens c.args.text.now)) _
-    (rw (c.in_ok-reader.ensures.ok, none) at c.in_ok-value.ensures.ok)
-    (sym c.is_in_range.ensures ∙ c.if-not-is_in_range.false))
+    ap (λ o. ok_or o NotJson) (whole_in_range (value 127 (tokens c.args.text.now)) _ c.in_ok-value.ensures.ok (sym c.is_in_range.ensures ∙ c.if-not-is_in_range.false))

@@ -1,0 +1,212 @@
+//! Values in the usual form, in one pass over their bytes: objects without spaces, whose strings have no escapes and whose numbers are digits alone.
+ghost use Rattle.std.specs.Prelude.{◌≡◌, ◌<◌, ◌≤◌, ℕ, [], Some, IfSome, IfOk, length, get_or};
+ghost use Rattle.json.specs.Json.{value};
+ghost use Rattle.json.specs.Lex.{tokens};
+ghost use Rattle.json.specs.Value.{value_view, items_view, members_view};
+ghost use Rattle.drf_lines.specs.Usual.{is_end, AreDigitsFrom, IsStringAt, IsNumberAt, IsKeyAt, IsValueAt, AreItemsAt, AreMembersAt};
+
+use crate::object::LineValue;
+use crate::plain::plain_end;
+use bumpalo::Bump;
+use json::Value;
+use std::alloc::AllocError;
+
+/// Most objects of a line have no more members.
+const USUAL_MEMBERS: usize = 8;
+
+/// How deep arrays and objects nest.
+const MOST_DEPTH: usize = 127;
+
+/// The byte at a place, or a space behind the end.
+#[inline(always)]
+fn byte_at(bytes: &[u8], at: usize) -> u8
+    ensures { result ≡ get_or bytes.now at 32 }
+{
+    if at < bytes.len() { bytes[at] } else { b' ' }
+}
+
+/// The string without escapes at a place, and the place behind it.
+#[inline(always)]
+fn string_at<'a>(text: &'a str, at: usize) -> Option<(&'a str, usize)>
+    ensures found { IfSome result (λ found. IsStringAt text.now at found.0.now found.1) }
+    ensures order { IfSome result (λ found. at < found.1) }
+{
+    let bytes = text.as_bytes();
+    if byte_at(bytes, at) != b'"' {
+        return None;
+    }
+    let stop = plain_end(bytes, at + 1);
+    if byte_at(bytes, stop) != b'"' {
+        return None;
+    }
+    Some((&text[at + 1..stop], stop + 1))
+}
+
+/// Where digits end.
+fn digits_end(bytes: &[u8], from: usize) -> usize
+    requires { from ≤ length bytes.now }
+    ensures bound { (from ≤ result) × (result ≤ length bytes.now) }
+    ensures digits { AreDigitsFrom bytes.now from result }
+{
+    let mut i = from;
+    while i < bytes.len() && bytes[i].is_ascii_digit() {
+        i += 1;
+    }
+    i
+}
+
+/// A byte behind which no value or key goes on.
+#[inline(always)]
+fn is_end(byte: u8) -> bool
+    ensures { result ≡ is_end byte }
+{
+    (byte == b',') | (byte == b'}') | (byte == b']')
+}
+
+/// The number at a place that is digits alone, before what ends it, and the place behind it.
+fn number_at<'a>(text: &'a str, at: usize) -> Option<(&'a str, usize)>
+    ensures found { IfSome result (λ found. IsNumberAt text.now at found.0.now found.1) }
+    ensures order { IfSome result (λ found. at < found.1) }
+{
+    let bytes = text.as_bytes();
+    if at >= bytes.len() {
+        return None;
+    }
+    let stop = digits_end(bytes, at);
+    if stop == at {
+        return None;
+    }
+    // A longer number does not begin with 0.
+    if (stop > at + 1) & (bytes[at] == b'0') {
+        return None;
+    }
+    if !is_end(byte_at(bytes, stop)) {
+        return None;
+    }
+    Some((&text[at..stop], stop))
+}
+
+/// The key at a place, and the place behind its colon.
+#[inline(always)]
+fn key_at<'a>(text: &'a str, at: usize) -> Option<(&'a str, usize)>
+    ensures found { IfSome result (λ found. IsKeyAt text.now at found.0.now found.1) }
+    ensures order { IfSome result (λ found. at < found.1) }
+{
+    let (key, next) = string_at(text, at)?;
+    if byte_at(text.as_bytes(), next) != b':' {
+        return None;
+    }
+    Some((key, next + 1))
+}
+
+/// The string or the number at a place, and the place behind it.
+fn leaf_at<'a>(text: &'a str, at: usize) -> Option<(LineValue<'a>, usize)>
+    ensures found { IfSome result (λ found. (depth : ℕ) → IsValueAt depth text.now at (value_view found.0) found.1) }
+    ensures order { IfSome result (λ found. at < found.1) }
+{
+    if byte_at(text.as_bytes(), at) != b'"' {
+        let (number, next) = number_at(text, at)?;
+        return Some((Value::Number(number), next));
+    }
+    let (found, next) = string_at(text, at)?;
+    if !is_end(byte_at(text.as_bytes(), next)) {
+        return None;
+    }
+    Some((Value::String(found), next))
+}
+
+/// The value at a place, in which arrays and objects nest at most so deep, and the place behind it.
+#[cycle(value_at)]
+fn value_at<'a>(
+    arena: &'a Bump,
+    text: &'a str,
+    at: usize,
+    depth: usize,
+) -> Result<Option<(LineValue<'a>, usize)>, AllocError>
+    ensures found { IfOk result (λ found. IfSome found (λ found. IsValueAt depth text.now at (value_view found.0) found.1)) }
+    ensures order { IfOk result (λ found. IfSome found (λ found. at < found.1)) }
+{
+    if depth == 0 {
+        return Ok(leaf_at(text, at));
+    }
+    match byte_at(text.as_bytes(), at) {
+        b'{' => match members_at(arena, text, at + 1, depth - 1)? {
+            Some((members, next)) => Ok(Some((Value::Object(members), next))),
+            None => Ok(None),
+        },
+        b'[' => match items_at(arena, text, at + 1, depth - 1)? {
+            Some((items, next)) => Ok(Some((Value::Array(items), next))),
+            None => Ok(None),
+        },
+        _ => Ok(leaf_at(text, at)),
+    }
+}
+
+/// The items of an array whose bracket stands before a place, and the place behind the bracket that ends it.
+#[cycle(value_at)]
+fn items_at<'a>(
+    arena: &'a Bump,
+    text: &'a str,
+    from: usize,
+    depth: usize,
+) -> Result<Option<(Vec<LineValue<'a>, &'a Bump>, usize)>, AllocError>
+    ensures found { IfOk result (λ found. IfSome found (λ found. AreItemsAt depth text.now from (items_view found.0.items) found.1)) }
+    ensures order { IfOk result (λ found. IfSome found (λ found. from < found.1)) }
+{
+    let mut found = Vec::new(arena);
+    let mut at = from;
+    // An array without items is read in another way.
+    while at < text.len() {
+        let Some((item, next)) = value_at(arena, text, at, depth)? else {
+            return Ok(None);
+        };
+        found.push(item)?;
+        match byte_at(text.as_bytes(), next) {
+            b',' => at = next + 1,
+            b']' => return Ok(Some((found, next + 1))),
+            _ => return Ok(None),
+        }
+    }
+    Ok(None)
+}
+
+/// The members of an object whose brace stands before a place, and the place behind the brace that ends it.
+#[cycle(value_at)]
+fn members_at<'a>(
+    arena: &'a Bump,
+    text: &'a str,
+    from: usize,
+    depth: usize,
+) -> Result<Option<(Vec<(&'a str, LineValue<'a>), &'a Bump>, usize)>, AllocError>
+    ensures found { IfOk result (λ found. IfSome found (λ found. AreMembersAt depth text.now from (members_view found.0.items) found.1)) }
+    ensures order { IfOk result (λ found. IfSome found (λ found. from < found.1)) }
+{
+    let mut found = Vec::with_capacity(arena, USUAL_MEMBERS)?;
+    let mut at = from;
+    // An object without members is read in another way.
+    while at < text.len() {
+        let Some((key, begin)) = key_at(text, at) else {
+            return Ok(None);
+        };
+        let Some((member, next)) = value_at(arena, text, begin, depth)? else {
+            return Ok(None);
+        };
+        found.push((key, member))?;
+        match byte_at(text.as_bytes(), next) {
+            b',' => at = next + 1,
+            b'}' => return Ok(Some((found, next + 1))),
+            _ => return Ok(None),
+        }
+    }
+    Ok(None)
+}
+
+/// The value of a text that is an object in the usual form.
+pub fn usual_value<'a>(arena: &'a Bump, text: &'a str) -> Result<Option<LineValue<'a>>, AllocError>
+    ensures { IfOk result (λ found. IfSome found (λ found. value 127 (tokens text.now) ≡ Some (value_view found, []))) }
+{
+    match value_at(arena, text, 0, MOST_DEPTH)? {
+        Some((found, next)) if next == text.len() => Ok(Some(found)),
+        _ => Ok(None),
+    }
+}

@@ -1,6 +1,7 @@
 mod ChangeLemmas
 mod ClashLemmas
 mod FirstLemmas
+mod LeftLemmas
 mod PlaceLemmas
 mod PushLemmas
 mod RestLemmas

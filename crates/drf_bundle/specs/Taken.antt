@@ -2,12 +2,18 @@
 use Rattle.std.specs.Prelude.{◌≡◌, ℕ, ◌≤◌, List, [], ◌∷◌, fold, sum_by, Option, Some, option_and_then}
 use Rattle.std.specs.List.{AllByRecursion}
 use Rattle.drf_bundle.specs.Value.{Point}
-use Rattle.drf_bundle.specs.Bundle.{Key, units, IsBundle, join, rest}
+use Rattle.drf_bundle.specs.Bundle.{Key, units, value_at, less_at, IsBundle, join, rest}
 use Rattle.drf_bundle.specs.declared.resource.Resource.{Resource}
+use Rattle.drf_bundle.specs.declared.value.Value.{Value}
 
 -- what is left of a bundle when parts are taken from it, one after another
 abbrev pub rest_of_all : List Resource → List (List Resource) → List Resource
 rest_of_all whole parts = fold rest whole parts
+
+-- what parts leave of a value under a key
+abbrev pub less_all : List (List Resource) → Key → Value → Value
+less_all [] key v = v
+less_all (part ∷ parts) key v = less_all parts key (less_at (value_at part key) v)
 
 -- the join of a bundle and of parts, if there is one
 abbrev pub joined : List Resource → List (List Resource) → Option (List Resource)

@@ -1,9 +1,11 @@
 //! Bundles of resources.
 ghost use Rattle.std.specs.Prelude.{◌≡◌, IsTrue, [], ◌∷◌, ◌++◌, None, Some, OnOk, IfOk, IfErr, IsOk, map};
-ghost use Rattle.std.specs.List.{list_all};
+ghost use Rattle.std.specs.List.{AllByRecursion, list_all};
 ghost use Rattle.std.specs.Option.{option_copied};
-ghost use Rattle.drf_bundle.specs.Bundle.{IsBundle, amount, join, refusal, is_too_large, is_in_order, exceeds, rest, filled_of, covers_one, reservation, value_at, quantities_of, one_of, is_unreserved, is_for, part_for, clip, clipped, relabel};
+ghost use Rattle.drf_bundle.specs.Bundle.{IsBundle, amount, join, key_of, refusal, is_too_large, is_in_order, exceeds, rest, filled_of, covers_one, reservation, value_at, quantities_of, one_of, is_unreserved, is_for, part_for, clip, clipped, relabel};
 ghost use Rattle.drf_bundle.specs.Value.{IsGiven};
+ghost use Rattle.drf_bundle.specs.Taken.{less_all, rest_of_all};
+ghost use Rattle.drf_bundle.specs.declared.value.Value.TheVariants as value;
 ghost use Rattle.drf_bundle.specs.KeyPlaces.{IsKeyAt, IsKeyGap};
 ghost use Rattle.drf_bundle.specs.laws.BundleLaws.{bundle_laws};
 
@@ -13,10 +15,13 @@ use crate::quantities::Quantities;
 use crate::resource::{Resource, is_same_role};
 use crate::value::Value;
 use drf_amount::{Algebra, AlgebraFault, Scalar};
-use drf_role::{Label, Role};
+use drf_role::{Label, Name, Role};
 use std::alloc::{AllocError, Global};
 use std::marker::Model;
 use std::sync::Arc;
+
+/// The most resources that are looked through one by one.
+const FEW: usize = 8;
 
 /// What there is of each resource, for everyone or for a role. One name has one kind, no member
 /// stands under two reservations of a name, and the scalars of a name sum to less than 2^64. Copies share what they hold.
@@ -87,7 +92,20 @@ fn place_near(
     place(resources, label, role)
 }
 
-/// The value of a name under a reservation, which is likely to stand at the hint or close behind it.
+/// The value of a name under a reservation, looked for from the front.
+fn value_among<'a>(resources: &'a [Resource], label: &Label, role: &Role) -> Option<&'a Value>
+    ensures { option_copied result ≡ value_at resources.now (label.now, reservation role.now) }
+{
+    for resource in resources {
+        if resource.has_key(label, role) {
+            return Some(&resource.value);
+        }
+    }
+    None
+}
+
+/// The value of a name under a reservation, which is likely to stand at the hint or close behind it. Few resources are looked through: one that
+/// is not there is missed sooner than by a search.
 fn value_at<'a>(
     resources: &'a [Resource],
     label: &Label,
@@ -97,6 +115,13 @@ fn value_at<'a>(
     requires { IsTrue (is_in_order resources.now) }
     ensures { option_copied result ≡ value_at resources.now (label.now, reservation role.now) }
 {
+    if is_at(resources, label, role, hint) {
+        let resource = &resources[hint];
+        return Some(&resource.value);
+    }
+    if resources.len() <= FEW {
+        return value_among(resources, label, role);
+    }
     match place_near(resources, label, role, hint) {
         Ok(at) => {
             let resource = &resources[at];
@@ -115,6 +140,56 @@ fn covers_one(whole: &[Resource], resource: &Resource, hint: usize) -> bool
         Some(value) => value.covers(&resource.value),
         None => false,
     }
+}
+
+/// What parts that are taken one after another leave of so many thousandths of a resource. They are likely to have it at the hint or close behind it.
+fn thousandths_left(
+    thousandths: u64,
+    resource: &Resource,
+    parts: &[(Name, Bundle)],
+    hint: usize,
+) -> u64
+    ensures { value.Scalar result ≡ less_all (map (λ p. p.1) parts.now) (key_of resource.now) (value.Scalar thousandths) }
+{
+    let mut left = thousandths;
+    for part in parts {
+        if let Some(value) = value_at(part.1.entries(), &resource.label, &resource.role, hint) {
+            left = left.saturating_sub(value.thousandths());
+        }
+    }
+    left
+}
+
+/// What parts that are taken one after another leave of the value of a resource.
+fn members_left(
+    resource: &Resource,
+    parts: &[(Name, Bundle)],
+    hint: usize,
+) -> Result<Value, AllocError>
+    ensures { IfOk result (λ left. left ≡ less_all (map (λ p. p.1) parts.now) (key_of resource.now) resource.now.value) }
+{
+    let mut left = resource.value.copy()?;
+    for part in parts {
+        if let Some(value) = value_at(part.1.entries(), &resource.label, &resource.role, hint) {
+            left = left.minus(value)?;
+        }
+    }
+    Ok(left)
+}
+
+/// The same, for scalars by numbers alone.
+fn value_left(
+    resource: &Resource,
+    parts: &[(Name, Bundle)],
+    hint: usize,
+) -> Result<Value, AllocError>
+    ensures { IfOk result (λ left. left ≡ less_all (map (λ p. p.1) parts.now) (key_of resource.now) resource.now.value) }
+{
+    let Value::Scalar(scalar) = &resource.value else {
+        return members_left(resource, parts, hint);
+    };
+    let left = thousandths_left(scalar.thousandths(), resource, parts, hint);
+    Ok(Value::Scalar(Scalar::new(left)))
 }
 
 /// Whether a role may use all of the resources.
@@ -364,6 +439,19 @@ impl Bundle {
         ensures { IfOk result (λ left. left ≡ rest self.now part.now) }
     {
         Bundle::from_parts(rest(self.alloc(), self.entries(), part.entries())?)
+    }
+
+    /// What is left of it without parts that are taken one after another, of which it need not have all.
+    pub fn rest_of_all(&self, parts: &[(Name, Bundle)]) -> Result<Bundle, AllocError>
+        requires { AllByRecursion IsBundle (map (λ p. p.1) parts.now) }
+        ensures { IfOk result (λ left. left ≡ rest_of_all self.now (map (λ p. p.1) parts.now)) }
+    {
+        let mut left = Vec::with_capacity(self.alloc(), self.entries().len())?;
+        for (i, resource) in self.entries().iter().enumerate() {
+            let value = value_left(resource, parts, i)?;
+            push_filled(&mut left, resource.with_value(value)?)?;
+        }
+        Bundle::new(self.alloc(), left)
     }
 
     /// The bundle with another part in the place of one, of which it need not have all. What is left without that one must have a join with

@@ -1,7 +1,8 @@
 //! A value with its name and its reservation.
 ghost use Rattle.std.specs.Prelude.{◌≡◌, ◌+◌, ◌<◌, ◌^◌, IfOk};
 ghost use Rattle.drf_role.specs.Path.{same_path};
-ghost use Rattle.drf_bundle.specs.Bundle.{is_default, is_for, moved_to, key_of, key_cmp, reservation, with_value};
+ghost use Rattle.drf_role.specs.Text.{same_text};
+ghost use Rattle.drf_bundle.specs.Bundle.{is_default, is_for, moved_to, key_of, key_cmp, same_key, reservation, with_value};
 ghost use Rattle.drf_bundle.specs.Value.{Thousandths, units_in, united};
 ghost use Rattle.std.specs.Ordering.{nat_cmp};
 ghost use Rattle.std.specs.Cmp.Lexicographic.{slice_cmp};
@@ -57,6 +58,16 @@ pub(crate) fn is_same_role(role: &Role, other: &Role) -> bool
     role == other
 }
 
+/// Whether two reservations are the same.
+fn is_same_reservation(role: &Role, other: &Role) -> bool
+    ensures { result ≡ same_text (reservation role.now) (reservation other.now) }
+{
+    if role.is_default() && other.is_default() {
+        return true;
+    }
+    reservation(role) == reservation(other)
+}
+
 /// How two reservations stand in order.
 fn compare_reservations(role: &Role, other: &Role) -> Ordering
     ensures { result ≡ slice_cmp nat_cmp (reservation role.now) (reservation other.now) }
@@ -76,6 +87,13 @@ impl Resource {
             Ordering::Equal => compare_reservations(&self.role, role),
             apart => apart,
         }
+    }
+
+    /// Whether it has that name and reservation.
+    pub(crate) fn has_key(&self, label: &Label, role: &Role) -> bool
+        ensures { result ≡ same_key (label.now, reservation role.now) (key_of self.now) }
+    {
+        *label == self.label && is_same_reservation(role, &self.role)
     }
 
     /// Whether it is for everyone.

@@ -6,3 +6,4 @@ pub mod Ended
 pub mod Accepted
 pub mod Answered
 pub mod Known
+pub mod Once

@@ -265,10 +265,6 @@ impl TaskList {
     pub fn rest_of(&self, whole: &Bundle) -> Result<Bundle, AllocError>
         ensures { IfOk result (λ rest. rest ≡ rest_of_all whole.now (uses self.now)) }
     {
-        let mut rest = whole.copy()?;
-        for task in &self.tasks {
-            rest = rest.rest(&task.1)?;
-        }
-        Ok(rest)
+        whole.rest_of_all(&self.tasks)
     }
 }

@@ -1,6 +1,9 @@
 //! What is held ends.
-ghost use Rattle.std.specs.Prelude.{◌≡◌};
+ghost use Rattle.std.specs.Prelude.{◌≡◌, ◌≤◌, IsTrue};
+ghost use Rattle.drf_rows.specs.Consistent.{IsConsistent};
 ghost use Rattle.drf_rows.specs.Endings.{without_ended};
+ghost use Rattle.drf_rows.specs.declared.rows.Rows.{Rows};
+ghost use Rattle.drf_tables.specs.offers.Ended.{left_to_end};
 ghost use Rattle.drf_rows.specs.Ended.{ending_of};
 ghost use Rattle.drf_sorter.specs.Work.{Defers};
 ghost use Rattle.drf_core.specs.Working.{losers, nodes_of};
@@ -10,15 +13,32 @@ use drf_role::ClientPath;
 use drf_sorter::Sorter;
 use drf_tables::Ending;
 
+/// Whether it is known that no more than one holding ends: an offer or a task.
+fn is_one(ending: Ending) -> bool
+    ensures { IsTrue result → (rows : Rows) → IsConsistent rows → left_to_end rows (ending_of ending.entry) ≤ 1 }
+{
+    match ending {
+        Ending::Offer(_) => true,
+        Ending::Task { .. } => true,
+        Ending::OffersOn(_) => false,
+        Ending::AllOn(_) => false,
+        Ending::AllOf(_) => false,
+    }
+}
+
 impl<S: Sorter> Cluster<S> {
     /// All that ends is given back, one holding after another. It needs no memory.
     pub(crate) fn end(&mut self, ending: Ending)
         ensures rows { self.new.rows ≡ without_ended self.old.rows (ending_of ending.entry) }
         ensures spends { Defers S.COUNTED self.old.work self.new.work (nodes_of (losers self.old.rows (ending_of ending.entry))) }
     {
+        self.tables.recall();
         while let Some(taken) = self.tables.end(ending) {
             let client = ClientPath::from_parts(taken.role, taken.framework);
             self.sorter.refund(&client, taken.bundle.quantities());
+            if is_one(ending) {
+                return;
+            }
         }
     }
 }

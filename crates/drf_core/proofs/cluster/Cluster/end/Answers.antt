@@ -1,7 +1,8 @@
-use Rattle.std.proofs.Common.{ap, ◌∙◌, length, arith}
+use Rattle.std.proofs.Common.{sym, ap, ◌∙◌, length, arith}
 use Rattle.drf_sorter.specs.Content.{with_change, refunded}
 use Rattle.drf_rows.specs.Ended.{ending_of}
 use Rattle.drf_core.proofs.effects.Ended.{known-ended, held-ended, sorted-ended}
+use Rattle.drf_core.proofs.effects.Once.{all_ended}
 use Rattle.drf_core.proofs.stepping.Work.{losers-ended}
 use Rattle.drf_core.proofs.cluster.Cluster.end.Goals as goal
 
@@ -33,8 +34,41 @@ loop-taken-preserved g c =
         losers-ended c.loop-taken.self-inside.tables.rows c.end.new.self.rows (ending_of c.args.ending) c.in-Some.taken c.in-Some.ensures.some,
       );
       later = c.in-Some.ensures.some.later ∙ c.loop-taken.invariant.later;
+      consistent = c.end.ensures.consistent;
       made = c.refund.ensures.spends.made ∙ c.loop-taken.invariant.made;
     }
+
+-- one holding ended, and no more end
+
+pub invariant_of-self : goal.invariant_of-self
+invariant_of-self g c =
+    let content = g.S.Sorter.content c.loop-taken.self-inside.sorter in
+    c.refund.ensures.content
+    ∙ (λ i. with_change content (c.from_parts-client.ensures i) (refunded (c.quantities.ensures.value i)))
+    ∙ sorted-ended c.loop-taken.self-inside.tables.rows c.end.new.self.rows (ending_of c.args.ending) c.in-Some.taken c.in-Some.ensures.some
+    content c.loop-taken.invariant.sorted
+
+pub returns-then-is_one-clause-rows : goal.returns-then-is_one-clause-rows
+returns-then-is_one-clause-rows g c =
+    let once = c.is_one.ensures c.if-is_one.true c.loop-taken.self-inside.tables.rows c.loop-taken.invariant.consistent in
+    rw (← c.self.view_is)
+    (sym (all_ended c.loop-taken.self-inside.tables.rows c.end.new.self.rows (ending_of c.args.ending) c.in-Some.taken c.in-Some.ensures.some once)
+    ∙ c.in-Some.ensures.some.later ∙ c.loop-taken.invariant.later)
+
+pub returns-then-is_one-clause-spends : goal.returns-then-is_one-clause-spends
+returns-then-is_one-clause-spends g c =
+    rw (← c.self.view_is) (record {
+      made = c.refund.ensures.spends.made ∙ c.loop-taken.invariant.made;
+      work = λ counted. omega (
+        arith,
+        c.refund.ensures.spends.work counted,
+        ap length c.from_parts-client.ensures,
+        c.loop-taken.invariant.work counted,
+        losers-ended c.loop-taken.self-inside.tables.rows c.end.new.self.rows (ending_of c.args.ending) c.in-Some.taken c.in-Some.ensures.some,
+      );
+    })
+
+-- nothing is left that ends
 
 pub returns-clause-spends : goal.returns-clause-spends
 returns-clause-spends g c =

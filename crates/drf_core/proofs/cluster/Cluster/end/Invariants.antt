@@ -1,4 +1,5 @@
 use Rattle.std.proofs.Common.{◌≡◌, ◌+◌, ◌≤◌, IsTrue}
+use Rattle.drf_rows.specs.Consistent.{IsConsistent}
 use Rattle.drf_rows.specs.Endings.{without_ended}
 use Rattle.drf_rows.specs.Ended.{ending_of}
 use Rattle.drf_tables.specs.offers.Ended.{left_to_end}
@@ -14,6 +15,7 @@ invariant-loop-taken g l = record {
   work : IsTrue g.S.Sorter.COUNTED → debt (g.S.Sorter.work l.self-inside.sorter) + nodes_of (losers l.self-inside.tables.rows (ending_of l.ending))
       ≤ debt (g.S.Sorter.work l.initial.self-inside.sorter) + nodes_of (losers l.initial.self-inside.tables.rows (ending_of l.ending));
   later : without_ended l.self-inside.tables.rows (ending_of l.ending) ≡ without_ended l.initial.self-inside.tables.rows (ending_of l.ending);
+  consistent : IsConsistent l.self-inside.tables.rows;
   made : (g.S.Sorter.work l.self-inside.sorter).made ≡ (g.S.Sorter.work l.initial.self-inside.sorter).made;
 }
 

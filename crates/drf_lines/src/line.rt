@@ -25,7 +25,7 @@ use crate::range::is_in_range;
 use crate::reply::push_reply_after;
 use crate::reservations::read_its_reservation;
 use crate::state_line::read_state_object;
-use crate::usual::usual_value;
+use crate::usual::{MOST_DEPTH, usual_value};
 use crate::weights::read_its_weight;
 use crate::words::KnownWords;
 use bumpalo::Bump;
@@ -33,9 +33,6 @@ use drf_rows::{Event, Reply};
 use drf_saved::StateLine;
 use json::{Error, Reader, Scratch, Value};
 use std::alloc::{AllocError, Global};
-
-/// How deep the arrays and objects of a line may nest.
-const MOST_DEPTH: usize = 127;
 
 /// The next JSON value of a reader.
 fn next_value<'a>(arena: &'a Bump, reader: &mut Reader<'a>) -> Result<LineValue<'a>, LineError>
@@ -49,7 +46,7 @@ fn next_value<'a>(arena: &'a Bump, reader: &mut Reader<'a>) -> Result<LineValue<
     }
 }
 
-/// The JSON value that a text in any form is. Strings of it that have escapes are written to the scratch.
+/// The JSON value of a text in any form. Strings of it that have escapes are written to the scratch.
 fn any_value<'a>(
     arena: &'a Bump,
     scratch: &'a mut Scratch,

@@ -1,4 +1,5 @@
-//! Values in the usual form, in one pass over their bytes: objects without spaces, whose strings have no escapes and whose numbers are digits alone.
+//! Values in the usual form, in one pass over their bytes: without spaces, escapes and `true`, `false` or `null`, numbers of digits alone, nothing empty,
+//! few levels.
 ghost use Rattle.std.specs.Prelude.{◌≡◌, ◌<◌, ◌≤◌, ℕ, [], Some, IfSome, IfOk, length, get_or};
 ghost use Rattle.json.specs.Json.{value};
 ghost use Rattle.json.specs.Lex.{tokens};
@@ -11,11 +12,17 @@ use bumpalo::Bump;
 use json::Value;
 use std::alloc::AllocError;
 
-/// Most objects of a line have no more members.
+/// How deep the arrays and objects of a line may nest.
+pub const MOST_DEPTH: usize = 127;
+
+/// No line of events, and none of a state, has more than four levels: what nests deeper is left to the other reader at once.
+const LEAST_DEPTH: usize = MOST_DEPTH - 3;
+
+/// Room for so many members is made at once in the outermost object, so that few grow.
 const USUAL_MEMBERS: usize = 8;
 
-/// How deep arrays and objects nest.
-const MOST_DEPTH: usize = 127;
+/// The same for those within, of which a line may have thousands.
+const FEW_MEMBERS: usize = 2;
 
 /// The byte at a place, or a space behind the end.
 #[inline(always)]
@@ -64,7 +71,7 @@ fn is_end(byte: u8) -> bool
 }
 
 /// The number at a place that is digits alone, before what ends it, and the place behind it.
-fn number_at<'a>(text: &'a str, at: usize) -> Option<(&'a str, usize)>
+fn digits_at<'a>(text: &'a str, at: usize) -> Option<(&'a str, usize)>
     ensures found { IfSome result (λ found. IsNumberAt text.now at found.0.now found.1) }
     ensures order { IfSome result (λ found. at < found.1) }
 {
@@ -105,7 +112,7 @@ fn leaf_at<'a>(text: &'a str, at: usize) -> Option<(LineValue<'a>, usize)>
     ensures order { IfSome result (λ found. at < found.1) }
 {
     if byte_at(text.as_bytes(), at) != b'"' {
-        let (number, next) = number_at(text, at)?;
+        let (number, next) = digits_at(text, at)?;
         return Some((Value::Number(number), next));
     }
     let (found, next) = string_at(text, at)?;
@@ -126,7 +133,7 @@ fn value_at<'a>(
     ensures found { IfOk result (λ found. IfSome found (λ found. IsValueAt depth text.now at (value_view found.0) found.1)) }
     ensures order { IfOk result (λ found. IfSome found (λ found. at < found.1)) }
 {
-    if depth == 0 {
+    if depth < LEAST_DEPTH {
         return Ok(leaf_at(text, at));
     }
     match byte_at(text.as_bytes(), at) {
@@ -170,6 +177,16 @@ fn items_at<'a>(
     Ok(None)
 }
 
+/// Room for the members of an object in which values nest so deep.
+fn room_for(depth: usize) -> usize
+    ensures { result ≤ 8 }
+{
+    if depth < MOST_DEPTH - 1 {
+        return FEW_MEMBERS;
+    }
+    USUAL_MEMBERS
+}
+
 /// The members of an object whose brace stands before a place, and the place behind the brace that ends it.
 #[cycle(value_at)]
 fn members_at<'a>(
@@ -181,7 +198,7 @@ fn members_at<'a>(
     ensures found { IfOk result (λ found. IfSome found (λ found. AreMembersAt depth text.now from (members_view found.0.items) found.1)) }
     ensures order { IfOk result (λ found. IfSome found (λ found. from < found.1)) }
 {
-    let mut found = Vec::with_capacity(arena, USUAL_MEMBERS)?;
+    let mut found = Vec::with_capacity(arena, room_for(depth))?;
     let mut at = from;
     // An object without members is read in another way.
     while at < text.len() {
@@ -201,7 +218,7 @@ fn members_at<'a>(
     Ok(None)
 }
 
-/// The value of a text that is an object in the usual form.
+/// The value of a text in the usual form, where it is in it.
 pub fn usual_value<'a>(arena: &'a Bump, text: &'a str) -> Result<Option<LineValue<'a>>, AllocError>
     ensures { IfOk result (λ found. IfSome found (λ found. value 127 (tokens text.now) ≡ Some (value_view found, []))) }
 {

@@ -1,7 +1,7 @@
 use Rattle.std.proofs.Common.{◌≡◌, ◌+◌, ◌<◌, length, get_or, true, sym, ap, ◌∙◌, subst, arith}
 use Rattle.drf_lines.specs.Usual.{is_end, AreDigitsFrom}
 use Rattle.drf_lines.proofs.UsualSteps.{number_stands}
-use Rattle.drf_lines.proofs.usual.number_at.Goals as goal
+use Rattle.drf_lines.proofs.usual.digits_at.Goals as goal
 
 pub returns-clause-found : goal.returns-clause-found
 returns-clause-found c =

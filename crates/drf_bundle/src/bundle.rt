@@ -441,7 +441,7 @@ impl Bundle {
         Bundle::from_parts(rest(self.alloc(), self.entries(), part.entries())?)
     }
 
-    /// What is left of it without parts that are taken one after another, of which it need not have all.
+    /// What is left of it without parts that are taken one after another, of which it need not have all. Their names are not looked at.
     pub fn rest_of_all(&self, parts: &[(Name, Bundle)]) -> Result<Bundle, AllocError>
         requires { AllByRecursion IsBundle (map (λ p. p.1) parts.now) }
         ensures { IfOk result (λ left. left ≡ rest_of_all self.now (map (λ p. p.1) parts.now)) }

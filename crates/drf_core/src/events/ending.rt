@@ -32,6 +32,7 @@ impl<S: Sorter> Cluster<S> {
         ensures rows { self.new.rows ≡ without_ended self.old.rows (ending_of ending.entry) }
         ensures spends { Defers S.COUNTED self.old.work self.new.work (nodes_of (losers self.old.rows (ending_of ending.entry))) }
     {
+        // Rows are consistent: so an offer of a number, or a task of a name, ends once.
         self.tables.recall();
         while let Some(taken) = self.tables.end(ending) {
             let client = ClientPath::from_parts(taken.role, taken.framework);

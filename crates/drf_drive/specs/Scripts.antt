@@ -14,7 +14,7 @@ use Rattle.drf_drive.specs.Files.{AreContents, HasUnread}
 use Rattle.drf_drive.specs.declared.script.BadLine.{BadLine}
 use Rattle.drf_drive.specs.declared.script.Script.{Script}
 use Rattle.drf_drive.specs.declared.script.ScriptFault.{ScriptFault}
-use Rattle.drf_drive.specs.declared.script.ScriptFault.TheVariants.{Run, Unread, Line, Close}
+use Rattle.drf_drive.specs.declared.script.ScriptFault.TheVariants.{Run, Unread, Line}
 
 -- what the lines of a file mean, line by line
 abbrev pub meanings_of : List ℕ → List (Result Event LineFault)

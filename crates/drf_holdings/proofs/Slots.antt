@@ -1,13 +1,13 @@
 -- Things in slots: what is found among them, taken out and put last.
-use Rattle.std.specs.Prelude.{◌≡◌, ℕ, ◌==◌, ◌<◌, ◌≤◌, ◌+◌, ◌||◌, Bool, true, false, not, List, [], ◌∷◌, ◌++◌, map, filter, find, cond, nat_lt, Option, Some, None, is_some, IfSome, MatchOption, length, take, drop, set, slice_get}
+use Rattle.std.specs.Prelude.{◌≡◌, ℕ, ◌==◌, ◌<◌, ◌≤◌, ◌+◌, Bool, true, false, not, List, [], ◌∷◌, ◌++◌, map, filter, find, cond, nat_lt, Option, Some, None, is_some, IfSome, length, take, drop, set, slice_get}
 use Rattle.std.specs.List.{list_any, cons_option, AllByRecursion}
 use Rattle.std.proofs.Common.{refl, sym, ap, subst, ◌∙◌, zero, suc, arith, length-append}
 use Rattle.std.proofs.lemmas.Bool.{eq-eqb, lt-ltb, le-ltb}
-use Rattle.std.proofs.lemmas.List.{map-append, take-append-drop, append-nil}
+use Rattle.std.proofs.lemmas.List.{take-append-drop, append-nil}
 use Rattle.std.proofs.lemmas.List.Elements.{filter-append, filter_map-append}
 use Rattle.drf_row_laws.specs.EndingLaws.{split_at}
 use Rattle.drf_bundle.specs.ListLaws.{each_append}
-use Rattle.drf_holdings.specs.ByNumber.{slot_number, things_in, AreUnder, IsByNumber, IsPlaceOf, KeepsOrder}
+use Rattle.drf_holdings.specs.ByNumber.{slot_number, things_in, AreUnder, IsByNumber, KeepsOrder}
 use Rattle.drf_holdings.specs.Rising.{IsRising, AreOthers}
 use Rattle.drf_holdings.specs.Taking.{IsTaken, HasNone}
 use Rattle.drf_holdings.specs.declared.by_number.Slot.{Slot}

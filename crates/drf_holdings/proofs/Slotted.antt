@@ -1,11 +1,10 @@
 -- Things by number in slots, after a change of the slots.
 use Rattle.std.specs.Prelude.{◌≡◌, ℕ, ◌==◌, ◌<◌, ◌≤◌, ◌+◌, ◌-◌, Bool, List, [], ◌∷◌, ◌++◌, map, find, Option, Some, None, length, take, drop, set}
 use Rattle.std.specs.List.{cons_option, AllByRecursion}
-use Rattle.std.specs.Option.{option_to_list}
 use Rattle.std.proofs.Common.{refl, sym, ap, subst, ◌∙◌, get_or, arith, length-append}
 use Rattle.std.proofs.lemmas.List.{take-append-drop, append-nil}
 use Rattle.std.proofs.lemmas.Option.{get_or_from_slice_get}
-use Rattle.drf_holdings.specs.ByNumber.{things_in, AreUnder, IsByNumber, IsPlaceOf, KeepsOrder}
+use Rattle.drf_holdings.specs.ByNumber.{things_in, IsByNumber, IsPlaceOf, KeepsOrder}
 use Rattle.drf_holdings.specs.Rising.{IsRising}
 use Rattle.drf_holdings.specs.Taking.{IsTaken, HasNone}
 use Rattle.drf_holdings.specs.declared.by_number.Slot.{Slot}

@@ -1,5 +1,5 @@
 -- The numbers of a line, above and below 0.
-use Rattle.std.proofs.Common.{◌≡◌, ℕ, ◌+◌, ◌<◌, ◌≤◌, ◌^◌, Bool, true, false, cond, ◌==◌, List, [], ◌∷◌, ◌++◌, length, get_or, take, drop, Option, Some, None, refl, sym, ap, ◌∙◌, arith, append-nil, ne_eqb}
+use Rattle.std.proofs.Common.{◌≡◌, ℕ, suc, ◌+◌, ◌<◌, ◌≤◌, ◌^◌, Bool, true, false, cond, ◌==◌, List, [], ◌∷◌, ◌++◌, length, get_or, take, drop, Option, Some, None, refl, sym, ap, ◌∙◌, arith, append-nil, ne_eqb}
 use Rattle.std.specs.Prelude.{◌&&◌, nat_lt, nat_le}
 use Rattle.std.specs.Option.{SomeIff}
 use Rattle.std.proofs.Math.Nat.{pow-le-pow_right}
@@ -92,6 +92,10 @@ digit_is byte e =
     let inside : IsInRange 48 57 byte = grind arith in
     let is : digit_value byte + 48 ≡ byte = digit_value_digit byte inside in
     (is, omega (arith, is, inside.1))
+
+pub all_digits : (s : List ℕ) → ((k : ℕ) → k < length s → is_ascii_digit (get_or s k 0) ≡ true) → AllDigits 10 s
+all_digits [] each = tt
+all_digits (x ∷ xs) each = ((digit_is x (each 0 (omega arith))).1, all_digits xs (λ k short. each (suc k) (omega arith)))
 
 -- ---- what is known of a number that was read
 

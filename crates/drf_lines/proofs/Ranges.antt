@@ -1,5 +1,6 @@
 -- Whether the numbers of items and members are in range, one after another.
-use Rattle.std.proofs.Common.{◌≡◌, ℕ, ◌+◌, ◌<◌, true, false, Bool, ◌&&◌, List, drop, get_or, length, Bor, sym, ap, ◌∙◌}
+use Rattle.std.proofs.Common.{◌≡◌, ℕ, ◌+◌, ◌<◌, true, false, Bool, ◌&&◌, List, [], ◌∷◌, ◌++◌, drop, get_or, length, Bor, refl, sym, ap, ◌∙◌}
+use Rattle.std.proofs.lemmas.Bool.{and_parts, and_from}
 use Rattle.std.proofs.lemmas.List.{at_drop_more}
 use Rattle.json.specs.Value.{value_view, items_view, members_view}
 use Rattle.json.specs.declared.value.Value.{Value}
@@ -34,3 +35,17 @@ module _ {A : Type 0} (all : List (Bor (List ℕ) × Value A)) (i : ℕ) (x : Bo
 
   pub member_in : is_in_range (value_view x.1) ≡ true → members_in_range (members_view (drop (i + 1) all)) ≡ members_in_range (members_view all)
   member_in e = member_first true e
+
+-- ---- one more behind those so far
+
+pub items_one_more : {A : Type 0} (vs : List (Value A)) (v : Value A) → items_in_range (items_view vs) ≡ true → is_in_range (value_view v) ≡ true → items_in_range (items_view (vs ++ v ∷ [])) ≡ true
+items_one_more [] v so_far is = and_from (is_in_range (value_view v)) true is refl
+items_one_more (x ∷ xs) v so_far is =
+    let parts = and_parts (is_in_range (value_view x)) (items_in_range (items_view xs)) so_far in
+    and_from (is_in_range (value_view x)) _ parts.0 (items_one_more xs v parts.1 is)
+
+pub members_one_more : {A : Type 0} (ms : List (Bor (List ℕ) × Value A)) (m : Bor (List ℕ) × Value A) → members_in_range (members_view ms) ≡ true → is_in_range (value_view m.1) ≡ true → members_in_range (members_view (ms ++ m ∷ [])) ≡ true
+members_one_more [] m so_far is = and_from (is_in_range (value_view m.1)) true is refl
+members_one_more (x ∷ xs) m so_far is =
+    let parts = and_parts (is_in_range (value_view x.1)) (members_in_range (members_view xs)) so_far in
+    and_from (is_in_range (value_view x.1)) _ parts.0 (members_one_more xs m parts.1 is)

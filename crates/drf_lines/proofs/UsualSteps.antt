@@ -1,5 +1,5 @@
 -- What stands at a place of a text, a step at a time.
-use Rattle.std.proofs.Common.{◌≡◌, ℕ, suc, ◌+◌, ◌-◌, ◌<◌, ◌≤◌, Bool, true, false, cond, ◌||◌, ◌==◌, List, [], ◌∷◌, ◌++◌, length, take, drop, get_or, Option, Some, None, option_and_then, ◌⊎◌, inl, inr, refl, sym, ap, ap₂, ◌∙◌, subst, arith, lt_of_not-le, add-zero}
+use Rattle.std.proofs.Common.{◌≡◌, ℕ, suc, ◌+◌, ◌-◌, ◌<◌, ◌≤◌, Bool, true, false, cond, ◌||◌, ◌==◌, List, [], ◌∷◌, ◌++◌, length, take, drop, get_or, Option, Some, None, option_and_then, is_some, ◌⊎◌, inl, inr, refl, sym, ap, ap₂, ◌∙◌, subst, arith, lt_of_not-le, add-zero}
 use Rattle.std.proofs.lemmas.Bool.{or_cases, eqb-true, ne_eqb}
 use Rattle.std.proofs.lemmas.List.{drop_more, drop-drop, take-append-drop, length-take-le, length-drop, drop_all, get_or-take, get_or-drop, get_or_past}
 use Rattle.std.specs.Borrow.{Bor}
@@ -17,8 +17,10 @@ use Rattle.json.proofs.Grammar.{left, value-begin_array, value-begin_object, val
 use Rattle.json.proofs.Trees.{items_before, members_before, items_before-no_items, members_before-no_members, one_more_item, one_more_member, none_before}
 use Rattle.json.proofs.Printed.Strings.{content-escape, lex-escape}
 use Rattle.json.proofs.Printed.Numbers.{lex-number}
+use Rattle.serde_json.specs.Read.{number_of}
 use Rattle.drf_lines.specs.Usual.{is_end, AreDigitsFrom, tokens_from, IsStringAt, IsNumberAt, IsKeyAt, IsValueAt, AreItemsAt, AreMembersAt}
 use Rattle.drf_lines.specs.Written.{is_plain_byte, ArePlainFrom}
+use Rattle.drf_lines.proofs.LineNumbers.{number_of-few, all_digits}
 use Rattle.drf_lines.proofs.ReplyTexts.{plain_is_kept}
 
 -- a byte that is no space stands within the text
@@ -116,6 +118,15 @@ number_stands text at stop bounds each first ended found is =
     let ends : ends_word (drop stop text) ≡ true =
     ap (λ c. is_operator c || is_space c) next ∙ at_end (λ c. (is_operator c || is_space c) ≡ true) refl refl refl (get_or text stop 32) ended in
     ap (lex between) (part_and_rest text at stop order bounds.1) ∙ lex-number s (drop stop text) is_one ends ∙ ap (λ f. token (number f) ∷ lex between (drop stop text)) (sym is)
+
+pub number_in_range : (text : List ℕ) (at stop : ℕ) → (at < stop) × (stop ≤ length text) → stop - at ≤ 19 → AreDigitsFrom text at stop → (found : List ℕ) → found ≡ take (stop - at) (drop at text)
+    → is_some (number_of found) ≡ true
+number_in_range text at stop bounds few each found is =
+    let s = take (stop - at) (drop at text) in
+    let order : at ≤ stop = omega (arith, bounds.0) in
+    let long = part_long text at stop order bounds.1 in
+    let all = all_digits s (each_of_part text at stop order bounds.1 is_ascii_digit each) in
+    ap (λ t. is_some (number_of t)) is ∙ ap is_some (number_of-few s all (omega (arith, long, bounds.0)) (omega (arith, long, few)))
 
 -- ---- keys and values
 

@@ -63,22 +63,22 @@ fn any_value<'a>(
     Ok(value)
 }
 
-/// The JSON value that a text is. Most texts are in the usual form.
-fn whole_value<'a>(
+/// The JSON value of a text in any form, whose numbers are in the range of a double.
+fn value_in_range<'a>(
     arena: &'a Bump,
     scratch: &'a mut Scratch,
     text: &'a str,
 ) -> Result<LineValue<'a>, LineError>
-    ensures ok { IfOk result (λ found. value 127 (tokens text.now) ≡ Some (value_view found, [])) }
-    ensures err { IfErr result (λ error. IsRefused error (read text.now ≡ None)) }
+    ensures { IsReadAs line_view result (ok_or (read text.now) NotJson) }
 {
-    if let Some(found) = usual_value(arena, text)? {
-        return Ok(found);
+    let value = any_value(arena, scratch, text)?;
+    if !is_in_range(&value) {
+        return Err(LineError::Fault(LineFault::NotJson));
     }
-    any_value(arena, scratch, text)
+    Ok(value)
 }
 
-/// The JSON value of a text, whose numbers are in the range of a double.
+/// The JSON value of a text, whose numbers are in the range of a double. Most texts are in the usual form.
 fn text_value<'a>(
     arena: &'a Bump,
     scratch: &'a mut Scratch,
@@ -86,11 +86,10 @@ fn text_value<'a>(
 ) -> Result<LineValue<'a>, LineError>
     ensures { IsReadAs line_view result (ok_or (read text.now) NotJson) }
 {
-    let value = whole_value(arena, scratch, text)?;
-    if !is_in_range(&value) {
-        return Err(LineError::Fault(LineFault::NotJson));
+    if let Some(found) = usual_value(arena, text)? {
+        return Ok(found);
     }
-    Ok(value)
+    value_in_range(arena, scratch, text)
 }
 
 /// The JSON value of a line.

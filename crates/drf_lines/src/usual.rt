@@ -1,11 +1,14 @@
-//! Values in the usual form, in one pass over their bytes: without spaces, escapes and `true`, `false` or `null`, numbers of digits alone, nothing empty,
-//! few levels.
-ghost use Rattle.std.specs.Prelude.{◌≡◌, ◌<◌, ◌≤◌, ℕ, [], Some, IfSome, IfOk, length, get_or};
+//! Values in the usual form, in one pass over their bytes: without spaces, escapes and `true`, `false` or `null`, numbers of a few digits alone, nothing
+//! empty, few levels. All their numbers are in range.
+ghost use Rattle.std.specs.Prelude.{◌≡◌, ◌<◌, ◌≤◌, ℕ, [], true, Some, IfSome, IfOk, length, get_or, is_some};
 ghost use Rattle.json.specs.Json.{value};
 ghost use Rattle.json.specs.Lex.{tokens};
 ghost use Rattle.json.specs.Value.{value_view, items_view, members_view};
+ghost use Rattle.serde_json.specs.Read.{number_of};
+ghost use Rattle.drf_lines.specs.LineValue.{is_in_range, items_in_range, members_in_range};
 ghost use Rattle.drf_lines.specs.Usual.{is_end, AreDigitsFrom, IsStringAt, IsNumberAt, IsKeyAt, IsValueAt, AreItemsAt, AreMembersAt};
 
+use crate::number::FEW_DIGITS;
 use crate::object::LineValue;
 use crate::plain::plain_end;
 use bumpalo::Bump;
@@ -70,9 +73,10 @@ fn is_end(byte: u8) -> bool
     (byte == b',') | (byte == b'}') | (byte == b']')
 }
 
-/// The number at a place that is digits alone, before what ends it, and the place behind it.
+/// The number at a place that is a few digits alone, before what ends it, and the place behind it.
 fn digits_at<'a>(text: &'a str, at: usize) -> Option<(&'a str, usize)>
     ensures found { IfSome result (λ found. IsNumberAt text.now at found.0.now found.1) }
+    ensures range { IfSome result (λ found. is_some (number_of found.0.now) ≡ true) }
     ensures order { IfSome result (λ found. at < found.1) }
 {
     let bytes = text.as_bytes();
@@ -81,6 +85,9 @@ fn digits_at<'a>(text: &'a str, at: usize) -> Option<(&'a str, usize)>
     }
     let stop = digits_end(bytes, at);
     if stop == at {
+        return None;
+    }
+    if stop - at > FEW_DIGITS {
         return None;
     }
     // A longer number does not begin with 0.
@@ -109,6 +116,7 @@ fn key_at<'a>(text: &'a str, at: usize) -> Option<(&'a str, usize)>
 /// The string or the number at a place, and the place behind it.
 fn leaf_at<'a>(text: &'a str, at: usize) -> Option<(LineValue<'a>, usize)>
     ensures found { IfSome result (λ found. (depth : ℕ) → IsValueAt depth text.now at (value_view found.0) found.1) }
+    ensures range { IfSome result (λ found. is_in_range (value_view found.0) ≡ true) }
     ensures order { IfSome result (λ found. at < found.1) }
 {
     if byte_at(text.as_bytes(), at) != b'"' {
@@ -122,7 +130,7 @@ fn leaf_at<'a>(text: &'a str, at: usize) -> Option<(LineValue<'a>, usize)>
     Some((Value::String(found), next))
 }
 
-/// The value at a place, in which arrays and objects nest at most so deep, and the place behind it.
+/// The array or the object at a place, in which others nest at most so deep, and the place behind it.
 #[cycle(value_at)]
 fn value_at<'a>(
     arena: &'a Bump,
@@ -131,10 +139,11 @@ fn value_at<'a>(
     depth: usize,
 ) -> Result<Option<(LineValue<'a>, usize)>, AllocError>
     ensures found { IfOk result (λ found. IfSome found (λ found. IsValueAt depth text.now at (value_view found.0) found.1)) }
+    ensures range { IfOk result (λ found. IfSome found (λ found. is_in_range (value_view found.0) ≡ true)) }
     ensures order { IfOk result (λ found. IfSome found (λ found. at < found.1)) }
 {
     if depth < LEAST_DEPTH {
-        return Ok(leaf_at(text, at));
+        return Ok(None);
     }
     match byte_at(text.as_bytes(), at) {
         b'{' => match members_at(arena, text, at + 1, depth - 1)? {
@@ -145,8 +154,28 @@ fn value_at<'a>(
             Some((items, next)) => Ok(Some((Value::Array(items), next))),
             None => Ok(None),
         },
-        _ => Ok(leaf_at(text, at)),
+        _ => Ok(None),
     }
+}
+
+/// The value at a place within another. Most are texts and numbers.
+#[inline(always)]
+#[cycle(value_at)]
+fn inner_at<'a>(
+    arena: &'a Bump,
+    text: &'a str,
+    at: usize,
+    depth: usize,
+) -> Result<Option<(LineValue<'a>, usize)>, AllocError>
+    ensures found { IfOk result (λ found. IfSome found (λ found. IsValueAt depth text.now at (value_view found.0) found.1)) }
+    ensures range { IfOk result (λ found. IfSome found (λ found. is_in_range (value_view found.0) ≡ true)) }
+    ensures order { IfOk result (λ found. IfSome found (λ found. at < found.1)) }
+{
+    let byte = byte_at(text.as_bytes(), at);
+    if (byte == b'{') | (byte == b'[') {
+        return value_at(arena, text, at, depth);
+    }
+    Ok(leaf_at(text, at))
 }
 
 /// The items of an array whose bracket stands before a place, and the place behind the bracket that ends it.
@@ -158,13 +187,14 @@ fn items_at<'a>(
     depth: usize,
 ) -> Result<Option<(Vec<LineValue<'a>, &'a Bump>, usize)>, AllocError>
     ensures found { IfOk result (λ found. IfSome found (λ found. AreItemsAt depth text.now from (items_view found.0.items) found.1)) }
+    ensures range { IfOk result (λ found. IfSome found (λ found. items_in_range (items_view found.0.items) ≡ true)) }
     ensures order { IfOk result (λ found. IfSome found (λ found. from < found.1)) }
 {
     let mut found = Vec::new(arena);
     let mut at = from;
     // An array without items is read in another way.
     while at < text.len() {
-        let Some((item, next)) = value_at(arena, text, at, depth)? else {
+        let Some((item, next)) = inner_at(arena, text, at, depth)? else {
             return Ok(None);
         };
         found.push(item)?;
@@ -196,6 +226,7 @@ fn members_at<'a>(
     depth: usize,
 ) -> Result<Option<(Vec<(&'a str, LineValue<'a>), &'a Bump>, usize)>, AllocError>
     ensures found { IfOk result (λ found. IfSome found (λ found. AreMembersAt depth text.now from (members_view found.0.items) found.1)) }
+    ensures range { IfOk result (λ found. IfSome found (λ found. members_in_range (members_view found.0.items) ≡ true)) }
     ensures order { IfOk result (λ found. IfSome found (λ found. from < found.1)) }
 {
     let mut found = Vec::with_capacity(arena, room_for(depth))?;
@@ -205,7 +236,7 @@ fn members_at<'a>(
         let Some((key, begin)) = key_at(text, at) else {
             return Ok(None);
         };
-        let Some((member, next)) = value_at(arena, text, begin, depth)? else {
+        let Some((member, next)) = inner_at(arena, text, begin, depth)? else {
             return Ok(None);
         };
         found.push((key, member))?;
@@ -220,7 +251,8 @@ fn members_at<'a>(
 
 /// The value of a text in the usual form, where it is in it.
 pub fn usual_value<'a>(arena: &'a Bump, text: &'a str) -> Result<Option<LineValue<'a>>, AllocError>
-    ensures { IfOk result (λ found. IfSome found (λ found. value 127 (tokens text.now) ≡ Some (value_view found, []))) }
+    ensures found { IfOk result (λ found. IfSome found (λ found. value 127 (tokens text.now) ≡ Some (value_view found, []))) }
+    ensures range { IfOk result (λ found. IfSome found (λ found. is_in_range (value_view found) ≡ true)) }
 {
     match value_at(arena, text, 0, MOST_DEPTH)? {
         Some((found, next)) if next == text.len() => Ok(Some(found)),

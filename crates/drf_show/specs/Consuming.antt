@@ -1,6 +1,5 @@
 -- What roles consume, and what limits have beside it.
 use Rattle.std.specs.Prelude.{◌≤◌, ◌<◌, ◌^◌, List, [], fold, length}
-use Rattle.drf_role.specs.Text.{Text}
 use Rattle.drf_role.specs.Path.{Path}
 use Rattle.drf_bundle.specs.Quantities.{with_amount}
 use Rattle.drf_bundle.specs.declared.quantities.Entry.{Entry}

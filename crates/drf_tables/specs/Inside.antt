@@ -1,5 +1,5 @@
 -- The rows that the fields of tables stand for, and what the fields keep beside the rows.
-use Rattle.std.specs.Prelude.{◌≡◌, ◌≤◌, ℕ, Bool, true, List, length, map, fold, slice_set, Option, Some, is_some}
+use Rattle.std.specs.Prelude.{◌≡◌, ◌≤◌, ℕ, Bool, List, length, map, fold, slice_set, Option, Some, is_some}
 use Rattle.std.specs.List.{list_all, AllByRecursion}
 use Rattle.std.specs.Global.{Vec}
 use Rattle.drf_role.specs.Text.{Text}

@@ -16,7 +16,7 @@ use Rattle.drf_bundle.specs.declared.resource.Resource.{Resource}
 use Rattle.drf_rows.specs.Client.{Client, path_of}
 use Rattle.drf_rows.specs.Consistent.{IsFramework, IsConsistent}
 use Rattle.drf_rows.specs.Cycle.{free_of, grant, is_allocatable, new_offer, with_offer}
-use Rattle.drf_rows.specs.Held.{active_clients, client_of, cluster_total, count_of, held_by, is_registered, weight_of}
+use Rattle.drf_rows.specs.Held.{active_clients, client_of, cluster_total, held_by, is_registered, weight_of}
 use Rattle.drf_rows.specs.Held as rows_word
 use Rattle.drf_rows.specs.Holdings.{Holding, amount_in, of_offer, of_task, holdings_of, held_where, is_under, parts_on}
 use Rattle.drf_rows.specs.Quota.{consumption, entitlement, headrooms, is_within, reserved_for, unreserved_in}

@@ -8,7 +8,6 @@ use Rattle.drf_tables.specs.cycle.DraftLaws.{agents-with_offers}
 use Rattle.drf_gates.specs.quota.Allowance.{quota_under}
 use Rattle.drf_core.specs.cycle.Drafting.{IsDrafting}
 use Rattle.drf_core.proofs.drafting.Turn.{element_at, free-before, left-begins, ordered_from, registered_all, sound_now}
-use Rattle.drf_core.proofs.cycle.begin_turn.Goals.{After-fix_order}
 use Rattle.drf_core.proofs.cycle.begin_turn.Goals as goal
 
 pub fix_order-requires : goal.fix_order-requires

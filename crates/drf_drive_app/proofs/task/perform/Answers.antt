@@ -1,4 +1,4 @@
-use Rattle.std.proofs.Common.{ℕ, ◌≤◌, ◌≡◌, List, Bor, length, map, sym, subst, inl, inr}
+use Rattle.std.proofs.Common.{ℕ, ◌≤◌, List, Bor, length, map, sym, subst, inr}
 use Rattle.drf_core.specs.Machine.{live}
 use Rattle.drf_files.specs.Files.{Known}
 use Rattle.drf_told.specs.Streams.{Streams, stream_of}

@@ -1,4 +1,4 @@
-use Rattle.std.proofs.Common.{◌≡◌, List, filter, is_some, ap, subst, sym, ◌∙◌, rules}
+use Rattle.std.proofs.Common.{is_some, ap, subst, sym, ◌∙◌, rules}
 use Rattle.std.proofs.lemmas.Fn.{filter_same}
 use Rattle.drf_holdings.specs.ByNumber.{things_in, KeepsOrder}
 use Rattle.drf_holdings.proofs.Slots.{is_filled, things-filled, order_some}

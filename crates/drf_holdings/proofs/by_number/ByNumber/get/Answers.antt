@@ -1,4 +1,4 @@
-use Rattle.std.proofs.Common.{◌==◌, List, Some, length, find, slice_get, sym, ap, subst, ◌∙◌, arith, rules}
+use Rattle.std.proofs.Common.{◌==◌, List, find, sym, ap, subst, ◌∙◌, arith}
 use Rattle.std.proofs.lemmas.Option.{slice_get_within, get_or_from_slice_get}
 use Rattle.drf_holdings.specs.ByNumber.{IsPlaceOf, slot_number}
 use Rattle.drf_holdings.specs.Rising.{AreOthers}

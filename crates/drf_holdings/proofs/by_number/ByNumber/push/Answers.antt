@@ -4,7 +4,7 @@ use Rattle.drf_holdings.specs.ByNumber.{things_in, IsByNumber}
 use Rattle.drf_holdings.specs.Rising.{IsRising}
 use Rattle.drf_holdings.specs.declared.by_number.Slot.{Slot}
 use Rattle.drf_holdings.proofs.Slots.{things-short}
-use Rattle.drf_holdings.proofs.Slotted.{things_cut, kept_cut, things_put, kept_put}
+use Rattle.drf_holdings.proofs.Slotted.{things_put, kept_put}
 use Rattle.drf_holdings.proofs.by_number.ByNumber.push.Goals as goal
 
 pub overflow_add-self : goal.overflow_add-self

@@ -1,3 +1,1 @@
-mod Flushed
 mod Bounds
-mod Begun

@@ -13,21 +13,17 @@ use Rattle.drf_journal.specs.declared.journal.Verdict.{Verdict}
 use Rattle.drf_rows.specs.declared.rows.Rows.{Rows}
 use Rattle.drf_resume.specs.Saving.{HasSaved as HasSavedState}
 use Rattle.drf_start.specs.Starts.{HasNotStarted, IsStart}
-use Rattle.drf_show.specs.Showing.{HasShown as HasShownRows}
-use Rattle.drf_show.specs.declared.form.Form.{Form}
-use Rattle.drf_show.specs.declared.form.Form.TheVariants.{Aligned, Json}
 use Rattle.drf_told.specs.Refused.{HasRefused}
 use Rattle.drf_told.specs.Streams.{Streams}
 use Rattle.drf_told.specs.Told.{IsTold, IsToldOf, status_of}
 use Rattle.drf_why.specs.Asked.{asked_text, summed_text}
 use Rattle.drf_app.specs.Line.{Asks, IsRefused}
-use Rattle.drf_app.specs.Lints.{IsLinted}
 use Rattle.drf_app.specs.Verdicts.{IsJudged, check_status}
 use Rattle.drf_app.specs.declared.line.Request.{Request}
 use Rattle.drf_app.specs.declared.line.Scope.{Scope}
 use Rattle.drf_app.specs.declared.line.Scope.TheVariants.{Short, Each, Summary, Several}
 use Rattle.drf_app.specs.declared.line.Task.{Task}
-use Rattle.drf_app.specs.declared.line.Task.TheVariants.{Run, Check, Audit, Explain, Save, Show, Lint}
+use Rattle.drf_app.specs.declared.line.Task.TheVariants.{Run, Check, Audit, Explain, Save}
 
 -- the lines of a reader were answered, or its questions too
 abbrev pub HasAnsweredAs : (ask : Bool) → Machine → Bool → (unread_before unread_after written_before written_after : Option (List ℕ))
@@ -93,18 +89,6 @@ pub record HasSaved (machine : Machine) (epoch : Bool) (old new : Streams) (answ
   pub status : answer ≡ status_of ended
   pub told : IsToldOf ended old.errors.bytes new.errors.bytes new.errors.failed
 
-abbrev pub form_of : Bool → Form
-form_of true = Json
-form_of false = Aligned
-
--- the state was shown, as tables or as lines
-pub record HasShown (machine : Machine) (json : Bool) (old new : Streams) (answer : ℕ) : Type 0 where
-  pub ended : Result (Unit {0}) RunFault
-  pub shown : HasShownRows (form_of json) machine old.input.bytes new.input.bytes old.output.bytes new.output.bytes ended
-  pub cause : HasCause ended new.input.failed new.input.calls new.output.failed
-  pub status : answer ≡ status_of ended
-  pub told : IsToldOf ended old.errors.bytes new.errors.bytes new.errors.failed
-
 -- what is done for a task that begins with an allocator
 abbrev pub HasDoneFrom : Machine → Task → Streams → Streams → ℕ → Type 0
 HasDoneFrom machine (Run echo ask) old new answer = HasRun machine echo ask old new answer
@@ -112,8 +96,6 @@ HasDoneFrom machine Check old new answer = HasChecked machine old new answer
 HasDoneFrom machine Audit old new answer = HasAudit machine old new answer
 HasDoneFrom machine (Explain at scope) old new answer = HasExplained machine at scope old new answer
 HasDoneFrom machine (Save epoch) old new answer = HasSaved machine epoch old new answer
-HasDoneFrom machine (Show json) old new answer = HasShown machine json old new answer
-HasDoneFrom machine (Lint write) old new answer = IsLinted write old new answer
 
 -- what is done for a request, where so much is known of files: its task has not begun, or was done from what it begins with
 abbrev pub HasDone : Known → Request → Streams → Streams → ℕ → Type 0

@@ -1,4 +1,3 @@
 pub mod Line
 pub mod Verdicts
-pub mod Lints
 pub mod Done

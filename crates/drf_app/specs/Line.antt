@@ -1,26 +1,22 @@
 -- The form of the command line, and what its words ask for.
 use Rattle.std.specs.Prelude.{◌≡◌, ◌≤◌, ⊤, ℕ, Bool, true, false, List, [], ◌∷◌, Option, Some, None, codes, option_map, if◌then◌else◌}
 use Rattle.std.specs.Str.Parse.{IsNumeral, digits_value, without_leading_plus}
-use Rattle.clap.specs.Words.{App, Row, Rule, Shape, Text, HasKind, all_of, fault_of, first_of, new_app, new_rule, one_of, subcommand_of, with_rule, with_subcommand}
-use Rattle.clap.specs.Simple.{on_top}
-use Rattle.clap.specs.declared.builder.action.ArgAction.TheVariants.{Set, SetTrue}
+use Rattle.clap.specs.Words.{App, Row, Rule, Text, HasKind, all_of, fault_of, first_of, new_app, new_rule, one_of, subcommand_of, with_rule, with_subcommand}
+use Rattle.clap.specs.declared.builder.action.ArgAction.TheVariants.{Set}
 use Rattle.clap.specs.declared.builder.value_parser.ValueParser.TheVariants.{Unsigned}
 use Rattle.clap.specs.declared.error.Error.{Error}
 use Rattle.drf_rows.specs.declared.limits.TheConstants.{LATEST_MOMENT}
 use Rattle.drf_start.specs.Line.{from_option}
-use Rattle.drf_told.specs.Entered.{IsNameOf}
+use Rattle.drf_told.specs.Words.{HasFlag, IsNameOf, flag, top_line}
 use Rattle.drf_app.specs.declared.line.Request.{Request}
 use Rattle.drf_why.specs.declared.whom.Whom.{Whom}
 use Rattle.drf_why.specs.declared.whom.Whom.TheVariants as whom
 use Rattle.drf_app.specs.declared.line.Scope.{Scope}
 use Rattle.drf_app.specs.declared.line.Scope.TheVariants.{Short, Each, Summary, Several}
 use Rattle.drf_app.specs.declared.line.Task.{Task}
-use Rattle.drf_app.specs.declared.line.Task.TheVariants.{Run, Check, Audit, Explain, Save, Show, Lint}
+use Rattle.drf_app.specs.declared.line.Task.TheVariants.{Run, Check, Audit, Explain, Save}
 
--- ---- the form, in which each command but `lint` has `[--from STATE]`
-
-abbrev pub flag : Text → Rule
-flag name = record (new_rule name) { long = Some name; action = Some SetTrue }
+-- ---- the form, in which each command has `[--from STATE]`
 
 abbrev pub moment_option : Rule
 moment_option = record (new_rule (codes "at")) { long = Some (codes "at"); action = Some Set; parser = Some (Unsigned 0 LATEST_MOMENT) }
@@ -53,30 +49,12 @@ explain_line =
 abbrev pub save_line : App
 save_line = with_rule (with_rule (new_app (codes "save")) (flag (codes "epoch"))) from_option
 
--- `show [--json]`
-abbrev pub show_line : App
-show_line = with_rule (with_rule (new_app (codes "show")) (flag (codes "json"))) from_option
-
--- `lint [--write]`
-abbrev pub lint_line : App
-lint_line = with_rule (new_app (codes "lint")) (flag (codes "write"))
-
--- `drf COMMAND`, which has a version
-abbrev pub drf_top : Shape → Shape
-drf_top s = record s { subcommand_required = true; has_version = true; disable_help_subcommand = true }
-
 abbrev pub drf_line : App
 drf_line =
-    with_subcommand (with_subcommand (with_subcommand (with_subcommand (with_subcommand (with_subcommand (with_subcommand (on_top drf_top (new_app (codes "drf"))) run_line.top)
-    check_line.top) audit_line.top) explain_line.top) save_line.top) show_line.top) lint_line.top
+    with_subcommand (with_subcommand (with_subcommand (with_subcommand (with_subcommand top_line run_line.top)
+    check_line.top) audit_line.top) explain_line.top) save_line.top
 
 -- ---- what the words of a command say
-
--- of a flag
-pub record HasFlag (rows : List Row) (name : Text) (is_set : Bool) : Type 0 where
-  pub unsaid : one_of name rows ≡ None → is_set ≡ false
-  pub no : one_of name rows ≡ Some (codes "false") → is_set ≡ false
-  pub yes : one_of name rows ≡ Some (codes "true") → is_set ≡ true
 
 -- a moment is what they say of it: nothing, so that it is 0, or a number in digits, which is no later than the latest
 -- moment where the words are right
@@ -137,8 +115,6 @@ name_of Check = codes "check"
 name_of Audit = codes "audit"
 name_of (Explain at scope) = codes "explain"
 name_of (Save epoch) = codes "save"
-name_of (Show json) = codes "show"
-name_of (Lint write) = codes "lint"
 
 -- a command has that name
 abbrev pub IsCommand : Text → Type 0
@@ -151,8 +127,6 @@ SaysTask rows Check = ⊤
 SaysTask rows Audit = ⊤
 SaysTask rows (Explain at scope) = SaysMoment rows at × SaysScope rows scope
 SaysTask rows (Save epoch) = HasFlag rows (codes "epoch") epoch
-SaysTask rows (Show json) = HasFlag rows (codes "json") json
-SaysTask rows (Lint write) = HasFlag rows (codes "write") write
 
 -- the words name the command of the task, and the file with the state that it begins with, if it begins with one
 pub record IsNamed (words : List Text) (request : Request) : Type 0 where
@@ -168,8 +142,6 @@ IsWithinBounds Check = ⊤
 IsWithinBounds Audit = ⊤
 IsWithinBounds (Explain at scope) = at ≤ LATEST_MOMENT
 IsWithinBounds (Save epoch) = ⊤
-IsWithinBounds (Show json) = ⊤
-IsWithinBounds (Lint write) = ⊤
 
 -- the words, of which the first is the program's name, ask for that: nothing is wrong with them, and they name it
 pub record Asks (words : List Text) (request : Request) : Type 0 where

@@ -16,7 +16,7 @@ use std::io::{Read, Write};
 
 /// Tells of the cycle at a moment, in milliseconds, that an allocator would make after the events of a reader's lines, and gives the program's
 /// status.
-#[tactic(auto, using(crate::proofs::Flushed::flushed_unless_failed))]
+#[tactic(auto, using(drf_told::proofs::Flushed::flushed_unless_failed))]
 pub(crate) fn explain<R: Read, W: Write, E: Write>(
     alloc: Global,
     core: Core<ProgramSorter>,

@@ -4,9 +4,7 @@
 mod check;
 mod explain;
 mod line;
-mod lint;
 mod run;
-mod show;
 mod tasks;
 
 pub use line::{Request, Scope, Task};

@@ -1,12 +1,13 @@
 //! The words of the command line, and what they ask for.
 ghost use Rattle.std.specs.Prelude.{◌≡◌, map, false, MatchResult, IfOk, option_map};
 ghost use Rattle.clap.specs.Words.{app_of, found_of, rows_of, rule_of};
-ghost use Rattle.drf_app.specs.Line.{agent_option, asked_by, asked_for, asked_of_client, audit_line, check_line, client_option, explain_line, lint_line, moment_option, run_line, save_line, show_line, drf_line, flag, name_of, Asks, HasFlag, IsCommand, IsRefused, SaysMoment, SaysScope, SaysTask};
+ghost use Rattle.drf_app.specs.Line.{agent_option, asked_by, asked_for, asked_of_client, audit_line, check_line, client_option, explain_line, moment_option, run_line, save_line, drf_line, name_of, Asks, IsCommand, IsRefused, SaysMoment, SaysScope, SaysTask};
 
 use clap::builder::ValueParser;
 use clap::{Arg, ArgAction, ArgMatches, Command, Error};
 use drf_rows::LATEST_MOMENT;
 use drf_start::from_option;
+use drf_told::{enter, flag, flag_of, top_line};
 use drf_why::Whom;
 use std::alloc::{AllocError, Global};
 use std::convert::AsStr;
@@ -38,10 +39,6 @@ pub enum Task<'a> {
     Explain { at: u64, scope: Scope<'a> },
     /// The state after the events of event lines; with `epoch` as a cluster begins anew that keeps its tasks.
     Save { epoch: bool },
-    /// The state after the events of event lines, as tables; with `json` as lines for programs.
-    Show { json: bool },
-    /// What is wrong with the lines that are no events; with `write` the others are written in their written form.
-    Lint { write: bool },
 }
 
 /// What the words ask for.
@@ -52,20 +49,8 @@ pub struct Request<'a> {
     pub from: Option<&'a str>,
 }
 
-const VERSION: &str = "0.1.0";
-
 /// What help calls the two values of `--client`.
 const CLIENT_NAMES: &[&str] = &["FRAMEWORK", "ROLE"];
-
-fn flag<'a>(alloc: Global, name: &'a str, help: &'a str) -> Arg<'a>
-    ensures rule { rule_of result ≡ flag name.now }
-    ensures local { result.global ≡ false }
-{
-    Arg::new(alloc, name)
-        .long(name)
-        .help(help)
-        .action(ArgAction::SetTrue)
-}
 
 fn run_line<'a>(alloc: Global) -> Result<Command<'a>, AllocError>
     ensures { IfOk result (λ line. app_of line ≡ run_line) }
@@ -185,33 +170,6 @@ fn save_line<'a>(alloc: Global) -> Result<Command<'a>, AllocError>
         .arg(from_option(alloc))
 }
 
-fn show_line<'a>(alloc: Global) -> Result<Command<'a>, AllocError>
-    ensures { IfOk result (λ line. app_of line ≡ show_line) }
-{
-    Command::new(alloc, "show")
-        .about(
-            "Takes the event lines or the journal on standard input, and shows the state after them: who has what, and how full each table is",
-        )
-        .after_help("Example: drf show < examples/day.jsonl")
-        .arg(flag(alloc, "json", "One JSON object a line, for programs"))?
-        .arg(from_option(alloc))
-}
-
-fn lint_line<'a>(alloc: Global) -> Result<Command<'a>, AllocError>
-    ensures { IfOk result (λ line. app_of line ≡ lint_line) }
-{
-    Command::new(alloc, "lint")
-        .about(
-            "Tells of each line of standard input that is no event what is wrong with it, and where; the status is 3 where there is one",
-        )
-        .after_help("Example: drf lint < examples/day.jsonl")
-        .arg(flag(
-            alloc,
-            "write",
-            "Writes each event in its written form on standard output, and tells of the other lines on standard error",
-        ))
-}
-
 fn drf_line<'a>(alloc: Global) -> Result<Command<'a>, AllocError>
     ensures { IfOk result (λ line. app_of line ≡ drf_line) }
 {
@@ -220,23 +178,15 @@ fn drf_line<'a>(alloc: Global) -> Result<Command<'a>, AllocError>
     let audit = audit_line(alloc)?;
     let explain = explain_line(alloc)?;
     let save = save_line(alloc)?;
-    let show = show_line(alloc)?;
-    let lint = lint_line(alloc)?;
-    Command::new(alloc, "drf")
-        .about("Shares the machines of a cluster among teams by Dominant Resource Fairness")
+    top_line(alloc)
         .after_help(
-            "drf drive, which runs files of event lines side by side, is a program of its own that the script ./drf runs.",
+            "drf show (the state, as tables), drf lint (what is wrong with lines) and drf drive (files of event lines, side by side) are programs of their own that the script ./drf runs.",
         )
-        .version(VERSION)
-        .subcommand_required(true)
-        .disable_help_subcommand(true)
         .subcommand(run)?
         .subcommand(check)?
         .subcommand(audit)?
         .subcommand(explain)?
-        .subcommand(save)?
-        .subcommand(show)?
-        .subcommand(lint)
+        .subcommand(save)
 }
 
 /// The moment that the words of a command say, at most the latest; 0 where they say none.
@@ -247,13 +197,6 @@ fn moment_of(explain: &ArgMatches) -> u64
         Some(at) => at.min(LATEST_MOMENT),
         None => 0,
     }
-}
-
-/// Whether the words of a command say a flag.
-fn flag_of(command: &ArgMatches, name: &str) -> bool
-    ensures { HasFlag (rows_of (found_of command.now)) name.now result }
-{
-    command.get_flag(name)
 }
 
 /// The scope that the two values of `--client` name.
@@ -319,28 +262,17 @@ fn task_of<'a>(name: &str, command: &ArgMatches<'a>) -> Task<'a>
         let scope = scope_of(command);
         return Task::Explain { at, scope };
     }
-    if name == "save" {
-        let epoch = flag_of(command, "epoch");
-        return Task::Save { epoch };
-    }
-    if name == "show" {
-        let json = flag_of(command, "json");
-        return Task::Show { json };
-    }
-    let write = flag_of(command, "write");
-    Task::Lint { write }
+    let epoch = flag_of(command, "epoch");
+    Task::Save { epoch }
 }
 
 /// What the words ask for, of which the first is the program's name.
 pub(crate) fn request_of<'a, S: AsStr>(alloc: Global, words: &'a [S]) -> Result<Request<'a>, Error>
     ensures { MatchResult result (Asks (map S.text words.now)) (IsRefused (map S.text words.now)) }
 {
-    let mut line = drf_line(alloc)?;
-    let matches = line.try_get_matches_from_mut(words)?;
-    let Some((name, command)) = matches.subcommand() else {
-        unreachable!()
-    };
-    let task = task_of(name, command);
+    let line = drf_line(alloc)?;
+    let (name, command) = enter(line, words)?;
+    let task = task_of(name, &command);
     let from = command.get_str("from");
     Ok(Request { task, from })
 }

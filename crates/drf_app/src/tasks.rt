@@ -10,9 +10,7 @@ ghost use Rattle.drf_app.specs.Line.{IsWithinBounds};
 use crate::check::{check, verdict_status};
 use crate::explain::explain;
 use crate::line::{Request, Task, request_of};
-use crate::lint::lint;
 use crate::run::answer;
-use crate::show::show;
 use drf_core::Core;
 use drf_files::FileBytes;
 use drf_journal::{Device, ProgramSorter, run_audit};
@@ -25,7 +23,7 @@ use std::io::{Read, Write};
 use std::thread::Threads;
 
 /// Does a task that begins with an allocator.
-#[tactic(auto, using(crate::proofs::Flushed::flushed_unless_failed))]
+#[tactic(auto, using(drf_told::proofs::Flushed::flushed_unless_failed))]
 fn perform_from<R: Read, W: Write, E: Write>(
     rt: &(impl Threads + Sync),
     alloc: Global,
@@ -65,11 +63,6 @@ fn perform_from<R: Read, W: Write, E: Write>(
             let ended = save(alloc, core, epoch, input, output);
             finish(ended, errors)
         }
-        Task::Show { json } => {
-            let ended = show(rt, alloc, core, json, input, output);
-            finish(ended, errors)
-        }
-        Task::Lint { write } => lint(alloc, write, input, output, errors),
     }
 }
 
@@ -102,7 +95,7 @@ fn perform<F: FileBytes, R: Read, W: Write, E: Write>(
 
 /// Does what the words ask for, of which the first is the program's name: reads the file that they name, then `input`, writes `output`, tells
 /// faults on `errors`, and gives the program's status. That is 0, 1 where a file or a stream failed or memory ran out, 2 where the words ask
-/// for nothing that there is, or 3 where a journal is wrong, a file is no state, or a lint has found a line that is no event.
+/// for nothing that there is, or 3 where a journal is wrong or a file is no state.
 pub fn command<S: AsStr, F: FileBytes, R: Read, W: Write, E: Write>(
     rt: &(impl Threads + Sync),
     alloc: Global,

@@ -1,10 +1,10 @@
 -- The form of the command line, and what its words ask for.
 use Rattle.std.specs.Prelude.{◌≡◌, ◌≤◌, true, List, [], length, map, option_map, take, Some, codes, unwrap_or}
-use Rattle.clap.specs.Words.{App, Row, Rule, Shape, Text, HasKind, all_of, fault_of, first_of, new_app, new_rule, subcommand_of, with_rule, with_subcommand}
-use Rattle.clap.specs.Simple.{on_top}
+use Rattle.clap.specs.Words.{App, Row, Rule, Text, HasKind, all_of, fault_of, first_of, new_app, new_rule, subcommand_of, with_rule, with_subcommand}
 use Rattle.clap.specs.declared.builder.action.ArgAction.TheVariants.{Append}
 use Rattle.clap.specs.declared.error.Error.{Error}
 use Rattle.drf_start.specs.Line.{from_option}
+use Rattle.drf_told.specs.Words.{top_line}
 use Rattle.drf_drive_app.specs.declared.line.Task.{Task}
 
 -- of 1 to 64 files
@@ -19,12 +19,8 @@ file_words = record (new_rule (codes "FILE")) {
 abbrev pub drive_line : App
 drive_line = with_rule (with_rule (new_app (codes "drive")) from_option) file_words
 
--- `drf drive`, which has a version
-abbrev pub drf_top : Shape → Shape
-drf_top s = record s { subcommand_required = true; has_version = true; disable_help_subcommand = true }
-
 abbrev pub drf_line : App
-drf_line = with_subcommand (on_top drf_top (new_app (codes "drf"))) drive_line.top
+drf_line = with_subcommand top_line drive_line.top
 
 -- files are those that the words of a command name, or the first 64 of them; right words name no more
 pub record SaysFiles (rows : List Row) (files : List Text) : Type 0 where

@@ -5,6 +5,7 @@ ghost use Rattle.drf_drive_app.specs.Line.{drf_line, drive_line, Asks, IsRefused
 
 use clap::{Arg, ArgAction, ArgMatches, Command, Error};
 use drf_start::from_option;
+use drf_told::{enter, top_line};
 use std::alloc::{AllocError, Global};
 use std::convert::AsStr;
 
@@ -18,8 +19,6 @@ pub struct Task<'a> {
 
 /// How many files run side by side at most.
 const MOST_FILES: usize = 64;
-
-const VERSION: &str = "0.1.0";
 
 fn drive_line<'a>(alloc: Global) -> Result<Command<'a>, AllocError>
     ensures { IfOk result (λ line. app_of line ≡ drive_line) }
@@ -42,12 +41,7 @@ fn drf_line<'a>(alloc: Global) -> Result<Command<'a>, AllocError>
     ensures { IfOk result (λ line. app_of line ≡ drf_line) }
 {
     let drive = drive_line(alloc)?;
-    Command::new(alloc, "drf")
-        .about("Shares the machines of a cluster among teams by Dominant Resource Fairness")
-        .version(VERSION)
-        .subcommand_required(true)
-        .disable_help_subcommand(true)
-        .subcommand(drive)
+    top_line(alloc).subcommand(drive)
 }
 
 /// The first 64 of some names.
@@ -73,12 +67,9 @@ fn files_of<'a>(alloc: Global, drive: &ArgMatches<'a>) -> Result<Vec<&'a str>, A
 pub(crate) fn task_of<'a, S: AsStr>(alloc: Global, words: &'a [S]) -> Result<Task<'a>, Error>
     ensures { MatchResult result (Asks (map S.text words.now)) (IsRefused (map S.text words.now)) }
 {
-    let mut line = drf_line(alloc)?;
-    let matches = line.try_get_matches_from_mut(words)?;
-    let Some((_drive, command)) = matches.subcommand() else {
-        unreachable!()
-    };
-    let files = files_of(alloc, command)?;
+    let line = drf_line(alloc)?;
+    let (_drive, command) = enter(line, words)?;
+    let files = files_of(alloc, &command)?;
     let from = command.get_str("from");
     Ok(Task { files, from })
 }

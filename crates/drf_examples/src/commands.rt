@@ -6,6 +6,7 @@ use drf_app::command;
 use drf_drive_app::command as drive_command;
 use drf_files::{FileBytes, SystemFiles};
 use drf_hash::HashKey;
+use drf_inspect_app::command as inspect_command;
 use drf_journal::{Device, RunFault};
 use std::alloc::{AllocError, Global};
 use std::rt::{Files, Runtime};
@@ -136,10 +137,11 @@ pub struct Done {
     pub told: Vec<u8>,
 }
 
-fn is_drive(words: &[&str]) -> bool {
+/// The word behind the program's name.
+fn first_of<'a>(words: &[&'a str]) -> &'a str {
     match words.get(1) {
-        Some(word) => *word == "drive",
-        None => false,
+        Some(word) => *word,
+        None => "",
     }
 }
 
@@ -156,8 +158,19 @@ pub fn done_from<R: Files + Threads + Wait + Sync + AllocGlobal>(
     let mut writer = Device::new(Full::new(alloc, bounds));
     let mut errors = Device::new(Full::new(alloc, NO_BOUNDS));
     let mut files = WithState { rt, state };
-    let status = if is_drive(words) {
+    let first = first_of(words);
+    let status = if first == "drive" {
         drive_command(rt, alloc, words, &mut files, &mut writer, &mut errors)
+    } else if first == "show" || first == "lint" {
+        inspect_command(
+            rt,
+            alloc,
+            words,
+            &mut files,
+            &mut reader,
+            &mut writer,
+            &mut errors,
+        )
     } else {
         command(
             rt,

@@ -2,10 +2,12 @@
 use Rattle.std.specs.Prelude.{◌≡◌, ◌&&◌, not, Bool, true, false, List, [], ◌∷◌, Option, Some, None, Box, find, option_map, option_and_then, Result, Ok, Err, IsErrAnd, MatchResult}
 use Rattle.std.specs.Box.{box_value}
 use Rattle.std.proofs.Common.{refl, sym, ap, subst, inl, inr}
-use Rattle.std.proofs.lemmas.Bool.{false≢true}
+use Rattle.std.specs.List.{list_all}
+use Rattle.std.proofs.lemmas.Bool.{and_parts, false≢true}
 use Rattle.clap.specs.Kinds.{Kinds, HasKind}
-use Rattle.clap.specs.Words.{App, Row, Shape, Text, app_of, built, found_of, kind_of, rows_of, subcommand_of, subcommand_rows}
-use Rattle.clap.specs.Simple.{argument_words, label_of, names_of, rows_at}
+use Rattle.clap.specs.Words.{App, Row, Shape, Text, app_of, built, found_of, kind_of, rows_of, is_buildable, is_simple, is_simple_and_free, subcommand_of, subcommand_rows}
+use Rattle.clap.specs.Faults.{is_free_app}
+use Rattle.clap.specs.Simple.{argument_words, has_simple_rules, is_ready, is_ready_leaf, is_simple_leaf, label_of, names_of, rows_at}
 use Rattle.clap.specs.Walk.{answers_to, is_empty, stop_after}
 use Rattle.clap.specs.declared.builder.command.Command.{Command}
 use Rattle.clap.specs.declared.builder.command.Command.TheViews.{out-Command}
@@ -13,7 +15,7 @@ use Rattle.clap.specs.declared.parser.matches.ArgMatches.TheViews.{out-SubComman
 use Rattle.clap.specs.declared.parser.matches.SubCommand.{SubCommand}
 use Rattle.clap.specs.declared.error.Error.{Error}
 use Rattle.clap.specs.declared.error.kind.ErrorKind.TheVariants.{OutOfMemory}
-use Rattle.drf_told.specs.Entered.{IsNameOf}
+use Rattle.drf_told.specs.Words.{IsNameOf}
 
 -- ---- the command that was entered
 
@@ -67,6 +69,14 @@ pub local : (command : Command) → (app_of command).top.is_plain ≡ true → (
 local command plain =
     let fields = out-Command command in
     no_globals (is_empty fields.groups.items) fields.allow_external_subcommands fields.has_globals _ plain
+
+-- so is one that `clap` reads exactly
+pub is_plain_form : (a : App) → is_simple_and_free a ≡ true → a.top.is_plain ≡ true
+is_plain_form a exact =
+    let simple = (and_parts (is_simple a) (is_free_app (built a)) exact).0 in
+    let buildable = (and_parts (is_buildable a) (is_ready (built a).top && list_all is_ready_leaf (built a).subs) simple).0 in
+    let rules = (and_parts (has_simple_rules a.top) (list_all is_simple_leaf a.subs) buildable).0 in
+    (and_parts a.top.is_plain (list_all (λ r. r.is_simple) a.top.rules) rules).0
 
 -- ---- words that are refused
 

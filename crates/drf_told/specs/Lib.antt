@@ -2,4 +2,4 @@ pub mod Names
 pub mod Told
 pub mod Streams
 pub mod Refused
-pub mod Entered
+pub mod Words

@@ -5,7 +5,7 @@ ghost use Rattle.drf_journal.specs.Device.{IsNew};
 ghost use Rattle.drf_journal.specs.Ended.{HasCause, HasFlushed};
 ghost use Rattle.drf_rows.specs.LimitNumbers.{ceilings};
 ghost use Rattle.drf_show.specs.Showing.{HasShown};
-ghost use Rattle.drf_app.specs.Done.{form_of};
+ghost use Rattle.drf_inspect_app.specs.Done.{form_of};
 
 use drf_core::Core;
 use drf_journal::{Device, ProgramSorter, RunFault};

@@ -1,7 +1,7 @@
 use Rattle.std.proofs.Common.{◌∙◌}
 use Rattle.clap.specs.Words.{found_of}
 use Rattle.clap.proofs.WalkLemmas.{one_text-rows}
-use Rattle.drf_app.proofs.line.flag_of.Goals as goal
+use Rattle.drf_told.proofs.command.flag_of.Goals as goal
 
 pub returns : goal.returns
 returns c =

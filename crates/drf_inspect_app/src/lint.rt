@@ -3,7 +3,7 @@ ghost use Rattle.std.specs.Prelude.{◌≡◌, ◌≤◌, ◌^◌, true, false};
 ghost use Rattle.std.specs.Io.KnownBytes.{Keeps};
 ghost use Rattle.drf_journal.specs.Device.{IsNew};
 ghost use Rattle.drf_told.specs.Streams.{stream_of};
-ghost use Rattle.drf_app.specs.Lints.{IsLinted, IsLintEnd, IsLooked, lint_status};
+ghost use Rattle.drf_inspect_app.specs.Lints.{IsLinted, IsLintEnd, IsLooked, lint_status};
 
 use drf_journal::{Device, RunFault};
 use drf_lint::run_lint;

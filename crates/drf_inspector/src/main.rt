@@ -1,0 +1,37 @@
+//! The program of `drf show` and `drf lint`, on the words of its command line, files and the three standard streams.
+#![tactic(auto)]
+
+use drf_files::{SystemFiles, random_key};
+use drf_inspect_app::command;
+use drf_journal::Device;
+use drf_told::no_words;
+use std::env::Env;
+use std::process::ExitCode;
+use std::{env, io};
+
+fn words<R: Env + AllocGlobal>(rt: &R) -> io::Result<Vec<String>> {
+    Ok(env::args(rt)?.collect::<Vec<String>>(rt.alloc())?)
+}
+
+fn main(rt: HostRuntime) -> ExitCode {
+    let mut files = SystemFiles {
+        rt: &rt,
+        key: random_key(&rt),
+    };
+    let mut input = Device::new(rt.stdin());
+    let mut output = Device::new(rt.stdout());
+    let mut errors = Device::new(rt.stderr());
+    let status = match words(&rt) {
+        Ok(words) => command(
+            &rt,
+            rt.alloc(),
+            &words,
+            &mut files,
+            &mut input,
+            &mut output,
+            &mut errors,
+        ),
+        Err(error) => no_words(&error, &mut errors),
+    };
+    ExitCode::from(status)
+}

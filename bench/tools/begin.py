@@ -19,13 +19,23 @@ def built_program():
     return f"{ROOT}/crates/drf/out/drf"
 
 
-def driver_of(program):
-    """The program that drives files: beside the built one that of ./drf drive, which is built where it must be, and else the one of the
-    same name with `_driver` behind it."""
+def beside(program, crate, word):
+    """The program of another crate, for a command: beside the built one that which ./drf builds where it must, and else the one of the same name with the
+    crate's own word behind it."""
     if program != f"{ROOT}/crates/drf/out/drf":
-        return f"{program}_driver"
-    subprocess.run([f"{ROOT}/drf", "drive", "--version"], stdout=subprocess.DEVNULL, check=True)
-    return f"{ROOT}/crates/drf_driver/out/drf_driver"
+        return f"{program}{crate.removeprefix('drf')}"
+    subprocess.run([f"{ROOT}/drf", word, "--help"], stdout=subprocess.DEVNULL, check=True)
+    return f"{ROOT}/crates/{crate}/out/{crate}"
+
+
+def driver_of(program):
+    """The program that drives files, PROGRAM_driver."""
+    return beside(program, "drf_driver", "drive")
+
+
+def inspector_of(program):
+    """The program of `show` and `lint`, PROGRAM_inspector."""
+    return beside(program, "drf_inspector", "lint")
 
 
 def inputs(extent):

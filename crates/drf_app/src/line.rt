@@ -180,7 +180,7 @@ fn drf_line<'a>(alloc: Global) -> Result<Command<'a>, AllocError>
     let save = save_line(alloc)?;
     top_line(alloc)
         .after_help(
-            "drf show (the state, as tables), drf lint (what is wrong with lines) and drf drive (files of event lines, side by side) are programs of their own that the script ./drf runs.",
+            "The script ./drf has these too: show (the state, as tables), lint (what is wrong with lines), drive (files side by side), serve (over HTTP), try (without proofs).",
         )
         .subcommand(run)?
         .subcommand(check)?

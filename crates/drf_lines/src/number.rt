@@ -8,7 +8,7 @@ ghost use Rattle.drf_lines.specs.LineValue.{known_number, number_in};
 use fast_float::Numeral;
 
 /// So many digits are a number below 2^64, whichever they are.
-pub const FEW_DIGITS: usize = 19;
+pub(crate) const FEW_DIGITS: usize = 19;
 
 /// The whole number of a text that is a few digits alone, as most numbers of a line are.
 fn read_digits(text: &str) -> Option<u64>

@@ -1,5 +1,5 @@
-//! Values in the usual form, in one pass over their bytes: without spaces, escapes and `true`, `false` or `null`, numbers of a few digits alone, nothing
-//! empty, few levels. All their numbers are in range.
+//! Arrays and objects in the usual form, in one pass over their bytes: without spaces, escapes and `true`, `false` or `null`, numbers of a few digits
+//! alone, nothing empty, few levels. All numbers of that form are in range.
 ghost use Rattle.std.specs.Prelude.{◌≡◌, ◌<◌, ◌≤◌, ℕ, [], true, Some, IfSome, IfOk, length, get_or, is_some};
 ghost use Rattle.json.specs.Json.{value};
 ghost use Rattle.json.specs.Lex.{tokens};
@@ -130,7 +130,7 @@ fn leaf_at<'a>(text: &'a str, at: usize) -> Option<(LineValue<'a>, usize)>
     Some((Value::String(found), next))
 }
 
-/// The array or the object at a place, in which others nest at most so deep, and the place behind it.
+/// The array or the object at a place, of at most so many levels with its own, and the place behind it.
 #[cycle(value_at)]
 fn value_at<'a>(
     arena: &'a Bump,
@@ -249,7 +249,7 @@ fn members_at<'a>(
     Ok(None)
 }
 
-/// The value of a text in the usual form, where it is in it.
+/// The value of a text that is an array or an object in the usual form.
 pub fn usual_value<'a>(arena: &'a Bump, text: &'a str) -> Result<Option<LineValue<'a>>, AllocError>
     ensures found { IfOk result (λ found. IfSome found (λ found. value 127 (tokens text.now) ≡ Some (value_view found, []))) }
     ensures range { IfOk result (λ found. IfSome found (λ found. is_in_range (value_view found) ≡ true)) }

@@ -15,9 +15,6 @@ pub fn top_line<'a>(alloc: Global) -> Command<'a>
 {
     Command::new(alloc, "drf")
         .about("Shares the machines of a cluster among teams by Dominant Resource Fairness")
-        .after_help(
-            "drf show, drf lint, drf drive and drf serve are programs of their own, and have help of their own",
-        )
         .version(VERSION)
         .subcommand_required(true)
         .disable_help_subcommand(true)

@@ -34,6 +34,8 @@ def give_from(clone, crate):
 
 def give(crate):
     """Links the files of the newest kept library, and says with the stamp of a check that they are of this text."""
+    if crate.is_program:
+        return f"{crate.name}: a program, on which nothing stands"
     kept = sorted(glob.glob(f"{os.path.dirname(KIT)}/rattle-kept/proof-{crate.name}-*"), key=os.path.getmtime)
     if not kept:
         return f"{crate.name}: none is kept"

@@ -2,10 +2,12 @@
 """Outside the proof. Tells what an event costs where more stands. A cluster of each size is turned over, so that its events meet as many rows; the
 processor microseconds of an event stand beside the exponent by which they grow, which is 0 where they stay the same.
 
-    bench/timings/growth.py            asks the program that ./drf builds
-    bench/timings/growth.py COMMAND..  asks another command that answers event lines"""
+    bench/timings/growth.py                       asks the program that ./drf builds
+    bench/timings/growth.py COMMAND..             asks another command that answers event lines
+    bench/timings/growth.py --instructions [..]   counts instructions, by Debian's valgrind, which other work does not change"""
 import math
 import os
+import re
 import subprocess
 import sys
 import tempfile
@@ -62,24 +64,38 @@ INPUTS = {
 }
 
 
-def microseconds(command, lines):
-    """The processor microseconds of an event, once the lines have been answered."""
+def answer(command, lines):
+    """Lets the command answer the lines, and gives what it says on standard error."""
     with tempfile.TemporaryFile("w+") as given:
         given.writelines(f"{it}\n" for it in lines)
         given.flush()
         given.seek(0)
-        before = os.times()
-        subprocess.run(command, stdin=given, stdout=subprocess.DEVNULL, check=True)
-        after = os.times()
+        return subprocess.run(command, stdin=given, stdout=subprocess.DEVNULL, stderr=subprocess.PIPE, text=True, check=True).stderr
+
+
+def microseconds(command, lines):
+    """The processor microseconds of an event, once the lines have been answered."""
+    before = os.times()
+    answer(command, lines)
+    after = os.times()
     spent = after.children_user + after.children_system - before.children_user - before.children_system
     return max(spent, 0.01) * 1_000_000 / len(lines)
 
 
+def instructions(command, lines):
+    """The instructions of an event, those of the start among them."""
+    told = answer(["valgrind", "--tool=callgrind", "--callgrind-out-file=/dev/null", *command], lines)
+    return int(re.search(r"Collected : (\d+)", told)[1]) / len(lines)
+
+
 def main(command):
+    cost_of = microseconds
+    if command[:1] == ["--instructions"]:
+        cost_of, command = instructions, command[1:]
     command = command or [built_program(), "run"]
     print(f"{'what stands':42}" + "".join(f"{n:>9}" for n in SIZES) + f"{'power':>8}")
     for name, lines_of in INPUTS.items():
-        costs = [microseconds(command, lines_of(n)) for n in SIZES]
+        costs = [cost_of(command, lines_of(n)) for n in SIZES]
         power = math.log(costs[-1] / costs[0]) / math.log(SIZES[-1] / SIZES[0])
         print(f"{name:42}" + "".join(f"{it:9.2f}" for it in costs) + f"{power:8.2f}", flush=True)
 

@@ -131,11 +131,17 @@ fn value_at<'a>(
     }
 }
 
-/// Whether the value under the resource's key covers it.
+/// Whether the value under the resource's key covers it. The key is compared with the one at the hint here, since this is asked most: it takes half as
+/// much as by a call.
 fn covers_one(whole: &[Resource], resource: &Resource, hint: usize) -> bool
     requires { IsTrue (is_in_order whole.now) }
     ensures { result ≡ covers_one whole.now resource.now }
 {
+    if let Some(likely) = whole.get(hint) {
+        if likely.label == resource.label && is_same_role(&likely.role, &resource.role) {
+            return likely.value.covers(&resource.value);
+        }
+    }
     match value_at(whole, &resource.label, &resource.role, hint) {
         Some(value) => value.covers(&resource.value),
         None => false,

@@ -1,7 +1,7 @@
 //! The filters of declined offers, and of what is left of accepted ones.
 ghost use Rattle.std.specs.Prelude.{◌≡◌, [], ◌∷◌, ◌++◌, length, take, IfOk, OnOk, OnErr};
 ghost use Rattle.drf_rows.specs.Filters.{is_held_back, in_force, number_in_force, filters_without_client, filters_without_agent, filters_without_framework};
-ghost use Rattle.drf_gates.specs.filters.Slots.{filled};
+ghost use Rattle.drf_hash.specs.Slots.{filled};
 
 pub(crate) mod index;
 mod row;

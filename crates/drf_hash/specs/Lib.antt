@@ -1,1 +1,4 @@
 pub mod Reading
+pub mod Slots
+pub mod SlotLaws
+pub mod GapLaws

@@ -291,4 +291,4 @@ refunded_is x quantities rest is = λ i. record {
 
 -- the content with other clients
 abbrev pub with_clients : PlainSorter → List Ranked → Content
-with_clients sorter clients = record { clients = clients; total = sorter.total; weights = sorter.weights.items }
+with_clients sorter clients = record { clients = clients; total = sorter.total; weights = sorter.weights.rows.items }

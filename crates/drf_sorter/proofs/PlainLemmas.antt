@@ -70,7 +70,7 @@ unfolding standing_in
 total-standing sorter = refl
 
 pub weight-standing : (sorter : PlainSorter) (node : List (List ℕ))
-    → weight_of sorter.weights.items node ≡ (plain_standing sorter).weight node
+    → weight_of sorter.weights.rows.items node ≡ (plain_standing sorter).weight node
 unfolding standing_in
 weight-standing sorter node = refl
 
@@ -79,7 +79,7 @@ pub share-standing : (sorter : PlainSorter) (node : List (List ℕ))
 share-standing sorter node = λ i. dominant_of (λ label. held-standing sorter node label i) (total-standing sorter i)
 
 pub weighted-standing : (sorter : PlainSorter) (node : List (List ℕ)) (weight : ℕ)
-    → weight ≡ weight_of sorter.weights.items node
+    → weight ≡ weight_of sorter.weights.rows.items node
     → weigh (dominant_of (held_by sorter.clients.items node) sorter.total) weight
     ≡ weighted_share_of (plain_standing sorter) node
 weighted-standing sorter node weight is =

@@ -6,9 +6,6 @@ use Rattle.std.proofs.lemmas.List.Quantifiers.{position-Some}
 use Rattle.drf_role.specs.Path.{same_path}
 use Rattle.drf_rows.specs.declared.rows.WeightRow.{WeightRow}
 use Rattle.drf_rows.specs.Weights.{is_weight, are_weights, weights_with}
-use Rattle.drf_sorter.specs.Content.{Content}
-use Rattle.drf_sorter.specs.Plain.{plain_content}
-use Rattle.drf_sorter.specs.declared.plain.PlainSorter.{PlainSorter}
 
 -- a weight that is in its range is put in place of one
 pub weights-stay : (ws : List WeightRow) (i : ℕ) (w : WeightRow) → 1 ≤ w.weight → w.weight ≤ 1000000
@@ -61,7 +58,3 @@ module _ (role : List (List ℕ)) (weight : ℕ) where
     | inl here ↦ absurd (true≢false (rw here at none))
     | inr past ↦ rw past (ap (λ ws. x ∷ ws) (weights-push xs (rw past at none)))
   ]
-
--- the content with other weights
-abbrev pub with_weights : PlainSorter → List WeightRow → Content
-with_weights sorter weights = record (plain_content sorter) { weights = weights }

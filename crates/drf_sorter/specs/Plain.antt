@@ -24,7 +24,7 @@ abbrev pub plain_content : PlainSorter → Content
 plain_content sorter = record {
   clients = map ranked sorter.clients.items;
   total = sorter.total;
-  weights = sorter.weights.items;
+  weights = sorter.weights.rows.items;
 }
 
 -- what its order depends on

@@ -20,6 +20,9 @@ pub struct Client {
 }
 
 impl Client {
+    ghost use Rattle.drf_sorter.specs.Content.{HasCharge, Holds, charged, discharged, refunded};
+    ghost use Rattle.drf_sorter.specs.Plain.{ranked};
+
     pub fn copy(&self) -> Result<Client, AllocError>
         ensures { IfOk result (λ client. client ≡ self.now) }
     {
@@ -30,11 +33,45 @@ impl Client {
             count: self.count,
         })
     }
+
+    /// The client got so many more offers, of these quantities together. An `Err` changes nothing.
+    pub fn charge(&mut self, quantities: &Quantities, offers: u64) -> Result<(), AllocError>
+        requires held { (label : Text) → amount_of self.old.held label + amount_of quantities.now label < 2 ^ 64 }
+        requires count { self.old.count + offers < 2 ^ 64 }
+        ensures ok { OnOk result (ranked self.new ≡ charged quantities.now offers (ranked self.old)) }
+        ensures err { OnErr result (self.new ≡ self.old) }
+        ensures path { self.new.path ≡ self.old.path }
+    {
+        raise(&mut self.held, quantities)?;
+        self.count += offers;
+        Ok(())
+    }
+
+    /// Takes a charge of one offer back.
+    pub fn undo_charge(&mut self, quantities: &Quantities)
+        requires { HasCharge quantities.now (ranked self.old) }
+        ensures client { ranked self.new ≡ discharged quantities.now (ranked self.old) }
+        ensures path { self.new.path ≡ self.old.path }
+    {
+        quantities.recall();
+        self.held.lower(quantities);
+        self.count -= 1;
+    }
+
+    /// The client gives these quantities back.
+    pub fn refund(&mut self, quantities: &Quantities)
+        requires { Holds quantities.now (ranked self.old) }
+        ensures client { ranked self.new ≡ refunded quantities.now (ranked self.old) }
+        ensures path { self.new.path ≡ self.old.path }
+    {
+        quantities.recall();
+        self.held.lower(quantities);
+    }
 }
 
 /// Adds what is held more. It needs no memory where all labels are there already. Where one is not, those that have come to 0 make
 /// room, so that the labels do not grow with the history.
-pub fn raise(held: &mut Quantities, more: &Quantities) -> Result<(), AllocError>
+fn raise(held: &mut Quantities, more: &Quantities) -> Result<(), AllocError>
     requires { (label : Text) → amount_of held.old label + amount_of more.now label < 2 ^ 64 }
     ensures ok { OnOk result ((label : Text) → amount_of held.new label ≡ amount_of held.old label + amount_of more.now label) }
     ensures few { OnOk result (names_all held.old more.now ≡ false → HasNoZeros held.new) }

@@ -10,7 +10,9 @@ mod lines;
 mod plain;
 mod share;
 mod sorter;
+mod weights;
 
+pub use client::Client;
 pub use examples::{order_of_three_example, share_of_a_role_example};
 pub use key::{Holding, Key, KeyCount};
 pub use laws::{
@@ -18,6 +20,7 @@ pub use laws::{
     share_order_law, sibling_law, weight_law,
 };
 pub use lines::{NodeLines, node_line};
-pub use plain::{DEFAULT_WEIGHT, PlainSorter};
+pub use plain::PlainSorter;
 pub use share::Share;
 pub use sorter::Sorter;
+pub use weights::{DEFAULT_WEIGHT, Weights};

@@ -8,7 +8,7 @@ ghost use Rattle.drf_row_laws.specs.Laws.{are_in_order};
 ghost use Rattle.drf_sorter.specs.Lines.{AreRising, BelongsBehind, StandsAt, line_with, paths_of, with_line};
 
 use crate::key::dominant_share;
-use crate::plain::DEFAULT_WEIGHT;
+use crate::weights::DEFAULT_WEIGHT;
 use drf_bundle::Quantities;
 use drf_role::NodePath;
 use drf_rows::NodeLine;

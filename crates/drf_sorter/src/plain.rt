@@ -1,29 +1,24 @@
 //! A sorter over a list of clients.
-ghost use Rattle.std.specs.Prelude.{◌≡◌, ◌≤◌, ◌<◌, ◌+◌, ◌-◌, ◌^◌, [], ◌∷◌, ◌++◌, All, IfOk, IsTrue, OnOk, length, map, min, take, true};
-ghost use Rattle.std.specs.Option.{option_copied};
-ghost use Rattle.std.specs.List.{AllByRecursion, IsDistinct, IsDistinct-prop, find, position};
+ghost use Rattle.std.specs.Prelude.{◌≡◌, ◌≤◌, ◌<◌, ◌+◌, ◌-◌, ◌^◌, [], ◌∷◌, ◌++◌, All, IfOk, OnOk, length, map, min, take, true};
+ghost use Rattle.std.specs.List.{AllByRecursion, IsDistinct, IsDistinct-prop, position};
 ghost use Rattle.drf_role.specs.Path.{IsClientPath, Path, begins_with, same_path};
-ghost use Rattle.drf_rows.specs.Held.{weight_of};
-ghost use Rattle.drf_rows.specs.Weights.{are_weights};
 ghost use Rattle.drf_sorter.specs.Content.{IsOrderOf, IsSound, active_paths, has_client, has_node};
 ghost use Rattle.drf_sorter.specs.Keys.{keys_of, key_by};
 ghost use Rattle.drf_sorter.specs.Lines.{IsLineOf, has_line};
 
 use crate::candidate::Candidate;
-use crate::client::{Client, NodeClients, raise};
+use crate::client::{Client, NodeClients};
 use crate::key::{Key, KeyCount, weighted_share};
 use crate::lines::{NodeLines, node_line};
 use crate::share::Share;
 use crate::sorter::Sorter;
+use crate::weights::{DEFAULT_WEIGHT, Weights};
 use drf_bundle::Quantities;
 use drf_hash::HashKey;
 use drf_role::{ClientPath, NodePath, Role};
-use drf_rows::{NodeLine, WeightRow};
+use drf_rows::NodeLine;
 use indexmap::IndexSet;
 use std::alloc::{AllocError, Global};
-
-/// The weight of a node with no weight of its own, in thousandths.
-pub const DEFAULT_WEIGHT: u64 = 1000;
 
 /// A sorter that keeps a list of its clients, and forms each sum when it is asked for the order.
 #[derive(Debug, Drop)]
@@ -32,34 +27,12 @@ pub struct PlainSorter {
     /// Their paths in the same order, by which a client is found.
     paths: IndexSet<ClientPath, HashKey>,
     total: Quantities,
-    weights: Vec<WeightRow>,
+    weights: Weights,
     queue: Vec<ClientPath>,
     next: usize,
     made: KeyCount,
     ghost listed: { paths.keys ≡ map (λ c. c.path) clients.items },
     ghost distinct: { IsDistinct same_path (map (λ c. c.path) clients.items) } by { IsDistinct-prop same_path (map (λ c. c.path) clients.items) },
-    ghost weighs: { IsTrue (are_weights weights.items) },
-}
-
-/// Where the weight of that role is.
-fn row_index(weights: &[WeightRow], role: &Role) -> Option<usize>
-    ensures { result ≡ position (λ w. same_path w.role role.now) weights.now }
-{
-    weights.iter().position(|row| row.role == *role)
-}
-
-/// Whether the node is that of a role.
-fn is_node_of(role: &Role, node: &NodePath) -> bool
-    ensures { result ≡ same_path role.now node.now }
-{
-    role.text() == node.text()
-}
-
-/// The weight row of the role that is the node.
-fn row_of_node<'a>(weights: &'a [WeightRow], node: &NodePath) -> Option<&'a WeightRow>
-    ensures { option_copied result ≡ find (λ w. same_path w.role node.now) weights.now }
-{
-    weights.iter().find(|row| is_node_of(&row.role, node))
 }
 
 /// Copies of clients, in their order.
@@ -89,20 +62,6 @@ fn paths_of(
     Ok(paths)
 }
 
-/// Copies of the weights of roles, in their order.
-fn weights_of(alloc: Global, rows: &[WeightRow]) -> Result<Vec<WeightRow>, AllocError>
-    ensures { IfOk result (λ copies. copies.items ≡ rows.now) }
-{
-    let mut copies = Vec::with_capacity(alloc, rows.len())?;
-    for row in rows {
-        copies.push(WeightRow {
-            role: row.role.copy()?,
-            weight: row.weight,
-        })?;
-    }
-    Ok(copies)
-}
-
 /// The paths of the candidates, in their order.
 fn paths(alloc: Global, candidates: Vec<Candidate>) -> Result<Vec<ClientPath>, AllocError>
     ensures { IfOk result (λ paths. paths.items ≡ map (λ c. c.path) candidates.items) }
@@ -117,30 +76,11 @@ impl PlainSorter {
     ghost use Rattle.drf_sorter.specs.Plain.{keys_to_make, plain_content, plain_standing};
     ghost use Rattle.drf_sorter.specs.Candidates.{HasKeys};
 
-    /// The total of the cluster.
-    pub fn total(&self) -> &Quantities
-        ensures { result.now ≡ self.now.total }
-    {
-        &self.total
-    }
-
     /// Where the client of that path stands.
-    pub fn row_of(&self, path: &ClientPath) -> Option<usize>
+    fn row_of(&self, path: &ClientPath) -> Option<usize>
         ensures { result ≡ position (λ c. same_path c.path path.now) self.now.clients.items }
     {
         self.paths.get_index_of(path)
-    }
-
-    /// The weight of a node, in thousandths.
-    pub fn weight_of(&self, node: &NodePath) -> u64
-        ensures value { result ≡ weight_of self.now.weights.items node.now }
-        ensures weighs { 1 ≤ result }
-        ensures light { result ≤ 1000000 }
-    {
-        match row_of_node(&self.weights, node) {
-            Some(row) => row.weight,
-            None => DEFAULT_WEIGHT,
-        }
     }
 
     /// The key of the node that ends with the part at `i`.
@@ -160,7 +100,7 @@ impl PlainSorter {
             clients: &self.clients,
             node: &node,
         };
-        let weight = self.weight_of(&node);
+        let weight = self.weights.of(&node);
         let count = clients.count();
         Ok(Key::new(made, &self.total, weight, &clients, count, name))
     }
@@ -217,7 +157,7 @@ impl PlainSorter {
         };
         let held = clients.held(self.alloc())?;
         let count = clients.count();
-        Ok(node_line(&self.total, self.weight_of(&node), node, held, count))
+        Ok(node_line(&self.total, self.weights.of(&node), node, held, count))
     }
 
     /// Puts the lines of the nodes on a client's path into their places.
@@ -233,85 +173,6 @@ impl PlainSorter {
             lines.put(self.line(path.node(i + 1)?)?)?;
         }
         Ok(())
-    }
-}
-
-// What changes a client whose row is known, so that it is looked up once.
-impl PlainSorter {
-    ghost use Rattle.std.specs.Prelude.{drop, OnErr};
-    ghost use Rattle.drf_sorter.specs.Content.{HasChargeAt, HoldsAt, activated, charged, discharged, refunded, with_change};
-    ghost use Rattle.drf_sorter.specs.Plain.{plain_content};
-
-    /// As `set_active`, of a client at the row that `row_of` gives.
-    #[tactic(auto, using(crate::proofs::ChangeLemmas::distinct_stays, crate::proofs::ChangeLemmas::listed_stays))]
-    pub fn set_active_at(&mut self, row: Option<usize>, path: &ClientPath, active: bool)
-        requires row { row ≡ position (λ c. same_path c.path path.now) self.old.clients.items }
-        requires known { has_client (plain_content self.old) path.now ≡ true }
-        ensures content { plain_content self.new ≡ with_change (plain_content self.old) path.now (activated active) }
-        ensures made { self.new.made ≡ self.old.made }
-    {
-        if let Some(at) = row {
-            self.clients[at].active = active;
-        }
-    }
-
-    /// As `charge`, of a client at the row that `row_of` gives.
-    #[tactic(auto, using(crate::proofs::ChangeLemmas::distinct_stays, crate::proofs::ChangeLemmas::listed_stays))]
-    pub fn charge_at(
-        &mut self,
-        row: Option<usize>,
-        path: &ClientPath,
-        quantities: &Quantities,
-        offers: u64,
-    ) -> Result<(), AllocError>
-        requires row { row ≡ position (λ c. same_path c.path path.now) self.old.clients.items }
-        requires known { has_client (plain_content self.old) path.now ≡ true }
-        requires sound { IsSound (with_change (plain_content self.old) path.now (charged quantities.now offers)) }
-        ensures ok { OnOk result (plain_content self.new ≡ with_change (plain_content self.old) path.now (charged quantities.now offers)) }
-        ensures err { OnErr result (plain_content self.new ≡ plain_content self.old) }
-        ensures queue { drop self.new.next self.new.queue.items ≡ drop self.old.next self.old.queue.items }
-        ensures made { self.new.made ≡ self.old.made }
-    {
-        if let Some(at) = row {
-            let client = &mut self.clients[at];
-            raise(&mut client.held, quantities)?;
-            client.count += offers;
-        }
-        Ok(())
-    }
-
-    /// As `undo_charge`, of a client at the row that `row_of` gives.
-    #[tactic(auto, using(crate::proofs::ChangeLemmas::distinct_stays, crate::proofs::ChangeLemmas::listed_stays))]
-    pub fn undo_charge_at(&mut self, row: Option<usize>, path: &ClientPath, quantities: &Quantities)
-        requires row { row ≡ position (λ c. same_path c.path path.now) self.old.clients.items }
-        requires known { has_client (plain_content self.old) path.now ≡ true }
-        requires charged { HasChargeAt (plain_content self.old) path.now quantities.now }
-        ensures content { plain_content self.new ≡ with_change (plain_content self.old) path.now (discharged quantities.now) }
-        ensures queue { drop self.new.next self.new.queue.items ≡ drop self.old.next self.old.queue.items }
-        ensures made { self.new.made ≡ self.old.made }
-    {
-        quantities.recall();
-        if let Some(at) = row {
-            let client = &mut self.clients[at];
-            client.held.lower(quantities);
-            client.count -= 1;
-        }
-    }
-
-    /// As `refund`, of a client at the row that `row_of` gives.
-    #[tactic(auto, using(crate::proofs::ChangeLemmas::distinct_stays, crate::proofs::ChangeLemmas::listed_stays))]
-    pub fn refund_at(&mut self, row: Option<usize>, path: &ClientPath, quantities: &Quantities)
-        requires row { row ≡ position (λ c. same_path c.path path.now) self.old.clients.items }
-        requires known { has_client (plain_content self.old) path.now ≡ true }
-        requires held { HoldsAt (plain_content self.old) path.now quantities.now }
-        ensures content { plain_content self.new ≡ with_change (plain_content self.old) path.now (refunded quantities.now) }
-        ensures queue { drop self.new.next self.new.queue.items ≡ drop self.old.next self.old.queue.items }
-        ensures made { self.new.made ≡ self.old.made }
-    {
-        quantities.recall();
-        if let Some(at) = row {
-            self.clients[at].held.lower(quantities);
-        }
     }
 }
 
@@ -334,7 +195,7 @@ impl Sorter for PlainSorter {
             clients: Vec::new(alloc),
             paths: IndexSet::with_hasher(alloc, key),
             total: Quantities::empty(alloc),
-            weights: Vec::new(alloc),
+            weights: Weights::new(alloc),
             queue: Vec::new(alloc),
             next: 0,
             made: KeyCount::new(),
@@ -366,29 +227,38 @@ impl Sorter for PlainSorter {
         }
     }
 
+    #[tactic(auto, using(crate::proofs::ChangeLemmas::distinct_stays, crate::proofs::ChangeLemmas::listed_stays))]
     fn set_active(&mut self, path: &ClientPath, active: bool) {
-        let row = self.row_of(path);
-        self.set_active_at(row, path, active);
+        if let Some(at) = self.row_of(path) {
+            self.clients[at].active = active;
+        }
     }
 
+    #[tactic(auto, using(crate::proofs::ChangeLemmas::distinct_stays, crate::proofs::ChangeLemmas::listed_stays))]
     fn charge(
         &mut self,
         path: &ClientPath,
         quantities: &Quantities,
         offers: u64,
     ) -> Result<(), AllocError> {
-        let row = self.row_of(path);
-        self.charge_at(row, path, quantities, offers)
+        if let Some(at) = self.row_of(path) {
+            self.clients[at].charge(quantities, offers)?;
+        }
+        Ok(())
     }
 
+    #[tactic(auto, using(crate::proofs::ChangeLemmas::distinct_stays, crate::proofs::ChangeLemmas::listed_stays))]
     fn undo_charge(&mut self, path: &ClientPath, quantities: &Quantities) {
-        let row = self.row_of(path);
-        self.undo_charge_at(row, path, quantities);
+        if let Some(at) = self.row_of(path) {
+            self.clients[at].undo_charge(quantities);
+        }
     }
 
+    #[tactic(auto, using(crate::proofs::ChangeLemmas::distinct_stays, crate::proofs::ChangeLemmas::listed_stays))]
     fn refund(&mut self, path: &ClientPath, quantities: &Quantities) {
-        let row = self.row_of(path);
-        self.refund_at(row, path, quantities);
+        if let Some(at) = self.row_of(path) {
+            self.clients[at].refund(quantities);
+        }
     }
 
     fn set_total(&mut self, total: Quantities) {
@@ -396,17 +266,7 @@ impl Sorter for PlainSorter {
     }
 
     fn set_weight(&mut self, role: &Role, weight: u64) -> Result<(), AllocError> {
-        match row_index(&self.weights, role) {
-            Some(at) => {
-                let row = &mut self.weights[at];
-                row.weight = weight;
-                Ok(())
-            }
-            None => {
-                let role = role.copy()?;
-                Ok(self.weights.push(WeightRow { role, weight })?)
-            }
-        }
+        self.weights.set(role, weight)
     }
 
     /// As of each sorter, and each node on the path of each active client has its key made.
@@ -452,7 +312,7 @@ impl Sorter for PlainSorter {
             return None;
         }
         let share = weighted_share(&self.total, DEFAULT_WEIGHT, &clients);
-        let weighted = weighted_share(&self.total, self.weight_of(node), &clients);
+        let weighted = weighted_share(&self.total, self.weights.of(node), &clients);
         Some((share, weighted, clients.count()))
     }
 
@@ -470,7 +330,7 @@ impl Sorter for PlainSorter {
             clients: copies_of(alloc, &self.clients)?,
             paths: paths_of(alloc, *self.paths.hasher(), &self.clients)?,
             total: self.total.copy()?,
-            weights: weights_of(alloc, &self.weights)?,
+            weights: self.weights.copy()?,
             queue: Vec::new(alloc),
             next: 0,
             made: self.made.copy(),

@@ -2,7 +2,7 @@
 ghost use Rattle.std.specs.Prelude.{◌≡◌, ◌≤◌, ◌<◌, ◌^◌, ◌*◌};
 ghost use Rattle.std.specs.Int.{IsGcd};
 
-use crate::plain::DEFAULT_WEIGHT;
+use crate::weights::DEFAULT_WEIGHT;
 use std::cmp::Ordering;
 
 /// The part `part * 1000 / (whole * weight)` of the cluster: a share of a whole, divided by a weight in thousandths.

@@ -86,10 +86,11 @@ impl<S: Sorter> Parts<S> {
         ensures worked { OnOk result (HasWorked (Framework framework) (S.work self.old.sorter) (S.work self.new.sorter)) }
     {
         let FrameworkRow { name, clients } = framework;
+        let key = name.copy()?;
         self.tables.reserve_framework()?;
         put_clients(alloc, &mut self.sorter, &name, clients.as_slice())?;
         self.counted = offers_with(self.counted, clients.as_slice()).unwrap();
-        self.tables.add_framework(name, clients);
+        self.tables.add_framework(key, name, clients);
         Ok(())
     }
 

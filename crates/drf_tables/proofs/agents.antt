@@ -1,4 +1,3 @@
 -- Agents and frameworks that come, take part or not, and leave.
 pub mod Registered
-pub mod Suppressed
 pub mod Changes

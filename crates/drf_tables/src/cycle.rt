@@ -1,16 +1,20 @@
 //! What the offers of a cycle change: the counts of their clients, and what is free on the agents.
-ghost use Rattle.std.specs.Prelude.{◌≡◌, ◌<◌, map, length, All, true};
+ghost use Rattle.std.specs.Prelude.{◌≡◌, ◌<◌, Some, map, length, All};
+ghost use Rattle.std.specs.Global.{Vec};
+ghost use Rattle.std.specs.Option.{option_map};
+ghost use Rattle.drf_role.specs.Text.{Text};
 ghost use Rattle.drf_rows.specs.Cycle.{counted};
 ghost use Rattle.drf_rows.specs.Holdings.{of_offer};
-ghost use Rattle.drf_rows.specs.Consistent.{are_distinct};
+ghost use Rattle.drf_rows.specs.declared.rows.ClientRow.{ClientRow};
 ghost use Rattle.drf_tables.specs.cycle.Counting.{counting, counting_all, first_number, CanCount, CanCountAll};
 ghost use Rattle.drf_tables.specs.Inside.{agent_row, framework_rows, frees_in, known_after};
+ghost use Rattle.drf_tables.specs.registry.Changing.{with_each};
 
 use crate::registry::Registry;
 use crate::registry::free_part::FreePart;
-use crate::tables::Left;
-use drf_hash::ByName;
+use crate::tables::{Agent, Left};
 use drf_holdings::InOrder;
+use drf_role::Name;
 use drf_rows::{ClientRow, OfferRow};
 
 /// Counts an offer at the client, of those of its framework, that has its role.
@@ -25,14 +29,23 @@ fn count_at(clients: &mut [ClientRow], offer: &OfferRow)
     }
 }
 
+/// Counts an offer at its client, of those of a framework, if there is one.
+fn count_in(slot: &mut Option<(Name, Vec<ClientRow>)>, offer: &OfferRow)
+    requires { (e : Text × Vec ClientRow) → slot.old ≡ Some e → CanCount 1 e.1.items }
+    ensures { slot.new ≡ option_map (λ e. (e.0, with_each (counted (of_offer offer.now).client) e.1)) slot.old }
+{
+    if let Some(entry) = slot {
+        count_at(&mut entry.1, offer);
+    }
+}
+
 /// Counts an offer at its client.
-fn count_offer(frameworks: &mut ByName<Vec<ClientRow>>, offer: &OfferRow)
-    requires names { are_distinct (map (λ f. f.name) (framework_rows frameworks.old.entries)) ≡ true }
-    requires fits { CanCountAll 1 (framework_rows frameworks.old.entries) }
+fn count_offer(frameworks: &mut Registry<Vec<ClientRow>>, offer: &OfferRow)
+    requires { CanCountAll 1 (framework_rows frameworks.old.entries) }
     ensures { framework_rows frameworks.new.entries ≡ counting (framework_rows frameworks.old.entries) offer.now }
 {
-    if let Some(place) = frameworks.get_index_of(&offer.framework) {
-        count_at(&mut frameworks[place], offer);
+    if let Some(place) = frameworks.places.get(&offer.framework) {
+        count_in(&mut frameworks.slots[*place], offer);
     }
 }
 
@@ -47,9 +60,8 @@ pub(crate) fn first_number(offers: &[OfferRow], next: u64) -> u64
 }
 
 /// Counts each offer at its client.
-pub(crate) fn count_offers(frameworks: &mut ByName<Vec<ClientRow>>, offers: InOrder<'_, OfferRow>)
-    requires names { are_distinct (map (λ f. f.name) (framework_rows frameworks.old.entries)) ≡ true }
-    requires fits { CanCountAll (length offers) (framework_rows frameworks.old.entries) }
+pub(crate) fn count_offers(frameworks: &mut Registry<Vec<ClientRow>>, offers: InOrder<'_, OfferRow>)
+    requires { CanCountAll (length offers) (framework_rows frameworks.old.entries) }
     ensures { framework_rows frameworks.new.entries ≡ counting_all (framework_rows frameworks.old.entries) offers.entry }
 {
     for offer in offers {
@@ -58,7 +70,7 @@ pub(crate) fn count_offers(frameworks: &mut ByName<Vec<ClientRow>>, offers: InOr
 }
 
 /// Puts what is left on agents in the place of what was free there.
-pub(crate) fn put_lefts(agents: &mut Registry, lefts: Vec<Left>)
+pub(crate) fn put_lefts(agents: &mut Registry<Agent>, lefts: Vec<Left>)
     requires { All (λ left. left.agent < length agents.old.entries) lefts.items }
     ensures rows { map agent_row agents.new.entries ≡ map agent_row agents.old.entries }
     ensures free { frees_in agents.new.entries ≡ known_after (frees_in agents.old.entries) lefts.items }

@@ -8,8 +8,8 @@ ghost use Rattle.drf_bundle.specs.declared.resource.Resource.{Resource};
 ghost use Rattle.drf_rows.specs.Totals.{CanExchange, exchanged};
 ghost use Rattle.drf_tables.specs.registry.Changing.{CanExchangeAt, HasOther, changed, other_free, with_exchanged, with_other};
 
+use crate::registry::Registry;
 use crate::registry::free_part::FreePart;
-use crate::registry::{Registry, put};
 use crate::tables::Agent;
 use drf_amount::{Algebra, is_same};
 use drf_bundle::Bundle;
@@ -112,7 +112,16 @@ fn other_agent(agent: &Agent, total: Bundle) -> Agent
     }
 }
 
-impl Registry {
+/// Puts another agent in the stead of one, if there is one, under the same name.
+fn put(slot: &mut Option<(Name, Agent)>, agent: Agent)
+    ensures { slot.new ≡ option_map (λ e. (e.0, agent)) slot.old }
+{
+    if let Some(entry) = slot {
+        entry.1 = agent;
+    }
+}
+
+impl Registry<Agent> {
     /// Exchanges a part of an agent, in its total and in what is free there. An `Err` changes nothing.
     pub(crate) fn exchange(
         &mut self,

@@ -33,7 +33,7 @@ use crate::tables::listing::{agent_rows, framework_rows, weight_rows};
 use drf_amount::Algebra;
 use drf_bundle::{Bundle, Quantities};
 use drf_gates::{Consumption, FilterTable, QuotaLimits};
-use drf_hash::{ByName, ByRole, HashKey};
+use drf_hash::{ByRole, HashKey};
 use drf_holdings::Holdings;
 use drf_role::{Name, Role};
 use drf_rows::{ClientRow, OfferRow, Rows, Table};
@@ -59,8 +59,8 @@ pub struct Left {
 
 /// The rows of the allocator. Agents and frameworks are found by their names.
 pub struct Tables {
-    pub(crate) agents: Registry,
-    pub(crate) frameworks: ByName<Vec<ClientRow>>,
+    pub(crate) agents: Registry<Agent>,
+    pub(crate) frameworks: Registry<Vec<ClientRow>>,
     pub(crate) holdings: Holdings,
     pub(crate) filters: FilterTable,
     pub(crate) weights: ByRole<u64>,
@@ -109,7 +109,7 @@ impl Model for Tables {
     ghost use Rattle.indexmap.specs.IndexMap.{spare};
     ghost use Rattle.drf_tables.specs.Inside.{rows_in, is_settled, IsWhole};
 
-    ghost view = { λ t. record { rows = rows_in t; room = spare t.frameworks; weight_room = spare t.weights; settled = is_settled t.agents.entries; counted = is_some t.consumption } };
+    ghost view = { λ t. record { rows = rows_in t; room = t.frameworks.room; weight_room = spare t.weights; settled = is_settled t.agents.entries; counted = is_some t.consumption } };
 
     ghost invariant = { IsWhole };
 }
@@ -132,7 +132,7 @@ impl Tables {
     {
         Tables {
             agents: Registry::new(alloc, key),
-            frameworks: IndexMap::with_hasher(alloc, key),
+            frameworks: Registry::new(alloc, key),
             holdings: Holdings::new(alloc, key),
             filters: FilterTable::new(alloc, key),
             weights: IndexMap::with_hasher(alloc, key),
@@ -208,7 +208,7 @@ impl Tables {
     pub fn has_framework(&self, name: &Name) -> bool
         ensures { result ≡ has_framework self.now.rows name.now }
     {
-        self.frameworks.contains_key(name)
+        self.frameworks.has(name)
     }
 
     /// How many roles have a weight.
@@ -334,13 +334,14 @@ impl Tables {
         ensures settled { self.new.settled ≡ self.old.settled }
         ensures counted { self.new.counted ≡ self.old.counted }
     {
-        self.frameworks.reserve(1)
+        self.frameworks.reserve()
     }
 
-    /// Adds a framework with its clients, to which fewer offers were made than the next number, with those to all others. It needs no
-    /// memory.
-    pub fn add_framework(&mut self, name: Name, clients: Table<ClientRow>)
+    /// Adds a framework, whose name is given twice, with its clients, to which fewer offers were made than the next number, with those to
+    /// all others. It needs no memory.
+    pub fn add_framework(&mut self, key: Name, name: Name, clients: Table<ClientRow>)
         requires room { 1 ≤ self.old.room }
+        requires named { key ≡ name }
         requires new { has_framework self.old.rows name ≡ false }
         requires roles { are_distinct_roles (map (λ c. c.role) clients) ≡ true }
         requires counted { offers_counted (self.old.rows.frameworks ++ record { name = name; clients = clients } ∷ []) < self.old.rows.next_offer }
@@ -352,7 +353,7 @@ impl Tables {
         name.recall();
         recall_roles(clients.as_slice());
         self.clients += clients.len();
-        let _ = self.frameworks.insert(name, clients.into_vec()).unwrap();
+        self.frameworks.add(key, name, clients.into_vec());
     }
 
     /// Makes room for the weight of one more role, so that it can be set without memory.

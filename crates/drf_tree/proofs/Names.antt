@@ -9,7 +9,7 @@ pub use Rattle.drf_role.specs.TextLaws.{cases_same, same_from_test, same_itself}
 pub use Rattle.drf_rows.specs.Share.{Fraction, Standing, greatest, is_less, is_serving_order, share_of, stands_before, weighted_share_of}
 pub use Rattle.drf_sorter.specs.Content.{Content, HasNodes, Ranked, activated, active_paths, charged, clients_under, empty, has_client, has_node, with_change, with_client, without_client}
 pub use Rattle.drf_sorter.specs.Keys.{Key, key_by, key_cmp, key_of}
-pub use Rattle.drf_sorter.specs.Plain.{plain_content, ranked}
+pub use Rattle.drf_tree.specs.Ledger.{ledger_content}
 pub use Rattle.drf_tree.specs.Changes.{CanLower, CanLowerAt, HasRoomFor, IsKeyOfNothing, IsLeast, IsLowerable, IsOneLonger, IsSameTree, IsShapeOf, NamesFew, NamesFewOnWay, OnWay, is_bare_at, lowered}
 pub use Rattle.drf_tree.specs.Family.{AreFresh, CanKey, CanKeyAt, IsFresh, IsGone, IsKeyed, IsRenewed, IsSameKey, IsWith, WasRight, are_sorted, child_name, has_child, is_before, is_not_behind, is_same, key_for, known, numbers_of, seen, without_place}
 pub use Rattle.drf_tree.specs.Marks.{AreWaiting, Defers, Flags, Spends, marked_in, work_of}

@@ -6,6 +6,8 @@ pub mod Places
 pub mod Tree
 pub mod Queue
 pub mod Changes
+pub mod Booked
+pub mod Ledger
 pub mod Sorter
 pub mod Lines
 pub mod Tidy

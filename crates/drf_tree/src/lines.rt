@@ -4,14 +4,15 @@ ghost use Rattle.std.specs.List.{AllByRecursion};
 ghost use Rattle.drf_role.specs.Path.{Path};
 ghost use Rattle.drf_sorter.specs.Content.{IsSound, has_node};
 ghost use Rattle.drf_sorter.specs.Lines.{AreLinesOf, IsLineOf, has_line};
-ghost use Rattle.drf_sorter.specs.Plain.{plain_content};
+ghost use Rattle.drf_tree.specs.Ledger.{ledger_content};
 ghost use Rattle.drf_tree.specs.Nodes.{is_live, path_at};
 ghost use Rattle.drf_tree.specs.Tree.{IsTreeOf};
 ghost use Rattle.drf_tree.specs.Lines.{AreListed, HasEach};
 
+use crate::ledger::Ledger;
 use crate::tree::{ROOT, Tree};
 use drf_rows::NodeLine;
-use drf_sorter::{NodeLines, PlainSorter, node_line};
+use drf_sorter::{NodeLines, node_line};
 use std::alloc::{AllocError, Global};
 
 /// A node that is still to come, by the name under which it stands among its siblings.
@@ -23,10 +24,10 @@ struct Waiting<'a> {
 
 impl Tree {
     /// A line of each node that has clients, in order of path.
-    pub(crate) fn lines(&self, ledger: &PlainSorter) -> Result<Vec<NodeLine>, AllocError>
-        requires sound { IsSound (plain_content ledger.now) }
-        requires tree { IsTreeOf (plain_content ledger.now) self.now }
-        ensures { IfOk result (λ lines. AreLinesOf (plain_content ledger.now) lines.items) }
+    pub(crate) fn lines(&self, ledger: &Ledger) -> Result<Vec<NodeLine>, AllocError>
+        requires sound { IsSound (ledger_content ledger.now) }
+        requires tree { IsTreeOf (ledger_content ledger.now) self.now }
+        ensures { IfOk result (λ lines. AreLinesOf (ledger_content ledger.now) lines.items) }
     {
         let mut lines = NodeLines::with_capacity(self.alloc(), self.line_count())?;
         let order = self.in_order_of_path()?;
@@ -103,14 +104,14 @@ impl Tree {
         &self,
         lines: &mut NodeLines,
         node: usize,
-        ledger: &PlainSorter,
+        ledger: &Ledger,
     ) -> Result<(), AllocError>
-        requires sound { IsSound (plain_content ledger.now) }
-        requires tree { IsTreeOf (plain_content ledger.now) self.now }
-        requires each { AllByRecursion (IsLineOf (plain_content ledger.now)) lines.old }
-        ensures each { OnOk result (AllByRecursion (IsLineOf (plain_content ledger.now)) lines.new) }
+        requires sound { IsSound (ledger_content ledger.now) }
+        requires tree { IsTreeOf (ledger_content ledger.now) self.now }
+        requires each { AllByRecursion (IsLineOf (ledger_content ledger.now)) lines.old }
+        ensures each { OnOk result (AllByRecursion (IsLineOf (ledger_content ledger.now)) lines.new) }
         ensures stay { OnOk result ((path : Path) → has_line lines.old path ≡ true → has_line lines.new path ≡ true) }
-        ensures put { OnOk result (is_live self.now.places.items node ≡ true → has_node (plain_content ledger.now) (path_at self.now.places.items node) ≡ true
+        ensures put { OnOk result (is_live self.now.places.items node ≡ true → has_node (ledger_content ledger.now) (path_at self.now.places.items node) ≡ true
             → has_line lines.new (path_at self.now.places.items node) ≡ true) }
     {
         let Some(place) = self.place(node) else {

@@ -2,34 +2,30 @@
 ghost use Rattle.std.specs.Prelude.{◌≡◌, ◌≢◌, ◌≤◌, ◌+◌, ◌<◌, ◌^◌, ℕ, Some, IfOk, IfSome, OnErr, OnOk, false, length, take, true};
 ghost use Rattle.drf_role.specs.Path.{IsClientPath, Path};
 ghost use Rattle.drf_sorter.specs.Content.{Content, activated, has_client, has_node, with_change, with_client, without_client};
-ghost use Rattle.drf_sorter.specs.Plain.{plain_content};
+ghost use Rattle.drf_tree.specs.Ledger.{ledger_content};
 ghost use Rattle.drf_tree.specs.Changes.{IsLeast, IsOneLonger, IsShapeOf, OnWay};
 ghost use Rattle.drf_tree.specs.Marks.{Defers, Spends};
 ghost use Rattle.drf_tree.specs.Nodes.{client_at, is_live, is_node, path_at, place_at};
 ghost use Rattle.drf_tree.specs.Tidy.{IsOneMore, IsTidy, IsTidyBut};
 ghost use Rattle.drf_tree.specs.Tree.{IsTotalFree, IsTreeOf};
 
+use crate::ledger::Ledger;
 use crate::node::Sum;
 use crate::tree::{ROOT, Tree};
 use drf_role::ClientPath;
-use drf_sorter::PlainSorter;
 use std::alloc::AllocError;
 use std::mem;
 
 impl Tree {
     /// The node of a client, made with all nodes above it that are missing. Where that fails, those that were made go again.
-    pub(crate) fn grow(
-        &mut self,
-        path: &ClientPath,
-        ledger: &PlainSorter,
-    ) -> Result<usize, AllocError>
-        requires tree { IsTreeOf (plain_content ledger.now) self.old }
-        ensures tree { IsTreeOf (plain_content ledger.now) self.new }
-        ensures free { IsTotalFree (plain_content ledger.now) self.old → IsTotalFree (plain_content ledger.now) self.new }
+    pub(crate) fn grow(&mut self, path: &ClientPath, ledger: &Ledger) -> Result<usize, AllocError>
+        requires tree { IsTreeOf (ledger_content ledger.now) self.old }
+        ensures tree { IsTreeOf (ledger_content ledger.now) self.new }
+        ensures free { IsTotalFree (ledger_content ledger.now) self.old → IsTotalFree (ledger_content ledger.now) self.new }
         ensures live { IfOk result (λ leaf. is_live self.new.places.items leaf ≡ true) }
         ensures client { IfOk result (λ leaf. client_at self.new.places.items leaf ≡ Some path.now) }
-        ensures grown { OnOk result (IsTidy (plain_content ledger.now) self.old.places.items → IsTidyBut path.now (plain_content ledger.now) self.new.places.items) }
-        ensures left { OnErr result (IsTidy (plain_content ledger.now) self.old.places.items → IsTidy (plain_content ledger.now) self.new.places.items) }
+        ensures grown { OnOk result (IsTidy (ledger_content ledger.now) self.old.places.items → IsTidyBut path.now (ledger_content ledger.now) self.new.places.items) }
+        ensures left { OnErr result (IsTidy (ledger_content ledger.now) self.old.places.items → IsTidy (ledger_content ledger.now) self.new.places.items) }
         ensures spends { Spends self.old.marks self.new.marks (length path.now) }
     {
         let mut node = ROOT;
@@ -51,15 +47,15 @@ impl Tree {
         node: usize,
         path: &ClientPath,
         i: usize,
-        ledger: &PlainSorter,
+        ledger: &Ledger,
     ) -> Result<usize, AllocError>
-        requires tree { IsTreeOf (plain_content ledger.now) self.old }
+        requires tree { IsTreeOf (ledger_content ledger.now) self.old }
         requires right { IsClientPath path.now }
         requires within { i < length path.now }
         requires there { is_node self.old.places.items node ≡ true }
         requires above { path_at self.old.places.items node ≡ take i path.now }
-        ensures tree { IsTreeOf (plain_content ledger.now) self.new }
-        ensures free { IsTotalFree (plain_content ledger.now) self.old → IsTotalFree (plain_content ledger.now) self.new }
+        ensures tree { IsTreeOf (ledger_content ledger.now) self.new }
+        ensures free { IsTotalFree (ledger_content ledger.now) self.old → IsTotalFree (ledger_content ledger.now) self.new }
         ensures path { IfOk result (λ child. path_at self.new.places.items child ≡ take (i + 1) path.now) }
         ensures live { IfOk result (λ child. is_live self.new.places.items child ≡ true) }
         ensures one { OnOk result (IsOneMore (take (i + 1) path.now) self.old.places.items self.new.places.items) }
@@ -78,18 +74,18 @@ impl Tree {
         parent: usize,
         path: &ClientPath,
         len: usize,
-        ledger: &PlainSorter,
+        ledger: &Ledger,
     ) -> Result<usize, AllocError>
-        requires tree { IsTreeOf (plain_content ledger.now) self.old }
+        requires tree { IsTreeOf (ledger_content ledger.now) self.old }
         requires right { IsClientPath path.now }
         requires some { 1 ≤ len }
         requires within { len ≤ length path.now }
         requires parent { is_node self.old.places.items parent ≡ true }
         requires longer { IsOneLonger (path_at self.old.places.items parent) (take len path.now) }
         requires missing { (i : ℕ) → is_live self.old.places.items i ≡ true → path_at self.old.places.items i ≢ take len path.now }
-        requires nobody { has_node (plain_content ledger.now) (take len path.now) ≡ false }
-        ensures tree { IsTreeOf (plain_content ledger.now) self.new }
-        ensures free { IsTotalFree (plain_content ledger.now) self.old → IsTotalFree (plain_content ledger.now) self.new }
+        requires nobody { has_node (ledger_content ledger.now) (take len path.now) ≡ false }
+        ensures tree { IsTreeOf (ledger_content ledger.now) self.new }
+        ensures free { IsTotalFree (ledger_content ledger.now) self.old → IsTotalFree (ledger_content ledger.now) self.new }
         ensures path { IfOk result (λ node. path_at self.new.places.items node ≡ take len path.now) }
         ensures live { IfOk result (λ node. is_live self.new.places.items node ≡ true) }
         ensures one { OnOk result (IsOneMore (take len path.now) self.old.places.items self.new.places.items) }

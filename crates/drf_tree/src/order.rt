@@ -1,20 +1,20 @@
 //! Families put into order where keys are stale.
 ghost use Rattle.std.specs.Prelude.{◌≡◌, ◌<◌, ◌≤◌, ◌+◌, ◌-◌, ◌^◌, length, min, true};
 ghost use Rattle.drf_sorter.specs.Content.{IsSound};
-ghost use Rattle.drf_sorter.specs.Plain.{plain_content};
+ghost use Rattle.drf_tree.specs.Ledger.{ledger_content};
 ghost use Rattle.drf_tree.specs.Marks.{Spends, marked_in};
 ghost use Rattle.drf_tree.specs.Nodes.{is_live};
 ghost use Rattle.drf_tree.specs.Tree.{IsTreeOf, IsTreeBut};
 
+use crate::ledger::Ledger;
 use crate::tree::Tree;
-use drf_sorter::PlainSorter;
 
 impl Tree {
     /// Computes each key that is stale, and puts its node into its place.
-    pub(crate) fn repair(&mut self, ledger: &PlainSorter)
-        requires sound { IsSound (plain_content ledger.now) }
-        requires tree { IsTreeOf (plain_content ledger.now) self.old }
-        ensures tree { IsTreeOf (plain_content ledger.now) self.new }
+    pub(crate) fn repair(&mut self, ledger: &Ledger)
+        requires sound { IsSound (ledger_content ledger.now) }
+        requires tree { IsTreeOf (ledger_content ledger.now) self.old }
+        ensures tree { IsTreeOf (ledger_content ledger.now) self.new }
         ensures places { self.new.places ≡ self.old.places }
         ensures repaired { marked_in self.new.marks.stale ≡ 0 }
         ensures spends { Spends self.old.marks self.new.marks 0 }
@@ -28,10 +28,10 @@ impl Tree {
     }
 
     /// Computes each key that is stale, family by family.
-    fn renew_all(&mut self, ledger: &PlainSorter)
-        requires sound { IsSound (plain_content ledger.now) }
-        requires tree { IsTreeOf (plain_content ledger.now) self.old }
-        ensures tree { IsTreeOf (plain_content ledger.now) self.new }
+    fn renew_all(&mut self, ledger: &Ledger)
+        requires sound { IsSound (ledger_content ledger.now) }
+        requires tree { IsTreeOf (ledger_content ledger.now) self.old }
+        ensures tree { IsTreeOf (ledger_content ledger.now) self.new }
         ensures places { self.new.places ≡ self.old.places }
         ensures spends { Spends self.old.marks self.new.marks 0 }
     {
@@ -41,11 +41,11 @@ impl Tree {
     }
 
     /// Computes the keys of the children of a node that are stale.
-    fn renew_family(&mut self, node: usize, ledger: &PlainSorter)
-        requires sound { IsSound (plain_content ledger.now) }
-        requires tree { IsTreeOf (plain_content ledger.now) self.old }
+    fn renew_family(&mut self, node: usize, ledger: &Ledger)
+        requires sound { IsSound (ledger_content ledger.now) }
+        requires tree { IsTreeOf (ledger_content ledger.now) self.old }
         requires there { node < length self.old.families.items }
-        ensures tree { IsTreeOf (plain_content ledger.now) self.new }
+        ensures tree { IsTreeOf (ledger_content ledger.now) self.new }
         ensures places { self.new.places ≡ self.old.places }
         ensures long { length self.new.families.items ≡ length self.old.families.items }
         ensures spends { Spends self.old.marks self.new.marks 0 }
@@ -55,11 +55,11 @@ impl Tree {
     }
 
     /// Computes the key of a node, and puts it into its place among its siblings.
-    fn renew(&mut self, node: usize, ledger: &PlainSorter)
-        requires sound { IsSound (plain_content ledger.now) }
+    fn renew(&mut self, node: usize, ledger: &Ledger)
+        requires sound { IsSound (ledger_content ledger.now) }
         requires live { is_live self.old.places.items node ≡ true }
-        requires tree { IsTreeBut node (plain_content ledger.now) self.old }
-        ensures tree { IsTreeOf (plain_content ledger.now) self.new }
+        requires tree { IsTreeBut node (ledger_content ledger.now) self.old }
+        ensures tree { IsTreeOf (ledger_content ledger.now) self.new }
         ensures places { self.new.places ≡ self.old.places }
         ensures sums { self.new.sums ≡ self.old.sums }
         ensures made { self.new.marks.made ≡ min (self.old.marks.made + 1) (2 ^ 64 - 1) }

@@ -1,29 +1,28 @@
 //! A sorter over a tree of nodes.
-use crate::tree::{ROOT, Tree};
+use crate::ledger::Ledger;
+use crate::tree::Tree;
 use crate::walk::Walk;
 use drf_bundle::Quantities;
 use drf_hash::HashKey;
 use drf_role::{ClientPath, NodePath, Role};
 use drf_rows::NodeLine;
-use drf_sorter::{DEFAULT_WEIGHT, PlainSorter, Share, Sorter};
+use drf_sorter::{DEFAULT_WEIGHT, Share, Sorter};
 use std::alloc::{AllocError, Global};
 use std::marker::Model;
 
-/// A sorter that keeps its clients in a list, and their order in a tree, where a change costs one key for each node on
+/// A sorter that keeps its clients in a ledger, and their order in a tree, where a change costs one key for each node on
 /// the way to the client.
 #[derive(Debug, Drop)]
 pub struct TreeSorter {
-    ledger: PlainSorter,
+    ledger: Ledger,
     tree: Tree,
-    /// The node of each client, row by row of the ledger.
-    leaves: Vec<usize>,
     walk: Walk,
     /// If set, the tree is right whatever the total is, as all is marked that hangs on it.
     is_total_free: bool,
 }
 
 impl Model for TreeSorter {
-    ghost use Rattle.drf_sorter.specs.Plain.{plain_content};
+    ghost use Rattle.drf_tree.specs.Ledger.{ledger_content};
     ghost use Rattle.drf_tree.specs.Marks.{work_of};
     ghost use Rattle.drf_tree.specs.Queue.{frames_queue};
     ghost use Rattle.drf_tree.specs.Sorter.{AreInStep, Sorted, sorted_code};
@@ -34,7 +33,7 @@ impl Model for TreeSorter {
 
     ghost view = { λ s. record {
       ledger = s.ledger;
-      queue = frames_queue (plain_content s.ledger) s.tree s.walk.frames.items;
+      queue = frames_queue (ledger_content s.ledger) s.tree s.walk.frames.items;
       work = work_of s.tree.marks;
     } };
 
@@ -43,9 +42,9 @@ impl Model for TreeSorter {
 
 impl Sorter for TreeSorter {
     ghost use Rattle.std.specs.Prelude.{true};
-    ghost use Rattle.drf_sorter.specs.Plain.{plain_content};
+    ghost use Rattle.drf_tree.specs.Ledger.{ledger_content};
 
-    ghost content = { λ s. plain_content s.ledger };
+    ghost content = { λ s. ledger_content s.ledger };
 
     ghost queue = { λ s. s.queue };
 
@@ -57,9 +56,8 @@ impl Sorter for TreeSorter {
 
     fn open(alloc: Global, key: HashKey) -> Result<Self, AllocError> {
         Ok(TreeSorter {
-            ledger: PlainSorter::open(alloc, key)?,
+            ledger: Ledger::new(alloc, key),
             tree: Tree::open(alloc)?,
-            leaves: Vec::new(alloc),
             walk: Walk::open(alloc)?,
             is_total_free: false,
         })
@@ -70,22 +68,19 @@ impl Sorter for TreeSorter {
     }
 
     fn add(&mut self, path: ClientPath) -> Result<(), AllocError> {
-        self.leaves.reserve(1)?;
         self.walk.stop();
         let node = self.tree.grow(&path, &self.ledger)?;
-        if let Err(error) = self.ledger.add(path) {
+        if let Err(error) = self.ledger.add(path, node) {
             self.tree.prune(node);
             return Err(error);
         }
-        self.leaves.push_reserved(node);
         self.tree.admit(node);
         Ok(())
     }
 
     fn remove(&mut self, path: &ClientPath) {
         self.walk.stop();
-        let known = take_leaf(&mut self.leaves, self.ledger.row_of(path));
-        self.ledger.remove(path);
+        let known = self.ledger.remove(path);
         let Some(node) = self.tree.leaf(known, path) else {
             return;
         };
@@ -96,7 +91,7 @@ impl Sorter for TreeSorter {
     fn set_active(&mut self, path: &ClientPath, active: bool) {
         self.walk.stop();
         let row = self.ledger.row_of(path);
-        let known = leaf_at(&self.leaves, row);
+        let known = self.ledger.leaf_at(row);
         self.ledger.set_active_at(row, path, active);
         let Some(node) = self.tree.leaf(known, path) else {
             return;
@@ -111,7 +106,7 @@ impl Sorter for TreeSorter {
         offers: u64,
     ) -> Result<(), AllocError> {
         let row = self.ledger.row_of(path);
-        let known = leaf_at(&self.leaves, row);
+        let known = self.ledger.leaf_at(row);
         let Some(node) = self.tree.leaf(known, path) else {
             return Ok(());
         };
@@ -124,7 +119,7 @@ impl Sorter for TreeSorter {
 
     fn undo_charge(&mut self, path: &ClientPath, quantities: &Quantities) {
         let row = self.ledger.row_of(path);
-        let known = leaf_at(&self.leaves, row);
+        let known = self.ledger.leaf_at(row);
         self.ledger.undo_charge_at(row, path, quantities);
         let Some(node) = self.tree.leaf(known, path) else {
             return;
@@ -135,7 +130,7 @@ impl Sorter for TreeSorter {
 
     fn refund(&mut self, path: &ClientPath, quantities: &Quantities) {
         let row = self.ledger.row_of(path);
-        let known = leaf_at(&self.leaves, row);
+        let known = self.ledger.leaf_at(row);
         self.ledger.refund_at(row, path, quantities);
         let Some(node) = self.tree.leaf(known, path) else {
             return;
@@ -202,25 +197,8 @@ impl Sorter for TreeSorter {
         Ok(TreeSorter {
             ledger: self.ledger.copy()?,
             tree: self.tree.copy()?,
-            leaves: Vec::from_slice(*self.leaves.allocator(), self.leaves.as_slice())?,
             walk: self.walk.copy()?,
             is_total_free: false,
         })
-    }
-}
-
-/// The node in that row, or the root.
-fn leaf_at(leaves: &[usize], row: Option<usize>) -> usize {
-    match row {
-        Some(row) if row < leaves.len() => leaves[row],
-        _ => ROOT,
-    }
-}
-
-/// The node in that row, or the root. The row is gone.
-fn take_leaf(leaves: &mut Vec<usize>, row: Option<usize>) -> usize {
-    match row {
-        Some(row) if row < leaves.len() => leaves.remove(row),
-        _ => ROOT,
     }
 }

@@ -108,9 +108,10 @@ impl<S: Sorter> Cluster<S> {
         let roles = distinct_roles(alloc, roles)?;
         let clients = new_clients(alloc, roles)?;
         let paths = client_paths(alloc, &framework, clients.as_slice())?;
+        let key = framework.copy()?;
         self.tables.reserve_framework()?;
         add_clients(&mut self.sorter, &paths)?;
-        self.tables.add_framework(framework, clients);
+        self.tables.add_framework(key, framework, clients);
         Ok(())
     }
 

@@ -5,16 +5,9 @@ use Rattle.std.proofs.lemmas.List.{length-map, length-set, length-take, take_all
 use Rattle.std.proofs.lemmas.List.Sums.{length-filter}
 use Rattle.std.proofs.lemmas.List.Elements.{filter-append, filter_map-append}
 use Rattle.std.specs.List.{list_any}
-use Rattle.drf_gates.specs.filters.Slots.{filled, slot_passes, without_one}
-
-pub filled-short : {X : Type 0} (slots : List (Option X)) → length (filled slots) ≤ length slots
-filled-short [] = omega arith
-filled-short (None ∷ slots) = omega (arith, filled-short slots)
-filled-short (Some x ∷ slots) = omega (arith, filled-short slots)
-
-pub filled-all : {X : Type 0} (xs : List X) → filled (map Some xs) ≡ xs
-filled-all [] = refl
-filled-all {X} (x ∷ xs) = ap (λ (ys : List X). x ∷ ys) (filled-all xs)
+use Rattle.drf_hash.specs.Slots.{filled}
+use Rattle.drf_hash.specs.SlotLaws.{filled-short}
+use Rattle.drf_gates.specs.filters.Slots.{slot_passes, without_one}
 
 -- no gap leaves as many
 filled-as_many : {X : Type 0} (slots : List (Option X)) → length (filled slots) ≡ length slots → map Some (filled slots) ≡ slots
@@ -135,11 +128,6 @@ filled-more {X} slots i slot below read =
 pub count-filled : {X : Type 0} (p : X → Bool) (slots : List (Option X)) → count_by (slot_passes p) slots ≡ count_by p (filled slots)
 count-filled p slots =
     sym (length-filter (slot_passes p) slots) ∙ ap length (keep-filled p slots) ∙ length-map (filter p (filled slots)) Some ∙ length-filter p (filled slots)
-
-pub keep-some : {X : Type 0} (slots : List (Option X)) → filter (λ s. is_some s) slots ≡ map Some (filled slots)
-keep-some [] = refl
-keep-some (None ∷ slots) = keep-some slots
-keep-some {X} (Some x ∷ slots) = ap (λ (ys : List (Option X)). Some x ∷ ys) (keep-some slots)
 
 -- one more slot, of which what passes a test is put behind
 pub more-filter : {X : Type 0} (p : X → Bool) (slots : List (Option X)) (i : ℕ) (slot : Option X) (xs more : List X) → i < length slots → slot ≡ get_or slots i slot

@@ -1,15 +1,11 @@
 -- Filters with gaps where some were taken out.
 use Rattle.std.specs.Prelude.{◌≡◌, ℕ, Bool, false, List, Option, None, Some, map, length, set, slice_index_or, if◌then◌else◌}
-use Rattle.std.specs.List.{filter_map}
 use Rattle.std.specs.Option.{option_map_or}
+use Rattle.drf_hash.specs.Slots.{filled}
 use Rattle.drf_rows.specs.declared.rows.FilterRow.{FilterRow}
 use Rattle.drf_gates.specs.filters.Index.{IsIndexed, IsMarked, IsTidy, IsLeft, NoneEndsBefore}
 use Rattle.drf_gates.specs.declared.filters.index.Key.TheVariants.{Client, ClientAndAgent}
 use Rattle.drf_gates.specs.declared.filters.slots.Slots.{Slots}
-
--- what are no gaps, in order
-abbrev pub filled : {X : Type 0} → List (Option X) → List X
-filled slots = filter_map (λ s. s) slots
 
 -- there is something, and it passes a test
 abbrev pub slot_passes : {X : Type 0} → (X → Bool) → Option X → Bool

@@ -4,7 +4,8 @@ ghost use Rattle.drf_role.specs.Text.{same_text};
 ghost use Rattle.drf_rows.specs.declared.rows.FilterRow.{FilterRow};
 ghost use Rattle.drf_bundle.specs.Bundle.{covers};
 ghost use Rattle.drf_gates.specs.filters.Index.{NoneEndsBefore};
-ghost use Rattle.drf_gates.specs.filters.Slots.{filled, slot_passes};
+ghost use Rattle.drf_hash.specs.Slots.{filled};
+ghost use Rattle.drf_gates.specs.filters.Slots.{slot_passes};
 ghost use Rattle.drf_rows.specs.Filters.{is_in_force, is_of_client, is_on_agent, holds_back, in_force};
 
 use drf_amount::Algebra;

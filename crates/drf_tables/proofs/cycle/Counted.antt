@@ -1,11 +1,9 @@
 -- Offers that are counted at their clients.
-use Rattle.std.specs.List.{list_any}
-use Rattle.std.proofs.Common.{refl, sym, ap, ◌∙◌, inl, inr, zero, suc, arith, get_or, set, ◌≡◌, ℕ, ◌+◌, ◌<◌, ◌≤◌, ◌^◌, ◌||◌, Bool, true, false, List, [], ◌∷◌, ◌++◌, length, map, flat_map, sum_by, take, drop}
-use Rattle.std.proofs.lemmas.Bool.{cases_Bool, false≢true}
+use Rattle.std.proofs.Common.{refl, sym, ap, ◌∙◌, inl, inr, zero, suc, arith, get_or, set, ◌≡◌, ℕ, ◌+◌, ◌<◌, ◌≤◌, ◌^◌, true, false, List, [], ◌∷◌, ◌++◌, length, map, flat_map, sum_by, take, drop}
+use Rattle.std.proofs.lemmas.Bool.{cases_Bool}
 use Rattle.std.proofs.lemmas.List.{length-append, length-map}
 use Rattle.std.proofs.lemmas.List.Sums.{sum_by-cons}
-use Rattle.drf_tables.proofs.tables.Names.{same_text, same_path, Client, offers_counted, counted, count_offer, client_of, of_offer, ClientRow, FrameworkRow, OfferRow, counting, counting_all, count_clients, CanCount, CanCountAll, same_text-swap, name-count_offer}
-use Rattle.drf_role.specs.TextLaws.{same_itself}
+use Rattle.drf_tables.proofs.tables.Names.{same_text, same_path, Client, offers_counted, counted, count_offer, client_of, of_offer, ClientRow, FrameworkRow, OfferRow, counting, counting_all, count_clients, CanCount, CanCountAll}
 
 -- ---- one client after another
 
@@ -81,42 +79,11 @@ CanCountAll-from n (f ∷ fs) few =
 
 -- ---- what counting leaves
 
-pub names-counting : (fs : List FrameworkRow) (offer : OfferRow)
-    → map (λ f. f.name) (counting fs offer) ≡ map (λ f. f.name) fs
-names-counting [] offer = refl
-names-counting (f ∷ fs) offer = λ i. name-count_offer (of_offer offer).client f i ∷ names-counting fs offer i
-
 length-count_offer : (client : Client) (f : FrameworkRow) → length (count_offer client f).clients ≡ length f.clients
 length-count_offer client f = elim (cases_Bool (same_text f.name client.framework)) [
   | inl same ↦ rw same (length-map f.clients (counted client))
   | inr other ↦ rw other refl
 ]
-
--- a framework that no row names is counted nowhere
-pub counting-unknown : (fs : List FrameworkRow) (offer : OfferRow)
-    → list_any (λ f. same_text f.name offer.framework) fs ≡ false → counting fs offer ≡ fs
-counting-unknown [] offer none = refl
-counting-unknown (f ∷ fs) offer none = elim (cases_Bool (same_text f.name offer.framework)) [
-  | inl same ↦
-      absurd (false≢true (sym none ∙ ap (λ (b : Bool). b || list_any (λ f. same_text f.name offer.framework) fs) same))
-  | inr other ↦
-      let rest : list_any (λ f. same_text f.name offer.framework) fs ≡ false
-      = sym (ap (λ (b : Bool). b || list_any (λ f. same_text f.name offer.framework) fs) other) ∙ none in
-      rw other (ap (λ gs. f ∷ gs) (counting-unknown fs offer rest))
-]
-
-pub count_offer-other : (client : Client) (f : FrameworkRow)
-    → same_text client.framework f.name ≡ false → count_offer client f ≡ f
-count_offer-other client f other =
-    let none : same_text f.name client.framework ≡ false = same_text-swap f.name client.framework ∙ other in
-    rw none refl
-
-pub count_offer-here : (client : Client) (f : FrameworkRow)
-    → f.name ≡ client.framework → count_offer client f ≡ record f { clients = map (counted client) f.clients }
-count_offer-here client f named =
-    let same : same_text f.name client.framework ≡ true =
-    ap (λ n. same_text n client.framework) named ∙ same_itself client.framework in
-    rw same refl
 
 pub count_clients-cons : (f : FrameworkRow) (fs : List FrameworkRow)
     → count_clients (f ∷ fs) ≡ length f.clients + count_clients fs

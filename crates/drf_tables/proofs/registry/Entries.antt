@@ -1,70 +1,38 @@
 -- Tables by name, entry by entry.
-use Rattle.std.specs.List.{list_any, position}
+use Rattle.std.specs.List.{list_any}
 use Rattle.std.specs.Global.{Vec}
 use Rattle.std.specs.Map.{lookup, keys_of, values_of, remove_entry}
-use Rattle.std.proofs.Common.{refl, sym, ap, ◌∙◌, inl, inr, zero, suc, arith, get_or, Bor, ◌≡◌, ℕ, Bool, true, false, not, List, [], ◌∷◌, ◌++◌, length, map, filter, find, ◌+◌, ◌||◌, Option, None, slice_get, Some, is_some, Result, Ok, Err, OnOk, if◌then◌else◌}
-use Rattle.std.proofs.lemmas.List.Quantifiers.{position-Some}
+use Rattle.std.proofs.Common.{refl, sym, ap, ◌∙◌, inl, inr, arith, Bor, ◌≡◌, ℕ, Bool, true, false, not, List, [], ◌∷◌, length, map, filter, find, ◌+◌, ◌||◌, Option, None, slice_get, Some, is_some, Result, Ok, Err, OnOk, if◌then◌else◌}
+use Rattle.std.proofs.lemmas.List.{length-map, with_items_is}
 use Rattle.std.specs.Option.{option_copied, option_map, option_map_or}
-use Rattle.std.proofs.lemmas.Option.{get_or_from_slice_get, slice_get-map}
+use Rattle.std.proofs.lemmas.Map.Made.{is_some-lookup}
+use Rattle.std.proofs.lemmas.Option.{slice_get-map}
+use Rattle.drf_bundle.specs.ListLaws.{list_any-map}
 use Rattle.drf_role.specs.TextLaws.{same_from_test}
-use Rattle.std.proofs.lemmas.Bool.{cases_Bool, false≢true, and_parts, or_parts, not-true}
-use Rattle.drf_tables.proofs.tables.Names.{insert_entry, set_value_at, Text, same_text, are_distinct, same_text-swap, none_has, none_has_at, ClientRow, FrameworkRow, same_path, Client, is_registered, count_clients, framework_row, framework_rows}
+use Rattle.std.proofs.lemmas.Bool.{cases_Bool, and_parts, not-true}
+use Rattle.drf_tables.proofs.tables.Names.{changed, with_each, Text, same_text, are_distinct, same_text-swap, none_has, ClientRow, FrameworkRow, same_path, Client, is_registered, count_clients, framework_row, framework_rows}
 use Rattle.drf_tables.proofs.cycle.Counted.{count_clients-cons}
 
 -- ---- names
 
--- a name is found among the keys exactly where a row has it
+-- a name is found among entries exactly where one has it
+pub any-lookup : {V : Type 0} (n : Text) (es : List (Text × V)) → list_any (λ e. same_text e.0 n) es ≡ is_some (lookup (same_text n) es)
+any-lookup {V} n es =
+    (λ i. list_any (λ (e : Text × V). same_text-swap e.0 n i) es)
+    ∙ sym (list_any-map (same_text n) (λ (e : Text × V). e.0) es) ∙ sym (is_some-lookup (same_text n) es)
+
+-- and so it is among rows
 pub known-lookup : {V R : Type 0} (name : R → Text) (row : Text × V → R) (n : Text) (es : List (Text × V))
     → ((e : Text × V) → name (row e) ≡ e.0)
     → list_any (λ r. same_text (name r) n) (map row es) ≡ is_some (lookup (same_text n) es)
-known-lookup name row n [] keeps = refl
-known-lookup name row n (e ∷ es) keeps =
-    let more = known-lookup name row n es keeps in
-    let test : same_text (name (row e)) n ≡ same_text n e.0 = ap (λ t. same_text t n) (keeps e) ∙ same_text-swap e.0 n in
-    elim (cases_Bool (same_text n e.0)) [
-      | inl same ↦ rw (test ∙ same, same) refl
-      | inr other ↦ rw (test ∙ other, other) more
-    ]
-
--- a new key goes last
-pub insert_entry-new : {V : Type 0} (n : Text) (v : V) (es : List (Text × V))
-    → is_some (lookup (same_text n) es) ≡ false → insert_entry same_text es n v ≡ es ++ (n, v) ∷ []
-insert_entry-new n v [] new = refl
-insert_entry-new n v (e ∷ es) new = elim (cases_Bool (same_text n e.0)) [
-  | inl same ↦
-      absurd (false≢true (sym new ∙ ap (λ (b : Bool). is_some (if b then Some e.1 else lookup (same_text n) es)) same))
-  | inr other ↦
-      let later = sym (ap (λ (b : Bool). is_some (if b then Some e.1 else lookup (same_text n) es)) other) ∙ new in
-      rw other (ap (λ l. e ∷ l) (insert_entry-new n v es later))
-]
+known-lookup {V} name row n es keeps =
+    list_any-map (λ r. same_text (name r) n) row es
+    ∙ (λ i. list_any (λ (e : Text × V). same_text (keeps e i) n) es) ∙ any-lookup n es
 
 -- ---- an entry by its place
 
-pub record HasKey {X : Type 0} (es : List (Text × X)) (i : ℕ) (x : X) : Type 0 where
-  pub key : Text
-  pub at : slice_get es i ≡ Some (key, x)
-  pub name : slice_get (keys_of es) i ≡ Some key
-
--- the key of a value
-pub key_at : {X : Type 0} (es : List (Text × X)) (i : ℕ) (x : X) → slice_get (values_of es) i ≡ Some x → HasKey es i x
-key_at [] i x at = cc
-key_at (e ∷ es) zero x at =
-    let same : e.1 ≡ x = cc in
-    record { key = e.0; at = λ i. Some (e.0, same i); name = refl }
-key_at (e ∷ es) (suc i) x at =
-    let later = key_at es i x at in
-    record { key = later.key; at = later.at; name = later.name }
-
 pub value_at : {X : Type 0} (es : List (Text × X)) (i : ℕ) (e : Text × X) → slice_get es i ≡ Some e → slice_get (values_of es) i ≡ Some e.1
 value_at {X} es i e at = slice_get-map (λ (e : Text × X). e.1) es i ∙ ap (option_map (λ (e : Text × X). e.1)) at
-
--- a key that is found is the one that was looked for
-pub key_found : {X : Type 0} (es : List (Text × X)) (i : ℕ) (key n : Text)
-    → position (same_text n) (keys_of es) ≡ Some i → slice_get (keys_of es) i ≡ Some key → key ≡ n
-key_found es i key n found at =
-    let test = (position-Some (same_text n) (keys_of es) i key found).1 in
-    let read : get_or (keys_of es) i key ≡ key = get_or_from_slice_get (keys_of es) i key key at in
-    sym (same_from_test n key (sym (ap (same_text n) read) ∙ test))
 
 -- ---- lists
 
@@ -75,6 +43,18 @@ from_ok (Err e) x P ok here = cc
 
 -- ---- frameworks
 
+-- a change of each client of one framework is one of its row
+pub rows-with_each : (name : Text) (change : ClientRow → ClientRow) (es : List (Text × Vec ClientRow))
+    → framework_rows (map (changed name (with_each change)) es)
+    ≡ map (λ (f : FrameworkRow). if same_text f.name name then record f { clients = map change f.clients } else f) (framework_rows es)
+rows-with_each name change [] = refl
+rows-with_each name change (e ∷ es) = λ i. by (same_text e.0 name) i ∷ rows-with_each name change es i
+  where
+    by : (b : Bool) → framework_row (if b then (e.0, with_each change e.1) else e)
+        ≡ (if b then record (framework_row e) { clients = map change e.1.items } else framework_row e)
+    by true = λ i. record { name = e.0; clients = with_items_is e.1 (map change e.1.items) (length-map e.1.items change ∙ sym e.1.ok.0) i }
+    by false = refl
+
 -- the row of an entry
 pub row_at : (fs : List (Text × Vec ClientRow)) (i : ℕ) (e : Text × Vec ClientRow)
     → slice_get fs i ≡ Some e → slice_get (framework_rows fs) i ≡ Some (framework_row e)
@@ -82,47 +62,21 @@ row_at fs i e at = slice_get-map framework_row fs i ∙ ap (option_map framework
 
 -- ---- a change of one key
 
-module _ {V R : Type 0} (row : Text × V → R) (name : R → Text) (named : (e : Text × V) → name (row e) ≡ e.0)
-    (g : R → R) (n : Text) (others : (r : R) → same_text n (name r) ≡ false → g r ≡ r) where
-  others_stay : (rs : List R) → none_has same_text name n rs ≡ true → map g rs ≡ rs
-  others_stay [] none = refl
-  others_stay (r ∷ rs) none =
-      let parts = and_parts (not (same_text n (name r))) (none_has same_text name n rs) none in
-      let head = others r (not-true (same_text n (name r)) parts.0) in
-      let tail = others_stay rs parts.1 in
-      λ i. head i ∷ tail i
+module _ {V : Type 0} (n : Text) (change : V → V) where
+  changed-other : (e : Text × V) → same_text n e.0 ≡ false → changed n change e ≡ e
+  changed-other e past = ap (λ (b : Bool). if b then (e.0, change e.1) else e) (same_text-swap e.0 n ∙ past)
 
-  -- where no row has the name, all stay
-  pub unknown_stay : (rs : List R) → list_any (λ r. same_text (name r) n) rs ≡ false → map g rs ≡ rs
-  unknown_stay [] none = refl
-  unknown_stay (r ∷ rs) none =
-      let parts = or_parts (same_text (name r) n) (list_any (λ r. same_text (name r) n) rs) none in
-      let head = others r (same_text-swap n (name r) ∙ parts.0) in
-      let tail = unknown_stay rs parts.1 in
-      λ i. head i ∷ tail i
-
-  -- a change of the row of one name is a write of its entry
-  pub changed_at : (es : List (Text × V)) (i : ℕ) (e : Text × V) (w : V)
-      → are_distinct (map name (map row es)) ≡ true → slice_get es i ≡ Some e → e.0 ≡ n → g (row e) ≡ row (e.0, w)
-      → map row (set_value_at es i w) ≡ map g (map row es)
-  changed_at [] i e w apart at mine here = cc
-  changed_at (f ∷ es) zero e w apart at mine here =
-      let parts = and_parts (none_has same_text name (name (row f)) (map row es)) (are_distinct (map name (map row es))) apart in
-      let same : f ≡ e = cc in
-      let its : n ≡ name (row f) = sym mine ∙ (λ j. (sym same j).0) ∙ sym (named f) in
-      let none : none_has same_text name n (map row es) ≡ true = ap (λ m. none_has same_text name m (map row es)) its ∙ parts.0 in
-      let head : row (f.0, w) ≡ g (row f) = (λ j. row ((same j).0, w)) ∙ sym here ∙ (λ j. g (row (sym same j))) in
-      let tail = sym (others_stay (map row es) none) in
-      λ j. head j ∷ tail j
-  changed_at (f ∷ es) (suc i) e w apart at mine here =
-      let parts = and_parts (none_has same_text name (name (row f)) (map row es)) (are_distinct (map name (map row es))) apart in
-      let there : slice_get (map row es) i ≡ Some (row e) = slice_get-map row es i ∙ ap (option_map row) at in
-      let past : same_text (name (row f)) (name (row e)) ≡ false =
-      none_has_at same_text name (name (row f)) (map row es) i (row e) parts.0 there in
-      let its : n ≡ name (row e) = sym mine ∙ sym (named e) in
-      let head = sym (others (row f) (ap (λ m. same_text m (name (row f))) its ∙ same_text-swap (name (row e)) (name (row f)) ∙ past)) in
-      let tail = changed_at es i e w parts.1 at mine here in
-      λ j. head j ∷ tail j
+  -- where no entry has the name, all stay
+  pub changed_none : (es : List (Text × V)) → lookup (same_text n) es ≡ None → es ≡ map (changed n change) es
+  changed_none [] none = refl
+  changed_none (e ∷ es) none = elim (cases_Bool (same_text n e.0)) [
+    | inl same ↦
+        let there : ◌≡◌ {A = Option _} (Some e.1) None = sym (ap (λ (b : Bool). if b then Some e.1 else lookup (same_text n) es) same) ∙ none in
+        cc
+    | inr other ↦
+        let later = sym (ap (λ (b : Bool). if b then Some e.1 else lookup (same_text n) es) other) ∙ none in
+        λ i. sym (changed-other e other) i ∷ changed_none es later i
+  ]
 
 -- ---- a key that is taken out
 

@@ -1,56 +1,16 @@
 -- What is known of free parts, entry by entry.
-use Rattle.std.specs.List.{list_any, AllByRecursion}
-use Rattle.std.specs.Map.{lookup, keys_of, values_of}
-use Rattle.std.proofs.Common.{refl, sym, ap, subst, ◌∙◌, zero, suc, inl, inr, add-one, arith, ◌≡◌, ℕ, ◌+◌, Bool, true, false, List, [], ◌∷◌, map, length, slice_get, slice_set, Option, Some, None, is_some, if◌then◌else◌, map-id}
+use Rattle.std.specs.List.{AllByRecursion}
+use Rattle.std.specs.Map.{lookup, values_of}
+use Rattle.std.proofs.Common.{refl, sym, ap, subst, ◌∙◌, zero, suc, inl, inr, add-one, arith, ◌≡◌, ℕ, ◌+◌, Bool, true, false, List, [], ◌∷◌, map, length, slice_get, slice_set, Option, Some, None, is_some, if◌then◌else◌}
 use Rattle.std.proofs.lemmas.Bool.{cases_Bool, and_parts, and_from}
-use Rattle.drf_tables.proofs.tables.Names.{set_value_at, Text, same_text, Resource, are_distinct, same_text-swap, Holding, holdings_of, parts_on, each_from, each_map, active_at, AgentRow, Rows, changed, with_active, are_settled, with_free_at, Agent, Inside}
-use Rattle.drf_role.specs.TextLaws.{same_from_test, same_itself}
+use Rattle.drf_tables.proofs.tables.Names.{set_value_at, Text, same_text, Resource, Holding, holdings_of, parts_on, each_from, each_map, active_at, AgentRow, Rows, changed, with_active, are_settled, with_free_at, Agent, Inside}
+use Rattle.drf_role.specs.TextLaws.{same_from_test}
 use Rattle.drf_bundle.specs.Taken.{rest_of_all}
 use Rattle.drf_rows.specs.Cycle.{free_of}
 use Rattle.drf_holdings.specs.Stored.{holdings_in}
 use Rattle.drf_tables.specs.cycle.Drafts.{frees_after}
 use Rattle.drf_tables.specs.Inside.{agent_row, frees_in, known_after, is_settled, rows_in, rows_of, IsKnown}
 use Rattle.drf_tables.specs.declared.tables.Left.{Left}
-use Rattle.drf_tables.proofs.registry.Entries.{known-lookup, names-keys, changed_at, unknown_stay}
-
--- ---- the entry of one name changes
-
-changed-other : (name : Text) (change : Agent → Agent) (e : Text × Agent) → same_text name e.0 ≡ false → changed name change e ≡ e
-changed-other name change e past =
-    ap (λ (b : Bool). if b then (e.0, change e.1) else e) (same_text-swap e.0 name ∙ past)
-
-changed-here : (name : Text) (change : Agent → Agent) (e : Text × Agent) → e.0 ≡ name → changed name change e ≡ (e.0, change e.1)
-changed-here name change e named =
-    ap (λ (b : Bool). if b then (e.0, change e.1) else e) (ap (λ t. same_text t name) named ∙ same_itself name)
-
-keys_apart : (es : List (Text × Agent)) → are_distinct (map (λ a. a.name) (map agent_row es)) ≡ true
-    → are_distinct (map (λ e. e.0) (map (λ e. e) es)) ≡ true
-keys_apart es apart =
-    ap (λ (fs : List (Text × Agent)). are_distinct (keys_of fs)) (map-id es)
-    ∙ sym (ap are_distinct (names-keys agent_row (λ a. a.name) es (λ e. refl)))
-    ∙ apart
-
--- it is a write of the entry
-pub changed_entry : (name : Text) (change : Agent → Agent) (es : List (Text × Agent)) (i : ℕ) (e : Text × Agent)
-    → are_distinct (map (λ a. a.name) (map agent_row es)) ≡ true → slice_get es i ≡ Some e → e.0 ≡ name
-    → set_value_at es i (change e.1) ≡ map (changed name change) es
-changed_entry name change es i e apart at named =
-    sym (map-id (set_value_at es i (change e.1)))
-    ∙ changed_at (λ e. e) (λ e. e.0) (λ e. refl) (changed name change) name (changed-other name change)
-    es i e (change e.1) (keys_apart es apart) at named (changed-here name change e named)
-    ∙ ap (map (changed name change)) (map-id es)
-
--- and nothing where there is none
-pub changed_none : (name : Text) (change : Agent → Agent) (es : List (Text × Agent))
-    → list_any (λ e. same_text e.0 name) es ≡ false → es ≡ map (changed name change) es
-changed_none name change es none =
-    sym (unknown_stay {V = Agent} (λ e. e) (λ e. e.0) (λ e. refl) (changed name change) name (changed-other name change) es none)
-
--- a name that is no key
-pub key_unknown : {V : Type 0} (name : Text) (es : List (Text × V)) → is_some (lookup (same_text name) es) ≡ false
-    → list_any (λ e. same_text e.0 name) es ≡ false
-key_unknown name es none =
-    sym (ap (list_any (λ e. same_text e.0 name)) (map-id es)) ∙ known-lookup (λ e. e.0) (λ e. e) name es (λ e. refl) ∙ none
 
 -- ---- the rows of entries that change
 

@@ -4,11 +4,11 @@ use Rattle.std.specs.Map.{keys_of}
 use Rattle.std.specs.Global.{Vec}
 use Rattle.std.proofs.Common.{refl, sym, ap, ◌∙◌, subst, append_assoc, ◌≡◌, ℕ, Bool, false, List, [], ◌∷◌, ◌++◌, map}
 use Rattle.std.proofs.lemmas.Map.Keys.{IsDistinct-head, IsDistinct-tail}
-use Rattle.drf_tables.proofs.tables.Names.{insert_entry, Text, same_text, same_text-swap, ClientRow, FrameworkRow, Path, Agent, Inside}
+use Rattle.drf_tables.proofs.tables.Names.{insert_entry, Text, ClientRow, Path, Agent, Inside}
 use Rattle.drf_rows.specs.declared.rows.FilterRow.{FilterRow}
 use Rattle.drf_rows.specs.declared.rows.LimitRow.{LimitRow}
 use Rattle.drf_holdings.specs.Stored.{OffersAndTasks}
-use Rattle.drf_tables.specs.Inside.{agent_row, framework_row, framework_rows, rows_in, rows_of, weight_rows}
+use Rattle.drf_tables.specs.Inside.{agent_row, framework_rows, rows_in, rows_of, weight_rows}
 
 module _ {K V : Type 0} (same : K → K → Bool) (swap : (x y : K) → same x y ≡ same y x) where
   -- no two keys are the same, so one that is still to come is new
@@ -18,7 +18,7 @@ module _ {K V : Type 0} (same : K → K → Bool) (swap : (x y : K) → same x y
   apart key e (x ∷ xs) rest none = apart key e xs rest none.1
 
   -- and goes last
-  pub entry_to_come : (es : List (K × V)) (key : K) (value : V) (rest : List K)
+  entry_to_come : (es : List (K × V)) (key : K) (value : V) (rest : List K)
       → IsDistinct same (keys_of es ++ key ∷ rest) → insert_entry same es key value ≡ es ++ (key, value) ∷ []
   entry_to_come [] key value rest distinct = refl
   entry_to_come (e ∷ es) key value rest distinct =
@@ -40,36 +40,6 @@ module _ {K V : Type 0} (same : K → K → Bool) (swap : (x y : K) → same x y
       let last : new ≡ copied ++ (key, value) ∷ [] =
       put ∙ entry_to_come copied key value (keys_of rest) (subst (λ (ks : List K). IsDistinct same ks) keys distinct) in
       ap (λ (es : List (K × V)). es ++ rest) last ∙ append_assoc copied ((key, value) ∷ []) rest ∙ split
-
--- ---- frameworks: a copy has the clients, not the room for more
-
-rows-append : (es fs : List (Text × Vec ClientRow)) → framework_rows (es ++ fs) ≡ framework_rows es ++ framework_rows fs
-rows-append [] fs = refl
-rows-append (e ∷ es) fs = ap (λ rs. framework_row e ∷ rs) (rows-append es fs)
-
-abbrev names_of : List FrameworkRow → List Text
-names_of rows = map (λ f. f.name) rows
-
-keys_as_names : (es : List (Text × Vec ClientRow)) → keys_of es ≡ names_of (framework_rows es)
-keys_as_names [] = refl
-keys_as_names (e ∷ es) = ap (λ ns. e.0 ∷ ns) (keys_as_names es)
-
-pub framework_copied : (whole copied new rest : List (Text × Vec ClientRow)) (name : Text) (clients copy : Vec ClientRow)
-    → IsDistinct same_text (keys_of whole)
-    → framework_rows copied ++ framework_rows ((name, clients) ∷ rest) ≡ framework_rows whole → copy.items ≡ clients.items
-    → new ≡ insert_entry same_text copied name copy → framework_rows new ++ framework_rows rest ≡ framework_rows whole
-framework_copied whole copied new rest name clients copy distinct split same put =
-    let keys : keys_of whole ≡ keys_of copied ++ name ∷ keys_of rest =
-    keys_as_names whole ∙ ap names_of (sym split ∙ sym (rows-append copied ((name, clients) ∷ rest)))
-    ∙ sym (keys_as_names (copied ++ (name, clients) ∷ rest)) ∙ keys-append same_text same_text-swap copied ((name, clients) ∷ rest) in
-    let last : new ≡ copied ++ (name, copy) ∷ [] =
-    put ∙ entry_to_come same_text same_text-swap copied name copy (keys_of rest)
-    (subst (λ (ks : List Text). IsDistinct same_text ks) keys distinct) in
-    ap (λ (es : List (Text × Vec ClientRow)). framework_rows es ++ framework_rows rest) last
-    ∙ ap (λ (rs : List FrameworkRow). rs ++ framework_rows rest) (rows-append copied ((name, copy) ∷ []))
-    ∙ append_assoc (framework_rows copied) (framework_row (name, copy) ∷ []) (framework_rows rest)
-    ∙ (λ i. framework_rows copied ++ record { name = name; clients = same i } ∷ framework_rows rest)
-    ∙ split
 
 -- ---- the tables
 

@@ -3,9 +3,9 @@ use Rattle.std.specs.List.{AllByRecursion}
 use Rattle.std.specs.Global.{Vec}
 use Rattle.std.specs.Option.{option_map}
 use Rattle.std.specs.Map.{lookup, values_of}
-use Rattle.std.proofs.Common.{refl, sym, ap, ◌∙◌, zero, suc, arith, ◌≡◌, ℕ, ◌+◌, ◌*◌, ◌<◌, ◌≤◌, ◌^◌, Bool, true, false, List, [], ◌∷◌, ◌++◌, length, map, fold, slice_get, Some, is_some}
+use Rattle.std.proofs.Common.{refl, sym, ap, ◌∙◌, zero, suc, arith, ◌≡◌, ℕ, ◌+◌, ◌*◌, ◌<◌, ◌≤◌, ◌^◌, Bool, true, List, [], ◌∷◌, ◌++◌, length, map, fold, slice_get, Some, is_some}
 use Rattle.std.proofs.lemmas.List.{map-append}
-use Rattle.drf_tables.proofs.tables.Names.{insert_entry, Text, same_text, amount_of, plus, quantities_of, Entry, cluster_total, has_agent, has_framework, IsAgent, AgentRow, ClientRow, OfferRow, Rows, counting_all, holdings_of, each_at, Resource, Agent, Inside}
+use Rattle.drf_tables.proofs.tables.Names.{Text, same_text, amount_of, plus, quantities_of, Entry, cluster_total, has_agent, has_framework, IsAgent, AgentRow, ClientRow, OfferRow, Rows, counting_all, holdings_of, each_at, Resource, Agent, Inside}
 use Rattle.drf_bundle.specs.laws.QuantitiesLaws.{amount-plus}
 use Rattle.drf_bundle.specs.laws.UnitProofs.{quantities_no_zeros}
 use Rattle.drf_rows.specs.Cycle.{free_of}
@@ -16,7 +16,7 @@ use Rattle.drf_tables.specs.cycle.Drafts.{with_offers}
 use Rattle.drf_tables.specs.cycle.DraftLaws.{offers_added, with_offers-added}
 use Rattle.drf_tables.specs.Inside.{agent_row, framework_row, framework_rows, rows_of, rows_in, IsKnown}
 use Rattle.drf_holdings.specs.Stored.{OffersAndTasks}
-use Rattle.drf_tables.proofs.registry.Entries.{known-lookup, found-lookup, insert_entry-new}
+use Rattle.drf_tables.proofs.registry.Entries.{known-lookup, found-lookup}
 
 -- ---- an agent by its place
 
@@ -93,15 +93,13 @@ module _ (t : Inside) where
 
   -- and so does a framework
   pub rows_of-framework : (entries : List (Text × Vec ClientRow)) (name : Text) (v : Vec ClientRow)
-      → has_framework (rows_in t) name ≡ false → entries ≡ insert_entry same_text t.frameworks.entries name v
+      → entries ≡ t.frameworks.entries ++ (name, v) ∷ []
       → rows_of t.agents.entries entries t.holdings t.filters t.weights.entries t.limits t.clock t.next_offer t.events
       ≡ framework_added (rows_in t) (framework_row (name, v))
   unfolding rows_of
-  rows_of-framework entries name v new inserted =
-      let fs : List (Text × Vec ClientRow) = t.frameworks.entries in
-      let last = inserted ∙ insert_entry-new name v fs (sym (has_framework-rows_in name) ∙ new) in
-      let read : framework_rows entries ≡ framework_rows fs ++ framework_row (name, v) ∷ [] =
-      ap framework_rows last ∙ map-append framework_row fs ((name, v) ∷ []) in
+  rows_of-framework entries name v last =
+      let read : framework_rows entries ≡ framework_rows t.frameworks.entries ++ framework_row (name, v) ∷ [] =
+      ap framework_rows last ∙ map-append framework_row t.frameworks.entries ((name, v) ∷ []) in
       λ i. record (rows_in t) { frameworks = read i }
 
   pub rows_of-offers : (entries : List (Text × Agent)) (counted : List (Text × Vec ClientRow)) (held : OffersAndTasks) (made : List OfferRow)

@@ -1,14 +1,14 @@
 -- Words of specs that proofs of this crate cite, most of them in more than one file, passed on from one place.
 pub use Rattle.drf_bundle.specs.Bundle.{IsBundle, Key, covers, is_default, merged, part_for, quantities_of, refusal, rest, units, units_where}
-pub use Rattle.drf_bundle.specs.ListLaws.{each_append, each_at, each_filter, each_find, each_from, each_from_both, each_map, length-filter_le, none_has, none_has_at, sum_by-map}
+pub use Rattle.drf_bundle.specs.ListLaws.{each_append, each_at, each_filter, each_find, each_from, each_from_both, each_map, length-filter_le, none_has, sum_by-map}
 pub use Rattle.drf_bundle.specs.Quantities.{amount_of, plus}
 pub use Rattle.drf_bundle.specs.declared.quantities.Entry.{Entry}
 pub use Rattle.drf_bundle.specs.declared.resource.Resource.{Resource}
-pub use Rattle.drf_gates.specs.filters.Slots.{filled}
+pub use Rattle.drf_hash.specs.Slots.{IsRegistry, filled, slot_of}
 pub use Rattle.drf_gates.specs.quota.Allowance.{Allowance, IsAllowanceOf, IsConsumptionOf, IsRaisedBy, Usage, quota_under, used_by, used_where}
 pub use Rattle.drf_role.specs.Path.{Path, same_path}
 pub use Rattle.drf_role.specs.Text.{Text, same_text}
-pub use Rattle.drf_row_laws.specs.ConsistentLaws.{bundles-consistent, name-count_offer, same_text-swap}
+pub use Rattle.drf_row_laws.specs.ConsistentLaws.{bundles-consistent, same_text-swap}
 pub use Rattle.drf_rows.specs.Client.{Client}
 pub use Rattle.drf_rows.specs.Consistent.{AreAgents, IsAgent, IsConsistent, IsCovered, IsFilter, IsFramework, IsHeld, are_distinct, are_distinct_roles, are_distinct_tasks, are_rising, offers_counted}
 pub use Rattle.drf_rows.specs.Cycle.{at_moment, count_offer, counted}
@@ -29,6 +29,6 @@ pub use Rattle.drf_tables.specs.cycle.Counting.{CanCount, CanCountAll, count_cli
 pub use Rattle.drf_tables.specs.declared.tables.Agent.{Agent}
 pub use Rattle.drf_tables.specs.declared.tables.Tables.TheInside.{Inside}
 pub use Rattle.drf_tables.specs.limits.Recounting.{Amounts, CountsAll, IsRaisedIf, reserved_at}
-pub use Rattle.drf_tables.specs.registry.Changing.{CanExchangeAt, CanExchangeOn, CanHaveTotal, HasOther, are_settled, changed, other_free, with_active, with_exchanged, with_held, with_other}
-pub use Rattle.drf_tables.specs.registry.Registered.{IsRanked, IsRegistry, Registered, ranks_of, slot_of, with_free_at}
+pub use Rattle.drf_tables.specs.registry.Changing.{CanExchangeAt, CanExchangeOn, CanHaveTotal, HasOther, are_settled, changed, other_free, with_active, with_each, with_exchanged, with_held, with_other}
+pub use Rattle.drf_tables.specs.registry.Registered.{IsRanked, Registered, name_of, with_free_at}
 pub use Rattle.indexmap.specs.IndexMap.{insert_entry, set_value_at}

@@ -1,7 +1,9 @@
 -- Agents whose entries change.
 use Rattle.std.specs.Prelude.{◌≡◌, ℕ, ◌≤◌, Bool, true, false, List, map, Option, Some, None, take, if◌then◌else◌}
+use Rattle.std.specs.Global.{Vec}
 use Rattle.std.specs.List.{AllByRecursion}
 use Rattle.std.specs.Option.{option_map}
+use Rattle.std.specs.Vec.{with_items}
 use Rattle.drf_bundle.specs.Bundle.{IsBundle, join, quantities_of, refusal, rest}
 use Rattle.drf_bundle.specs.Quantities.{amount_of}
 use Rattle.drf_bundle.specs.declared.resource.Resource.{Resource}
@@ -9,14 +11,19 @@ use Rattle.drf_rows.specs.Cycle.{free_of}
 use Rattle.drf_rows.specs.Totals.{CanExchange, agent_at, exchanged, is_below_held}
 use Rattle.drf_rows.specs.declared.limits.TheConstants.{LARGEST_AMOUNT}
 use Rattle.drf_rows.specs.declared.rows.AgentRow.{AgentRow}
+use Rattle.drf_rows.specs.declared.rows.ClientRow.{ClientRow}
 use Rattle.drf_rows.specs.declared.rows.Rows.{Rows}
 use Rattle.drf_role.specs.Text.{Text, same_text}
 use Rattle.drf_tables.specs.Inside.{is_settled}
 use Rattle.drf_tables.specs.declared.tables.Agent.{Agent}
 
--- the agent of a name changes
-abbrev pub changed : Text → (Agent → Agent) → Text × Agent → Text × Agent
+-- what has a name changes
+abbrev pub changed : {A : Type 0} → Text → (A → A) → Text × A → Text × A
 changed name change e = if same_text e.0 name then (e.0, change e.1) else e
+
+-- each client of a framework changes
+abbrev pub with_each : (ClientRow → ClientRow) → Vec ClientRow → Vec ClientRow
+with_each change clients = with_items clients (map change clients.items)
 
 -- what was free and a part that comes back, together
 abbrev pub joined_free : Option (List Resource) → List Resource → Option (List Resource)

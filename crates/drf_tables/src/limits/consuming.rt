@@ -2,7 +2,7 @@
 #![tactic(auto)]
 
 ghost use Rattle.std.specs.Prelude.{◌≡◌, ◌+◌, ◌<◌, ◌^◌, [], ◌∷◌, Bool, map, OnOk};
-ghost use Rattle.drf_gates.specs.filters.Slots.{filled};
+ghost use Rattle.drf_hash.specs.Slots.{filled};
 ghost use Rattle.drf_role.specs.Text.{Text};
 ghost use Rattle.drf_role.specs.Path.{Path};
 ghost use Rattle.drf_rows.specs.Holdings.{of_offer, of_task};
@@ -67,7 +67,7 @@ fn consume_slot(
 /// What is consumed by what agents have reserved.
 pub(crate) fn consume_totals(
     consumption: &mut Consumption,
-    agents: &Registry,
+    agents: &Registry<Agent>,
 ) -> Result<(), AllocError>
     requires { (test : Path → Bool) (label : Text)
         → used_where test consumption.old label + reserved_for test (map agent_row agents.now.entries) label < 2 ^ 64 }

@@ -11,6 +11,7 @@ ghost use Rattle.drf_tables.specs.Inside.{agent_row};
 ghost use Rattle.drf_tables.specs.limits.Recounting.{IsRaisedIf, reserved_at};
 
 use crate::registry::Registry;
+use crate::tables::Agent;
 use drf_bundle::Bundle;
 use drf_gates::{Consumption, QuotaLimits};
 use drf_role::{Name, Role};
@@ -48,7 +49,11 @@ pub(crate) fn release_total(consumption: &mut Option<Consumption>, total: &Bundl
 }
 
 /// The agent of a name no longer has what it had. It needs no memory.
-pub(crate) fn release_agent(consumption: &mut Option<Consumption>, agents: &Registry, name: &Name)
+pub(crate) fn release_agent(
+    consumption: &mut Option<Consumption>,
+    agents: &Registry<Agent>,
+    name: &Name,
+)
     requires { IfSome consumption.old (λ used. (role : Path) (label : Text)
         → reserved_at (map agent_row agents.now.entries) name.now (same_path role) label ≤ used_by used role label) }
     ensures counted { is_some consumption.new ≡ is_some consumption.old }

@@ -1,26 +1,37 @@
 //! Agents and frameworks that change, found by name.
-ghost use Rattle.std.specs.Prelude.{◌≡◌, ◌+◌, ◌⊎◌, None, Some, filter, map, not, true, if◌then◌else◌};
+ghost use Rattle.std.specs.Prelude.{◌≡◌, ◌+◌, ◌<◌, ◌⊎◌, None, Some, filter, length, map, not, true, if◌then◌else◌};
 ghost use Rattle.std.specs.Map.{lookup};
 ghost use Rattle.std.specs.Option.{option_map};
 ghost use Rattle.std.specs.List.{list_any};
 ghost use Rattle.drf_role.specs.Path.{same_path};
 ghost use Rattle.drf_role.specs.Text.{same_text};
 ghost use Rattle.drf_rows.specs.Consistent.{are_distinct};
-ghost use Rattle.drf_rows.specs.Members.{suppressed_in};
+ghost use Rattle.drf_rows.specs.Client.{Client};
+ghost use Rattle.drf_rows.specs.Members.{suppressed_at, suppressed_in};
 ghost use Rattle.drf_rows.specs.declared.rows.ClientRow.{ClientRow};
-ghost use Rattle.drf_tables.specs.registry.Changing.{changed, joined_free, with_active, CanGiveBack, CanTakeBack, HasFreed};
+ghost use Rattle.drf_tables.specs.registry.Changing.{changed, joined_free, with_active, with_each, CanGiveBack, CanTakeBack, HasFreed};
+ghost use Rattle.drf_tables.specs.registry.Registered.{with_free_at};
 ghost use Rattle.drf_tables.specs.cycle.Counting.{count_clients};
 ghost use Rattle.drf_tables.specs.Inside.{framework_rows};
 ghost use Rattle.drf_tables.specs.declared.tables.Agent.{Agent};
 
+use crate::registry::Registry;
 use crate::registry::free_part::FreePart;
-use crate::registry::{Registry, put_free};
+use crate::registry::gaps::ranked;
 use crate::tables::Agent;
 use drf_amount::Algebra;
 use drf_bundle::Bundle;
-use drf_hash::ByName;
 use drf_role::{Name, Role};
 use drf_rows::ClientRow;
+
+/// Says what is free on an agent, if there is one.
+fn put_free(slot: &mut Option<(Name, Agent)>, free: Option<FreePart>)
+    ensures { slot.new ≡ option_map (λ e. (e.0, record e.1 { free = free })) slot.old }
+{
+    if let Some(entry) = slot {
+        entry.1.free = free;
+    }
+}
 
 /// What was free with a part that comes back. Where memory ends, it is not known.
 fn freed(free: &Option<FreePart>, part: &Bundle) -> Option<FreePart>
@@ -40,7 +51,16 @@ fn put_active(slot: &mut Option<(Name, Agent)>, active: bool)
     }
 }
 
-impl Registry {
+impl Registry<Agent> {
+    /// Says what is free on the agent at a place, by registration.
+    pub(crate) fn set_free_at(&mut self, place: usize, free: FreePart)
+        requires { place < length self.old.entries }
+        ensures { self.new.entries ≡ with_free_at self.old.entries place free }
+    {
+        let slot = ranked(&self.slots, self.live, place);
+        put_free(&mut self.slots[slot], Some(free));
+    }
+
     /// Gives an agent a part back that is held there no longer. Where memory ends, what is free there is not known any more.
     pub(crate) fn give_back(&mut self, name: &Name, part: &Bundle)
         requires { CanGiveBack name.now part.now self.old.entries }
@@ -90,33 +110,44 @@ fn suppress_at(clients: &mut [ClientRow], role: &Role, suppressed: bool)
     }
 }
 
+/// Suppresses the client that has a role, of those of a framework, if there is one, or ends that.
+fn suppress_in(slot: &mut Option<(Name, Vec<ClientRow>)>, role: &Role, suppressed: bool)
+    ensures { (client : Client) → client.role ≡ role.now
+        → slot.new ≡ option_map (λ e. (e.0, with_each (suppressed_at client suppressed) e.1)) slot.old }
+{
+    if let Some(entry) = slot {
+        suppress_at(&mut entry.1, role, suppressed);
+    }
+}
+
 /// Suppresses a client, or ends that.
 pub(crate) fn suppress(
-    frameworks: &mut ByName<Vec<ClientRow>>,
+    frameworks: &mut Registry<Vec<ClientRow>>,
     framework: &Name,
     role: &Role,
     suppressed: bool,
 )
-    requires { are_distinct (map (λ f. f.name) (framework_rows frameworks.old.entries)) ≡ true }
     ensures { framework_rows frameworks.new.entries
         ≡ map (suppressed_in (record { role = role.now; framework = framework.now }) suppressed) (framework_rows frameworks.old.entries) }
 {
-    if let Some(place) = frameworks.get_index_of(framework) {
-        suppress_at(&mut frameworks[place], role, suppressed);
+    if let Some(place) = frameworks.places.get(framework) {
+        suppress_in(&mut frameworks.slots[*place], role, suppressed);
     }
 }
 
 /// Takes a framework out. How many clients it had.
-pub(crate) fn take_framework(frameworks: &mut ByName<Vec<ClientRow>>, framework: &Name) -> usize
+pub(crate) fn take_framework(frameworks: &mut Registry<Vec<ClientRow>>, framework: &Name) -> usize
     requires { are_distinct (map (λ f. f.name) (framework_rows frameworks.old.entries)) ≡ true }
     ensures rows { framework_rows frameworks.new.entries
         ≡ filter (λ f. not (same_text f.name framework.now)) (framework_rows frameworks.old.entries) }
     ensures clients { count_clients (framework_rows frameworks.old.entries) ≡ count_clients (framework_rows frameworks.new.entries) + result }
 {
-    match frameworks.shift_remove(framework) {
-        Some(clients) => clients.len(),
-        None => 0,
-    }
+    let Some(clients) = frameworks.get(framework) else {
+        return 0;
+    };
+    let count = clients.len();
+    frameworks.remove(framework);
+    count
 }
 
 /// Whether one of the clients has the role.

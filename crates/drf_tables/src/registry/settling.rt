@@ -32,7 +32,11 @@ pub(crate) fn free_left(
 }
 
 /// Computes what is free on the agent at a place, if it is not known.
-fn settle_at(agents: &mut Registry, place: usize, holdings: &Holdings) -> Result<(), AllocError>
+fn settle_at(
+    agents: &mut Registry<Agent>,
+    place: usize,
+    holdings: &Holdings,
+) -> Result<(), AllocError>
     requires place { place < length agents.old.entries }
     requires known { AllByRecursion (IsKnown (holdings_in holdings.now)) agents.old.entries }
     requires settled { are_settled place agents.old.entries ≡ true }
@@ -51,7 +55,10 @@ fn settle_at(agents: &mut Registry, place: usize, holdings: &Holdings) -> Result
 }
 
 /// Computes what is free on each agent, where it is not known.
-pub(crate) fn settle_all(agents: &mut Registry, holdings: &Holdings) -> Result<(), AllocError>
+pub(crate) fn settle_all(
+    agents: &mut Registry<Agent>,
+    holdings: &Holdings,
+) -> Result<(), AllocError>
     requires { AllByRecursion (IsKnown (holdings_in holdings.now)) agents.old.entries }
     ensures rows { map agent_row agents.new.entries ≡ map agent_row agents.old.entries }
     ensures known { AllByRecursion (IsKnown (holdings_in holdings.now)) agents.new.entries }

@@ -2,11 +2,13 @@
 #![tactic(auto)]
 
 ghost use Rattle.std.specs.Prelude.{◌≡◌, [], ◌∷◌, ◌++◌, false, is_some, Some, IfOk, OnOk};
+ghost use Rattle.std.specs.Global.{Vec};
 ghost use Rattle.std.specs.Map.{lookup};
 ghost use Rattle.indexmap.specs.IndexMap.{insert_entry};
 ghost use Rattle.drf_role.specs.Path.{same_path};
 ghost use Rattle.drf_role.specs.Text.{Text, same_text};
-ghost use Rattle.drf_gates.specs.filters.Slots.{filled};
+ghost use Rattle.drf_hash.specs.Slots.{filled};
+ghost use Rattle.drf_rows.specs.declared.rows.ClientRow.{ClientRow};
 ghost use Rattle.drf_tables.specs.Inside.{framework_rows};
 ghost use Rattle.drf_tables.specs.limits.Recounting.{IsRaisedIf};
 ghost use Rattle.drf_tables.specs.declared.tables.Agent.{Agent};
@@ -17,7 +19,7 @@ use crate::tables::{Agent, Tables};
 use drf_amount::Algebra;
 use drf_bundle::Quantities;
 use drf_gates::{Consumption, FilterTable, QuotaLimits};
-use drf_hash::{ByName, ByRole};
+use drf_hash::ByRole;
 use drf_holdings::Holdings;
 use drf_role::{Name, Role};
 use drf_rows::{ClientRow, copy_all};
@@ -44,14 +46,6 @@ fn copy_agent(agent: &Agent) -> Result<Agent, AllocError>
     })
 }
 
-/// Puts what goes by a name, in the place of what went by it before.
-fn put<V: Drop>(map: &mut ByName<V>, name: Name, value: V) -> Result<(), AllocError>
-    ensures { OnOk result (map.new.entries ≡ insert_entry same_text map.old.entries name value) }
-{
-    map.insert(name, value)?;
-    Ok(())
-}
-
 fn put_weight(weights: &mut ByRole<u64>, role: Role, weight: u64) -> Result<(), AllocError>
     ensures { OnOk result (weights.new.entries ≡ insert_entry same_path weights.old.entries role weight) }
 {
@@ -60,7 +54,7 @@ fn put_weight(weights: &mut ByRole<u64>, role: Role, weight: u64) -> Result<(), 
 }
 
 /// Adds a copy of an agent, if there is one.
-fn copy_slot(copy: &mut Registry, slot: &Option<(Name, Agent)>) -> Result<(), AllocError>
+fn copy_slot(copy: &mut Registry<Agent>, slot: &Option<(Name, Agent)>) -> Result<(), AllocError>
     requires { (e : Text × Agent) → slot.now ≡ Some e → is_some (lookup (same_text e.0) copy.old.entries) ≡ false }
     ensures { OnOk result (copy.new.entries ≡ copy.old.entries ++ filled (slot.now ∷ [])) }
 {
@@ -76,7 +70,7 @@ fn copy_slot(copy: &mut Registry, slot: &Option<(Name, Agent)>) -> Result<(), Al
 }
 
 /// The agents, copied in their order.
-fn copy_agents(agents: &Registry) -> Result<Registry, AllocError>
+fn copy_agents(agents: &Registry<Agent>) -> Result<Registry<Agent>, AllocError>
     ensures { IfOk result (λ copy. copy.entries ≡ agents.now.entries) }
 {
     let mut copy = Registry::new(*agents.allocator(), agents.key());
@@ -86,20 +80,34 @@ fn copy_agents(agents: &Registry) -> Result<Registry, AllocError>
     Ok(copy)
 }
 
+/// Adds a copy of a framework, if there is one.
+fn copy_framework(
+    copy: &mut Registry<Vec<ClientRow>>,
+    slot: &Option<(Name, Vec<ClientRow>)>,
+) -> Result<(), AllocError>
+    requires { (e : Text × Vec ClientRow) → slot.now ≡ Some e → is_some (lookup (same_text e.0) copy.old.entries) ≡ false }
+    ensures { OnOk result (framework_rows copy.new.entries ≡ framework_rows copy.old.entries ++ framework_rows (filled (slot.now ∷ []))) }
+{
+    let Some(entry) = slot else {
+        return Ok(());
+    };
+    let key = entry.0.copy()?;
+    let name = entry.0.copy()?;
+    let clients = copy_all(*copy.allocator(), &entry.1)?;
+    copy.reserve()?;
+    copy.add(key, name, clients.into_vec());
+    Ok(())
+}
+
 /// The frameworks with their clients, copied in their order.
 fn copy_frameworks(
-    frameworks: &ByName<Vec<ClientRow>>,
-) -> Result<ByName<Vec<ClientRow>>, AllocError>
+    frameworks: &Registry<Vec<ClientRow>>,
+) -> Result<Registry<Vec<ClientRow>>, AllocError>
     ensures { IfOk result (λ copy. framework_rows copy.entries ≡ framework_rows frameworks.now.entries) }
 {
-    // The proof learns that no two have one name by this call alone.
-    let _ = frameworks.len();
-    let alloc = *frameworks.allocator();
-    let mut copy = IndexMap::with_hasher(alloc, *frameworks.hasher());
-    for (name, clients) in frameworks {
-        let name = name.copy()?;
-        let clients = copy_all(alloc, clients)?;
-        put(&mut copy, name, clients.into_vec())?;
+    let mut copy = Registry::new(*frameworks.allocator(), frameworks.key());
+    for slot in frameworks.slots() {
+        copy_framework(&mut copy, slot)?;
     }
     Ok(copy)
 }
@@ -122,9 +130,9 @@ fn copy_weights(weights: &ByRole<u64>) -> Result<ByRole<u64>, AllocError>
 
 /// Agents and frameworks, copied.
 fn copy_members(
-    agents: &Registry,
-    frameworks: &ByName<Vec<ClientRow>>,
-) -> Result<(Registry, ByName<Vec<ClientRow>>), AllocError>
+    agents: &Registry<Agent>,
+    frameworks: &Registry<Vec<ClientRow>>,
+) -> Result<(Registry<Agent>, Registry<Vec<ClientRow>>), AllocError>
     ensures agents { IfOk result (λ copy. copy.0.entries ≡ agents.now.entries) }
     ensures frameworks { IfOk result (λ copy. framework_rows copy.1.entries ≡ framework_rows frameworks.now.entries) }
 {

@@ -2,13 +2,13 @@
 #![tactic(auto)]
 
 ghost use Rattle.std.specs.Prelude.{◌≡◌, [], ◌∷◌, ◌++◌, map, IfOk, OnOk};
-ghost use Rattle.drf_gates.specs.filters.Slots.{filled};
+ghost use Rattle.drf_hash.specs.Slots.{filled};
 ghost use Rattle.drf_tables.specs.Inside.{agent_row, framework_rows, weight_rows};
 
 use crate::registry::Registry;
 use crate::tables::Agent;
 use drf_amount::Algebra;
-use drf_hash::{ByName, ByRole};
+use drf_hash::ByRole;
 use drf_role::Name;
 use drf_rows::{AgentRow, ClientRow, FrameworkRow, Table, WeightRow, copy_all};
 use std::alloc::{AllocError, Global};
@@ -28,7 +28,10 @@ fn push_row(rows: &mut Vec<AgentRow>, slot: &Option<(Name, Agent)>) -> Result<()
     Ok(())
 }
 
-pub(crate) fn agent_rows(alloc: Global, agents: &Registry) -> Result<Table<AgentRow>, AllocError>
+pub(crate) fn agent_rows(
+    alloc: Global,
+    agents: &Registry<Agent>,
+) -> Result<Table<AgentRow>, AllocError>
     ensures { IfOk result (λ rows. rows ≡ map agent_row agents.now.entries) }
 {
     let mut rows = Vec::with_capacity(alloc, agents.len())?;
@@ -38,18 +41,31 @@ pub(crate) fn agent_rows(alloc: Global, agents: &Registry) -> Result<Table<Agent
     Ok(Table::from_vec(rows))
 }
 
+/// Lists a framework with its clients behind others, if there is one.
+fn push_framework(
+    rows: &mut Vec<FrameworkRow>,
+    slot: &Option<(Name, Vec<ClientRow>)>,
+) -> Result<(), AllocError>
+    ensures { OnOk result (rows.new.items ≡ rows.old.items ++ framework_rows (filled (slot.now ∷ []))) }
+{
+    let Some(entry) = slot else {
+        return Ok(());
+    };
+    let clients = copy_all(*rows.allocator(), &entry.1)?;
+    let name = entry.0.copy()?;
+    rows.push(FrameworkRow { name, clients })?;
+    Ok(())
+}
+
 pub(crate) fn framework_rows(
     alloc: Global,
-    frameworks: &ByName<Vec<ClientRow>>,
+    frameworks: &Registry<Vec<ClientRow>>,
 ) -> Result<Table<FrameworkRow>, AllocError>
     ensures { IfOk result (λ rows. rows ≡ framework_rows frameworks.now.entries) }
 {
     let mut rows = Vec::with_capacity(alloc, frameworks.len())?;
-    for (name, clients) in frameworks {
-        rows.push(FrameworkRow {
-            name: name.copy()?,
-            clients: copy_all(alloc, clients)?,
-        })?;
+    for slot in frameworks.slots() {
+        push_framework(&mut rows, slot)?;
     }
     Ok(Table::from_vec(rows))
 }

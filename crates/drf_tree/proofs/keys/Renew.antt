@@ -6,7 +6,7 @@ use Rattle.std.specs.Option.{option_map_or}
 use Rattle.std.proofs.Common.{◌≢◌, refl, sym, ap, subst, ◌∙◌, inl, inr, arith, ◌≡◌, ◌≤◌, ◌<◌, ◌*◌, ℕ, Bool, true, false, IsTrue, List, [], ◌∷◌, ◌++◌, Option, None, Some, ◌⊎◌, find, length, map, slice_set, true≢false}
 use Rattle.std.proofs.lemmas.Cmp.{tied_itself}
 use Rattle.std.proofs.lemmas.Map.Keys.{IsDistinct-head}
-use Rattle.drf_tree.proofs.Names.{amount_of, Text, same_text, same_itself, Path, begins_with, same_path, each_from_both, Key, key_by, key_of, plain_content, Child, Family, Place, Sum, Tree, CanKey, IsRenewed, IsSameKey, child_name, key_for, known, children_at, is_live, parent_at, path_at, AreRight, IsChildOf, IsComplete, IsMarkedOrRight, IsRight, IsShape, IsSumOf, IsTreeBut}
+use Rattle.drf_tree.proofs.Names.{amount_of, Text, same_text, same_itself, Path, begins_with, same_path, each_from_both, Key, key_by, key_of, ledger_content, Child, Family, Place, Sum, Tree, CanKey, IsRenewed, IsSameKey, child_name, key_for, known, children_at, is_live, parent_at, path_at, AreRight, IsChildOf, IsComplete, IsMarkedOrRight, IsRight, IsShape, IsSumOf, IsTreeBut}
 use Rattle.drf_rows.specs.Held.{weight_of}
 use Rattle.drf_rows.specs.Weights.{are_weights}
 use Rattle.drf_rows.specs.declared.rows.WeightRow.{WeightRow}
@@ -14,7 +14,7 @@ use Rattle.drf_sorter.specs.Content.{Content, IsSound, standing_in}
 use Rattle.drf_sorter.specs.Fractions.{dominant_of, fraction_cmp, weigh}
 use Rattle.drf_sorter.specs.laws.OrderLaws.{weighted_share-above}
 use Rattle.drf_sorter.specs.Served.{Weighs}
-use Rattle.drf_sorter.specs.declared.plain.PlainSorter.{PlainSorter}
+use Rattle.drf_tree.specs.declared.ledger.Ledger.{Ledger}
 use Rattle.drf_row_laws.specs.WeightLaws.{weight-found}
 use Rattle.drf_tree.proofs.sums.Fit.{part_less}
 use Rattle.drf_tree.proofs.shape.Node.{node_within}
@@ -32,13 +32,13 @@ weight_range weights node right = by (find (λ w. same_path w.role node) weights
     by None none = (omega arith, omega arith)
     by (Some w) some = weight-found (λ w. same_path w.role node) weights w right some
 
-pub weighs_within : (ledger : PlainSorter) (node : Path)
-    → (1 ≤ weight_of (plain_content ledger).weights node) × (weight_of (plain_content ledger).weights node ≤ 1000000)
-weighs_within ledger node = weight_range ledger.weights.items node ledger.weighs
+pub weighs_within : (ledger : Ledger) (node : Path)
+    → (1 ≤ weight_of (ledger_content ledger).weights node) × (weight_of (ledger_content ledger).weights node ≤ 1000000)
+weighs_within ledger node = weight_range ledger.weights.rows.items node ledger.weights.weighs
 
-pub plain_weighs : (ledger : PlainSorter) → Weighs (standing_in (plain_content ledger))
+pub ledger_weighs : (ledger : Ledger) → Weighs (standing_in (ledger_content ledger))
 unfolding standing_in
-plain_weighs ledger node = (weighs_within ledger node).0
+ledger_weighs ledger node = (weighs_within ledger node).0
 
 -- ---- what a node holds is there
 
@@ -53,12 +53,12 @@ sum_within content path sum sound of label =
       sound.held label,
     )
 
-pub can_key : (ledger : PlainSorter) (path : Path) (sum : Sum) → IsSound (plain_content ledger)
-    → IsSumOf (plain_content ledger) path sum → CanKey (plain_content ledger).total sum
+pub can_key : (ledger : Ledger) (path : Path) (sum : Sum) → IsSound (ledger_content ledger)
+    → IsSumOf (ledger_content ledger) path sum → CanKey (ledger_content ledger).total sum
 can_key ledger path sum sound of =
     let range = weighs_within ledger path in
     record {
-      within = sum_within (plain_content ledger) path sum sound of;
+      within = sum_within (ledger_content ledger) path sum sound of;
       fits = sound.total;
       weighs = omega (arith, of.weight, range.0);
       light = omega (arith, of.weight, range.1);

@@ -4,11 +4,11 @@ use Rattle.std.specs.List.Sorted.{IsPermutation}
 use Rattle.std.proofs.Common.{◌≢◌, refl, sym, ap, subst, ◌∙◌, inl, inr, arith, get_or, ◌≡◌, ◌<◌, ℕ, Bool, true, false, List, [], ◌∷◌, ◌++◌, Option, Some, length, map, slice_get, slice_index_or, slice_set}
 use Rattle.std.proofs.lemmas.Bool.{true≢false, cases_Bool, eqb-true}
 use Rattle.std.proofs.lemmas.Option.{slice_get-get_or}
-use Rattle.drf_tree.proofs.Names.{same_text, same_itself, each_at, each_from, each_from_both, each_map, key_by, key_of, plain_content, Child, Family, Place, Sum, Tree, IsShapeOf, AreFresh, CanKeyAt, IsFresh, IsKeyed, WasRight, child_name, has_child, is_same, known, numbers_of, children_at, is_live, parent_at, path_at, AreRight, IsChildOf, IsMarkedOrRight, IsRight, IsSumOf, IsTreeOf}
+use Rattle.drf_tree.proofs.Names.{same_text, same_itself, each_at, each_from, each_from_both, each_map, key_by, key_of, ledger_content, Child, Family, Place, Sum, Tree, IsShapeOf, AreFresh, CanKeyAt, IsFresh, IsKeyed, WasRight, child_name, has_child, is_same, known, numbers_of, children_at, is_live, parent_at, path_at, AreRight, IsChildOf, IsMarkedOrRight, IsRight, IsSumOf, IsTreeOf}
 use Rattle.drf_sorter.specs.Content.{Content, IsSound, standing_in}
 use Rattle.drf_sorter.specs.laws.OrderLaws.{weighted_share-above}
 use Rattle.drf_sorter.specs.Served.{Weighs}
-use Rattle.drf_sorter.specs.declared.plain.PlainSorter.{PlainSorter}
+use Rattle.drf_tree.specs.declared.ledger.Ledger.{Ledger}
 use Rattle.drf_tree.proofs.shape.Node.{live_within}
 use Rattle.drf_tree.proofs.keys.Renew.{IsRepaired, can_key, key_is, same_key}
 use Rattle.drf_tree.proofs.shape.SameFamily.{children_now, each_unmapped, same_complete, same_name, same_shape}
@@ -45,11 +45,11 @@ sum_there tree shape node live =
     )
 
 -- the keys of all children can be computed
-pub can_key_all : (ledger : PlainSorter) (tree : Tree) (parent : ℕ) → IsSound (plain_content ledger)
-    → IsTreeOf (plain_content ledger) tree
-    → AllByRecursion (λ c. CanKeyAt (plain_content ledger).total tree.sums.items c.node) (children_at tree.families.items parent)
+pub can_key_all : (ledger : Ledger) (tree : Tree) (parent : ℕ) → IsSound (ledger_content ledger)
+    → IsTreeOf (ledger_content ledger) tree
+    → AllByRecursion (λ c. CanKeyAt (ledger_content ledger).total tree.sums.items c.node) (children_at tree.families.items parent)
 can_key_all ledger tree parent sound of =
-    each_from (IsChildOf tree.places.items parent) (λ c. CanKeyAt (plain_content ledger).total tree.sums.items c.node)
+    each_from (IsChildOf tree.places.items parent) (λ c. CanKeyAt (ledger_content ledger).total tree.sums.items c.node)
     (children_at tree.families.items parent)
     (λ c child.
     let sum = sum_there tree of.shape c.node child.live in

@@ -5,9 +5,12 @@ use Rattle.std.proofs.lemmas.Bool.{false≢true, cases_Bool, or_cases}
 use Rattle.std.proofs.lemmas.List.{length-map}
 use Rattle.std.proofs.lemmas.List.Sums.{sum_by-cons}
 use Rattle.std.proofs.lemmas.Option.{slice_get-get_or}
-use Rattle.drf_tree.proofs.Names.{amount_of, Entry, Path, IsClientPath, begins_with, same_path, same_path-true, each_from, length-filter_le, plain_content, ranked, Sum, Tree, CanLower, CanLowerAt, HasRoomFor, IsLeast, IsLowerable, OnWay, lowered, client_at, is_live, path_at, IsSumOf, IsTreeOf}
+use Rattle.drf_tree.proofs.Names.{amount_of, Entry, Path, IsClientPath, begins_with, same_path, same_path-true, each_from, length-filter_le, ledger_content, Sum, Tree, CanLower, CanLowerAt, HasRoomFor, IsLeast, IsLowerable, OnWay, lowered, client_at, is_live, path_at, IsSumOf, IsTreeOf}
 use Rattle.drf_sorter.specs.Content.{Content, HasCharge, HasChargeAt, Holds, HoldsAt, IsSound, Ranked, charged, clients_under, has_client, refunded, standing_in, with_change}
-use Rattle.drf_sorter.specs.declared.plain.PlainSorter.{PlainSorter}
+use Rattle.drf_hash.specs.SlotLaws.{filled-short}
+use Rattle.drf_tree.specs.Booked.{seen_slot}
+use Rattle.drf_tree.specs.Ledger.{rows_in}
+use Rattle.drf_tree.specs.declared.ledger.Ledger.{Ledger}
 use Rattle.drf_tree.proofs.change.Charge.{of_charged}
 use Rattle.drf_tree.proofs.change.Climb.{live_on_way}
 use Rattle.drf_tree.proofs.shape.Node.{live_within}
@@ -35,9 +38,9 @@ leaf_of content tree leaf path of has live at =
     ∙ ap (λ (p : Path). Some p) at
 
 -- a client of a ledger is one of what contracts see
-pub known_in : (inside seen : PlainSorter) (path : Path) → inside ≡ seen → has_client (plain_content seen) path ≡ true
-    → has_client (plain_content inside) path ≡ true
-known_in inside seen path is known = ap (λ (l : PlainSorter). has_client (plain_content l) path) is ∙ known
+pub known_in : (inside seen : Ledger) (path : Path) → inside ≡ seen → has_client (ledger_content seen) path ≡ true
+    → has_client (ledger_content inside) path ≡ true
+known_in inside seen path is known = ap (λ (l : Ledger). has_client (ledger_content l) path) is ∙ known
 
 -- what the client of that path has, the clients of a node above it have together
 client_within : (f : Ranked → ℕ) (n : ℕ) (path node : Path) → begins_with path node ≡ true → (cs : List Ranked)
@@ -91,9 +94,9 @@ lowered_refunded quantities = λ i c. record {
     none_less n = omega arith
 
 -- clients are a list in memory
-pub few_clients : (ledger : PlainSorter) → length (plain_content ledger).clients < 2 ^ 63
+pub few_clients : (ledger : Ledger) → length (ledger_content ledger).clients < 2 ^ 63
 few_clients ledger =
-    omega (arith, length-map ledger.clients.items ranked, ledger.clients.ok.0, ledger.clients.ok.1, ledger.clients.small)
+    omega (arith, filled-short (rows_in ledger), length-map ledger.slots.items seen_slot, ledger.slots.ok.0, ledger.slots.ok.1, ledger.slots.small)
 
 -- ---- nodes
 

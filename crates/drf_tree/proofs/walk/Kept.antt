@@ -1,8 +1,8 @@
 -- A sorter is kept where its walk stands over the same places and families.
 use Rattle.std.proofs.Common.{ap, arith, refl, subst, sym, ◌∙◌, ◌≡◌, Bool, true, false, cond, List, [], ◌∷◌, Option, filter, map}
 use Rattle.std.proofs.lemmas.Bool.{false≢true}
-use Rattle.drf_tree.proofs.Names.{Path, same_path, Content, Ranked, active_paths, with_change, plain_content, Family, Place, Tree, Frame, family_at, path_at, IsTidy, IsTotalFree, IsTreeOf, own}
-use Rattle.drf_sorter.specs.declared.plain.PlainSorter.{PlainSorter}
+use Rattle.drf_tree.proofs.Names.{Path, same_path, Content, Ranked, active_paths, with_change, ledger_content, Family, Place, Tree, Frame, family_at, path_at, IsTidy, IsTotalFree, IsTreeOf, own}
+use Rattle.drf_tree.specs.declared.ledger.Ledger.{Ledger}
 use Rattle.drf_tree.specs.declared.walk.Walk.{Walk}
 use Rattle.drf_tree.specs.Queue.{AreFrames, IsSettled, frames_queue, most_parts, pending, queue_in}
 use Rattle.drf_tree.specs.Sorter.{AreInStep}
@@ -12,7 +12,7 @@ use Rattle.drf_tree.proofs.sums.Content.{step}
 pub total_counts : (content : Content) (tree : Tree) → false ≡ true → IsTotalFree content tree
 total_counts content tree on = absurd (false≢true on)
 
-pub kept_by : (ledger : PlainSorter) (content : Content) → plain_content ledger ≡ content → (old new : Tree) (walk : Walk) (is_free : Bool)
+pub kept_by : (ledger : Ledger) (content : Content) → ledger_content ledger ≡ content → (old new : Tree) (walk : Walk) (is_free : Bool)
     → IsTreeOf content new → (is_free ≡ true → IsTotalFree content new) → IsTidy content old.places.items
     → new.places ≡ old.places → new.families ≡ old.families
     → AreFrames old.places.items walk.frames.items → IsSettled content old.places.items old.families.items walk.frames.items
@@ -90,7 +90,7 @@ unfolding queue_in
 queue_stays old new same tree now places families frames =
     λ i. pending (same i) (path_at (places i).items) (family_at (families i).items) most_parts frames
 
-pub kept_along : (ledger : PlainSorter) (old content : Content) → plain_content ledger ≡ content
+pub kept_along : (ledger : Ledger) (old content : Content) → ledger_content ledger ≡ content
     → active_paths content ≡ active_paths old → (tree new : Tree) (walk : Walk) (is_free : Bool)
     → IsTreeOf content new → (is_free ≡ true → IsTotalFree content new) → IsTidy content tree.places.items
     → new.places ≡ tree.places → new.families ≡ tree.families
@@ -101,7 +101,7 @@ kept_along ledger old content is same tree new walk is_free of free tidy places 
     (settled_along old content tree.places.items tree.families.items (sym same) walk.frames.items settled)
 
 -- a walk that was stopped is settled
-pub stopped : (ledger : PlainSorter) (content : Content) → plain_content ledger ≡ content → (tree : Tree) (walk : Walk) (is_free : Bool)
+pub stopped : (ledger : Ledger) (content : Content) → ledger_content ledger ≡ content → (tree : Tree) (walk : Walk) (is_free : Bool)
     → walk.frames.items ≡ [] → IsTreeOf content tree → (is_free ≡ true → IsTotalFree content tree) → IsTidy content tree.places.items
     → AreInStep ledger tree walk is_free
 stopped ledger content is tree walk is_free none of free tidy =

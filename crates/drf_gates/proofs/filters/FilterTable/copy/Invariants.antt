@@ -1,5 +1,5 @@
 use Rattle.std.proofs.Common.{◌≡◌, take}
-use Rattle.drf_gates.specs.filters.Slots.{filled}
+use Rattle.drf_hash.specs.Slots.{filled}
 use Rattle.drf_gates.proofs.filters.FilterTable.copy.Given as goal
 
 abbrev pub invariant-loop-slot : goal.invariant-loop-slot

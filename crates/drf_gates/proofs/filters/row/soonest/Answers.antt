@@ -1,7 +1,7 @@
 use Rattle.std.proofs.Common.{subst}
 use Rattle.std.proofs.lemmas.List.{take_all}
 use Rattle.drf_gates.specs.filters.Index.{NoneEndsBefore}
-use Rattle.drf_gates.specs.filters.Slots.{filled}
+use Rattle.drf_hash.specs.Slots.{filled}
 use Rattle.drf_gates.proofs.filters.Held.{none_before-slot}
 use Rattle.drf_gates.proofs.filters.row.soonest.Goals as goal
 

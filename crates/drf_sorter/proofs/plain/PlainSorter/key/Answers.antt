@@ -23,12 +23,12 @@ returns-clause-key c =
     let clients = s.clients.items in
     let node = take (c.args.i + 1) path in
     let share : Fraction =
-    weigh (dominant_of (held_by c.deref.result.now c.in_ok-node.node) s.total) c.weight_of-weight.result in
+    weigh (dominant_of (held_by c.deref.result.now c.in_ok-node.node) s.total) c.of-weight.result in
     let by_share =
     (λ j. weigh (dominant_of (held_by (c.deref.ensures.value j) (c.in_ok-node.ensures j)) s.total)
-    c.weight_of-weight.result)
-    ∙ weighted-standing s node c.weight_of-weight.result
-    (c.weight_of-weight.ensures.value ∙ ap (weight_of s.weights.items) c.in_ok-node.ensures) in
+    c.of-weight.result)
+    ∙ weighted-standing s node c.of-weight.result
+    (c.of-weight.ensures.value ∙ ap (weight_of s.weights.rows.items) c.in_ok-node.ensures) in
     let by_count =
     c.count-count.ensures ∙ (λ j. count_by (c.deref.ensures.value j) (c.in_ok-node.ensures j)) ∙ count-standing s node in
     keys_of-take_more (plain_standing s) path c.args.i c.part.result.now share c.count-count.result

@@ -28,8 +28,8 @@ returns-clause-line c =
     let amounts : (label : Text) → amount_of c.in_ok-held.held label ≡ held_by s.clients.items node label =
     λ label. c.in_ok-held.ensures label ∙ ap (λ (clients : List Client). held_by clients node label) c.deref.ensures.value in
     subst (IsLineOf (plain_content s)) (sym c.node_line.ensures.line)
-    (IsLineOf-with (plain_content s) c.weight_of.result node c.in_ok-held.held c.count-count.result
+    (IsLineOf-with (plain_content s) c.of.result node c.in_ok-held.held c.count-count.result
     (omega (arith, c.len.ensures.len, c.len.ensures.some)) c.requires.clients c.node_line.ensures.in_order
     (λ label. amounts label ∙ held-standing s node label)
     (c.count-count.ensures ∙ ap (λ (clients : List Client). count_by clients node) c.deref.ensures.value ∙ count-standing s node)
-    (c.weight_of.ensures.value ∙ weight-standing s node))
+    (c.of.ensures.value ∙ weight-standing s node))

@@ -47,8 +47,8 @@ returns-clause-share c =
     c.weighted_share-share.ensures
     ∙ (λ j. weigh (dominant_of (held_by (c.deref.ensures.value j) node) s.total) 1000) in
     let weighted = c.weighted_share-weighted.ensures
-    ∙ (λ j. weigh (dominant_of (held_by (c.deref.ensures.value j) node) s.total) c.weight_of.result)
-    ∙ weighted-standing s node c.weight_of.result c.weight_of.ensures.value in
+    ∙ (λ j. weigh (dominant_of (held_by (c.deref.ensures.value j) node) s.total) c.of.result)
+    ∙ weighted-standing s node c.of.result c.of.ensures.value in
     record {
       share = same_as_weighed (fraction_of c.weighted_share-share.result) (share_of (plain_standing s) node)
           (share ∙ ap (λ f. weigh f 1000) (share-standing s node));

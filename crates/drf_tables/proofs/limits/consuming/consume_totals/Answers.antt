@@ -1,13 +1,13 @@
 use Rattle.std.proofs.Common.{◌≡◌, ◌+◌, List, drop, map, ap, arith}
 use Rattle.std.proofs.lemmas.List.{drop_all}
-use Rattle.drf_tables.proofs.tables.Names.{filled, used_where, reserved_for, agent_row}
+use Rattle.drf_tables.proofs.tables.Names.{filled, used_where, reserved_for, agent_row, Agent}
 use Rattle.drf_tables.proofs.registry.Slots.{Entry, Slots}
 use Rattle.drf_tables.proofs.registry.Changes.{reserved-next}
 use Rattle.drf_tables.proofs.limits.consuming.consume_totals.Goals as goal
 
 pub loop-slot-init : goal.loop-slot-init
 loop-slot-init c = λ test label.
-    ap (λ (es : List Entry). used_where test c.args.consumption.now label + reserved_for test (map agent_row es) label) c.slots-slot-items.ensures.entries
+    ap (λ (es : List (Entry Agent)). used_where test c.args.consumption.now label + reserved_for test (map agent_row es) label) c.slots-slot-items.ensures.entries
 
 pub consume_slot-requires : goal.consume_slot-requires
 consume_slot-requires c = λ test label.
@@ -27,6 +27,6 @@ pub returns : goal.returns
 returns c = λ test label.
     let end = drop_all c.loop-slot.slot-index c.slots-slot-items.result.now c.loop-slot-test.false in
     let none : reserved_for test (map agent_row (filled (drop c.loop-slot.slot-index c.slots-slot-items.result.now))) label ≡ 0 =
-    ap (λ (ss : Slots). reserved_for test (map agent_row (filled ss)) label) end in
+    ap (λ (ss : Slots Agent). reserved_for test (map agent_row (filled ss)) label) end in
     let before = c.loop-slot.invariant test label in
     omega (arith, none, before)

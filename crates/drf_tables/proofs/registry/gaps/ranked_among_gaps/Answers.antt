@@ -1,17 +1,18 @@
 use Rattle.std.proofs.Common.{length, sym, ap, ◌∙◌, arith, take_all}
-use Rattle.drf_gates.specs.filters.Slots.{filled}
-use Rattle.drf_tables.proofs.registry.Slots.{Slots, counted-none, counted-some, ranked_here}
+use Rattle.drf_hash.specs.Slots.{filled}
+use Rattle.drf_hash.specs.GapLaws.{counted-none, counted-some}
+use Rattle.drf_tables.proofs.registry.Slots.{Slots, ranked_here}
 use Rattle.drf_tables.proofs.registry.gaps.ranked_among_gaps.Goals as goal
 use Rattle.drf_tables.proofs.registry.gaps.ranked_among_gaps.Goals.{then-is_some+else-before-number, else-is_some}
 
 pub returns-then-before-number : goal.returns-then-before-number
-returns-then-before-number c =
+returns-then-before-number g c =
     let is = sym c.is_some.ensures ∙ c.if-is_some.true in
     let before = sym c.loop-place.invariant.before ∙ c.if-before-number.true in
     ranked_here c.args.slots.now c.loop-place.place c.index-slots-place.result c.args.number c.loop-place-test.true c.index-slots-place.is is before
 
 pub loop-place-preserved : goal.loop-place-preserved
-loop-place-preserved c =
+loop-place-preserved g c =
     let slots = c.args.slots.now in
     let i = c.loop-place.place in
     let slot = c.index-slots-place.result in
@@ -30,9 +31,9 @@ loop-place-preserved c =
     ]
 
 pub returns : goal.returns
-returns c =
+returns g c =
     let all = c.loop-place.invariant.before
-    ∙ ap (λ (ss : Slots). length (filled ss)) (take_all c.loop-place.place c.args.slots.now c.loop-place-test.false) in
+    ∙ ap (λ (ss : Slots g.row.T.Denot). length (filled ss)) (take_all c.loop-place.place c.args.slots.now c.loop-place-test.false) in
     let few = c.loop-place.invariant.few in
     let within = c.requires in
     absurd (omega (arith, all, few, within))

@@ -1,40 +1,43 @@
-use Rattle.std.proofs.Common.{◌≡◌, false, length, sym, ap, ◌∙◌, refl, map, is_some}
-use Rattle.std.specs.Vec.{with_items}
-use Rattle.std.specs.Map.{lookup}
-use Rattle.std.proofs.lemmas.List.{with_items_is}
-use Rattle.drf_tables.proofs.tables.Names.{Text, same_text, Client, suppressed_at, suppressed_in, framework_row, framework_rows}
-use Rattle.drf_tables.proofs.registry.Entries.{key_at, key_found, changed_at, unknown_stay, known-lookup}
-use Rattle.drf_tables.proofs.agents.Suppressed.{suppressed-here, suppressed-other}
+use Rattle.std.proofs.Common.{◌≡◌, Option, refl, sym, ap, ◌∙◌, get_or, map, set, arith}
+use Rattle.std.specs.Global.{Vec}
+use Rattle.std.specs.Option.{option_copied, option_map}
+use Rattle.drf_tables.proofs.tables.Names.{Client, ClientRow, Registered, framework_rows, suppressed_at, suppressed_in, with_each}
+use Rattle.drf_tables.proofs.registry.Changes.{IsRewritten, rewritten, unchanged_slots}
+use Rattle.drf_tables.proofs.registry.Entries.{rows-with_each}
+use Rattle.drf_tables.proofs.registry.Slots.{Entry, IsFound, found_in}
+use Rattle.drf_tables.proofs.registry.members.suppress.Goals.{In-Some}
 use Rattle.drf_tables.proofs.registry.members.suppress.Goals as goal
+
+here_at : (c : In-Some) → IsFound c.args.framework.now c.frameworks.inside.slots.items c.in-Some.place.now
+here_at c = found_in _ _ _ (sym (c.frameworks.invariant.found c.args.framework.now) ∙ sym c.get.ensures.value ∙ ap option_copied c.in-Some.is)
+
+pub index_mut-requires : goal.index_mut-requires
+index_mut-requires c = omega (arith, (here_at (goal.at.index_mut-requires c).In-Some).here.below, c.frameworks.inside.slots.ok.0)
+
+written_at : (c : In-Some) (change : Vec ClientRow → Vec ClientRow) (x slot : Option (Entry (Vec ClientRow)))
+    → x ≡ get_or c.frameworks.inside.slots.items c.in-Some.place.now x → slot ≡ option_map (λ (e : Entry (Vec ClientRow)). (e.0, change e.1)) x
+    → let t = c.frameworks.inside in let old = (here_at c).here.entry.1 in
+    IsRewritten c.args.framework.now t.slots.items (set t.slots.items c.in-Some.place.now slot) t.places.entries t.live old (change old)
+written_at c change x slot = rewritten _ _ _ _ _ _ change x slot c.frameworks.invariant (here_at c) (here_at c).here.there
+
+pub invariant_of-frameworks : goal.invariant_of-frameworks
+invariant_of-frameworks c =
+    let client : Client = record { role = c.args.role.now; framework = c.args.framework.now } in
+    (written_at (goal.at.invariant_of-frameworks c).In-Some (with_each (suppressed_at client c.args.suppressed)) _ _ c.index_mut.ensures.value (c.suppress_in.ensures client refl)).registry
 
 pub returns-in-Some : goal.returns-in-Some
 returns-in-Some c =
-    let entries = c.args.frameworks.now.entries in
-    let place = c.in-Some.place in
-    let v = c.index_mut.result.now in
-    let new = c.suppress_at.new.clients in
-    let quiet = c.args.suppressed in
     let client : Client = record { role = c.args.role.now; framework = c.args.framework.now } in
-    let key = key_at entries place v c.index_mut.ensures.value in
-    let found = sym c.get_index_of.ensures.index ∙ c.in-Some.is in
-    let named : key.key ≡ client.framework = key_found entries place key.key client.framework found key.name in
-    let items =
-    with_items_is v new (c.suppress_at.auto.clients ∙ ap length c.deref_mut.ensures.value ∙ sym v.ok.0)
-    ∙ c.suppress_at.ensures
-    ∙ ap (map (suppressed_at client quiet)) c.deref_mut.ensures.value in
-    let here : suppressed_in client quiet (framework_row (key.key, v)) ≡ framework_row (key.key, with_items v new) =
-    suppressed-here client quiet (framework_row (key.key, v)) named
-    ∙ (λ i. record { name = key.key; clients = sym items i }) in
-    changed_at framework_row (λ f. f.name) (λ e. refl) (suppressed_in client quiet) client.framework (suppressed-other client quiet)
-    entries place (key.key, v) (with_items v new) c.requires key.at named here
+    let change = with_each (suppressed_at client c.args.suppressed) in
+    ap framework_rows ((written_at (goal.at.returns-in-Some c).In-Some change _ _ c.index_mut.ensures.value (c.suppress_in.ensures client refl)).entries change refl)
+    ∙ rows-with_each client.framework (suppressed_at client c.args.suppressed) _
+    ∙ ap (λ (r : Registered (Vec ClientRow)). map (suppressed_in client c.args.suppressed) (framework_rows r.entries)) c.frameworks.view_is
 
 pub returns-in_default : goal.returns-in_default
 returns-in_default c =
-    let entries = c.args.frameworks.now.entries in
-    let name : Text = c.args.framework.now in
-    let client : Client = record { role = c.args.role.now; framework = name } in
-    let none : is_some (lookup (same_text name) entries) ≡ false =
-    sym c.get_index_of.ensures.found ∙ ap is_some c.in_default.is in
-    let unknown = known-lookup (λ f. f.name) framework_row name entries (λ e. refl) ∙ none in
-    sym (unknown_stay framework_row (λ f. f.name) (λ e. refl) (suppressed_in client c.args.suppressed) name
-    (suppressed-other client c.args.suppressed) (framework_rows entries) unknown)
+    let client : Client = record { role = c.args.role.now; framework = c.args.framework.now } in
+    ap (λ (r : Registered (Vec ClientRow)). framework_rows r.entries) (sym c.frameworks.view_is)
+    ∙ ap framework_rows (unchanged_slots client.framework (with_each (suppressed_at client c.args.suppressed)) c.frameworks.inside.slots.items
+    (sym (c.frameworks.invariant.found client.framework) ∙ sym c.get.ensures.value ∙ ap option_copied c.in_default.is))
+    ∙ rows-with_each client.framework (suppressed_at client c.args.suppressed) _
+    ∙ ap (λ (r : Registered (Vec ClientRow)). map (suppressed_in client c.args.suppressed) (framework_rows r.entries)) c.frameworks.view_is

@@ -1,6 +1,6 @@
 use Rattle.std.proofs.Common.{◌≡◌, ◌+◌, Some, sym, ap, ◌∙◌, subst, map, length, refl}
 use Rattle.std.specs.List.{AllByRecursion}
-use Rattle.drf_tables.proofs.tables.Names.{set_value_at, are_settled, agent_row, IsKnown}
+use Rattle.drf_tables.proofs.tables.Names.{set_value_at, are_settled, agent_row, IsKnown, Agent}
 use Rattle.drf_holdings.specs.Stored.{holdings_in}
 use Rattle.drf_tables.proofs.registry.Entries.{value_at}
 use Rattle.drf_tables.proofs.registry.Known.{length-free_at, rows-free_at, settled-more, settled-set, known-set}
@@ -11,7 +11,7 @@ pub returns-then-is_some-clause-settled : goal.returns-then-is_some-clause-settl
 returns-then-is_some-clause-settled c =
     let entries = c.args.agents.now.entries in
     let place = c.args.place in
-    let e : Entry = c.at-entry.result.now in
+    let e : Entry Agent = c.at-entry.result.now in
     settled-more entries place e.1 c.requires.settled (value_at entries place e c.at-entry.ensures) (sym c.is_some.ensures ∙ c.if-is_some.true)
 
 pub returns-clause-rows : goal.returns-clause-rows
@@ -22,7 +22,7 @@ returns-clause-known c =
     let entries = c.args.agents.now.entries in
     let place = c.args.place in
     let free = c.new.result in
-    let e : Entry = c.at-entry.result.now in
+    let e : Entry Agent = c.at-entry.result.now in
     let told : set_value_at entries place (record e.1 { free = Some free }) ≡ c.set_free_at.new.self.entries =
     written_free entries place e free c.at-entry.ensures ∙ sym c.set_free_at.ensures in
     subst (AllByRecursion (IsKnown (holdings_in c.args.holdings.now))) told
@@ -33,7 +33,7 @@ returns-clause-settled c =
     let entries = c.args.agents.now.entries in
     let place = c.args.place in
     let free = c.new.result in
-    let e : Entry = c.at-entry.result.now in
+    let e : Entry Agent = c.at-entry.result.now in
     let told : set_value_at entries place (record e.1 { free = Some free }) ≡ c.set_free_at.new.self.entries =
     written_free entries place e free c.at-entry.ensures ∙ sym c.set_free_at.ensures in
     ap (are_settled (place + 1)) (sym told)

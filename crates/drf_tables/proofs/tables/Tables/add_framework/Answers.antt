@@ -1,14 +1,18 @@
 use Rattle.std.proofs.Common.{◌≡◌, ◌<◌, ◌++◌, ◌∷◌, [], List, map, false, ap, subst, sym, ◌∙◌, refl}
 use Rattle.std.specs.List.{AllByRecursion}
-use Rattle.drf_tables.proofs.tables.Names.{insert_entry, same_text, IsFramework, offers_counted, has_framework, ClientRow, FrameworkRow, Stored}
+use Rattle.drf_tables.proofs.tables.Names.{IsFramework, offers_counted, has_framework, ClientRow, FrameworkRow, Stored}
 use Rattle.drf_role.specs.Role.{IsRole}
 use Rattle.drf_row_laws.specs.RegistrationLaws.{framework_added}
 use Rattle.drf_tables.specs.Inside.{rows_of, rows_in}
-use Rattle.drf_tables.proofs.registry.Entries.{from_ok}
-use Rattle.drf_tables.proofs.tables.Fields.{rows_of-framework}
+use Rattle.drf_tables.proofs.tables.Fields.{has_framework-rows_in, rows_of-framework}
 use Rattle.drf_tables.proofs.tables.Kept.{AreDerived-framework_added}
 use Rattle.drf_tables.proofs.limits.Counts.{counts-same}
 use Rattle.drf_tables.proofs.tables.Tables.add_framework.Goals as goal
+
+pub add-requires-clause-new : goal.add-requires-clause-new
+add-requires-clause-new c =
+    let name = c.args.name in
+    sym (has_framework-rows_in c.self.inside name) ∙ ap (λ (s : Stored). has_framework s.rows name) c.self.view_is ∙ c.requires.new
 
 pub invariant_of-self : goal.invariant_of-self
 unfolding rows_of
@@ -24,10 +28,8 @@ invariant_of-self c =
       name = c.recall.ensures;
       roles = subst (λ (clients : List ClientRow). AllByRecursion IsRole (map (λ x. x.role) clients)) c.as_slice.ensures c.recall_roles.ensures;
     } in
-    let inserted : c.insert.new.self.entries ≡ insert_entry same_text t.frameworks.entries name c.into_vec.result =
-    from_ok c.insert.result c.unwrap.result _ c.unwrap.ensures c.insert.ensures.entries in
     let rows =
-    rows_of-framework t c.insert.new.self.entries name c.into_vec.result new inserted
+    rows_of-framework t c.add.new.self.entries name c.into_vec.result c.add.ensures
     ∙ ap (λ (clients : List ClientRow). framework_added (rows_in t) (record { name = name; clients = clients }))
     c.into_vec.ensures in
     record {
@@ -40,11 +42,5 @@ invariant_of-self c =
 
 pub returns-clause-rows : goal.returns-clause-rows
 returns-clause-rows c =
-    let t = c.self.inside in
-    let name = c.args.name in
-    let new : has_framework (rows_in t) name ≡ false =
-    ap (λ (s : Stored). has_framework s.rows name) c.self.view_is ∙ c.requires.new in
-    let inserted : c.insert.new.self.entries ≡ insert_entry same_text t.frameworks.entries name c.into_vec.result =
-    from_ok c.insert.result c.unwrap.result _ c.unwrap.ensures c.insert.ensures.entries in
-    rows_of-framework t c.insert.new.self.entries name c.into_vec.result new inserted
-    ∙ (λ i. framework_added (c.self.view_is i).rows (record { name = name; clients = c.into_vec.ensures i }))
+    rows_of-framework c.self.inside c.add.new.self.entries c.args.name c.into_vec.result c.add.ensures
+    ∙ (λ i. framework_added (c.self.view_is i).rows (record { name = c.args.name; clients = c.into_vec.ensures i }))

@@ -64,11 +64,11 @@ append-requires c =
     let b = (goal.at.append-requires c).After-first_number-first in
     rising_from _ (with_offers (rows_in c.self.inside) c.args.offers.now.items).next_offer (risen_at b)
 
-pub count_offers-requires-clause-fits : goal.count_offers-requires-clause-fits
+pub count_offers-requires : goal.count_offers-requires
 unfolding rows_of
-count_offers-requires-clause-fits c =
+count_offers-requires c =
     let t = c.self.inside in
-    let at = goal.at.count_offers-requires-clause-fits c in
+    let at = goal.at.count_offers-requires c in
     let offers : List OfferRow = c.args.offers.now.items in
     let next = next-with_offers (rows_in t) offers in
     let view = ap (λ (s : Stored). (with_offers s.rows offers).next_offer) c.self.view_is in

@@ -5,6 +5,6 @@ use Rattle.drf_tables.proofs.tables.Tables.has_framework.Goals as goal
 
 pub returns : goal.returns
 returns c =
-    c.contains_key.ensures
+    c.has.ensures
     ∙ sym (has_framework-rows_in c.self.inside c.args.name.now)
     ∙ ap (λ (t : Stored). has_framework t.rows c.args.name.now) c.self.view_is

@@ -1,5 +1,5 @@
 use Rattle.std.proofs.Common.{◌≡◌, take}
-use Rattle.drf_gates.specs.filters.Slots.{filled}
+use Rattle.drf_hash.specs.Slots.{filled}
 use Rattle.drf_tables.proofs.tables.copied.copy_agents.Given as goal
 
 abbrev pub invariant-loop-slot : goal.invariant-loop-slot

@@ -1,18 +1,39 @@
-use Rattle.std.proofs.Common.{◌≡◌, List, ◌∷◌, ◌++◌, sym, ap, ◌∙◌}
+use Rattle.std.proofs.Common.{List, [], ◌∷◌, ◌++◌, refl, sym, ap, ◌∙◌, subst, take, take_all}
 use Rattle.std.specs.Global.{Vec}
-use Rattle.drf_tables.proofs.tables.Names.{insert_entry, Text, same_text, ClientRow, framework_rows}
-use Rattle.drf_tables.proofs.tables.Copies.{framework_copied}
+use Rattle.std.specs.Cmp.Lexicographic.{bytes_decides}
+use Rattle.std.specs.List.{IsDistinct, list_any}
+use Rattle.std.specs.Map.{keys_of}
+use Rattle.std.proofs.lemmas.List.{map-append}
+use Rattle.drf_bundle.specs.ListLaws.{list_any-map}
+use Rattle.drf_hash.specs.SlotLaws.{new_to_come}
+use Rattle.drf_tables.proofs.tables.Names.{filled, same_text, name_of, framework_row, framework_rows, ClientRow, FrameworkRow}
+use Rattle.drf_tables.proofs.registry.Entries.{known-lookup}
+use Rattle.drf_tables.proofs.registry.Slots.{Entry, Slots, filled-more, read_slot}
 use Rattle.drf_tables.proofs.tables.copied.copy_frameworks.Goals as goal
 
-pub loop-name-preserved : goal.loop-name-preserved
-loop-name-preserved c =
-    let whole : List (Text × Vec ClientRow) = c.args.frameworks.now.entries in
-    let copied : List (Text × Vec ClientRow) = c.loop-name.copy.entries in
-    let name : Text = c.in-Some.name.now in
-    let clients : Vec ClientRow = c.in-Some.clients.now in
-    let rest : List (Text × Vec ClientRow) = c.next.new.self in
-    let split : framework_rows copied ++ framework_rows ((name, clients) ∷ rest) ≡ framework_rows whole =
-    ap (λ (es : List (Text × Vec ClientRow)). framework_rows copied ++ framework_rows es) (sym c.in-Some.ensures.steps) ∙ c.loop-name.invariant in
-    framework_copied whole copied c.put.new.map.entries rest name clients c.into_vec.result
-    c.len.ensures.unique split (c.into_vec.ensures ∙ c.in_ok-clients.ensures ∙ c.deref.ensures.value)
-    (c.in_ok-put.ensures ∙ (λ i. insert_entry same_text copied (c.in_ok-name.ensures i) c.into_vec.result))
+pub copy_framework-requires : goal.copy_framework-requires
+copy_framework-requires c = λ e is.
+    let slots : Slots (Vec ClientRow) = c.slots-slot-items.result.now in
+    let i = c.loop-slot.slot-index in
+    let there = read_slot slots i c.slot-item.result e c.loop-slot-test.true c.slot-item.is is in
+    let apart = subst (λ (es : List (Entry (Vec ClientRow))). IsDistinct same_text (keys_of es)) (sym c.slots-slot-items.ensures.entries) c.slots-slot-items.ensures.apart in
+    sym (known-lookup (λ f. f.name) framework_row e.0 c.loop-slot.copy.entries (λ e. refl))
+    ∙ ap (list_any (λ (f : FrameworkRow). same_text f.name e.0)) c.loop-slot.invariant
+    ∙ list_any-map (λ (f : FrameworkRow). same_text f.name e.0) framework_row (filled (take i slots))
+    ∙ new_to_come same_text bytes_decides name_of slots i e apart there
+
+pub loop-slot-preserved : goal.loop-slot-preserved
+loop-slot-preserved c =
+    let slots : Slots (Vec ClientRow) = c.slots-slot-items.result.now in
+    let i = c.loop-slot.slot-index in
+    let slot = c.slot-item.result in
+    c.in_ok-copy_framework.ensures
+    ∙ ap (λ (fs : List FrameworkRow). fs ++ framework_rows (filled (slot ∷ []))) c.loop-slot.invariant
+    ∙ sym (map-append framework_row (filled (take i slots)) (filled (slot ∷ [])))
+    ∙ ap framework_rows (sym (filled-more slots i slot c.loop-slot-test.true c.slot-item.is))
+
+pub returns : goal.returns
+returns c =
+    c.loop-slot.invariant
+    ∙ ap (λ (ss : Slots (Vec ClientRow)). framework_rows (filled ss)) (take_all c.loop-slot.slot-index c.slots-slot-items.result.now c.loop-slot-test.false)
+    ∙ ap framework_rows c.slots-slot-items.ensures.entries

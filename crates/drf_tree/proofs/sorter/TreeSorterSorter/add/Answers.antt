@@ -3,7 +3,7 @@ use Rattle.std.proofs.Common.{ap, refl, subst, sym, ◌∙◌}
 use Rattle.drf_role.specs.Path.{Path}
 use Rattle.drf_bundle.specs.declared.quantities.Entry.{Entry}
 use Rattle.drf_sorter.specs.Content.{has_client, with_client}
-use Rattle.drf_sorter.specs.Plain.{plain_content}
+use Rattle.drf_tree.specs.Ledger.{ledger_content}
 use Rattle.drf_tree.specs.Sorter.{Sorted}
 use Rattle.drf_tree.specs.Tree.{IsTreeOf}
 use Rattle.drf_tree.proofs.change.Climb.{node_from_live}
@@ -13,14 +13,14 @@ use Rattle.drf_tree.specs.Tidy.{IsTidy, IsTidyBut}
 use Rattle.drf_tree.proofs.growth.Tidy.{has_more}
 use Rattle.drf_tree.proofs.sorter.TreeSorterSorter.add.Goals as goal
 
-pub invariant_of-self-in_err-node : goal.invariant_of-self-in_err-node
-invariant_of-self-in_err-node c =
-    stopped c.self.inside.ledger (plain_content c.self.inside.ledger) refl c.grow.new.self c.stop.new.self c.self.inside.is_total_free
+pub invariant_of-self : goal.invariant_of-self
+invariant_of-self c =
+    stopped c.self.inside.ledger (ledger_content c.self.inside.ledger) refl c.grow.new.self c.stop.new.self c.self.inside.is_total_free
     c.stop.ensures c.in_err-node.ensures.tree
     (λ on. c.in_err-node.ensures.free (c.self.invariant.free on)) (c.in_err-node.ensures.left c.self.invariant.tidy)
 
 pub add-requires : goal.add-requires
-add-requires c = ap (λ (s : Sorted). has_client (plain_content s.ledger) c.args.path) c.self.view_is ∙ c.requires
+add-requires c = ap (λ (s : Sorted). has_client (ledger_content s.ledger) c.args.path) c.self.view_is ∙ c.requires
 
 pub prune-requires-clause-shape : goal.prune-requires-clause-shape
 prune-requires-clause-shape c = c.in_ok-node.ensures.tree.shape
@@ -30,7 +30,7 @@ prune-requires-clause-node c = node_from_live c.grow.new.self.places.items c.in_
 
 pub invariant_of-self-in-Err : goal.invariant_of-self-in-Err
 invariant_of-self-in-Err c =
-    let content = plain_content c.self.inside.ledger in
+    let content = ledger_content c.self.inside.ledger in
     stopped c.add.new.self content c.in-Err.ensures.err c.prune.new.self c.stop.new.self c.self.inside.is_total_free c.stop.ensures
     (c.prune.ensures.tree content c.in_ok-node.ensures.tree)
     (λ on total. c.prune.ensures.tree (record content { total = total }) (c.in_ok-node.ensures.free (c.self.invariant.free on) total))
@@ -41,14 +41,14 @@ invariant_of-self-in-Err c =
 
 pub admit-requires-clause-fits : goal.admit-requires-clause-fits
 admit-requires-clause-fits c =
-    admit_fits (plain_content c.self.inside.ledger) c.grow.new.self c.in_ok-node.node c.in_ok-node.ensures.tree c.in_ok-node.ensures.live
+    admit_fits (ledger_content c.self.inside.ledger) c.grow.new.self c.in_ok-node.node c.in_ok-node.ensures.tree c.in_ok-node.ensures.live
     (few_clients c.self.inside.ledger)
 
 pub invariant_of-self-2 : goal.invariant_of-self-2
 invariant_of-self-2 c =
-    let content = plain_content c.self.inside.ledger in
+    let content = ledger_content c.self.inside.ledger in
     let path = c.args.path in
-    let missing = ap (λ (s : Sorted). has_client (plain_content s.ledger) path) c.self.view_is ∙ c.requires in
+    let missing = ap (λ (s : Sorted). has_client (ledger_content s.ledger) path) c.self.view_is ∙ c.requires in
     let along : (total : List Entry) → IsTreeOf (record content { total = total }) c.grow.new.self
     → IsTreeOf (record (with_client content path) { total = total }) c.admit.new.self =
     λ total of. c.admit.ensures.tree (record content { total = total }) path of c.in_ok-node.ensures.client missing in

@@ -5,5 +5,5 @@ use Rattle.drf_tree.proofs.sorter.TreeSorterSorter.open.Goals as goal
 
 pub invariant_of-result : goal.invariant_of-result
 invariant_of-result c =
-    stopped c.in_ok-open.field-0 empty c.in_ok-open.ensures.empty c.in_ok-open-2.field-0 c.in_ok-open-3.field-0 false c.in_ok-open-3.ensures
-    c.in_ok-open-2.ensures.tree (total_counts empty c.in_ok-open-2.field-0) c.in_ok-open-2.ensures.tidy
+    stopped c.new.result empty c.new.ensures c.in_ok-open.field-0 c.in_ok-open-2.field-0 false c.in_ok-open-2.ensures c.in_ok-open.ensures.tree
+    (total_counts empty c.in_ok-open.field-0) c.in_ok-open.ensures.tidy

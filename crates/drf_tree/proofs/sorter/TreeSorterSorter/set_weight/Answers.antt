@@ -3,7 +3,7 @@ use Rattle.std.proofs.Common.{refl, subst}
 use Rattle.drf_role.specs.Path.{Path}
 use Rattle.drf_bundle.specs.declared.quantities.Entry.{Entry}
 use Rattle.drf_sorter.specs.Content.{Content, with_weight}
-use Rattle.drf_sorter.specs.Plain.{plain_content}
+use Rattle.drf_tree.specs.Ledger.{ledger_content}
 use Rattle.drf_tree.specs.Tree.{IsTreeOf}
 use Rattle.drf_tree.proofs.walk.Kept.{kept_along, kept_by}
 use Rattle.drf_tree.proofs.change.Weigh.{unweighed_tree}
@@ -11,13 +11,13 @@ use Rattle.drf_tree.proofs.sorter.TreeSorterSorter.set_weight.Goals as goal
 
 pub invariant_of-self : goal.invariant_of-self
 invariant_of-self c =
-    kept_by c.set_weight.new.self (plain_content c.self.inside.ledger) c.in_err-set_weight.ensures.err c.self.inside.tree c.self.inside.tree
+    kept_by c.set_weight.new.self (ledger_content c.self.inside.ledger) c.in_err-set_weight.ensures.err c.self.inside.tree c.self.inside.tree
     c.self.inside.walk c.self.inside.is_total_free c.self.invariant.of_ledger c.self.invariant.free c.self.invariant.tidy refl refl c.self.invariant.frames
     c.self.invariant.settled
 
 pub invariant_of-self-in_default : goal.invariant_of-self-in_default
 invariant_of-self-in_default c =
-    let content = plain_content c.self.inside.ledger in
+    let content = ledger_content c.self.inside.ledger in
     let tree = c.self.inside.tree in
     let role = c.args.role.now in
     let now : Content = with_weight content role c.args.weight in
@@ -29,7 +29,7 @@ invariant_of-self-in_default c =
 
 pub invariant_of-self-2 : goal.invariant_of-self-2
 invariant_of-self-2 c =
-    let content = plain_content c.self.inside.ledger in
+    let content = ledger_content c.self.inside.ledger in
     let tree = c.self.inside.tree in
     let role = c.args.role.now in
     let now : Content = with_weight content role c.args.weight in

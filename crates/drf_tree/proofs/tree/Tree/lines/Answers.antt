@@ -1,6 +1,6 @@
 use Rattle.std.proofs.Common.{◌≡◌, ◌==◌, ◌∙◌, ℕ, ap, arith, inl, inr, subst, sym, true, take_all}
 use Rattle.std.specs.List.{list_any}
-use Rattle.drf_tree.proofs.Names.{Path, has_node, plain_content, is_live, path_at}
+use Rattle.drf_tree.proofs.Names.{Path, has_node, ledger_content, is_live, path_at}
 use Rattle.drf_sorter.specs.Lines.{AreLinesOf, has_line}
 use Rattle.drf_tree.proofs.lines.Nodes.{node_of}
 use Rattle.drf_tree.proofs.lines.Numbers.{front_parts}
@@ -9,7 +9,7 @@ use Rattle.drf_tree.proofs.tree.Tree.lines.Goals as goal
 
 pub loop-node-preserved : goal.loop-node-preserved
 loop-node-preserved c =
-    let content = plain_content c.args.ledger.now in
+    let content = ledger_content c.args.ledger.now in
     let places = c.args.self.now.places.items in
     record {
       each = c.in_ok-put_line.ensures.each;
@@ -26,7 +26,7 @@ loop-node-preserved c =
 
 pub returns : goal.returns
 returns c =
-    let content = plain_content c.args.ledger.now in
+    let content = ledger_content c.args.ledger.now in
     let tree = c.args.self.now in
     let items = c.deref-node-items.result.now in
     subst (AreLinesOf content) (sym c.into_vec.ensures.lines) (record {

@@ -2,7 +2,7 @@ use Rattle.std.proofs.Common.{◌≡◌, ◌∙◌, true, ap, arith, option_copi
 use Rattle.std.specs.List.{AllByRecursion}
 use Rattle.std.proofs.lemmas.Bool.{false≢true}
 use Rattle.std.proofs.lemmas.Result.{on_ok_weaker}
-use Rattle.drf_tree.proofs.Names.{Path, plain_content, path_at, IsSumOf}
+use Rattle.drf_tree.proofs.Names.{Path, ledger_content, path_at, IsSumOf}
 use Rattle.drf_rows.specs.declared.report.NodeLine.{NodeLine}
 use Rattle.drf_sorter.specs.laws.LineLaws.{each-with, has_line-new, has_line-others}
 use Rattle.drf_sorter.specs.Lines.{IsLineOf, has_line, line_with, with_line}
@@ -14,14 +14,14 @@ use Rattle.drf_tree.proofs.tree.Tree.put_line.Goals as goal
 
 pub returns-then-sum-eq0-clause-put : goal.returns-then-sum-eq0-clause-put
 returns-then-sum-eq0-clause-put c live has =
-    absurd (false≢true (sym (nobody (plain_content c.args.ledger.now) c.args.self.now c.requires.tree c.args.node
+    absurd (false≢true (sym (nobody (ledger_content c.args.ledger.now) c.args.self.now c.requires.tree c.args.node
     (path_at c.args.self.now.places.items c.args.node) live refl
     c.sum-sum.result.now c.sum-sum.ensures c.if-sum-eq0.true) ∙ has))
 
 pub node_line-requires-clause-within : goal.node_line-requires-clause-within
 node_line-requires-clause-within c label =
     let at = sym c.place.ensures ∙ ap option_copied c.in-Some.is in
-    let content = plain_content c.args.ledger.now in
+    let content = ledger_content c.args.ledger.now in
     let tree = c.args.self.now in
     let within = held_within content tree c.requires.tree c.args.node c.in-Some.place.now.path
     (live_place content tree c.requires.tree c.args.node c.in-Some.place.now at)
@@ -29,10 +29,10 @@ node_line-requires-clause-within c label =
     c.requires.sound label in
     rw (c.in_ok-held.ensures label, c.total.ensures) within
 
-is_at : (c : After-sum-sum) → IsSumOf (plain_content c.args.ledger.now) c.in-Some.place.now.path c.sum-sum.result.now
+is_at : (c : After-sum-sum) → IsSumOf (ledger_content c.args.ledger.now) c.in-Some.place.now.path c.sum-sum.result.now
 is_at c =
     let at = sym c.place.ensures ∙ ap option_copied c.in-Some.is in
-    let content = plain_content c.args.ledger.now in
+    let content = ledger_content c.args.ledger.now in
     sum_is content c.args.self.now c.requires.tree c.args.node c.in-Some.place.now.path
     (live_place content c.args.self.now c.requires.tree c.args.node c.in-Some.place.now at)
     (path_place content c.args.self.now c.requires.tree c.args.node c.in-Some.place.now at) c.sum-sum.result.now c.sum-sum.ensures
@@ -50,7 +50,7 @@ node_line-requires-clause-light c =
 pub returns-clause-each : goal.returns-clause-each
 returns-clause-each c =
     let at = sym c.place.ensures ∙ ap option_copied c.in-Some.is in
-    let content = plain_content c.args.ledger.now in
+    let content = ledger_content c.args.ledger.now in
     let sum = c.sum-sum.result.now in
     let held = c.in_ok-held.held in
     let same = c.node_line.ensures.line
@@ -74,7 +74,7 @@ returns-clause-stay c =
 pub returns-clause-put : goal.returns-clause-put
 returns-clause-put c =
     let at = sym c.place.ensures ∙ ap option_copied c.in-Some.is in
-    let content = plain_content c.args.ledger.now in
+    let content = ledger_content c.args.ledger.now in
     let place = c.in-Some.place.now in
     let path = path_place content c.args.self.now c.requires.tree c.args.node place at in
     let same : c.node_line.result.path ≡ place.path = ap (λ (l : NodeLine). l.path) c.node_line.ensures.line ∙ c.in_ok-path.ensures in

@@ -1,8 +1,8 @@
 use Rattle.std.proofs.Common.{ap, arith, refl, subst, sym, ◌∙◌, ◌≡◌, ◌<◌, ℕ, Bool, List, length, slice_index_or, slice_set, true}
 use Rattle.std.proofs.lemmas.Option.{slice_get_read}
-use Rattle.drf_tree.proofs.Names.{Entry, Content, plain_content, Child, Sum, Tree, IsShapeOf, IsRenewed, children_at, is_live, parent_at, path_at, AreRight, AreSums, IsShape, IsSumOf}
+use Rattle.drf_tree.proofs.Names.{Entry, Content, ledger_content, Child, Sum, Tree, IsShapeOf, IsRenewed, children_at, is_live, parent_at, path_at, AreRight, AreSums, IsShape, IsSumOf}
 use Rattle.drf_tree.proofs.shape.Node.{family_read, live_within, node_within}
-use Rattle.drf_tree.proofs.keys.Renew.{IsRepaired, can_key, plain_weighs, renewed}
+use Rattle.drf_tree.proofs.keys.Renew.{IsRepaired, can_key, ledger_weighs, renewed}
 use Rattle.drf_tree.proofs.tree.Tree.renew.Goals as goal
 
 -- the sum that was read is that of the node
@@ -27,14 +27,14 @@ parent_within tree shape node parent live is =
 
 pub renew-requires-clause-key : goal.renew-requires-clause-key
 renew-requires-clause-key c =
-    let content = plain_content c.args.ledger.now in
+    let content = ledger_content c.args.ledger.now in
     let sum = c.index.result.now in
     let of = sum_read content c.args.self.now c.requires.tree.shape c.requires.tree.sums c.args.node sum c.requires.live c.index.ensures in
     rw c.total.ensures (can_key c.args.ledger.now (path_at c.args.self.now.places.items c.args.node) sum c.requires.sound of)
 
 pub returns-clause-tree : goal.returns-clause-tree
 returns-clause-tree c =
-    let content = plain_content c.args.ledger.now in
+    let content = ledger_content c.args.ledger.now in
     let tree = c.args.self.now in
     let of = c.requires.tree in
     let families = tree.families.items in
@@ -51,7 +51,7 @@ returns-clause-tree c =
     c.total.ensures c.renew.ensures.renewed) in
     let all =
     subst (λ (p : ℕ). IsRepaired content tree (slice_set families p new) tree.marks.stale) (sym c.parent-parent.ensures)
-    (renewed content tree c.args.node of c.requires.live (plain_weighs c.args.ledger.now) sum
+    (renewed content tree c.args.node of c.requires.live (ledger_weighs c.args.ledger.now) sum
     (sum_read content tree of.shape of.sums c.args.node sum c.requires.live c.index.ensures) new r) in
     let families = slice_set families parent new in
     record {

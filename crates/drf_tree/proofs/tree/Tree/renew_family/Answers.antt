@@ -1,9 +1,9 @@
 use Rattle.std.proofs.Common.{ap, subst, sym, ◌∙◌, ◌≡◌, List, map}
 use Rattle.std.specs.List.{AllByRecursion, IsDistinct}
 use Rattle.std.specs.List.Sorted.{IsPermutation}
-use Rattle.drf_tree.proofs.Names.{plain_content, Child, AreFresh, CanKeyAt, has_child, is_same, known, numbers_of, children_at}
+use Rattle.drf_tree.proofs.Names.{ledger_content, Child, AreFresh, CanKeyAt, has_child, is_same, known, numbers_of, children_at}
 use Rattle.drf_tree.proofs.shape.Node.{family_read}
-use Rattle.drf_tree.proofs.keys.Renew.{plain_weighs}
+use Rattle.drf_tree.proofs.keys.Renew.{ledger_weighs}
 use Rattle.drf_tree.proofs.keys.Repair.{can_key_all, numbers_once, repaired}
 use Rattle.drf_tree.proofs.tree.Tree.renew_family.Goals as goal
 
@@ -23,11 +23,11 @@ renew_all-requires-clause-keys c =
     let is = family_read tree.families.items c.args.node family c.requires.there c.index_mut-family.ensures.value in
     let all = can_key_all c.args.ledger.now tree c.args.node c.requires.sound c.requires.tree in
     rw (c.total.ensures, c.deref.ensures.value)
-    (subst (λ (cs : List Child). AllByRecursion (λ x. CanKeyAt (plain_content c.args.ledger.now).total tree.sums.items x.node) cs) is all)
+    (subst (λ (cs : List Child). AllByRecursion (λ x. CanKeyAt (ledger_content c.args.ledger.now).total tree.sums.items x.node) cs) is all)
 
 pub returns-clause-tree : goal.returns-clause-tree
 returns-clause-tree c =
-    let content = plain_content c.args.ledger.now in
+    let content = ledger_content c.args.ledger.now in
     let tree = c.args.self.now in
     let of = c.requires.tree in
     let family = c.index_mut-family.result.now in
@@ -36,7 +36,7 @@ returns-clause-tree c =
     let is : family.children.items ≡ children_at tree.families.items c.args.node =
     sym (family_read tree.families.items c.args.node family c.requires.there c.index_mut-family.ensures.value) in
     let all =
-    repaired content tree c.args.node of (plain_weighs c.args.ledger.now) new c.renew_all.new.marks.stale c.requires.there
+    repaired content tree c.args.node of (ledger_weighs c.args.ledger.now) new c.renew_all.new.marks.stale c.requires.there
     (subst (λ (cs : List Child). IsPermutation (map known cs) (map known new.children.items)) is done.same)
     (subst (λ (cs : List Child). AreFresh content.total tree.sums.items tree.marks.stale cs new.children.items) is
     (rw (c.total.ensures, c.deref.ensures.value) at done.renewed))

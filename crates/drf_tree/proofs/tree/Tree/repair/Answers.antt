@@ -1,6 +1,6 @@
 use Rattle.std.proofs.Common.{refl, ap, arith, inl, inr, sym, ◌∙◌, ◌≡◌, ◌+◌, ℕ, Bool, false, true, List, ◌⊎◌, length, slice_index_or, slice_set, get_or-set_other, length-set}
 use Rattle.std.proofs.lemmas.Bool.{cases_eq, false≢true}
-use Rattle.drf_tree.proofs.Names.{each_from, Content, plain_content, Tree, Flags, marked_in, children_at, IsMarkedOrRight, IsTreeBut, IsTreeOf}
+use Rattle.drf_tree.proofs.Names.{each_from, Content, ledger_content, Tree, Flags, marked_in, children_at, IsMarkedOrRight, IsTreeBut, IsTreeOf}
 use Rattle.drf_tree.proofs.change.Tree.{shape_again}
 use Rattle.drf_tree.proofs.marks.Flags.{down_at, marked_less, renewed_one, spends-both}
 use Rattle.drf_tree.proofs.shape.Node.{live_within}
@@ -56,14 +56,14 @@ renew-requires-clause-live c = c.loop-node.invariant.tree.shape.unmarked c.in-So
 
 pub renew-requires-clause-tree : goal.renew-requires-clause-tree
 renew-requires-clause-tree c =
-    one_down (plain_content c.args.ledger.now) c.loop-node.self c.loop-node.invariant.tree c.take.new.self c.in-Some.node
+    one_down (ledger_content c.args.ledger.now) c.loop-node.self c.loop-node.invariant.tree c.take.new.self c.in-Some.node
     (λ i. (c.in-Some.ensures.taken i).stale)
 
 pub loop-node-smaller : goal.loop-node-smaller
 loop-node-smaller c =
     omega (
       arith,
-      one_less (plain_content c.args.ledger.now) c.loop-node.self c.loop-node.invariant.tree c.take.new.self c.in-Some.node
+      one_less (ledger_content c.args.ledger.now) c.loop-node.self c.loop-node.invariant.tree c.take.new.self c.in-Some.node
           c.in-Some.ensures.found (λ i. (c.in-Some.ensures.taken i).stale),
       ap marked_in c.renew.ensures.stale,
     )
@@ -74,7 +74,7 @@ loop-node-preserved c = record {
   places = c.renew.ensures.places ∙ c.loop-node.invariant.places;
   spends = spends-both c.loop-node.invariant.spends
       (renewed_one c.loop-node.self.marks c.take.new.self c.renew.new.self.marks (λ i. (c.in-Some.ensures.taken i).made)
-      (one_less (plain_content c.args.ledger.now) c.loop-node.self c.loop-node.invariant.tree c.take.new.self c.in-Some.node
+      (one_less (ledger_content c.args.ledger.now) c.loop-node.self c.loop-node.invariant.tree c.take.new.self c.in-Some.node
       c.in-Some.ensures.found (λ i. (c.in-Some.ensures.taken i).stale))
       c.renew.ensures.made c.renew.ensures.no_less c.renew.ensures.stale);
 }

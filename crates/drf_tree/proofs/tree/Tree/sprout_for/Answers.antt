@@ -1,5 +1,5 @@
 use Rattle.std.proofs.Common.{ap, subst, sym, ◌∙◌, OnOk}
-use Rattle.drf_tree.proofs.Names.{IsNodePath, Path, IsOneMore, has_node, plain_content}
+use Rattle.drf_tree.proofs.Names.{IsNodePath, Path, IsOneMore, has_node, ledger_content}
 use Rattle.drf_tree.proofs.growth.Grow.{front_right}
 use Rattle.drf_tree.proofs.tree.Tree.sprout_for.Goals as goal
 
@@ -10,14 +10,14 @@ sprout-requires-clause-right c =
 
 pub returns-clause-tree : goal.returns-clause-tree
 returns-clause-tree c =
-    let content = plain_content c.args.ledger.now in
-    c.sprout.ensures.tree content c.requires.tree c.weight_of-weight.ensures.value
+    let content = ledger_content c.args.ledger.now in
+    c.sprout.ensures.tree content c.requires.tree c.weight_of-weight.ensures
     (ap (has_node content) c.in_ok-node.ensures ∙ c.requires.nobody)
 
 pub returns-clause-free : goal.returns-clause-free
 returns-clause-free c was =
-    let content = plain_content c.args.ledger.now in
-    λ total. c.sprout.ensures.tree (record content { total = total }) (was total) c.weight_of-weight.ensures.value
+    let content = ledger_content c.args.ledger.now in
+    λ total. c.sprout.ensures.tree (record content { total = total }) (was total) c.weight_of-weight.ensures
     (ap (has_node content) c.in_ok-node.ensures ∙ c.requires.nobody)
 
 pub returns-clause-one : goal.returns-clause-one

@@ -1,7 +1,7 @@
 use Rattle.std.proofs.Common.{List, Option, length, ap, subst, sym}
 use Rattle.drf_rows.specs.declared.rows.FilterRow.{FilterRow}
 use Rattle.drf_gates.specs.filters.Index.{IsIndexed}
-use Rattle.drf_gates.specs.filters.Slots.{filled}
+use Rattle.drf_hash.specs.Slots.{filled}
 use Rattle.drf_gates.specs.declared.filters.index.Key.TheVariants.{Client, ClientAndAgent}
 use Rattle.drf_gates.proofs.filters.slots.Slots.new.Goals as goal
 

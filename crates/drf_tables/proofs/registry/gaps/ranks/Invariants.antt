@@ -1,9 +1,0 @@
-use Rattle.std.proofs.Common.{◌≡◌, length, take}
-use Rattle.drf_tables.proofs.tables.Names.{filled, ranks_of}
-use Rattle.drf_tables.proofs.registry.gaps.ranks.Given as goal
-
-abbrev pub invariant-loop-slot : goal.invariant-loop-slot
-invariant-loop-slot l = record {
-  ranks : l.ranks.items ≡ ranks_of 0 (take l.slot-index l.slots);
-  count : l.count ≡ length (filled (take l.slot-index l.slots));
-}

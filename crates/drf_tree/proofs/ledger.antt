@@ -1,0 +1,2 @@
+-- Clients in the slots of a ledger.
+pub mod Rows

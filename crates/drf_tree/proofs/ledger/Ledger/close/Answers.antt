@@ -1,0 +1,22 @@
+use Rattle.std.proofs.Common.{List, Option, ap, ◌∙◌}
+use Rattle.drf_hash.specs.GapLaws.{filled-all}
+use Rattle.drf_hash.specs.Slots.{filled}
+use Rattle.drf_tree.proofs.Names.{Ranked}
+use Rattle.drf_tree.proofs.ledger.Rows.{closed_rows, registry_closed, with_clients}
+use Rattle.drf_tree.specs.Ledger.{rows_in}
+use Rattle.drf_tree.proofs.ledger.Ledger.close.Goals as goal
+
+pub invariant_of-self : goal.invariant_of-self
+invariant_of-self c =
+    let l = c.args.self.now in
+    let closed = c.close_gaps.ensures in
+    record {
+      registry = registry_closed c.close_gaps.result l.slots.items _ l.places.entries _ l.live closed.slots closed.places closed.slots_stay closed.places_stay
+          l.registry;
+    }
+
+pub returns-in_ok-close_gaps : goal.returns-in_ok-close_gaps
+returns-in_ok-close_gaps c =
+    let l = c.args.self.now in
+    ap (with_clients l)
+    (ap (λ (rows : List (Option Ranked)). filled rows) (closed_rows l.slots.items _ c.in_ok-close_gaps.ensures.slots) ∙ filled-all (filled (rows_in l)))

@@ -1,0 +1,179 @@
+//! The clients of a tree by their paths, the total and the weights. Who leaves leaves a gap, so that nobody behind it has to move.
+ghost use Rattle.std.specs.Prelude.{◌≡◌, ◌≤◌, ◌++◌, ◌∷◌, [], IfOk, IsOk, IsTrue, OnErr, OnOk, false, map, true};
+ghost use Rattle.drf_hash.specs.Slots.{IsRegistry};
+ghost use Rattle.drf_hash.specs.SlotLaws.{registry-prop};
+ghost use Rattle.drf_role.specs.Path.{same_path};
+ghost use Rattle.drf_tree.specs.Booked.{client_of, path_of, seen_slot};
+
+mod changes;
+
+use crate::booked::{Booked, leaf_in};
+use crate::tree::ROOT;
+use drf_bundle::Quantities;
+use drf_hash::{HashKey, close_gaps};
+use drf_role::{ClientPath, NodePath, Role};
+use drf_sorter::{Client, Weights};
+use indexmap::IndexMap;
+use std::alloc::{AllocError, Global};
+
+/// The clients in order of registration. Gaps are closed where a client comes while half of all slots are gaps, or more.
+#[derive(Debug, Drop)]
+pub(crate) struct Ledger {
+    slots: Vec<Option<Booked>>,
+    // In which slot each client stands.
+    places: IndexMap<ClientPath, usize, HashKey>,
+    // How many are no gaps.
+    live: usize,
+    total: Quantities,
+    weights: Weights,
+    ghost registry: { IsRegistry same_path path_of (map seen_slot slots.items) places.entries live } by { registry-prop same_path path_of (map seen_slot slots.items) places.entries live },
+}
+
+impl Ledger {
+    ghost use Rattle.drf_hash.specs.Slots.{filled, slot_of};
+    ghost use Rattle.drf_rows.specs.Held.{weight_of};
+    ghost use Rattle.drf_sorter.specs.Content.{empty, has_client, has_weight, with_client, with_weight, without_client};
+    ghost use Rattle.drf_tree.specs.Ledger.{ledger_content, rows_in};
+
+    /// No clients.
+    pub(crate) fn new(alloc: Global, key: HashKey) -> Ledger
+        ensures { ledger_content result ≡ empty }
+    {
+        Ledger::with(alloc, key, Quantities::empty(alloc), Weights::new(alloc))
+    }
+
+    /// No clients, with a total and weights.
+    fn with(alloc: Global, key: HashKey, total: Quantities, weights: Weights) -> Ledger
+        ensures { ledger_content result ≡ record { clients = []; total = total; weights = weights.rows.items } }
+    {
+        Ledger {
+            slots: Vec::new(alloc),
+            places: IndexMap::with_hasher(alloc, key),
+            live: 0,
+            total,
+            weights,
+        }
+    }
+
+    pub(crate) fn alloc(&self) -> Global {
+        *self.slots.allocator()
+    }
+
+    /// The total of the cluster.
+    pub(crate) fn total(&self) -> &Quantities
+        ensures { result.now ≡ self.now.total }
+    {
+        &self.total
+    }
+
+    /// The weight of a node, in thousandths.
+    pub(crate) fn weight_of(&self, node: &NodePath) -> u64
+        ensures { result ≡ weight_of self.now.weights.rows.items node.now }
+    {
+        self.weights.of(node)
+    }
+
+    /// Where the client of that path stands.
+    pub(crate) fn row_of(&self, path: &ClientPath) -> Option<usize>
+        ensures { result ≡ slot_of same_path path_of path.now (rows_in self.now) }
+    {
+        match self.places.get(path) {
+            Some(place) => Some(*place),
+            None => None,
+        }
+    }
+
+    /// The guess of the node of the client in that row, or the root.
+    pub(crate) fn leaf_at(&self, row: Option<usize>) -> usize {
+        match row {
+            Some(row) if row < self.slots.len() => leaf_in(&self.slots[row]),
+            _ => ROOT,
+        }
+    }
+
+    /// Closes the gaps where they are half of all slots, or more. An `Err` changes nothing.
+    fn close(&mut self) -> Result<(), AllocError>
+        ensures { ledger_content self.new ≡ ledger_content self.old }
+    {
+        if self.live <= self.slots.len() / 2 {
+            close_gaps(&mut self.slots, &mut self.places)?;
+        }
+        Ok(())
+    }
+
+    /// Puts a client behind the others. An `Err` changes nothing.
+    fn push(&mut self, booked: Booked) -> Result<(), AllocError>
+        requires { has_client (ledger_content self.old) booked.client.path ≡ false }
+        ensures ok { OnOk result (ledger_content self.new ≡ record (ledger_content self.old) { clients = filled (rows_in self.old) ++ client_of booked ∷ [] }) }
+        ensures err { OnErr result (ledger_content self.new ≡ ledger_content self.old) }
+    {
+        let key = booked.client.path.copy()?;
+        self.slots.reserve(1)?;
+        self.places.insert(key, self.slots.len())?;
+        self.slots.push_reserved(Some(booked));
+        self.live += 1;
+        Ok(())
+    }
+
+    /// Adds an active client that holds nothing, with a guess of its node. An `Err` changes nothing.
+    pub(crate) fn add(&mut self, path: ClientPath, leaf: usize) -> Result<(), AllocError>
+        requires { has_client (ledger_content self.old) path ≡ false }
+        ensures ok { OnOk result (ledger_content self.new ≡ with_client (ledger_content self.old) path) }
+        ensures err { OnErr result (ledger_content self.new ≡ ledger_content self.old) }
+    {
+        self.close()?;
+        let client = Client {
+            path,
+            active: true,
+            held: Quantities::empty(self.alloc()),
+            count: 0,
+        };
+        self.push(Booked { client, leaf })
+    }
+
+    /// Forgets a client. The guess of its node, or the root.
+    pub(crate) fn remove(&mut self, path: &ClientPath) -> usize
+        requires { has_client (ledger_content self.old) path.now ≡ true }
+        ensures { ledger_content self.new ≡ without_client (ledger_content self.old) path.now }
+    {
+        let Some(place) = self.places.swap_remove(path) else {
+            return ROOT;
+        };
+        let leaf = leaf_in(&self.slots[place]);
+        self.slots[place] = None;
+        self.live -= 1;
+        leaf
+    }
+
+    pub(crate) fn set_total(&mut self, total: Quantities)
+        ensures { ledger_content self.new ≡ record (ledger_content self.old) { total = total } }
+    {
+        self.total = total;
+    }
+
+    /// Gives a role a weight, in thousandths. No memory is asked for where the role has one.
+    pub(crate) fn set_weight(&mut self, role: &Role, weight: u64) -> Result<(), AllocError>
+        requires weighs { 1 ≤ weight }
+        requires light { weight ≤ 1000000 }
+        ensures ok { OnOk result (ledger_content self.new ≡ with_weight (ledger_content self.old) role.now weight) }
+        ensures err { OnErr result (ledger_content self.new ≡ ledger_content self.old) }
+        ensures replaced { IsTrue (has_weight (ledger_content self.old) role.now) → IsOk result }
+    {
+        self.weights.set(role, weight)
+    }
+
+    /// A ledger of its own that holds the same, without gaps.
+    pub(crate) fn copy(&self) -> Result<Ledger, AllocError>
+        ensures { IfOk result (λ copy. ledger_content copy ≡ ledger_content self.now) }
+    {
+        let total = self.total.copy()?;
+        let weights = self.weights.copy()?;
+        let mut copy = Ledger::with(self.alloc(), *self.places.hasher(), total, weights);
+        for slot in &self.slots {
+            if let Some(booked) = slot {
+                copy.push(booked.copy()?)?;
+            }
+        }
+        Ok(copy)
+    }
+}

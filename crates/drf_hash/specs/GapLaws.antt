@@ -1,6 +1,5 @@
 -- Gaps among slots, which are counted and closed.
-use Rattle.std.proofs.Common.{◌≡◌, ◌+◌, ◌<◌, ◌≤◌, ℕ, zero, suc, Bool, true, false, inl, inr, refl, List, [], ◌∷◌, ◌++◌, Option, None, Some, is_some, map, filter, length, get_or, set, take, slice_get, ap, ◌∙◌, sym, subst, arith, length-append}
-use Rattle.std.specs.Bool.{Decides}
+use Rattle.std.proofs.Common.{◌≡◌, ◌+◌, ◌<◌, ◌≤◌, ℕ, zero, suc, Bool, true, false, inl, inr, refl, List, [], ◌∷◌, ◌++◌, Option, None, Some, is_some, map, filter, length, get_or, take, slice_get, ap, ◌∙◌, sym, subst, arith, length-append}
 use Rattle.std.specs.List.{IsDistinct}
 use Rattle.std.specs.Map.{lookup, values_of}
 use Rattle.std.specs.Option.{option_map}
@@ -9,12 +8,11 @@ use Rattle.std.proofs.lemmas.List.{take_more}
 use Rattle.std.proofs.lemmas.List.Elements.{filter_map-append}
 use Rattle.indexmap.specs.IndexMap.{set_value_at}
 use Rattle.drf_hash.specs.Slots.{filled, ranks_of, slot_of, IsRegistry}
-use Rattle.drf_hash.specs.SlotLaws.{filled-short}
 
 module _ {X : Type 0} where
   -- ---- one more slot
 
-  filled-more : (slots : List (Option X)) (i : ℕ) (slot : Option X) → i < length slots → slot ≡ get_or slots i slot
+  pub filled-more : (slots : List (Option X)) (i : ℕ) (slot : Option X) → i < length slots → slot ≡ get_or slots i slot
       → filled (take (i + 1) slots) ≡ filled (take i slots) ++ filled (slot ∷ [])
   filled-more slots i slot below read =
       ap (λ (ss : List (Option X)). filled ss) (take_more slots i slot below ∙ ap (λ (s : Option X). take i slots ++ s ∷ []) (sym read))

@@ -65,7 +65,7 @@ module _ {X : Type 0} where
       → s ≡ Some x
   read_is slots i s x below read there = read ∙ get_or_default slots i s None below ∙ there
 
-  length-gap : (slots : List (Option X)) (i : ℕ) (x : X) → get_or slots i None ≡ Some x → length (filled (set slots i None)) + 1 ≡ length (filled slots)
+  pub length-gap : (slots : List (Option X)) (i : ℕ) (x : X) → get_or slots i None ≡ Some x → length (filled (set slots i None)) + 1 ≡ length (filled slots)
   length-gap [] i x at = cc
   length-gap (None ∷ slots) zero x at = cc
   length-gap (Some y ∷ slots) zero x at = omega arith

@@ -1,12 +1,13 @@
 -- Lists with gaps.
 use Rattle.std.proofs.Common.{◌≡◌, ◌≢◌, ◌+◌, ◌<◌, ◌≤◌, ℕ, zero, suc, Bool, true, false, cond, if◌then◌else◌, not, inl, inr, refl, List, [], ◌∷◌, ◌++◌, Option, None, Some, is_some, map, filter, length, get_or, set, take, min, count_by, ap, ◌∙◌, sym, arith, length-append}
 use Rattle.std.proofs.lemmas.Bool.{cases_Bool}
-use Rattle.std.proofs.lemmas.List.{length-map, length-set, length-take, take_all, take_more, get_or-set_same, get_or-set_other, get_or_default}
+use Rattle.std.proofs.lemmas.List.{length-map, length-set, length-take, take_all, get_or-set_same, get_or-set_other, get_or_default}
 use Rattle.std.proofs.lemmas.List.Sums.{length-filter}
 use Rattle.std.proofs.lemmas.List.Elements.{filter-append, filter_map-append}
 use Rattle.std.specs.List.{list_any}
 use Rattle.drf_hash.specs.Slots.{filled}
-use Rattle.drf_hash.specs.SlotLaws.{filled-short}
+use Rattle.drf_hash.specs.GapLaws.{filled-more}
+use Rattle.drf_hash.specs.SlotLaws.{filled-short, length-gap}
 use Rattle.drf_gates.specs.filters.Slots.{slot_passes, without_one}
 
 -- no gap leaves as many
@@ -49,19 +50,12 @@ set-gap [] place gap = refl
 set-gap {X} (s ∷ slots) zero gap = ap (λ (t : Option X). t ∷ slots) (sym gap)
 set-gap {X} (s ∷ slots) (suc place) gap = ap (λ (ys : List (Option X)). s ∷ ys) (set-gap slots place gap)
 
-pub set-one : {X : Type 0} (slots : List (Option X)) (place : ℕ) (x : X) → get_or slots place None ≡ Some x
-    → length (filled (set slots place None)) + 1 ≡ length (filled slots)
-set-one [] place x one = cc
-set-one {X} (s ∷ slots) zero x one = rw one (omega arith)
-set-one (None ∷ slots) (suc place) x one = set-one slots place x one
-set-one (Some y ∷ slots) (suc place) x one = omega (arith, set-one slots place x one)
-
 -- one fewer where something is taken, and as many where nothing is
 pub taken-one : {X : Type 0} (slots : List (Option X)) (place : ℕ) (slot read : Option X) → place < length slots → slot ≡ get_or slots place slot
     → read ≡ slot → is_some read ≡ true → length (filled (set slots place None)) + 1 ≡ length (filled slots)
 taken-one slots place slot None small at same some = cc
 taken-one slots place slot (Some x) small at same some =
-    set-one slots place x (get_or_default slots place None slot small ∙ sym at ∙ sym same)
+    length-gap slots place x (get_or_default slots place None slot small ∙ sym at ∙ sym same)
 
 pub taken-none : {X : Type 0} (slots : List (Option X)) (place : ℕ) (slot read : Option X) → place < length slots → slot ≡ get_or slots place slot
     → read ≡ slot → is_some read ≡ false → length (filled (set slots place None)) ≡ length (filled slots)
@@ -118,12 +112,6 @@ take-less n slots left is =
     left-less slots left (take n (filled slots)) is (omega (arith, long)) (λ same. take_all n (filled slots) (omega (arith, long, same)))
 
 -- ---- the slots are gone over
-
-pub filled-more : {X : Type 0} (slots : List (Option X)) (i : ℕ) (slot : Option X) → i < length slots → slot ≡ get_or slots i slot
-    → filled (take (i + 1) slots) ≡ filled (take i slots) ++ filled (slot ∷ [])
-filled-more {X} slots i slot below read =
-    ap (λ (ss : List (Option X)). filled ss) (take_more slots i slot below ∙ ap (λ (s : Option X). take i slots ++ s ∷ []) (sym read))
-    ∙ filter_map-append (λ s. s) (take i slots) (slot ∷ [])
 
 pub count-filled : {X : Type 0} (p : X → Bool) (slots : List (Option X)) → count_by (slot_passes p) slots ≡ count_by p (filled slots)
 count-filled p slots =

@@ -21,7 +21,7 @@ use Rattle.drf_rows.specs.declared.rows.FilterRow.{FilterRow}
 use Rattle.drf_gates.specs.filters.Laws.{LessIsHeldBack, HeldBackIsRefused}
 use Rattle.drf_gates.specs.filters.Chains.{IsLast, IsChained}
 use Rattle.drf_gates.specs.filters.Index.{client_hash, pair_hash, row_hash, slot_hash, link_hash, hashes_in, befores, hash_bucket, bucket_of, buckets_in, IsTidy, IsTidyTo, IsLedTo, IsMarked, IsIndexed, IsLeft, HasRoom, NoneEndsBefore}
-use Rattle.drf_hash.specs.GapLaws.{filled-all}
+use Rattle.drf_hash.specs.GapLaws.{filled-all, filled-more}
 use Rattle.drf_hash.specs.Slots.{filled}
 use Rattle.drf_gates.specs.filters.Slots.{slot_passes, without_one, filters_in, AreMarked, AreTidy, IsSlots, IsClosed, IsFilterTable}
 use Rattle.drf_gates.specs.declared.filters.index.Index.{Index}
@@ -30,7 +30,7 @@ use Rattle.drf_gates.specs.declared.filters.index.Key.{Key}
 use Rattle.drf_gates.specs.declared.filters.index.Key.TheVariants.{Client as ByClient, ClientAndAgent}
 use Rattle.drf_gates.specs.declared.filters.slots.Slots.{Slots}
 use Rattle.drf_gates.proofs.filters.Chains.{chained-more, chained-gap, chained-any, chained-next, chained-next_gap, chained-drop_head, chained-drop_link, passed-last, passed-more}
-use Rattle.drf_gates.proofs.filters.Gaps.{filled-more, any-filled, no_slot, without-length, without-other, without-here, without-others, without-if, IsLess, all-less, take-less}
+use Rattle.drf_gates.proofs.filters.Gaps.{any-filled, no_slot, without-length, without-other, without-here, without-others, without-if, IsLess, all-less, take-less}
 
 pub less_is_held_back : LessIsHeldBack
 less_is_held_back filters f clock bundle is_there before is_bundle is_part below =

@@ -1,12 +1,11 @@
 -- What stands under names in slots, some of which are gaps.
-use Rattle.std.proofs.Common.{◌≡◌, ◌+◌, ◌<◌, ℕ, zero, suc, true, false, not, refl, List, [], ◌∷◌, ◌++◌, Option, None, Some, is_some, Result, Ok, Err, OnOk, length, get_or, set, take, slice_get, ap, ◌∙◌, sym, arith}
+use Rattle.std.proofs.Common.{◌≡◌, ◌<◌, ℕ, zero, suc, true, false, not, refl, List, [], ◌∷◌, Option, None, Some, is_some, Result, Ok, Err, OnOk, length, get_or, set, take, slice_get, ap, ◌∙◌, sym, arith}
 use Rattle.std.specs.Cmp.Lexicographic.{bytes_decides}
 use Rattle.std.specs.List.{AllByRecursion, IsDistinct, list_all}
 use Rattle.std.specs.Map.{lookup, keys_of}
 use Rattle.std.proofs.lemmas.Bool.{and_from}
 use Rattle.std.proofs.lemmas.Cmp.{nat_list_eq_equiv}
-use Rattle.std.proofs.lemmas.List.{get_or_default, take_more}
-use Rattle.std.proofs.lemmas.List.Elements.{filter_map-append}
+use Rattle.std.proofs.lemmas.List.{get_or_default}
 use Rattle.std.proofs.lemmas.Map.Entries.{lookup_from_place}
 use Rattle.std.proofs.lemmas.Map.Keys.{IsDistinct-head, IsDistinct-tail}
 use Rattle.drf_hash.specs.SlotLaws.{IsIn, filled-short, read_is, slot-known, slot_found}
@@ -58,12 +57,6 @@ ranked-full (Some e ∷ slots) (suc i) full within =
     record { entry = later.entry; there = later.there; before = omega (arith, before) }
 
 -- ---- one more slot
-
-pub filled-more : {A : Type 0} (slots : Slots A) (i : ℕ) (slot : Option (Entry A)) → i < length slots → slot ≡ get_or slots i slot
-    → filled (take (i + 1) slots) ≡ filled (take i slots) ++ filled (slot ∷ [])
-filled-more slots i slot below read =
-    ap (λ (ss : Slots _). filled ss) (take_more slots i slot below ∙ ap (λ (s : Option (Entry _)). take i slots ++ s ∷ []) (sym read))
-    ∙ filter_map-append (λ s. s) (take i slots) (slot ∷ [])
 
 pub ranked_here : {A : Type 0} (slots : Slots A) (i : ℕ) (slot : Option (Entry A)) (number : ℕ) → i < length slots → slot ≡ get_or slots i slot → is_some slot ≡ true
     → length (filled (take i slots)) ≡ number → IsRanked slots number i

@@ -1,6 +1,6 @@
 use Rattle.std.proofs.Common.{◌≡◌, Option, Some, false, sym, ap, ◌∙◌}
 use Rattle.std.specs.Option.{option_map_or}
-use Rattle.drf_bundle.specs.Bundle.{Key, key_of, value_at}
+use Rattle.drf_bundle.specs.Bundle.{key_of, value_at}
 use Rattle.drf_bundle.specs.Value.{has_all_of}
 use Rattle.drf_bundle.specs.declared.value.Value.{Value}
 use Rattle.drf_bundle.proofs.SearchLemmas.{found_value, key_here}

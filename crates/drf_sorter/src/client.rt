@@ -34,11 +34,13 @@ impl Client {
         })
     }
 
-    /// The client got so many more offers, of these quantities together. An `Err` changes nothing.
+    /// The client got so many more offers, of these quantities together. Where it held nothing of a label, no label stays that is 0. An
+    /// `Err` changes nothing.
     pub fn charge(&mut self, quantities: &Quantities, offers: u64) -> Result<(), AllocError>
         requires held { (label : Text) → amount_of self.old.held label + amount_of quantities.now label < 2 ^ 64 }
         requires count { self.old.count + offers < 2 ^ 64 }
         ensures ok { OnOk result (ranked self.new ≡ charged quantities.now offers (ranked self.old)) }
+        ensures few { OnOk result (names_all self.old.held quantities.now ≡ false → HasNoZeros self.new.held) }
         ensures err { OnErr result (self.new ≡ self.old) }
         ensures path { self.new.path ≡ self.old.path }
     {

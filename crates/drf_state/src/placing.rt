@@ -86,11 +86,10 @@ impl<S: Sorter> Parts<S> {
         ensures worked { OnOk result (HasWorked (Framework framework) (S.work self.old.sorter) (S.work self.new.sorter)) }
     {
         let FrameworkRow { name, clients } = framework;
-        let key = name.copy()?;
-        self.tables.reserve_framework()?;
         put_clients(alloc, &mut self.sorter, &name, clients.as_slice())?;
+        let named = self.tables.reserve_framework(name)?;
         self.counted = offers_with(self.counted, clients.as_slice()).unwrap();
-        self.tables.add_framework(key, name, clients);
+        self.tables.add_framework(named, clients);
         Ok(())
     }
 

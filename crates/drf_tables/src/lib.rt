@@ -14,6 +14,7 @@ mod tables;
 
 pub use drf_holdings::Taken;
 pub use drf_rows::Ending;
+pub use registry::new_name::NewName;
 pub use room::is_too_large;
 pub use tables::restoring::offers_with;
 pub use tables::{Left, Tables};

@@ -1,5 +1,5 @@
 //! Registered agents, or frameworks. Who leaves leaves a gap, so that nobody behind it has to move.
-ghost use Rattle.std.specs.Prelude.{◌≡◌, ◌<◌, ◌≤◌, false, [], ◌∷◌, ◌++◌, is_some, length, slice_get, None, Some, OnOk};
+ghost use Rattle.std.specs.Prelude.{◌≡◌, ◌*◌, ◌<◌, ◌≤◌, false, [], ◌∷◌, ◌++◌, is_some, length, slice_get, None, Some, OnOk};
 ghost use Rattle.std.specs.List.{IsDistinct};
 ghost use Rattle.std.specs.Map.{lookup, keys_of, remove_entry};
 ghost use Rattle.std.specs.Option.{option_copied};
@@ -9,17 +9,19 @@ ghost use Rattle.drf_role.specs.Text.{same_text};
 pub(crate) mod free_part;
 mod gaps;
 pub(crate) mod members;
+pub(crate) mod new_name;
 pub(crate) mod settling;
 
 use crate::registry::gaps::ranked;
+use crate::registry::new_name::NewName;
 use drf_hash::{ByName, HashKey, close_gaps};
 use drf_role::Name;
 use indexmap::IndexMap;
 use std::alloc::{AllocError, Global};
 use std::marker::Model;
 
-/// What is registered, in order, found by name. Gaps are closed where one is added while half of all are gaps, and among agents before
-/// a cycle goes through all.
+/// What is registered, in order, found by name. Gaps are closed where one is added while half of all slots are gaps, or more, and among
+/// agents before a cycle goes through all.
 #[derive(Drop)]
 pub(crate) struct Registry<T> {
     pub(crate) slots: Vec<Option<(Name, T)>>,
@@ -40,7 +42,7 @@ impl<T> Model for Registry<T> {
     ghost use Rattle.indexmap.specs.IndexMap.{spare};
     ghost use Rattle.drf_tables.specs.registry.Registered.{name_of};
 
-    ghost view = { λ r. record { entries = filled r.slots.items; room = min (vec_capacity r.slots - length r.slots.items) (spare r.places) } };
+    ghost view = { λ r. record { entries = filled r.slots.items; slots = length r.slots.items; room = min (vec_capacity r.slots - length r.slots.items) (spare r.places) } };
 
     ghost invariant = { λ r. IsRegistry same_text name_of r.slots.items r.places.entries r.live };
 }
@@ -110,7 +112,8 @@ impl<T: Drop> Registry<T> {
 
     /// Closes the gaps. An `Err` changes nothing of what stands.
     pub(crate) fn close(&mut self) -> Result<(), AllocError>
-        ensures { self.new.entries ≡ self.old.entries }
+        ensures closed { OnOk result (self.new.slots ≡ length self.new.entries) }
+        ensures same { self.new.entries ≡ self.old.entries }
     {
         if self.live < self.slots.len() {
             close_gaps(&mut self.slots, &mut self.places)?;
@@ -118,25 +121,26 @@ impl<T: Drop> Registry<T> {
         Ok(())
     }
 
-    /// Makes room for one more, so that it can be added without memory.
+    /// Makes room for one more, so that it can be added without memory. At most half of all slots are gaps then.
     pub(crate) fn reserve(&mut self) -> Result<(), AllocError>
         ensures ok { OnOk result (1 ≤ self.new.room) }
+        ensures few { OnOk result (self.new.slots ≤ 2 * length self.new.entries) }
         ensures same { self.new.entries ≡ self.old.entries }
     {
-        if self.live < self.slots.len() / 2 {
+        if self.live <= self.slots.len() / 2 {
             self.close()?;
         }
         self.slots.reserve(1)?;
         self.places.reserve(1)
     }
 
-    /// Adds one behind the others, whose name is given twice. It needs no memory.
-    pub(crate) fn add(&mut self, key: Name, name: Name, added: T)
+    /// Adds one behind the others. It needs no memory.
+    pub(crate) fn add(&mut self, name: NewName, added: T)
         requires room { 1 ≤ self.old.room }
-        requires named { key ≡ name }
         requires new { is_some (lookup (same_text name) self.old.entries) ≡ false }
         ensures { self.new.entries ≡ self.old.entries ++ (name, added) ∷ [] }
     {
+        let (key, name) = name.into_two();
         let _ = self.places.insert(key, self.slots.len()).unwrap();
         self.slots.push_reserved(Some((name, added)));
         self.live += 1;

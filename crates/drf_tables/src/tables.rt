@@ -28,6 +28,7 @@ use crate::filters::sweep::Sweep;
 use crate::limits::recounting::consume_total;
 use crate::registry::Registry;
 use crate::registry::free_part::FreePart;
+use crate::registry::new_name::NewName;
 use crate::registry::settling::free_left;
 use crate::tables::listing::{agent_rows, framework_rows, weight_rows};
 use drf_amount::Algebra;
@@ -314,7 +315,7 @@ impl Tables {
     {
         let sum = self.total.plus(total.quantities())?;
         let free = total.copy()?;
-        let key = name.copy()?;
+        let named = NewName::of(name)?;
         self.agents.reserve()?;
         consume_total(&mut self.consumption, &total)?;
         let agent = Agent {
@@ -322,26 +323,27 @@ impl Tables {
             active: true,
             free: Some(FreePart::new(free)),
         };
-        self.agents.add(key, name, agent);
+        self.agents.add(named, agent);
         self.total = sum;
         Ok(())
     }
 
-    /// Makes room for a framework, so that it can be added without memory.
-    pub fn reserve_framework(&mut self) -> Result<(), AllocError>
+    /// Makes room for a framework of that name, so that it can be added without memory.
+    pub fn reserve_framework(&mut self, name: Name) -> Result<NewName, AllocError>
         ensures ok { OnOk result (1 ≤ self.new.room) }
+        ensures named { IfOk result (λ named. named ≡ name) }
         ensures same { self.new.rows ≡ self.old.rows }
         ensures settled { self.new.settled ≡ self.old.settled }
         ensures counted { self.new.counted ≡ self.old.counted }
     {
-        self.frameworks.reserve()
+        let named = NewName::of(name)?;
+        self.frameworks.reserve()?;
+        Ok(named)
     }
 
-    /// Adds a framework, whose name is given twice, with its clients, to which fewer offers were made than the next number, with those to
-    /// all others. It needs no memory.
-    pub fn add_framework(&mut self, key: Name, name: Name, clients: Table<ClientRow>)
+    /// Adds a framework with its clients, to which fewer offers were made than the next number, with those to all others. It needs no memory.
+    pub fn add_framework(&mut self, name: NewName, clients: Table<ClientRow>)
         requires room { 1 ≤ self.old.room }
-        requires named { key ≡ name }
         requires new { has_framework self.old.rows name ≡ false }
         requires roles { are_distinct_roles (map (λ c. c.role) clients) ≡ true }
         requires counted { offers_counted (self.old.rows.frameworks ++ record { name = name; clients = clients } ∷ []) < self.old.rows.next_offer }
@@ -353,7 +355,7 @@ impl Tables {
         name.recall();
         recall_roles(clients.as_slice());
         self.clients += clients.len();
-        self.frameworks.add(key, name, clients.into_vec());
+        self.frameworks.add(name, clients.into_vec());
     }
 
     /// Makes room for the weight of one more role, so that it can be set without memory.

@@ -1,5 +1,5 @@
 //! The clients of a tree by their paths, the total and the weights. Who leaves leaves a gap, so that nobody behind it has to move.
-ghost use Rattle.std.specs.Prelude.{◌≡◌, ◌≤◌, ◌++◌, ◌∷◌, [], IfOk, IsOk, IsTrue, OnErr, OnOk, false, map, true};
+ghost use Rattle.std.specs.Prelude.{◌≡◌, ◌*◌, ◌≤◌, ◌++◌, ◌∷◌, [], IfOk, IsOk, IsTrue, OnErr, OnOk, false, length, map, true};
 ghost use Rattle.drf_hash.specs.Slots.{IsRegistry};
 ghost use Rattle.drf_hash.specs.SlotLaws.{registry-prop};
 ghost use Rattle.drf_role.specs.Path.{same_path};
@@ -93,7 +93,8 @@ impl Ledger {
 
     /// Closes the gaps where they are half of all slots, or more. An `Err` changes nothing.
     fn close(&mut self) -> Result<(), AllocError>
-        ensures { ledger_content self.new ≡ ledger_content self.old }
+        ensures few { OnOk result (length self.new.slots.items ≤ 2 * self.new.live) }
+        ensures same { ledger_content self.new ≡ ledger_content self.old }
     {
         if self.live <= self.slots.len() / 2 {
             close_gaps(&mut self.slots, &mut self.places)?;

@@ -108,10 +108,9 @@ impl<S: Sorter> Cluster<S> {
         let roles = distinct_roles(alloc, roles)?;
         let clients = new_clients(alloc, roles)?;
         let paths = client_paths(alloc, &framework, clients.as_slice())?;
-        let key = framework.copy()?;
-        self.tables.reserve_framework()?;
+        let named = self.tables.reserve_framework(framework)?;
         add_clients(&mut self.sorter, &paths)?;
-        self.tables.add_framework(key, framework, clients);
+        self.tables.add_framework(named, clients);
         Ok(())
     }
 

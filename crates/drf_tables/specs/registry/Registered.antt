@@ -9,6 +9,8 @@ use Rattle.drf_tables.specs.declared.tables.Agent.{Agent}
 pub record Registered (A : Type 0) : Type 0 where
   -- what stands, in order, with the names
   pub entries : List (Text × A)
+  -- so many slots there are, gaps among them
+  pub slots : ℕ
   -- so much can be added without memory
   pub room : ℕ
 

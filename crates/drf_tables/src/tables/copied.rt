@@ -15,6 +15,7 @@ ghost use Rattle.drf_tables.specs.declared.tables.Agent.{Agent};
 
 use crate::registry::Registry;
 use crate::registry::free_part::FreePart;
+use crate::registry::new_name::NewName;
 use crate::tables::{Agent, Tables};
 use drf_amount::Algebra;
 use drf_bundle::Quantities;
@@ -61,11 +62,10 @@ fn copy_slot(copy: &mut Registry<Agent>, slot: &Option<(Name, Agent)>) -> Result
     let Some(entry) = slot else {
         return Ok(());
     };
-    let key = entry.0.copy()?;
-    let name = entry.0.copy()?;
+    let named = NewName::of(entry.0.copy()?)?;
     let agent = copy_agent(&entry.1)?;
     copy.reserve()?;
-    copy.add(key, name, agent);
+    copy.add(named, agent);
     Ok(())
 }
 
@@ -91,11 +91,10 @@ fn copy_framework(
     let Some(entry) = slot else {
         return Ok(());
     };
-    let key = entry.0.copy()?;
-    let name = entry.0.copy()?;
+    let named = NewName::of(entry.0.copy()?)?;
     let clients = copy_all(*copy.allocator(), &entry.1)?;
     copy.reserve()?;
-    copy.add(key, name, clients.into_vec());
+    copy.add(named, clients.into_vec());
     Ok(())
 }
 

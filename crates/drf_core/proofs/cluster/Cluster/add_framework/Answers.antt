@@ -34,7 +34,7 @@ add_clients-requires g c =
 
 pub add_framework-requires-clause-new : goal.add_framework-requires-clause-new
 add_framework-requires-clause-new g c =
-    ap (λ (r : Rows). has_framework r c.args.framework) c.reserve_framework.ensures.same
+    (λ i. has_framework (c.reserve_framework.ensures.same i) (c.in_ok-named.ensures.named i))
     ∙ (welcome_framework c.args.limits.now c.self.inside.tables.rows c.args.framework c.args.roles (rw (← c.self.view_is) at c.requires.welcome)).new
 
 pub add_framework-requires-clause-roles : goal.add_framework-requires-clause-roles
@@ -55,7 +55,7 @@ counted_still rows f none few =
 
 pub add_framework-requires-clause-counted : goal.add_framework-requires-clause-counted
 add_framework-requires-clause-counted g c =
-    let f : FrameworkRow = record { name = c.args.framework; clients = c.in_ok-clients.clients } in
+    let f : FrameworkRow = record { name = c.in_ok-named.named; clients = c.in_ok-clients.clients } in
     let kept = rw (← c.self.view_is) at c.requires.kept in
     subst (λ (r : Rows). offers_counted (r.frameworks ++ f ∷ []) < r.next_offer) (sym c.reserve_framework.ensures.same)
     (counted_still c.self.inside.tables.rows f
@@ -70,7 +70,7 @@ invariant_of-self-2 g c =
     let made = c.in_ok-clients.ensures ∙ ap (map new_client) c.in_ok-roles.ensures in
     let same : c.add_framework.new.self.rows ≡ effect rows (AddFramework c.args.framework c.args.roles) =
     effect-framework rows c.add_framework.new.self.rows c.args.framework c.args.roles c.in_ok-clients.clients made
-    (c.add_framework.ensures.rows ∙ (λ i. record (c.reserve_framework.ensures.same i) { frameworks = (c.reserve_framework.ensures.same i).frameworks ++ record { name = c.args.framework; clients = c.in_ok-clients.clients } ∷ [] })) in
+    (c.add_framework.ensures.rows ∙ (λ i. record (c.reserve_framework.ensures.same i) { frameworks = (c.reserve_framework.ensures.same i).frameworks ++ record { name = c.in_ok-named.ensures.named i; clients = c.in_ok-clients.clients } ∷ [] })) in
     sorted-framework rows c.add_framework.new.self.rows c.args.framework c.args.roles content (g.S.Sorter.content c.add_clients.new.sorter)
     c.self.invariant kept.consistent welcome.new same
     (c.in_ok-add_clients.ensures.ok
@@ -80,7 +80,7 @@ pub returns-clause-ok : goal.returns-clause-ok
 returns-clause-ok g c =
     rw (← c.self.view_is) (effect-framework c.self.inside.tables.rows c.add_framework.new.self.rows c.args.framework c.args.roles c.in_ok-clients.clients
     (c.in_ok-clients.ensures ∙ ap (map new_client) c.in_ok-roles.ensures)
-    (c.add_framework.ensures.rows ∙ (λ i. record (c.reserve_framework.ensures.same i) { frameworks = (c.reserve_framework.ensures.same i).frameworks ++ record { name = c.args.framework; clients = c.in_ok-clients.clients } ∷ [] })))
+    (c.add_framework.ensures.rows ∙ (λ i. record (c.reserve_framework.ensures.same i) { frameworks = (c.reserve_framework.ensures.same i).frameworks ++ record { name = c.in_ok-named.ensures.named i; clients = c.in_ok-clients.clients } ∷ [] })))
 
 pub returns-clause-spends : goal.returns-clause-spends
 returns-clause-spends g c =

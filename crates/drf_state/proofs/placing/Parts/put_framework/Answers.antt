@@ -1,7 +1,6 @@
 use Rattle.std.proofs.Common.{◌≡◌, ◌++◌, ◌∷◌, [], ℕ, ◌+◌, List, ap, sym, subst, ◌∙◌}
 use Rattle.std.specs.Prelude.{sum_by}
 use Rattle.drf_rows.specs.declared.rows.ClientRow.{ClientRow}
-use Rattle.drf_rows.specs.declared.rows.Rows.{Rows}
 use Rattle.drf_sorter.specs.Content.{Content}
 use Rattle.drf_content.specs.Putting.{CanAllBeBack, with_all_back}
 use Rattle.drf_saved.specs.declared.saved.SavedRow.TheVariants.{Framework}
@@ -31,8 +30,8 @@ returns-clause-placed g c =
     subst (λ (n : ℕ). IsPlaced parts.tables.rows (Framework f) c.add_framework.new.self after n) counts
     (placed parts.tables content parts.counted (Framework f) c.add_framework.new.self after c.requires.agree c.requires.fits (record {
       rows = c.add_framework.ensures.rows
-          ∙ ap (λ (r : Rows). record r { frameworks = r.frameworks ++ f ∷ [] }) c.in_ok-reserve_framework.ensures.same;
-      settled = c.add_framework.ensures.settled ∙ c.in_ok-reserve_framework.ensures.settled;
-      uncounted = c.add_framework.ensures.counted ∙ c.in_ok-reserve_framework.ensures.counted;
+          ∙ (λ i. record (c.reserve_framework.ensures.same i) { frameworks = (c.reserve_framework.ensures.same i).frameworks ++ record { name = c.in_ok-named.ensures.named i; clients = f.clients } ∷ [] });
+      settled = c.add_framework.ensures.settled ∙ c.reserve_framework.ensures.settled;
+      uncounted = c.add_framework.ensures.counted ∙ c.reserve_framework.ensures.counted;
       sorted = c.in_ok-put_clients.ensures.content ∙ ap (with_all_back content f.name) c.as_slice.ensures;
     }))

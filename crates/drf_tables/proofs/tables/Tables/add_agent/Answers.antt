@@ -43,7 +43,7 @@ pub add-requires-clause-new : goal.add-requires-clause-new
 add-requires-clause-new c =
     let t = c.self.inside in
     let name = c.args.name in
-    ap (λ (es : List (Text × Agent)). is_some (lookup (same_text name) es)) c.reserve.ensures.same
+    (λ i. is_some (lookup (same_text (c.in_ok-named.ensures i)) (c.reserve.ensures.same i)))
     ∙ sym (has_agent-rows_in t name) ∙ ap (λ (s : Stored). has_agent s.rows name) c.self.view_is ∙ c.requires.new
 
 -- it comes last
@@ -51,7 +51,7 @@ abbrev agent_of : List Resource → List Resource → Agent
 agent_of total free = record { total = total; active = true; free = Some free }
 
 last_at : (c : After-add) → c.add.new.self.entries ≡ c.self.inside.agents.entries ++ (c.args.name, agent_of c.args.total c.new.result) ∷ []
-last_at c = c.add.ensures ∙ ap (λ (es : List (Text × Agent)). es ++ (c.args.name, agent_of c.args.total c.new.result) ∷ []) c.reserve.ensures.same
+last_at c = c.add.ensures ∙ (λ i. c.reserve.ensures.same i ++ (c.in_ok-named.ensures i, agent_of c.args.total c.new.result) ∷ [])
 
 pub invariant_of-self-2 : goal.invariant_of-self-2
 invariant_of-self-2 c =

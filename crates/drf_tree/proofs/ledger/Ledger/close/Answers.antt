@@ -1,8 +1,10 @@
-use Rattle.std.proofs.Common.{List, Option, ap, ◌∙◌}
+use Rattle.std.proofs.Common.{List, Option, Some, length, ap, ◌∙◌, arith}
+use Rattle.std.proofs.lemmas.List.{length-map}
 use Rattle.drf_hash.specs.GapLaws.{filled-all}
 use Rattle.drf_hash.specs.Slots.{filled}
 use Rattle.drf_tree.proofs.Names.{Ranked}
 use Rattle.drf_tree.proofs.ledger.Rows.{closed_rows, registry_closed, with_clients}
+use Rattle.drf_tree.specs.Booked.{seen_slot}
 use Rattle.drf_tree.specs.Ledger.{rows_in}
 use Rattle.drf_tree.proofs.ledger.Ledger.close.Goals as goal
 
@@ -15,8 +17,16 @@ invariant_of-self c =
           l.registry;
     }
 
-pub returns-in_ok-close_gaps : goal.returns-in_ok-close_gaps
-returns-in_ok-close_gaps c =
+pub returns-in_ok-close_gaps-clause-few : goal.returns-in_ok-close_gaps-clause-few
+returns-in_ok-close_gaps-clause-few c =
+    let l = c.args.self.now in
+    let new = c.close_gaps.new.slots.items in
+    let rows = ap length (closed_rows l.slots.items new c.in_ok-close_gaps.ensures.slots) in
+    let left = length-map (filled (rows_in l)) Some in
+    omega (arith, rows, left, length-map new seen_slot, l.registry.live)
+
+pub returns-in_ok-close_gaps-clause-same : goal.returns-in_ok-close_gaps-clause-same
+returns-in_ok-close_gaps-clause-same c =
     let l = c.args.self.now in
     ap (with_clients l)
     (ap (λ (rows : List (Option Ranked)). filled rows) (closed_rows l.slots.items _ c.in_ok-close_gaps.ensures.slots) ∙ filled-all (filled (rows_in l)))

@@ -13,7 +13,7 @@ use std::alloc::{AllocError, Global};
 use std::convert::AsStr;
 
 /// What is told of the next cycle.
-#[derive(Clone, Copy, Debug)]
+#[derive(Clone, Copy)]
 pub enum Scope<'a> {
     /// On each agent the clients in order, as long as what is left is worth an offer.
     Short,
@@ -26,7 +26,7 @@ pub enum Scope<'a> {
 }
 
 /// What a command does.
-#[derive(Clone, Copy, Debug)]
+#[derive(Clone, Copy)]
 pub enum Task<'a> {
     /// The replies to event lines; with `echo` each line, as it was read, before its reply; with `ask` the answers to lines that ask.
     Run { echo: bool, ask: bool },
@@ -42,7 +42,7 @@ pub enum Task<'a> {
 }
 
 /// What the words ask for.
-#[derive(Clone, Copy, Debug)]
+#[derive(Clone, Copy)]
 pub struct Request<'a> {
     pub task: Task<'a>,
     /// The file with the state that the task begins with; without it there are no rows.

@@ -15,7 +15,7 @@ use std::alloc::{AllocError, Global};
 use std::thread::Threads;
 
 /// An agent with all its resources, what is free of them, and how many offers and tasks stand on it.
-#[derive(Debug, Drop)]
+#[derive(Drop)]
 pub struct AuditLine {
     pub agent: Name,
     pub total: Bundle,

@@ -2,7 +2,7 @@ use drf_rows::{Copied, Event, Reply};
 use std::alloc::AllocError;
 
 /// An event with its reply: one line of a history. Events that were refused have one too.
-#[derive(Debug, Drop)]
+#[derive(Drop)]
 pub struct Entry {
     pub event: Event,
     pub reply: Reply,

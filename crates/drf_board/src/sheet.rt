@@ -5,7 +5,7 @@ use std::alloc::AllocError;
 
 /// What viewers are shown: how many events were published, refused ones among them, and the report of shares after the last. Events before
 /// the history do not count.
-#[derive(Debug, Drop)]
+#[derive(Drop)]
 pub struct Sheet {
     pub events: u64,
     pub report: Report,

@@ -13,7 +13,7 @@ use std::alloc::AllocError;
 use std::marker::Model;
 
 /// Why a viewer was shown nothing. It has then seen what it had seen before.
-#[derive(Clone, Copy, Debug, PartialEq, Eq)]
+#[derive(Clone, Copy, PartialEq, Eq)]
 pub enum ViewFault {
     /// The board is gone, though no clause says so.
     Closed,

@@ -25,7 +25,6 @@ const FEW: usize = 8;
 
 /// What there is of each resource, for everyone or for a role. One name has one kind, no member
 /// stands under two reservations of a name, and the scalars of a name sum to less than 2^64. Copies share what they hold.
-#[derive(Debug)]
 pub struct Bundle {
     // What its copies share. The empty bundle, which takes no memory, need not have any.
     shared: Option<Arc<Parts>>,

@@ -13,7 +13,6 @@ use std::alloc::{AllocError, Global};
 use std::marker::Model;
 
 /// Resources in order, with the sums of their scalars: put together one by one, and then shared by the copies of a bundle.
-#[derive(Debug)]
 pub struct Parts {
     pub(crate) resources: Vec<Resource>,
     // The scalars of each name over all reservations, kept to be lent.

@@ -14,7 +14,7 @@ use std::marker::Model;
 const FEW: usize = 8;
 
 /// An amount of one scalar resource.
-#[derive(Debug, Drop)]
+#[derive(Drop)]
 pub struct Entry {
     pub label: Label,
     pub amount: Scalar,
@@ -44,7 +44,6 @@ fn put_at(entries: &mut Vec<Entry>, at: usize, entry: Entry) -> Result<(), Alloc
 }
 
 /// Amounts of scalar resources by label, in thousandths. A label may be named with the amount 0.
-#[derive(Debug)]
 pub struct Quantities {
     entries: Vec<Entry>,
 }

@@ -13,7 +13,6 @@ use std::alloc::AllocError;
 use std::cmp::Ordering;
 
 /// What there is of one resource for one role, or for everyone where the role is `*`.
-#[derive(Debug)]
 pub struct Resource {
     pub label: Label,
     pub role: Role,

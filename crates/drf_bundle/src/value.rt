@@ -7,7 +7,7 @@ use drf_kinds::{Items, Ranges};
 use std::alloc::AllocError;
 
 /// What there is of a resource.
-#[derive(Debug, Drop)]
+#[derive(Drop)]
 pub enum Value {
     /// A number of thousandths, as of `cpus`.
     Scalar(Scalar),

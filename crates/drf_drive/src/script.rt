@@ -17,7 +17,7 @@ use std::convert::AsStr;
 use std::thread::Threads;
 
 /// A line that is no event.
-#[derive(Clone, Copy, Debug, PartialEq, Eq)]
+#[derive(Clone, Copy, PartialEq, Eq)]
 pub struct BadLine {
     /// The place of its file, from 0.
     pub file: usize,

@@ -10,7 +10,7 @@ use std::alloc::{AllocError, Global};
 use std::convert::AsStr;
 
 /// What the words ask for: the journal of the event lines of files, each of which runs on a thread of its own.
-#[derive(Debug, Drop)]
+#[derive(Drop)]
 pub struct Task<'a> {
     pub files: Vec<&'a str>,
     /// The file with the state that the drive begins with; without it there are no rows.

@@ -4,7 +4,7 @@ use drf_bundle::Bundle;
 use drf_role::{ClientPath, Name, Role};
 
 /// What comes of trying a client on an agent.
-#[derive(Debug, Drop)]
+#[derive(Drop)]
 pub enum Outcome {
     /// It is offered this.
     Grant(Bundle),
@@ -21,7 +21,7 @@ pub enum Outcome {
 }
 
 /// One line of an explanation.
-#[derive(Debug, Drop)]
+#[derive(Drop)]
 pub enum Finding {
     /// The client wants no offers.
     Suppressed {
@@ -50,7 +50,7 @@ pub enum Finding {
 }
 
 /// What is told of the turn of an agent.
-#[derive(Debug, Drop)]
+#[derive(Drop)]
 pub struct TurnTold {
     /// Of each client at its moment, or of the agent.
     pub told: Vec<Finding>,

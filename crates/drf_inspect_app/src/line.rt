@@ -10,7 +10,7 @@ use std::alloc::{AllocError, Global};
 use std::convert::AsStr;
 
 /// What a command does.
-#[derive(Clone, Copy, Debug)]
+#[derive(Clone, Copy)]
 pub enum Task {
     /// The state after the events of event lines, as tables; with `json` as lines for programs.
     Show { json: bool },
@@ -19,7 +19,7 @@ pub enum Task {
 }
 
 /// What the words ask for.
-#[derive(Clone, Copy, Debug)]
+#[derive(Clone, Copy)]
 pub struct Request<'a> {
     pub task: Task,
     /// The file with the state that the task begins with; without it there are no rows.

@@ -16,7 +16,7 @@ use std::alloc::Global;
 use std::io::Read;
 
 /// What is to be said of a journal.
-#[derive(Clone, Copy, Debug, PartialEq, Eq)]
+#[derive(Clone, Copy, PartialEq, Eq)]
 pub enum Verdict {
     /// Each line is right, and there are so many event lines.
     Good(u64),

@@ -1,7 +1,7 @@
 use smallvec::SmallVec;
 
 /// The numbers from `first` to `last`, both of them too.
-#[derive(Clone, Copy, Debug, Default, PartialEq, Eq)]
+#[derive(Clone, Copy, Default, PartialEq, Eq)]
 pub struct Interval {
     pub first: u32,
     pub last: u32,

@@ -12,7 +12,6 @@ use std::alloc::{AllocError, Global};
 use std::marker::Model;
 
 /// A finite set of labels, as of disks.
-#[derive(Debug)]
 pub struct Items {
     // In order of bytes, each once.
     names: Vec<Label>,

@@ -32,7 +32,6 @@ impl From<AllocError> for RangesFault {
 }
 
 /// A finite set of numbers below 2^32, as of ports.
-#[derive(Debug)]
 pub struct Ranges {
     // Each is maximal: neither the number before it nor the one after it is in the set.
     intervals: Intervals,

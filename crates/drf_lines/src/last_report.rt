@@ -21,7 +21,7 @@ const MOST_NODES: usize = 8192;
 const MOST_TEXT: usize = 1_048_576;
 
 /// Where the text of a node begins and ends.
-#[derive(Clone, Copy, Debug)]
+#[derive(Clone, Copy)]
 struct Span {
     start: usize,
     end: usize,

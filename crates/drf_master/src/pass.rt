@@ -7,7 +7,7 @@ use std::alloc::{AllocError, Global};
 use std::marker::Model;
 
 /// Where a call stands in the journal, counted from 0, and what it was.
-#[derive(Debug, Drop)]
+#[derive(Drop)]
 pub struct Receipt {
     pub place: u64,
     pub entry: Entry,

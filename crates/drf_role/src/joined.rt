@@ -27,7 +27,7 @@ const STAR: &str = "*";
 const NEAR_SPANS: usize = 4;
 
 /// Where a part begins and ends in the text.
-#[derive(Clone, Copy, Debug, Default)]
+#[derive(Clone, Copy, Default)]
 struct Span {
     start: usize,
     end: usize,
@@ -45,14 +45,14 @@ fn goes_on(text: &[u8], front: &[u8]) -> bool
 }
 
 /// An ASCII text and the places of its parts.
-#[derive(Debug, Drop)]
+#[derive(Drop)]
 struct Cut {
     text: String,
     spans: SmallVec<Span, NEAR_SPANS>,
 }
 
 /// `*`, the text of most roles, needs no memory; any other text is shared by its copies.
-#[derive(Debug, Drop)]
+#[derive(Drop)]
 enum Kept {
     Star,
     Shared(Arc<Cut>),
@@ -104,7 +104,6 @@ impl Kept {
 }
 
 /// A text in parts. Contracts see the list of the parts.
-#[derive(Debug)]
 pub struct Joined {
     kept: Kept,
     alloc: Global,

@@ -19,7 +19,7 @@ use std::sync::Arc;
 const MAX_NUMBERED_LEN: usize = 7;
 
 /// A text of at most 8 bytes lies here, and needs no memory; a longer one is shared by its copies.
-#[derive(Debug, Drop)]
+#[derive(Drop)]
 enum LabelBytes {
     Here(ArrayString<8>),
     Shared(Arc<String>),
@@ -80,7 +80,6 @@ fn text_number(text: &str) -> u64
 }
 
 /// A text with its number.
-#[derive(Debug)]
 pub struct LabelText {
     bytes: LabelBytes,
     number: u64,

@@ -46,7 +46,7 @@ fn is_label(text: &str) -> bool
 }
 
 /// The name of an agent, a framework or a task: 1 to 64 letters, digits, `_`, `-` or `.`.
-#[derive(Debug, PartialEq, Eq, PartialOrd, Ord, Hash)]
+#[derive(PartialEq, Eq, PartialOrd, Ord, Hash)]
 pub struct Name {
     word: Word,
 }
@@ -109,7 +109,7 @@ impl Name {
 }
 
 /// The name of a resource or of a member of a set: 1 to 64 letters, digits, `_`, `-`, `.` or `/`.
-#[derive(Debug, PartialEq, Eq, PartialOrd, Ord, Hash)]
+#[derive(PartialEq, Eq, PartialOrd, Ord, Hash)]
 pub struct Label {
     text: LabelText,
 }

@@ -36,7 +36,6 @@ fn client_text(alloc: Global, role: &str, framework: &str) -> Result<String, All
 
 /// The path of a client: the parts of its role, `.` for the clients of the role itself, and its
 /// framework. Contracts see the list of these parts.
-#[derive(Debug)]
 pub struct ClientPath {
     role: Role,
     framework: Name,
@@ -185,7 +184,7 @@ impl Hash for ClientPath {
 
 /// The path of a node: a non-empty prefix of a client's path. Contracts see the list of its
 /// parts. Paths are ordered part by part, each part by bytes, a prefix before what it begins.
-#[derive(Debug, PartialEq, Eq, PartialOrd, Ord, Hash)]
+#[derive(PartialEq, Eq, PartialOrd, Ord, Hash)]
 pub struct NodePath {
     joined: Joined,
 }

@@ -85,7 +85,7 @@ fn is_role(text: &str) -> bool
 
 /// A role: `*`, or 1 to 8 components joined by `/`, in 64 bytes at most. Contracts see the
 /// list of its components.
-#[derive(Debug, PartialEq, Eq, Hash)]
+#[derive(PartialEq, Eq, Hash)]
 pub struct Role {
     joined: Joined,
 }

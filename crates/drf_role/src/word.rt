@@ -17,7 +17,6 @@ use std::marker::Model;
 use std::sync::Arc;
 
 /// A text of at most `MAX_NAME_LEN` bytes.
-#[derive(Debug)]
 pub struct Word {
     text: Arc<ArrayString<MAX_NAME_LEN>>,
 }

@@ -8,7 +8,7 @@ use drf_role::{Name, Role};
 use std::alloc::AllocError;
 
 /// A framework starts tasks with parts of an offer, at a moment, and refuses the rest for a time.
-#[derive(Debug, Drop)]
+#[derive(Drop)]
 pub struct Accept {
     pub framework: Name,
     pub offer: u64,
@@ -18,7 +18,7 @@ pub struct Accept {
 }
 
 /// A framework gives an offer back, at a moment, and refuses it for a time.
-#[derive(Debug, Drop)]
+#[derive(Drop)]
 pub struct Decline {
     pub framework: Name,
     pub offer: u64,
@@ -55,7 +55,7 @@ impl Decline {
 
 /// What happens to the cluster. The allocator takes one event at a time, whole or not at all. Moments and times are in
 /// milliseconds; a `refuse_ms` above 365 days counts as 365 days, and with 0 nothing is refused.
-#[derive(Debug, Drop)]
+#[derive(Drop)]
 pub enum Event {
     /// An agent registers with all its resources.
     AddAgent {

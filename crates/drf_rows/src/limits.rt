@@ -15,7 +15,7 @@ pub const LARGEST_AMOUNT: u64 = (1 << 40) - 1;
 
 /// How many agents, clients, filters in force and more the allocator may have. Each number is at least 1 and at most
 /// its ceiling.
-#[derive(Clone, Copy, Debug)]
+#[derive(Clone, Copy)]
 pub struct Limits {
     agents: u64,
     frameworks: u64,

@@ -7,7 +7,7 @@ use drf_role::{Name, Role};
 use std::alloc::AllocError;
 
 /// Why an event was turned away. The rows are then as they were.
-#[derive(Clone, Copy, Debug, PartialEq, Eq)]
+#[derive(Clone, Copy, PartialEq, Eq)]
 pub enum Refusal {
     /// The allocator has taken as many events as its limits allow.
     HistoryFull,
@@ -109,7 +109,7 @@ impl Refusal {
 }
 
 /// An offer, as it is told to the framework.
-#[derive(Debug, Drop)]
+#[derive(Drop)]
 pub struct OfferLine {
     pub number: u64,
     pub agent: Name,
@@ -119,7 +119,7 @@ pub struct OfferLine {
 }
 
 /// The answer to an event.
-#[derive(Debug, Drop)]
+#[derive(Drop)]
 pub enum Reply {
     /// The event was accepted.
     Done,

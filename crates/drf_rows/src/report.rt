@@ -7,7 +7,6 @@ use drf_role::NodePath;
 use std::alloc::AllocError;
 
 /// A node of the tree of roles, with what its clients hold together. Fractions are in lowest terms, 0/1 for none.
-#[derive(Debug, Drop)]
 pub struct NodeLine {
     pub path: NodePath,
     pub held: Quantities,
@@ -19,11 +18,31 @@ pub struct NodeLine {
     pub count: u64,
 }
 
+impl Drop for NodeLine {
+    fn drop(self) {
+        let NodeLine {
+            path: _path,
+            held: _held,
+            share: _share,
+            weighted: _weighted,
+            count: _count,
+        } = self;
+    }
+}
+
 /// What the agents have together, and the nodes of all clients, in order of their paths.
-#[derive(Debug, Drop)]
 pub struct Report {
     pub total: Quantities,
     pub nodes: SharedTable<NodeLine>,
+}
+
+impl Drop for Report {
+    fn drop(self) {
+        let Report {
+            total: _total,
+            nodes: _nodes,
+        } = self;
+    }
 }
 
 impl Report {

@@ -8,7 +8,7 @@ use drf_role::{Name, Role};
 use std::alloc::AllocError;
 
 /// A registered agent with all its resources.
-#[derive(Debug, Drop)]
+#[derive(Drop)]
 pub struct AgentRow {
     pub name: Name,
     pub total: Bundle,
@@ -16,7 +16,7 @@ pub struct AgentRow {
 }
 
 /// One client of a framework. `count` counts the offers that it got since it registered.
-#[derive(Debug, Drop)]
+#[derive(Drop)]
 pub struct ClientRow {
     pub role: Role,
     pub count: u64,
@@ -24,14 +24,14 @@ pub struct ClientRow {
 }
 
 /// A registered framework.
-#[derive(Debug, Drop)]
+#[derive(Drop)]
 pub struct FrameworkRow {
     pub name: Name,
     pub clients: Table<ClientRow>,
 }
 
 /// An offer that stands.
-#[derive(Debug, Drop)]
+#[derive(Drop)]
 pub struct OfferRow {
     pub number: u64,
     pub agent: Name,
@@ -41,7 +41,7 @@ pub struct OfferRow {
 }
 
 /// A task that runs. Its name is its framework's: another framework may have a task of that name.
-#[derive(Debug, Drop)]
+#[derive(Drop)]
 pub struct TaskRow {
     pub name: Name,
     pub agent: Name,
@@ -51,21 +51,21 @@ pub struct TaskRow {
 }
 
 /// The weight of a role, in thousandths.
-#[derive(Debug, Drop)]
+#[derive(Drop)]
 pub struct WeightRow {
     pub role: Role,
     pub weight: u64,
 }
 
 /// The quota limit of a role: the most that it may consume of each scalar named, in thousandths.
-#[derive(Debug, Drop)]
+#[derive(Drop)]
 pub struct LimitRow {
     pub role: Role,
     pub limit: Quantities,
 }
 
 /// A filter of a client on an agent: nothing that its bundle covers is offered before a moment in milliseconds.
-#[derive(Debug, Drop)]
+#[derive(Drop)]
 pub struct FilterRow {
     pub framework: Name,
     pub role: Role,
@@ -76,7 +76,6 @@ pub struct FilterRow {
 
 /// All that the allocator knows. `clock` is in milliseconds, `next_offer` is the number of the next offer, and `events`
 /// counts the events that were not refused.
-#[derive(Debug)]
 pub struct Rows {
     pub agents: Table<AgentRow>,
     pub frameworks: Table<FrameworkRow>,

@@ -7,7 +7,6 @@ use std::marker::Model;
 use std::sync::Arc;
 
 /// Rows in order, which all copies share. Where there are none they take no memory.
-#[derive(Debug)]
 pub struct SharedTable<T> {
     rows: Option<Arc<Table<T>>>,
 }

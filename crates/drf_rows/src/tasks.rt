@@ -21,7 +21,7 @@ use std::marker::Model;
 pub const MOST_TASKS: usize = 16;
 
 /// The tasks that an accept starts, 1 to 16, each with its name and what it uses of the offer.
-#[derive(Debug, Drop)]
+#[derive(Drop)]
 pub struct TaskList {
     tasks: Vec<(Name, Bundle)>,
 }

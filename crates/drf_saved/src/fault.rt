@@ -5,7 +5,7 @@ ghost use Rattle.drf_saved.specs.Fault.{row_fault_number, row_fault_name};
 use drf_rows::Refusal;
 
 /// Why a row may not stand behind others, or numbers not at the head.
-#[derive(Clone, Copy, Debug, PartialEq, Eq)]
+#[derive(Clone, Copy, PartialEq, Eq)]
 pub enum RowFault {
     /// What an event that brings the row would be refused for.
     Refused(Refusal),

@@ -10,7 +10,7 @@ use drf_rows::{
 };
 
 /// The numbers with which a state begins: the clock in milliseconds, the number of the next offer, and how many events were accepted.
-#[derive(Clone, Copy, Debug)]
+#[derive(Clone, Copy)]
 pub struct Head {
     pub clock: u64,
     pub next_offer: u64,
@@ -18,7 +18,7 @@ pub struct Head {
 }
 
 /// A row of one of the tables.
-#[derive(Debug, Drop)]
+#[derive(Drop)]
 pub enum SavedRow {
     Agent(AgentRow),
     Framework(FrameworkRow),
@@ -83,7 +83,7 @@ impl SavedRow {
 }
 
 /// What a line of a state file says. The last line is known by its bytes, of which nothing is kept.
-#[derive(Debug, Drop)]
+#[derive(Drop)]
 pub enum StateLine {
     Head(Head),
     Row(SavedRow),

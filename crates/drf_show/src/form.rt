@@ -1,5 +1,5 @@
 /// How rows are shown.
-#[derive(Clone, Copy, Debug, PartialEq, Eq)]
+#[derive(Clone, Copy, PartialEq, Eq)]
 pub enum Form {
     /// In tables, whose columns stand one below the other.
     Aligned,

@@ -2,7 +2,7 @@ use crate::key::Key;
 use drf_role::ClientPath;
 
 /// A client that is to be served, with the keys of its nodes from the top of the tree down.
-#[derive(Debug, Drop)]
+#[derive(Drop)]
 #[derive_where(PartialEq, Eq, PartialOrd, Ord)]
 pub struct Candidate {
     pub keys: Vec<Key>,

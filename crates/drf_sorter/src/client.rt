@@ -11,7 +11,7 @@ use drf_role::{ClientPath, Label, NodePath};
 use std::alloc::{AllocError, Global};
 
 /// A client with what it holds, and the number of offers that were made to it.
-#[derive(Debug, Drop)]
+#[derive(Drop)]
 pub struct Client {
     pub path: ClientPath,
     pub active: bool,

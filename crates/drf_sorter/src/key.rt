@@ -86,7 +86,7 @@ impl Share {
 }
 
 /// How many keys were made. Each key that is made counts; the count stays at 2^64 - 1 once there.
-#[derive(Debug, Drop)]
+#[derive(Drop)]
 pub struct KeyCount {
     made: u64,
 }
@@ -129,7 +129,7 @@ impl KeyCount {
 }
 
 /// What places a node among its siblings: its weighted share, then its count, then its name.
-#[derive(Debug, Drop, PartialEq, Eq, PartialOrd, Ord)]
+#[derive(Drop, PartialEq, Eq, PartialOrd, Ord)]
 pub struct Key {
     share: Share,
     count: u64,

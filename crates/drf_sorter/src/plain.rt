@@ -21,7 +21,7 @@ use indexmap::IndexSet;
 use std::alloc::{AllocError, Global};
 
 /// A sorter that keeps a list of its clients, and forms each sum when it is asked for the order.
-#[derive(Debug, Drop)]
+#[derive(Drop)]
 pub struct PlainSorter {
     clients: Vec<Client>,
     /// Their paths in the same order, by which a client is found.

@@ -7,7 +7,7 @@ use std::cmp::Ordering;
 
 /// The part `part * 1000 / (whole * weight)` of the cluster: a share of a whole, divided by a weight in thousandths.
 /// Shares are compared by their cross products, so nothing is rounded.
-#[derive(Clone, Copy, Debug)]
+#[derive(Clone, Copy)]
 pub struct Share {
     part: u64,
     whole: u64,

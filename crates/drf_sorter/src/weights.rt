@@ -14,7 +14,7 @@ use std::alloc::{AllocError, Global};
 pub const DEFAULT_WEIGHT: u64 = 1000;
 
 /// The weights of roles, in thousandths.
-#[derive(Debug, Drop)]
+#[derive(Drop)]
 pub struct Weights {
     rows: Vec<WeightRow>,
     ghost weighs: { IsTrue (are_weights rows.items) },

@@ -7,7 +7,7 @@ use drf_saved::RowFault;
 use std::alloc::{AllocError, AllocFailed};
 
 /// Why a line may not stand where it stands in a state.
-#[derive(Clone, Copy, Debug, PartialEq, Eq)]
+#[derive(Clone, Copy, PartialEq, Eq)]
 pub enum StateFault {
     /// It is no line of a state.
     Line(LineFault),
@@ -46,7 +46,7 @@ impl StateFault {
 }
 
 /// Why a state was not read.
-#[derive(Clone, Copy, Debug, PartialEq, Eq)]
+#[derive(Clone, Copy, PartialEq, Eq)]
 pub enum StateError {
     /// The number of the first line that has a fault, from 1 on, and its first fault.
     Line { number: u64, fault: StateFault },
@@ -75,7 +75,7 @@ impl<T: Drop> From<AllocFailed<T>> for StateError {
 }
 
 /// Why a row was not put behind others, or numbers not at the head.
-#[derive(Clone, Copy, Debug, PartialEq, Eq)]
+#[derive(Clone, Copy, PartialEq, Eq)]
 pub enum RestoreError {
     /// The first case in which it may not stand there.
     Fault(RowFault),
@@ -104,7 +104,7 @@ impl<T: Drop> From<AllocFailed<T>> for RestoreError {
 }
 
 /// Why a line was not taken.
-#[derive(Clone, Copy, Debug, PartialEq, Eq)]
+#[derive(Clone, Copy, PartialEq, Eq)]
 pub(crate) enum LineStop {
     /// Its first fault.
     Fault(StateFault),

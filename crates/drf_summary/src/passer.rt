@@ -19,7 +19,7 @@ use std::marker::Model;
 
 /// The clients that pass one client, each once, in the order in which they first do, and on how many agents. The numbers stay at 2^64 - 1 once
 /// there.
-#[derive(Debug, Drop)]
+#[derive(Drop)]
 pub struct Passers {
     by_client: IndexMap<ClientPath, u64, HashKey>,
 }

@@ -10,7 +10,7 @@ use drf_role::{ClientPath, Name};
 use std::alloc::{AllocError, Global};
 
 /// Whom to tell of.
-#[derive(Debug, Drop)]
+#[derive(Drop)]
 pub enum Pick {
     /// All agents and clients.
     All,

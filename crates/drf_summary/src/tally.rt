@@ -28,7 +28,7 @@ use serde_json::{Map, Value, json, put};
 use std::alloc::{AllocError, Global};
 
 /// On how many agents a client is told what. A number stays at 2^64 - 1 once there.
-#[derive(Debug, Drop)]
+#[derive(Drop)]
 pub struct Tally {
     pub client: ClientPath,
     /// It is granted something.

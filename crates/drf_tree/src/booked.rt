@@ -12,7 +12,7 @@ use drf_sorter::Client;
 use std::alloc::AllocError;
 
 /// A client, with a guess of the number of its node in the tree, which is in no clause.
-#[derive(Debug, Drop)]
+#[derive(Drop)]
 pub(crate) struct Booked {
     pub client: Client,
     pub leaf: usize,

@@ -25,7 +25,7 @@ fn end_apart(name: &[u8], other: &[u8]) -> bool
 }
 
 /// A child of a node, with the key that was last computed for it.
-#[derive(Debug, Drop, PartialEq, Eq, PartialOrd, Ord)]
+#[derive(Drop, PartialEq, Eq, PartialOrd, Ord)]
 pub(crate) struct Child {
     key: Key,
     /// The number of the child.
@@ -88,7 +88,7 @@ impl Child {
 }
 
 /// Siblings in the order of their keys, be these stale or not.
-#[derive(Debug, Drop)]
+#[derive(Drop)]
 pub(crate) struct Family {
     children: Vec<Child>,
     ghost sorted: { IsTrue (are_sorted children.items) },

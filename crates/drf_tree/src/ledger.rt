@@ -17,7 +17,6 @@ use indexmap::IndexMap;
 use std::alloc::{AllocError, Global};
 
 /// The clients in order of registration. Gaps are closed where a client comes while half of all slots are gaps, or more.
-#[derive(Debug, Drop)]
 pub(crate) struct Ledger {
     slots: Vec<Option<Booked>>,
     // In which slot each client stands.
@@ -27,6 +26,18 @@ pub(crate) struct Ledger {
     total: Quantities,
     weights: Weights,
     ghost registry: { IsRegistry same_path path_of (map seen_slot slots.items) places.entries live } by { registry-prop same_path path_of (map seen_slot slots.items) places.entries live },
+}
+
+impl Drop for Ledger {
+    fn drop(self) {
+        let Ledger {
+            slots: _slots,
+            places: _places,
+            live: _live,
+            total: _total,
+            weights: _weights,
+        } = self;
+    }
 }
 
 impl Ledger {

@@ -13,7 +13,6 @@ use std::alloc::{AllocError, Global};
 use std::marker::Model;
 
 /// The nodes whose key may be stale, and the number of keys that were computed.
-#[derive(Debug, Drop)]
 pub(crate) struct Marks {
     /// Whether a node is marked.
     stale: Vec<bool>,
@@ -22,6 +21,17 @@ pub(crate) struct Marks {
     /// Whether a number is among them.
     listed: Vec<bool>,
     made: KeyCount,
+}
+
+impl Drop for Marks {
+    fn drop(self) {
+        let Marks {
+            stale: _stale,
+            waiting: _waiting,
+            listed: _listed,
+            made: _made,
+        } = self;
+    }
 }
 
 impl Model for Marks {

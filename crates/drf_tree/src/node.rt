@@ -9,7 +9,7 @@ use drf_role::{ClientPath, NodePath};
 use std::alloc::{AllocError, Global};
 
 /// Where a node stands.
-#[derive(Debug, Drop)]
+#[derive(Drop)]
 pub(crate) struct Place {
     pub path: NodePath,
     /// The number of the node above it.
@@ -40,7 +40,7 @@ fn copy_of_client(client: &Option<ClientPath>) -> Result<Option<ClientPath>, All
 }
 
 /// What the clients of a node come to together.
-#[derive(Debug, Drop)]
+#[derive(Drop)]
 pub(crate) struct Sum {
     pub held: Quantities,
     /// The offers that were made to them.

@@ -8,7 +8,7 @@ use std::marker::Model;
 
 /// The place of each node by its number, whose size does not grow with the history: a number without a place is free, and the first
 /// free one is taken first.
-#[derive(Debug, Drop)]
+#[derive(Drop)]
 pub(crate) struct Places {
     items: Vec<Option<Place>>,
     /// No number below is free.

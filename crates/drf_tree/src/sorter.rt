@@ -12,7 +12,7 @@ use std::marker::Model;
 
 /// A sorter that keeps its clients in a ledger, and their order in a tree, where a change costs one key for each node on
 /// the way to the client.
-#[derive(Debug, Drop)]
+#[derive(Drop)]
 pub struct TreeSorter {
     ledger: Ledger,
     tree: Tree,

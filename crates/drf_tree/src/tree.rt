@@ -30,12 +30,22 @@ use std::alloc::{AllocError, Global};
 pub(crate) const ROOT: usize = 0;
 
 /// The nodes by number. A number without a place is free.
-#[derive(Debug, Drop)]
 pub(crate) struct Tree {
     pub places: Places,
     pub sums: Vec<Sum>,
     pub families: Vec<Family>,
     pub marks: Marks,
+}
+
+impl Drop for Tree {
+    fn drop(self) {
+        let Tree {
+            places: _places,
+            sums: _sums,
+            families: _families,
+            marks: _marks,
+        } = self;
+    }
 }
 
 impl Tree {

@@ -17,7 +17,7 @@ use std::alloc::{AllocError, Global};
 const MOST_FRAMES: usize = 11;
 
 /// A family, and the place in it that comes next.
-#[derive(Clone, Copy, Debug)]
+#[derive(Clone, Copy)]
 pub(crate) struct Frame {
     pub node: usize,
     pub next: usize,
@@ -36,7 +36,7 @@ impl Frame {
 }
 
 /// How far a tree was gone along. The last frame stands at the client that is next, if there is any.
-#[derive(Debug, Drop)]
+#[derive(Drop)]
 pub(crate) struct Walk {
     frames: Vec<Frame>,
     ghost room: { 11 ≤ vec_capacity frames },

@@ -8,7 +8,7 @@ ghost use Rattle.std.specs.Prelude.{◌≡◌, ◌<◌, ◌≤◌, false};
 const MOST_IN_FORCE: usize = 65536;
 
 /// How many filters stand when those that have run out are dropped: never more than may be in force.
-#[derive(Clone, Copy, Debug, Drop)]
+#[derive(Clone, Copy, Drop)]
 pub(crate) struct Sweep {
     at: usize,
     ghost few: { at ≤ 65536 },

@@ -125,48 +125,146 @@ fn copy_weights(weights: &ByRole<u64>) -> Result<ByRole<u64>, AllocError>
     Ok(copy)
 }
 
-// The parts of a copy are made in twos and threes: a proof goes through the drop of all that stands at each `?`.
+// `Tables::copy` holds four values across its `?`s, each with a `Drop` of its own: what is generated for a body grows with the owned parts
+// that are alive at each exit.
 
-/// Agents and frameworks, copied.
+/// Copies of the agents and the frameworks.
+struct CopiedMembers {
+    agents: Registry<Agent>,
+    frameworks: Registry<Vec<ClientRow>>,
+}
+
+impl CopiedMembers {
+    fn into_pair(self) -> (Registry<Agent>, Registry<Vec<ClientRow>>)
+        ensures agents { result.0.entries ≡ self.agents.entries }
+        ensures frameworks { result.1.entries ≡ self.frameworks.entries }
+    {
+        let CopiedMembers { agents, frameworks } = self;
+        (agents, frameworks)
+    }
+}
+
+impl Drop for CopiedMembers {
+    fn drop(self) {
+        let CopiedMembers {
+            agents: _agents,
+            frameworks: _frameworks,
+        } = self;
+    }
+}
+
+/// Copies of the offers and tasks, and of the filters.
+struct CopiedHoldings {
+    holdings: Holdings,
+    filters: FilterTable,
+}
+
+impl CopiedHoldings {
+    fn into_pair(self) -> (Holdings, FilterTable)
+        ensures holdings { result.0 ≡ self.holdings }
+        ensures filters { result.1 ≡ self.filters }
+    {
+        let CopiedHoldings { holdings, filters } = self;
+        (holdings, filters)
+    }
+}
+
+impl Drop for CopiedHoldings {
+    fn drop(self) {
+        let CopiedHoldings {
+            holdings: _holdings,
+            filters: _filters,
+        } = self;
+    }
+}
+
+/// Copies of the weights and the total.
+struct CopiedAmounts {
+    weights: ByRole<u64>,
+    total: Quantities,
+}
+
+impl CopiedAmounts {
+    fn into_pair(self) -> (ByRole<u64>, Quantities)
+        ensures weights { result.0.entries ≡ self.weights.entries }
+        ensures total { result.1 ≡ self.total }
+    {
+        let CopiedAmounts { weights, total } = self;
+        (weights, total)
+    }
+}
+
+impl Drop for CopiedAmounts {
+    fn drop(self) {
+        let CopiedAmounts {
+            weights: _weights,
+            total: _total,
+        } = self;
+    }
+}
+
+/// Copies of the quota limits, and of what roles consume.
+struct CopiedQuota {
+    limits: QuotaLimits,
+    consumption: Option<Consumption>,
+}
+
+impl CopiedQuota {
+    fn into_pair(self) -> (QuotaLimits, Option<Consumption>)
+        ensures limits { result.0 ≡ self.limits }
+        ensures consumption { result.1 ≡ self.consumption }
+    {
+        let CopiedQuota {
+            limits,
+            consumption,
+        } = self;
+        (limits, consumption)
+    }
+}
+
+impl Drop for CopiedQuota {
+    fn drop(self) {
+        let CopiedQuota {
+            limits: _limits,
+            consumption: _consumption,
+        } = self;
+    }
+}
+
+/// Copies the agents and the frameworks.
 fn copy_members(
     agents: &Registry<Agent>,
     frameworks: &Registry<Vec<ClientRow>>,
-) -> Result<(Registry<Agent>, Registry<Vec<ClientRow>>), AllocError>
-    ensures agents { IfOk result (λ copy. copy.0.entries ≡ agents.now.entries) }
-    ensures frameworks { IfOk result (λ copy. framework_rows copy.1.entries ≡ framework_rows frameworks.now.entries) }
+) -> Result<CopiedMembers, AllocError>
+    ensures agents { IfOk result (λ copy. copy.agents.entries ≡ agents.now.entries) }
+    ensures frameworks { IfOk result (λ copy. framework_rows copy.frameworks.entries ≡ framework_rows frameworks.now.entries) }
 {
     let agents = copy_agents(agents)?;
     let frameworks = copy_frameworks(frameworks)?;
-    Ok((agents, frameworks))
+    Ok(CopiedMembers { agents, frameworks })
 }
 
-/// What is held and what is held back, copied.
-fn copy_held(
-    holdings: &Holdings,
-    filters: &FilterTable,
-) -> Result<(Holdings, FilterTable), AllocError>
-    ensures holdings { IfOk result (λ copy. copy.0 ≡ holdings.now) }
-    ensures filters { IfOk result (λ copy. copy.1 ≡ filters.now) }
+/// Copies the offers and tasks, and the filters.
+fn copy_holdings(holdings: &Holdings, filters: &FilterTable) -> Result<CopiedHoldings, AllocError>
+    ensures holdings { IfOk result (λ copy. copy.holdings ≡ holdings.now) }
+    ensures filters { IfOk result (λ copy. copy.filters ≡ filters.now) }
 {
     let holdings = holdings.copy()?;
     let filters = filters.copy()?;
-    Ok((holdings, filters))
+    Ok(CopiedHoldings { holdings, filters })
 }
 
-/// Weights and the total, copied.
-fn copy_amounts(
-    weights: &ByRole<u64>,
-    total: &Quantities,
-) -> Result<(ByRole<u64>, Quantities), AllocError>
-    ensures weights { IfOk result (λ copy. copy.0.entries ≡ weights.now.entries) }
-    ensures total { IfOk result (λ copy. copy.1 ≡ total.now) }
+/// Copies the weights and the total.
+fn copy_amounts(weights: &ByRole<u64>, total: &Quantities) -> Result<CopiedAmounts, AllocError>
+    ensures weights { IfOk result (λ copy. copy.weights.entries ≡ weights.now.entries) }
+    ensures total { IfOk result (λ copy. copy.total ≡ total.now) }
 {
     let weights = copy_weights(weights)?;
     let total = total.copy()?;
-    Ok((weights, total))
+    Ok(CopiedAmounts { weights, total })
 }
 
-/// What roles consume, copied where it is counted.
+/// Copies what roles consume, where it is counted.
 fn copy_consumption(consumption: &Option<Consumption>) -> Result<Option<Consumption>, AllocError>
     ensures { IfOk result (λ copy. IsRaisedIf consumption.now copy (λ _ _. 0)) }
 {
@@ -176,32 +274,35 @@ fn copy_consumption(consumption: &Option<Consumption>) -> Result<Option<Consumpt
     }
 }
 
-/// Limits and what roles consume, copied.
+/// Copies the quota limits, and what roles consume.
 fn copy_quota(
     limits: &QuotaLimits,
     consumption: &Option<Consumption>,
-) -> Result<(QuotaLimits, Option<Consumption>), AllocError>
-    ensures limits { IfOk result (λ copy. copy.0 ≡ limits.now) }
-    ensures consumption { IfOk result (λ copy. IsRaisedIf consumption.now copy.1 (λ _ _. 0)) }
+) -> Result<CopiedQuota, AllocError>
+    ensures limits { IfOk result (λ copy. copy.limits ≡ limits.now) }
+    ensures consumption { IfOk result (λ copy. IsRaisedIf consumption.now copy.consumption (λ _ _. 0)) }
 {
     let limits = limits.copy()?;
     let consumption = copy_consumption(consumption)?;
-    Ok((limits, consumption))
+    Ok(CopiedQuota {
+        limits,
+        consumption,
+    })
 }
 
 impl Tables {
-    /// Tables of their own with the same rows.
+    /// Returns tables of their own with the same rows.
     pub fn copy(&self) -> Result<Tables, AllocError>
         ensures { IfOk result (λ copy. copy.rows ≡ self.now.rows) }
     {
         let members = copy_members(&self.agents, &self.frameworks)?;
-        let held = copy_held(&self.holdings, &self.filters)?;
+        let held = copy_holdings(&self.holdings, &self.filters)?;
         let amounts = copy_amounts(&self.weights, &self.total)?;
         let quota = copy_quota(&self.limits, &self.consumption)?;
-        let (agents, frameworks) = members;
-        let (holdings, filters) = held;
-        let (weights, total) = amounts;
-        let (limits, consumption) = quota;
+        let (agents, frameworks) = members.into_pair();
+        let (holdings, filters) = held.into_pair();
+        let (weights, total) = amounts.into_pair();
+        let (limits, consumption) = quota.into_pair();
         Ok(Tables {
             agents,
             frameworks,

@@ -18,7 +18,7 @@ import tempfile
 from multiprocessing.pool import ThreadPool
 
 sys.path.append(f"{os.path.dirname(os.path.realpath(__file__))}/../tools")
-from begin import built_program
+from common import released_program
 
 # Events behind which each table has rows.
 LINES = b"""\
@@ -202,4 +202,4 @@ def main(program, extent):
 
 if __name__ == "__main__":
     words = [word for word in sys.argv[1:] if word != "whole"]
-    sys.exit(main(words[0] if words else built_program(), "whole" if "whole" in sys.argv else "small"))
+    sys.exit(main(words[0] if words else released_program(), "whole" if "whole" in sys.argv else "small"))

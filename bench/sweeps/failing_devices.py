@@ -15,7 +15,7 @@ import tempfile
 from multiprocessing.pool import ThreadPool
 
 sys.path.append(f"{os.path.dirname(os.path.realpath(__file__))}/../tools")
-from begin import built_program, driver_of, inputs, shim
+from common import released_program, inputs, shim
 
 # One call of a kind fails, the next one would not. A piece is what a call moves at most. Standard error is left alone.
 SHIM = r"""
@@ -90,16 +90,15 @@ def read_fault(words, path):
 
 class Sweep:
     def __init__(self, program, shim, pool):
-        self.program, self.driver, self.shim, self.pool = program, driver_of(program), shim, pool
+        self.program, self.shim, self.pool = program, shim, pool
         self.cases, self.faults, self.wrong = 0, 0, []
 
     def ran(self, words, path, kind="", call=0, how=0, piece=WHOLE):
-        program = self.driver if words == ["drive"] else self.program
         words = words + [path] if words == ["drive"] else words
         known = {**os.environ, "LD_PRELOAD": self.shim, "FAILING_KIND": kind, "FAILING_CALL": str(call)}
         known |= {"FAILING_HOW": str(how), "FAILING_PIECE": str(piece)}
         with open(path, "rb") as given:
-            done = subprocess.run([program, *words], stdin=given, capture_output=True, env=known, timeout=60)
+            done = subprocess.run([self.program, *words], stdin=given, capture_output=True, env=known, timeout=60)
         return done.returncode, done.stdout, done.stderr
 
     def note(self, is_right, *case):
@@ -174,7 +173,7 @@ def real_devices(program, path):
         ("a file that is not there", '"$2" drive "$1" /none', (1, b"", b"drf: read fault: /none\n")),
         ("a folder is driven", '"$2" drive "$1" /', (1, b"", b"drf: read fault: /\n")),
     ):
-        done = subprocess.run(["bash", "-o", "pipefail", "-c", script, program, path, driver_of(program)], capture_output=True, timeout=60)
+        done = subprocess.run(["bash", "-o", "pipefail", "-c", script, program, path(program)], capture_output=True, timeout=60)
         ends.append((done.returncode, done.stdout, done.stderr) == wanted)
         if not ends[-1]:
             print(f"{name}: status {done.returncode}, {done.stdout[:80]}, {done.stderr[:80]}")
@@ -182,8 +181,8 @@ def real_devices(program, path):
 
 
 def main(program=None, extent=""):
-    program = program or built_program()
-    names = inputs(extent)
+    program = program or released_program()
+    names, wrong = inputs(extent), 0
     with tempfile.TemporaryDirectory() as room, ThreadPool(SIDE_BY_SIDE) as pool:
         library = shim(SHIM, room)
         for words in COMMANDS:
@@ -198,8 +197,10 @@ def main(program=None, extent=""):
             for case in sweep.wrong[:9]:
                 print("wrong:", *case)
             print(f"{' '.join(words):12}{sweep.cases:7} cases, {sweep.faults} faults met, {len(sweep.wrong)} differences", flush=True)
+            wrong += len(sweep.wrong)
         real_devices(program, names[0])
+    return 1 if wrong else 0
 
 
 if __name__ == "__main__":
-    main(*sys.argv[1:3])
+    sys.exit(main(*sys.argv[1:3]))

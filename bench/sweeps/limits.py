@@ -15,7 +15,7 @@ import sys
 from fractions import Fraction
 
 sys.path.append(f"{os.path.dirname(os.path.realpath(__file__))}/../tools")
-from begin import built_program
+from common import released_program
 from churn import line
 
 AGENTS, FRAMEWORKS, ROLES, CLIENTS, FILTERS, ROWS, NAMES, TASKS = 4096, 1024, 8, 4096, 65_536, 4096, 32, 16
@@ -336,13 +336,14 @@ def try_case(case, program, other):
         if other and ran(program, words, input) != ran(other, words, input):
             it.wrong.append(f"the other program's {words[0]} writes other bytes")
     print(f"{case.__name__:18}{len(it.lines):7} lines, {len(it.wrong)} differences", *it.wrong[:5], sep="\n  " if it.wrong else "", flush=True)
+    return len(it.wrong)
 
 
 def main(program=None, extent="", other=None):
-    program = program or built_program()
-    for case in CASES + [most_filters] * (extent == "whole"):
-        try_case(case, program, other)
+    program = program or released_program()
+    wrong = sum([try_case(case, program, other) for case in CASES + [most_filters] * (extent == "whole")])
+    return 1 if wrong else 0
 
 
 if __name__ == "__main__":
-    main(*sys.argv[1:4])
+    sys.exit(main(*sys.argv[1:4]))

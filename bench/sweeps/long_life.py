@@ -13,7 +13,7 @@ import tempfile
 import time
 
 sys.path.append(f"{os.path.dirname(os.path.realpath(__file__))}/../tools")
-from begin import built_program
+from common import released_program
 from churn import Talk, churn
 
 PARTS = 10
@@ -52,7 +52,7 @@ class Watched(Talk):
 
 
 def main(program=None, extent=""):
-    program = program or built_program()
+    program = program or released_program()
     count = 1_000_000 if extent == "whole" else 100_000
     with tempfile.TemporaryDirectory() as room:
         began = time.monotonic()

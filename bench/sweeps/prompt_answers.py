@@ -10,7 +10,7 @@ import subprocess
 import sys
 
 sys.path.append(f"{os.path.dirname(os.path.realpath(__file__))}/../tools")
-from begin import built_program, inspector_of
+from common import released_program
 
 EVENT, FAULT = '{"event":"add_agent","agent":"n1","total":"cpus:1"}', '{"event":"add_agent"}'
 QUESTIONS = ["?report", "?explain", "?offers", "?tasks", "?state", "?tables", "?", "?tasks f1"]
@@ -59,10 +59,9 @@ def late_lines(program, words, lines):
 
 
 def main(program=None):
-    program, wrong = program or built_program(), 0
-    inspector = inspector_of(program)
+    program, wrong = program or released_program(), 0
     for words, lines in CASES:
-        late = late_lines(inspector if words[0] == "lint" else program, words, lines)
+        late = late_lines(program, words, lines)
         print(f"{' '.join(words):18}{len(lines):3} lines, {len(late)} late", *late, sep="\n  " if late else "", flush=True)
         wrong += len(late)
     sys.exit(1 if wrong else 0)

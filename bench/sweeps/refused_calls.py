@@ -15,7 +15,7 @@ import sys
 import tempfile
 
 sys.path.append(f"{os.path.dirname(os.path.realpath(__file__))}/../tools")
-from begin import SWEEPS, built_program, inputs, shim
+from common import SWEEPS, released_program, inputs, shim
 from unproved import build
 
 # A size that nobody asks for tells which growth is refused, and another asks whether one was. An audit asks by several threads.
@@ -100,7 +100,7 @@ def main(sweeps="-", program="-", extent=""):
     names = [f"{SWEEPS}/twelve_agents.jsonl", *inputs(extent)]
     sums = Sums()
     if program == "-":
-        program = built_program()
+        program = released_program()
     with tempfile.TemporaryDirectory() as room:
         if sweeps == "-":
             sweeps = f"{room}/sweeps"
@@ -120,9 +120,10 @@ def main(sweeps="-", program="-", extent=""):
         for figure in rows(ran([sweeps, "calls"], "", library))[0]:
             sums.add(*figure)
     sums.tell()
+    return 1 if sums.wrong else 0
 
 
 if __name__ == "__main__":
     if len(sys.argv) > 4 or sys.argv[1:2] == ["--help"]:
         sys.exit(__doc__)
-    main(*sys.argv[1:4])
+    sys.exit(main(*sys.argv[1:4]))

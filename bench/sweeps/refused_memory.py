@@ -15,7 +15,7 @@ import tempfile
 from multiprocessing.pool import ThreadPool
 
 sys.path.append(f"{os.path.dirname(os.path.realpath(__file__))}/../tools")
-from begin import built_program, driver_of, inputs, shim
+from common import released_program, inputs, shim
 
 SHIM = r"""
 #define _GNU_SOURCE
@@ -87,7 +87,12 @@ def sweep(pool, run, is_right):
     return growth - quiet, went_on - quiet, wrong
 
 
+differences = 0
+
+
 def tell(words, sums):
+    global differences
+    differences += sums[2]
     print(f"{' '.join(words[:2]):12}{sums[0]:7} growths refused, after {sums[1]} all was answered, {sums[2]} differences", flush=True)
 
 
@@ -115,20 +120,20 @@ def sweep_from(pool, names, program, room, shim):
 
 
 def sweep_drive(pool, program, room, shim):
-    names, driver = [], driver_of(program)
+    names = []
     for number, events in enumerate(SCRIPTS):
         names.append(f"{room}/{number}.jsonl")
         with open(names[-1], "w") as script:
             script.writelines(json.dumps(event) + "\n" for event in events)
     words = ["drive", *names]
-    refused, went_on, wrong = sweep(pool, lambda growth: ran(driver, words, b"", shim, growth), lambda done: is_right_drive(program, shim, done))
+    refused, went_on, wrong = sweep(pool, lambda growth: ran(program, words, b"", shim, growth), lambda done: is_right_drive(program, shim, done))
     if wrong:
         print(f"drive: wrong after {wrong[:9]}")
     tell(["drive"], [refused, went_on, len(wrong)])
 
 
 def main(program=None, extent=""):
-    program = program or built_program()
+    program = program or released_program()
     names = inputs(extent)
     with tempfile.TemporaryDirectory() as room, ThreadPool(SIDE_BY_SIDE) as pool:
         library = shim(SHIM, room)
@@ -136,7 +141,8 @@ def main(program=None, extent=""):
             sweep_examples(pool, names, program, words, library)
         sweep_from(pool, names, program, room, library)
         sweep_drive(pool, program, room, library)
+    return 1 if differences else 0
 
 
 if __name__ == "__main__":
-    main(*sys.argv[1:3])
+    sys.exit(main(*sys.argv[1:3]))

@@ -15,7 +15,7 @@ import tempfile
 import time
 
 sys.path.append(f"{os.path.dirname(os.path.realpath(__file__))}/../tools")
-from begin import built_program, driver_of
+from common import released_program
 from churn import line
 
 FILES = (1, 2, 8, 64)
@@ -72,11 +72,11 @@ def write_scripts(room, files, each):
     return names
 
 
-def run(driver, names, journal):
+def run(program, names, journal):
     """The processor seconds of one run and its seconds by the clock."""
     before, began = resource.getrusage(resource.RUSAGE_CHILDREN), time.monotonic()
     with open(journal, "w") as written:
-        subprocess.run([driver, "drive", *names], stdout=written, check=True)
+        subprocess.run([program, "drive", *names], stdout=written, check=True)
     taken, after = time.monotonic() - began, resource.getrusage(resource.RUSAGE_CHILDREN)
     return after.ru_utime + after.ru_stime - before.ru_utime - before.ru_stime, taken
 
@@ -88,10 +88,10 @@ def must_be_good(program, journal, count):
         raise SystemExit(f"not as it must be: {told}")
 
 
-def measure(program, drivers, names, journal, count):
+def measure(program, programs, names, journal, count):
     rounds = []
     for _ in range(RUNS):
-        rounds.append([run(driver, names, journal) for driver in drivers])
+        rounds.append([run(it, names, journal) for it in programs])
         must_be_good(program, journal, count)
     return [[statistics.median(figures) for figures in zip(*runs)] for runs in zip(*rounds)]
 
@@ -103,15 +103,15 @@ def show(files, count, figures):
 
 
 def main(program=None, peer=None):
-    program = program or built_program()
-    drivers = [driver_of(it) for it in [program] + [peer] * (peer is not None)]
-    print(f"{'files':>6}{'events':>9}" + f"{'processor':>12}{'clock':>12}" * len(drivers) + f"{'ratio':>12}{'ratio':>12}" * (len(drivers) - 1))
+    program = program or released_program()
+    programs = [program] + [peer] * (peer is not None)
+    print(f"{'files':>6}{'events':>9}" + f"{'processor':>12}{'clock':>12}" * len(programs) + f"{'ratio':>12}{'ratio':>12}" * (len(programs) - 1))
     with tempfile.TemporaryDirectory() as room:
         for files in FILES:
             names, count = write_scripts(room, files, EVENTS // files), EVENTS // files * files
-            show(files, count, measure(program, drivers, names, f"{room}/journal", count))
+            show(files, count, measure(program, programs, names, f"{room}/journal", count))
         names, count = write_scripts(room, FILES[-1], LONG), FILES[-1] * LONG
-        processor, clock = run(drivers[0], names, f"{room}/journal")
+        processor, clock = run(programs[0], names, f"{room}/journal")
         must_be_good(program, f"{room}/journal", count)
         print(f"{FILES[-1]} files of {LONG} events: {processor:.1f} s of the processor, {clock:.1f} s by the clock, the journal good", flush=True)
     print(f"cores: {os.cpu_count()}")

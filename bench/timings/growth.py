@@ -13,7 +13,7 @@ import sys
 import tempfile
 
 sys.path.append(f"{os.path.dirname(os.path.realpath(__file__))}/../tools")
-from begin import built_program
+from common import released_program
 from churn import PERIOD, line
 
 SIZES = [250, 1000, 4000]
@@ -92,7 +92,7 @@ def main(command):
     cost_of = microseconds
     if command[:1] == ["--instructions"]:
         cost_of, command = instructions, command[1:]
-    command = command or [built_program(), "run"]
+    command = command or [released_program(), "run"]
     print(f"{'what stands':42}" + "".join(f"{n:>9}" for n in SIZES) + f"{'power':>8}")
     for name, lines_of in INPUTS.items():
         costs = [cost_of(command, lines_of(n)) for n in SIZES]

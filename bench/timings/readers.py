@@ -10,7 +10,7 @@ import sys
 import tempfile
 
 sys.path.append(f"{os.path.dirname(os.path.realpath(__file__))}/../tools")
-from begin import ROOT
+from common import ROOT
 from churn import Talk, churn
 from unproved import build
 

@@ -16,7 +16,7 @@ import sys
 import tempfile
 
 sys.path.append(f"{os.path.dirname(os.path.realpath(__file__))}/../tools")
-from begin import ROOT, built_program
+from common import ROOT, released_program
 from churn import Talk, churn, line
 
 RUNS = 3
@@ -137,7 +137,7 @@ def plain_reader(plain, room):
 
 
 def main(program="-", shorter="1", plain=None):
-    program, shorter = built_program() if program == "-" else program, int(shorter)
+    program, shorter = released_program() if program == "-" else program, int(shorter)
     with tempfile.TemporaryDirectory() as room:
         programs = [[program, "run"]] + [[plain_reader(plain, room)]] * (plain is not None)
         print(f"{'input':45}{'lines':>9}" + f"{'seconds':>9}{'lines/s':>10}{'MB/s':>8}{'peak MB':>9}" * len(programs) + f"{'times':>8}" * (len(programs) - 1))

@@ -7,7 +7,7 @@ import math
 import random
 import sys
 
-from begin import ROOT
+from common import ROOT
 from churn import Talk
 
 MINUTE = 60_000

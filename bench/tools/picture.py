@@ -14,7 +14,7 @@ from collections import Counter
 from fractions import Fraction
 from xml.sax.saxutils import escape
 
-from begin import ROOT
+from common import ROOT
 
 TEAMS = ("web", "ci", "data")
 HOUR = 3_600_000

@@ -1,10 +1,9 @@
-//! The program `drf`, on the words of its command line, files and the three standard streams.
+//! The program `drf`: its command line, files and the three standard streams.
 #![tactic(auto)]
 
-use drf_app::command;
+use drf_app::{command, no_words};
 use drf_files::{SystemFiles, random_key};
 use drf_journal::Device;
-use drf_told::no_words;
 use std::env::Env;
 use std::process::ExitCode;
 use std::{env, io};

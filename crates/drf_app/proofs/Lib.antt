@@ -1,1 +1,4 @@
+mod Entered
+mod Flushed
+mod Started
 mod Bounds

@@ -5,25 +5,33 @@ use Rattle.clap.specs.Words.{kind_of}
 use Rattle.clap.specs.declared.error.Error.{Error}
 use Rattle.drf_ask.specs.Ended.{HasAsked}
 use Rattle.drf_core.specs.Machine.{Machine}
+use Rattle.drf_drive.specs.Driven.{HasDrivenFiles}
+use Rattle.drf_drive.specs.JournalText.{is_write_fault}
+use Rattle.drf_drive.specs.declared.script.ScriptFault.{ScriptFault}
 use Rattle.drf_files.specs.Files.{Known}
 use Rattle.drf_journal.specs.Audited.{HasAudited, HasToldOfRows, cycle_text}
 use Rattle.drf_journal.specs.Ended.{HasAnswered, HasCause}
 use Rattle.drf_journal.specs.declared.fault.RunFault.{RunFault}
 use Rattle.drf_journal.specs.declared.journal.Verdict.{Verdict}
 use Rattle.drf_rows.specs.declared.rows.Rows.{Rows}
+use Rattle.drf_show.specs.Showing.{HasShown as HasShownRows}
+use Rattle.drf_show.specs.declared.form.Form.{Form}
+use Rattle.drf_show.specs.declared.form.Form.TheVariants.{Aligned, Json}
 use Rattle.drf_resume.specs.Saving.{HasSaved as HasSavedState}
-use Rattle.drf_start.specs.Starts.{HasNotStarted, IsStart}
-use Rattle.drf_told.specs.Refused.{HasRefused}
-use Rattle.drf_told.specs.Streams.{Streams}
-use Rattle.drf_told.specs.Told.{IsTold, IsToldOf, status_of}
+use Rattle.drf_app.specs.Starts.{HasNotStarted, IsStart}
+use Rattle.drf_app.specs.Refused.{HasRefused}
+use Rattle.drf_app.specs.Streams.{Streams}
+use Rattle.drf_app.specs.Told.{IsTold, IsToldOf, status_of}
 use Rattle.drf_why.specs.Asked.{asked_text, summed_text}
-use Rattle.drf_app.specs.Line.{Asks, IsRefused}
+use Rattle.drf_app.specs.Drives.{HasToldDrive}
+use Rattle.drf_app.specs.Line.{Asks, AsksDrive, Drive, IsRefused, drive_of}
+use Rattle.drf_app.specs.Lints.{IsLinted}
 use Rattle.drf_app.specs.Verdicts.{IsJudged, check_status}
-use Rattle.drf_app.specs.declared.line.Request.{Request}
-use Rattle.drf_app.specs.declared.line.Scope.{Scope}
-use Rattle.drf_app.specs.declared.line.Scope.TheVariants.{Short, Each, Summary, Several}
-use Rattle.drf_app.specs.declared.line.Task.{Task}
-use Rattle.drf_app.specs.declared.line.Task.TheVariants.{Run, Check, Audit, Explain, Save}
+use Rattle.drf_app.specs.declared.request.Request.{Request}
+use Rattle.drf_app.specs.declared.request.Scope.{Scope}
+use Rattle.drf_app.specs.declared.request.Scope.TheVariants.{Short, Each, Summary, Several}
+use Rattle.drf_app.specs.declared.request.Task.{Task}
+use Rattle.drf_app.specs.declared.request.Task.TheVariants.{Run, Check, Audit, Explain, Save, Show, Lint}
 
 -- the lines of a reader were answered, or its questions too
 abbrev pub HasAnsweredAs : (ask : Bool) → Machine → Bool → (unread_before unread_after written_before written_after : Option (List ℕ))
@@ -89,6 +97,26 @@ pub record HasSaved (machine : Machine) (epoch : Bool) (old new : Streams) (answ
   pub status : answer ≡ status_of ended
   pub told : IsToldOf ended old.errors.bytes new.errors.bytes new.errors.failed
 
+abbrev pub form_of : Bool → Form
+form_of true = Json
+form_of false = Aligned
+
+-- the state was shown, as tables or as lines
+pub record HasShown (machine : Machine) (json : Bool) (old new : Streams) (answer : ℕ) : Type 0 where
+  pub ended : Result (Unit {0}) RunFault
+  pub shown : HasShownRows (form_of json) machine old.input.bytes new.input.bytes old.output.bytes new.output.bytes ended
+  pub cause : HasCause ended new.input.failed new.input.calls new.output.failed
+  pub status : answer ≡ status_of ended
+  pub told : IsToldOf ended old.errors.bytes new.errors.bytes new.errors.failed
+
+-- a drive of the files of these names, which begins with an allocator
+pub record HasDriven (start : Machine) (known : Known) (names : List (List ℕ)) (old new : Streams) (answer : ℕ) : Type 0 where
+  pub ended : Result (Unit {0}) ScriptFault
+  pub input : new.input ≡ old.input
+  pub driven : HasDrivenFiles start known names old.output.bytes new.output.bytes ended
+  pub cause : new.output.failed ≡ is_write_fault ended
+  pub told : HasToldDrive names ended answer old.errors.bytes new.errors.bytes new.errors.failed
+
 -- what is done for a task that begins with an allocator
 abbrev pub HasDoneFrom : Machine → Task → Streams → Streams → ℕ → Type 0
 HasDoneFrom machine (Run echo ask) old new answer = HasRun machine echo ask old new answer
@@ -96,6 +124,8 @@ HasDoneFrom machine Check old new answer = HasChecked machine old new answer
 HasDoneFrom machine Audit old new answer = HasAudit machine old new answer
 HasDoneFrom machine (Explain at scope) old new answer = HasExplained machine at scope old new answer
 HasDoneFrom machine (Save epoch) old new answer = HasSaved machine epoch old new answer
+HasDoneFrom machine (Show json) old new answer = HasShown machine json old new answer
+HasDoneFrom machine (Lint write) old new answer = IsLinted write old new answer
 
 -- what is done for a request, where so much is known of files: its task has not begun, or was done from what it begins with
 abbrev pub HasDone : Known → Request → Streams → Streams → ℕ → Type 0
@@ -103,8 +133,19 @@ HasDone known request old new answer =
     HasNotStarted known (option_map (λ name. name.now) request.from) old new answer
     ⊎ ((start : Machine) × IsStart known (option_map (λ name. name.now) request.from) start × HasDoneFrom start request.task old new answer)
 
+-- and for a drive
+abbrev pub HasDoneDrive : Known → Drive → Streams → Streams → ℕ → Type 0
+HasDoneDrive known drive old new answer =
+    HasNotStarted known drive.from old new answer
+    ⊎ ((start : Machine) × IsStart known drive.from start × HasDriven start known drive.files old new answer)
+
 -- what the words ask for was done, or they were refused
-abbrev pub HasObeyed : Known → List (List ℕ) → Streams → Streams → ℕ → Type 0
-HasObeyed known words old new answer =
-    ((request : Request) × Asks words request × HasDone known request old new answer)
-    ⊎ ((error : Error) × IsRefused words error × HasRefused (kind_of error) old new answer)
+pub data HasObeyed (known : Known) (words : List (List ℕ)) (old new : Streams) (answer : ℕ) : Type 0 where
+  done : (request : Request) → Asks words request → HasDone known request old new answer → HasObeyed known words old new answer
+  driven : (asks : AsksDrive words) → HasDoneDrive known (drive_of asks.rows) old new answer → HasObeyed known words old new answer
+  refused : (error : Error) → IsRefused words error → HasRefused (kind_of error) old new answer → HasObeyed known words old new answer
+
+-- the words ask for a drive, and nothing was done as yet
+pub record IsLeft (words : List (List ℕ)) (old new : Streams) : Type 0 where
+  pub asks : AsksDrive words
+  pub same : new ≡ old

@@ -1,3 +1,11 @@
+pub mod Arguments
+pub mod FileNames
+pub mod Told
+pub mod Streams
+pub mod Refused
+pub mod Starts
 pub mod Line
 pub mod Verdicts
+pub mod Lints
+pub mod Drives
 pub mod Done

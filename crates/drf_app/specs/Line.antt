@@ -1,22 +1,25 @@
 -- The form of the command line, and what its words ask for.
-use Rattle.std.specs.Prelude.{◌≡◌, ◌≤◌, ⊤, ℕ, Bool, true, false, List, [], ◌∷◌, Option, Some, None, codes, option_map, if◌then◌else◌}
+use Rattle.std.specs.Prelude.{◌≡◌, ◌≤◌, ⊤, ℕ, Bool, true, false, List, [], ◌∷◌, Option, Some, None, codes, option_map, take, unwrap_or, if◌then◌else◌}
 use Rattle.std.specs.Str.Parse.{IsNumeral, digits_value, without_leading_plus}
 use Rattle.clap.specs.Words.{App, Row, Rule, Text, HasKind, all_of, fault_of, first_of, new_app, new_rule, one_of, subcommand_of, with_rule, with_subcommand}
-use Rattle.clap.specs.declared.builder.action.ArgAction.TheVariants.{Set}
+use Rattle.clap.specs.declared.builder.action.ArgAction.TheVariants.{Append, Set}
 use Rattle.clap.specs.declared.builder.value_parser.ValueParser.TheVariants.{Unsigned}
 use Rattle.clap.specs.declared.error.Error.{Error}
 use Rattle.drf_rows.specs.declared.limits.TheConstants.{LATEST_MOMENT}
-use Rattle.drf_start.specs.Line.{from_option}
-use Rattle.drf_told.specs.Words.{HasFlag, IsNameOf, flag, top_line}
-use Rattle.drf_app.specs.declared.line.Request.{Request}
+use Rattle.drf_app.specs.Arguments.{HasFlag, IsNameOf, flag, top_line}
+use Rattle.drf_app.specs.declared.request.Request.{Request}
 use Rattle.drf_why.specs.declared.whom.Whom.{Whom}
 use Rattle.drf_why.specs.declared.whom.Whom.TheVariants as whom
-use Rattle.drf_app.specs.declared.line.Scope.{Scope}
-use Rattle.drf_app.specs.declared.line.Scope.TheVariants.{Short, Each, Summary, Several}
-use Rattle.drf_app.specs.declared.line.Task.{Task}
-use Rattle.drf_app.specs.declared.line.Task.TheVariants.{Run, Check, Audit, Explain, Save}
+use Rattle.drf_app.specs.declared.request.Scope.{Scope}
+use Rattle.drf_app.specs.declared.request.Scope.TheVariants.{Short, Each, Summary, Several}
+use Rattle.drf_app.specs.declared.request.Task.{Task}
+use Rattle.drf_app.specs.declared.request.Task.TheVariants.{Run, Check, Audit, Explain, Save, Show, Lint}
 
--- ---- the form, in which each command has `[--from STATE]`
+-- ---- the form
+
+-- `--from STATE`, which each command has but `lint`
+abbrev pub from_option : Rule
+from_option = record (new_rule (codes "from")) { long = Some (codes "from"); value_names = 1; action = Some Set }
 
 abbrev pub moment_option : Rule
 moment_option = record (new_rule (codes "at")) { long = Some (codes "at"); action = Some Set; parser = Some (Unsigned 0 LATEST_MOMENT) }
@@ -49,10 +52,30 @@ explain_line =
 abbrev pub save_line : App
 save_line = with_rule (with_rule (new_app (codes "save")) (flag (codes "epoch"))) from_option
 
+-- `show [--json]`
+abbrev pub show_line : App
+show_line = with_rule (with_rule (new_app (codes "show")) (flag (codes "json"))) from_option
+
+-- `lint [--write]`
+abbrev pub lint_line : App
+lint_line = with_rule (new_app (codes "lint")) (flag (codes "write"))
+
+-- 1 to 64 files
+abbrev pub file_words : Rule
+file_words = record (new_rule (codes "FILE")) {
+  required = true;
+  range = Some (record { start_inclusive = 1; end_inclusive = 64 });
+  action = Some Append;
+}
+
+-- `drive FILE..`
+abbrev pub drive_line : App
+drive_line = with_rule (with_rule (new_app (codes "drive")) from_option) file_words
+
 abbrev pub drf_line : App
 drf_line =
-    with_subcommand (with_subcommand (with_subcommand (with_subcommand (with_subcommand top_line run_line.top)
-    check_line.top) audit_line.top) explain_line.top) save_line.top
+    with_subcommand (with_subcommand (with_subcommand (with_subcommand (with_subcommand (with_subcommand (with_subcommand (with_subcommand top_line
+    run_line.top) check_line.top) audit_line.top) show_line.top) explain_line.top) save_line.top) lint_line.top) drive_line.top
 
 -- ---- what the words of a command say
 
@@ -115,6 +138,8 @@ name_of Check = codes "check"
 name_of Audit = codes "audit"
 name_of (Explain at scope) = codes "explain"
 name_of (Save epoch) = codes "save"
+name_of (Show json) = codes "show"
+name_of (Lint write) = codes "lint"
 
 -- a command has that name
 abbrev pub IsCommand : Text → Type 0
@@ -127,11 +152,11 @@ SaysTask rows Check = ⊤
 SaysTask rows Audit = ⊤
 SaysTask rows (Explain at scope) = SaysMoment rows at × SaysScope rows scope
 SaysTask rows (Save epoch) = HasFlag rows (codes "epoch") epoch
+SaysTask rows (Show json) = HasFlag rows (codes "json") json
+SaysTask rows (Lint write) = HasFlag rows (codes "write") write
 
--- the words name the command of the task, and the file with the state that it begins with, if it begins with one
-pub record IsNamed (words : List Text) (request : Request) : Type 0 where
-  pub rows : List Row
-  pub entered : subcommand_of drf_line words ≡ Some (name_of request.task, rows)
+-- and so is the file with the state that it begins with, if it begins with one
+pub record SaysRequest (rows : List Row) (request : Request) : Type 0 where
   pub task : SaysTask rows request.task
   pub from : option_map (λ name. name.now) request.from ≡ first_of (codes "from") rows
 
@@ -142,11 +167,35 @@ IsWithinBounds Check = ⊤
 IsWithinBounds Audit = ⊤
 IsWithinBounds (Explain at scope) = at ≤ LATEST_MOMENT
 IsWithinBounds (Save epoch) = ⊤
+IsWithinBounds (Show json) = ⊤
+IsWithinBounds (Lint write) = ⊤
 
--- the words, of which the first is the program's name, ask for that: nothing is wrong with them, and they name it
-pub record Asks (words : List Text) (request : Request) : Type 0 where
+-- what the words of a drive say: the first 64 of the files that they name (right words name no more), and the file with the state that it begins with, if
+-- it begins with one
+pub record Drive : Type 0 where
+  pub files : List Text
+  pub from : Option Text
+
+abbrev pub drive_of : List Row → Drive
+drive_of rows = record { files = take 64 (unwrap_or (all_of (codes "FILE") rows) []); from = first_of (codes "from") rows }
+
+-- ---- what the words ask for
+
+-- the words, of which the first is the program's name, name that command, and nothing is wrong with them
+pub record Names (words : List Text) (name : Text) (rows : List Row) : Type 0 where
   pub right : fault_of drf_line words ≡ []
-  pub named : IsNamed words request
+  pub entered : subcommand_of drf_line words ≡ Some (name, rows)
+
+-- they ask for the task of a request
+pub record Asks (words : List Text) (request : Request) : Type 0 where
+  pub rows : List Row
+  pub names : Names words (name_of request.task) rows
+  pub says : SaysRequest rows request
+
+-- they ask for a drive
+pub record AsksDrive (words : List Text) : Type 0 where
+  pub rows : List Row
+  pub names : Names words (codes "drive") rows
 
 -- the words are refused for what is wrong with them or for what they show, or memory ran out before they were read
 abbrev pub IsRefused : List Text → Error → Type 0

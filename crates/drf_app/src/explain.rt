@@ -3,20 +3,20 @@ ghost use Rattle.std.specs.Prelude.{◌≡◌, ◌≤◌, ◌^◌, true, false};
 ghost use Rattle.drf_core.specs.Machine.{live};
 ghost use Rattle.drf_journal.specs.Device.{IsNew};
 ghost use Rattle.drf_rows.specs.declared.limits.TheConstants.{LATEST_MOMENT};
-ghost use Rattle.drf_told.specs.Streams.{stream_of};
+ghost use Rattle.drf_app.specs.Streams.{stream_of};
 ghost use Rattle.drf_app.specs.Done.{HasExplained};
 
-use crate::line::Scope;
+use crate::messages::{finish, tell};
+use crate::request::Scope;
 use drf_core::Core;
 use drf_journal::{Device, ProgramSorter, run_explain};
-use drf_told::{finish, tell};
 use drf_why::{tell_each, tell_summary};
 use std::alloc::Global;
 use std::io::{Read, Write};
 
 /// Tells of the cycle at a moment, in milliseconds, that an allocator would make after the events of a reader's lines, and gives the program's
 /// status.
-#[tactic(auto, using(drf_told::proofs::Flushed::flushed_unless_failed))]
+#[tactic(auto, using(crate::proofs::Flushed::flushed_unless_failed))]
 pub(crate) fn explain<R: Read, W: Write, E: Write>(
     alloc: Global,
     core: Core<ProgramSorter>,

@@ -1,11 +1,25 @@
-//! The command line: what its words ask for, what a command reads, writes and tells, and its status.
+//! The command line: what its arguments ask for, what each command reads, writes and reports, and its exit status.
 #![tactic(auto)]
 
+mod arguments;
 mod check;
+mod commands;
+mod drive;
 mod explain;
+mod file_name;
 mod line;
+mod lint;
+mod messages;
+mod refusal;
+mod refused_line;
+mod request;
 mod run;
+mod show;
+mod start;
 mod tasks;
+mod unread;
 
-pub use line::{Request, Scope, Task};
-pub use tasks::command;
+pub use commands::command;
+pub use messages::no_words;
+pub use request::{Request, Scope, Task};
+pub use tasks::perform;

@@ -1,30 +1,36 @@
-//! A whole command.
-ghost use Rattle.std.specs.Prelude.{◌≡◌, ◌≤◌, ◌^◌, map, true, false};
+//! Every command but `drive`.
+ghost use Rattle.std.specs.Prelude.{◌≡◌, ◌≤◌, ◌^◌, ℕ, List, None, IfSome, map, true, false, codes};
+ghost use Rattle.clap.specs.Words.{found_of, rows_of};
 ghost use Rattle.drf_core.specs.Machine.{live};
 ghost use Rattle.drf_journal.specs.Device.{IsNew};
 ghost use Rattle.drf_rows.specs.LimitNumbers.{ceilings};
-ghost use Rattle.drf_told.specs.Streams.{stream_of};
-ghost use Rattle.drf_app.specs.Done.{HasDone, HasDoneFrom, HasObeyed};
-ghost use Rattle.drf_app.specs.Line.{IsWithinBounds};
+ghost use Rattle.drf_app.specs.Streams.{stream_of};
+ghost use Rattle.drf_app.specs.Done.{HasDone, HasDoneFrom, HasObeyed, IsLeft};
+ghost use Rattle.drf_app.specs.Line.{IsCommand, IsWithinBounds, Names};
 
+use crate::arguments::read_arguments;
 use crate::check::{check, verdict_status};
 use crate::explain::explain;
-use crate::line::{Request, Task, request_of};
+use crate::lint::lint;
+use crate::messages::finish;
+use crate::refusal::refuse;
+use crate::request::{Request, Task, request_of};
 use crate::run::answer;
+use crate::show::show;
+use crate::start::{begin, tell_start};
+use clap::ArgMatches;
 use drf_core::Core;
 use drf_files::FileBytes;
 use drf_journal::{Device, ProgramSorter, run_audit};
 use drf_resume::save;
-use drf_start::{begin, tell_start};
-use drf_told::{finish, refuse};
 use std::alloc::Global;
 use std::convert::AsStr;
 use std::io::{Read, Write};
 use std::thread::Threads;
 
 /// Does a task that begins with an allocator.
-#[tactic(auto, using(drf_told::proofs::Flushed::flushed_unless_failed))]
-fn perform_from<R: Read, W: Write, E: Write>(
+#[tactic(auto, using(crate::proofs::Flushed::flushed_unless_failed))]
+fn perform_task<R: Read, W: Write, E: Write>(
     rt: &(impl Threads + Sync),
     alloc: Global,
     core: Core<ProgramSorter>,
@@ -63,11 +69,16 @@ fn perform_from<R: Read, W: Write, E: Write>(
             let ended = save(alloc, core, epoch, input, output);
             finish(ended, errors)
         }
+        Task::Show { json } => {
+            let ended = show(rt, alloc, core, json, input, output);
+            finish(ended, errors)
+        }
+        Task::Lint { write } => lint(alloc, write, input, output, errors),
     }
 }
 
 /// Does what is asked for, or tells why it has not begun.
-fn perform<F: FileBytes, R: Read, W: Write, E: Write>(
+fn perform_request<F: FileBytes, R: Read, W: Write, E: Write>(
     rt: &(impl Threads + Sync),
     alloc: Global,
     request: Request<'_>,
@@ -88,15 +99,47 @@ fn perform<F: FileBytes, R: Read, W: Write, E: Write>(
     ensures reads { input.new.calls ≤ 2 ^ 40 }
 {
     match begin(alloc, files, request.from) {
-        Ok(core) => perform_from(rt, alloc, core, request.task, input, output, errors),
+        Ok(core) => perform_task(rt, alloc, core, request.task, input, output, errors),
         Err(fault) => tell_start(alloc, request.from, fault, errors),
     }
 }
 
-/// Does what the words ask for, of which the first is the program's name: reads the file that they name, then `input`, writes `output`, tells
-/// faults on `errors`, and gives the program's status. That is 0, 1 where a file or a stream failed or memory ran out, 2 where the words ask
-/// for nothing that there is, or 3 where a journal is wrong or a file is no state.
-pub fn command<S: AsStr, F: FileBytes, R: Read, W: Write, E: Write>(
+/// Performs the command of a name, unless it is a drive.
+fn perform_named<F: FileBytes, R: Read, W: Write, E: Write>(
+    rt: &(impl Threads + Sync),
+    alloc: Global,
+    name: &str,
+    arguments: &ArgMatches,
+    files: &mut F,
+    input: &mut Device<R>,
+    output: &mut Device<W>,
+    errors: &mut Device<E>,
+) -> Option<u8>
+    requires command { IsCommand name.now }
+    requires input { IsNew input.old.calls input.old.failed }
+    requires output { IsNew output.old.calls output.old.failed }
+    requires errors { IsNew errors.old.calls errors.old.failed }
+    ensures obeyed { (words : List (List ℕ)) → Names words name.now (rows_of (found_of arguments.now))
+        → IfSome result (HasObeyed (F.known files.old) words
+        (record { input = stream_of R.remaining input.old; output = stream_of W.contents output.old; errors = stream_of E.contents errors.old })
+        (record { input = stream_of R.remaining input.new; output = stream_of W.contents output.new; errors = stream_of E.contents errors.new })) }
+    ensures left { result ≡ None → (name.now ≡ codes "drive") × ((record { input = stream_of R.remaining input.new; output = stream_of W.contents output.new; errors = stream_of E.contents errors.new }) ≡ (record { input = stream_of R.remaining input.old; output = stream_of W.contents output.old; errors = stream_of E.contents errors.old })) }
+    ensures files { result ≡ None → F.known files.new ≡ F.known files.old }
+    ensures flushed { output.old.flushed ≡ true → output.new.failed ≡ false → output.new.flushed ≡ true }
+    ensures reads { input.new.calls ≤ 2 ^ 40 }
+{
+    if name == "drive" {
+        return None;
+    }
+    let request = request_of(name, arguments);
+    Some(perform_request(rt, alloc, request, files, input, output, errors))
+}
+
+/// Performs what the arguments ask for, of which the first is the program's name: reads the file that they name, then `input`, writes `output`,
+/// reports errors on `errors`, and returns the exit status. That is 0, 1 where a file or a stream failed or memory ran out, 2 where the arguments ask for
+/// nothing that there is, or 3 where a journal is wrong, a file is no state or `lint` found a line that is no event. Returns `None`, and does
+/// nothing, where they ask for a drive.
+pub fn perform<S: AsStr, F: FileBytes, R: Read, W: Write, E: Write>(
     rt: &(impl Threads + Sync),
     alloc: Global,
     words: &[S],
@@ -104,19 +147,24 @@ pub fn command<S: AsStr, F: FileBytes, R: Read, W: Write, E: Write>(
     input: &mut Device<R>,
     output: &mut Device<W>,
     errors: &mut Device<E>,
-) -> u8
+) -> Option<u8>
     requires input { IsNew input.old.calls input.old.failed }
     requires output { IsNew output.old.calls output.old.failed }
     requires errors { IsNew errors.old.calls errors.old.failed }
-    ensures obeyed { HasObeyed (F.known files.old) (map S.text words.now)
+    ensures obeyed { IfSome result (HasObeyed (F.known files.old) (map S.text words.now)
         (record { input = stream_of R.remaining input.old; output = stream_of W.contents output.old; errors = stream_of E.contents errors.old })
-        (record { input = stream_of R.remaining input.new; output = stream_of W.contents output.new; errors = stream_of E.contents errors.new })
-        result }
+        (record { input = stream_of R.remaining input.new; output = stream_of W.contents output.new; errors = stream_of E.contents errors.new })) }
+    ensures left { result ≡ None → IsLeft (map S.text words.now)
+        (record { input = stream_of R.remaining input.old; output = stream_of W.contents output.old; errors = stream_of E.contents errors.old })
+        (record { input = stream_of R.remaining input.new; output = stream_of W.contents output.new; errors = stream_of E.contents errors.new }) }
+    ensures files { result ≡ None → F.known files.new ≡ F.known files.old }
     ensures flushed { output.old.flushed ≡ true → output.new.failed ≡ false → output.new.flushed ≡ true }
     ensures reads { input.new.calls ≤ 2 ^ 40 }
 {
-    match request_of(alloc, words) {
-        Ok(request) => perform(rt, alloc, request, files, input, output, errors),
-        Err(error) => refuse(alloc, &error, output, errors),
+    match read_arguments(alloc, words) {
+        Ok((name, arguments)) => perform_named(
+            rt, alloc, name, &arguments, files, input, output, errors,
+        ),
+        Err(error) => Some(refuse(alloc, &error, output, errors)),
     }
 }

@@ -3,10 +3,8 @@
 //! whose lines may stand in several orders is told by what `check`, from the same state, says of it, behind `?`.
 use crate::streams::{Bounds, Full, NO_BOUNDS, Slow};
 use drf_app::command;
-use drf_drive_app::command as drive_command;
 use drf_files::{FileBytes, SystemFiles};
 use drf_hash::HashKey;
-use drf_inspect_app::command as inspect_command;
 use drf_journal::{Device, RunFault};
 use std::alloc::{AllocError, Global};
 use std::rt::{Files, Runtime};
@@ -137,14 +135,6 @@ pub struct Done {
     pub told: Vec<u8>,
 }
 
-/// The word behind the program's name.
-fn first_of<'a>(words: &[&'a str]) -> &'a str {
-    match words.get(1) {
-        Some(word) => *word,
-        None => "",
-    }
-}
-
 /// Does what words ask for, with a state under the name `STATE`.
 pub fn done_from<R: Files + Threads + Wait + Sync + AllocGlobal>(
     rt: &R,
@@ -158,30 +148,15 @@ pub fn done_from<R: Files + Threads + Wait + Sync + AllocGlobal>(
     let mut writer = Device::new(Full::new(alloc, bounds));
     let mut errors = Device::new(Full::new(alloc, NO_BOUNDS));
     let mut files = WithState { rt, state };
-    let first = first_of(words);
-    let status = if first == "drive" {
-        drive_command(rt, alloc, words, &mut files, &mut writer, &mut errors)
-    } else if first == "show" || first == "lint" {
-        inspect_command(
-            rt,
-            alloc,
-            words,
-            &mut files,
-            &mut reader,
-            &mut writer,
-            &mut errors,
-        )
-    } else {
-        command(
-            rt,
-            alloc,
-            words,
-            &mut files,
-            &mut reader,
-            &mut writer,
-            &mut errors,
-        )
-    };
+    let status = command(
+        rt,
+        alloc,
+        words,
+        &mut files,
+        &mut reader,
+        &mut writer,
+        &mut errors,
+    );
     Done {
         status,
         written: writer.into_inner().into_taken(),

@@ -1,23 +1,17 @@
-use Rattle.std.proofs.Common.{◌≡◌, ap, ap₂, ◌∙◌}
-use Rattle.std.proofs.lemmas.Result.{IfOk-weaker}
-use Rattle.clap.specs.Words.{App, app_of, with_subcommand}
+use Rattle.std.proofs.Common.{◌≡◌, ap, refl, ◌∙◌}
+use Rattle.clap.specs.Words.{app_of}
 use Rattle.clap.specs.Simple.{app_of_fields}
-use Rattle.drf_told.specs.Words.{top_line}
-use Rattle.drf_told.proofs.Words.{local}
+use Rattle.drf_app.specs.Arguments.{top_line}
 use Rattle.drf_app.proofs.line.drf_line.Goals as goal
 
 pub returns : goal.returns
 returns c =
-    let top : app_of c.after_help.result ≡ top_line = ap app_of_fields c.after_help.ensures ∙ c.top_line.ensures in
-    let with_run = c.in_ok-subcommand.ensures.shape (local c.in_ok-run.run' (ap (λ (a : App). a.top.is_plain) c.in_ok-run.ensures))
-    ∙ ap₂ with_subcommand top (ap (λ (a : App). a.top) c.in_ok-run.ensures) in
-    let with_check = c.in_ok-subcommand-2.ensures.shape (local c.in_ok-check.check (ap (λ (a : App). a.top.is_plain) c.in_ok-check.ensures))
-    ∙ ap₂ with_subcommand with_run (ap (λ (a : App). a.top) c.in_ok-check.ensures) in
-    let with_audit = c.in_ok-subcommand-3.ensures.shape (local c.in_ok-audit.audit (ap (λ (a : App). a.top.is_plain) c.in_ok-audit.ensures))
-    ∙ ap₂ with_subcommand with_check (ap (λ (a : App). a.top) c.in_ok-audit.ensures) in
-    let with_explain = c.in_ok-subcommand-4.ensures.shape (local c.in_ok-explain.explain (ap (λ (a : App). a.top.is_plain) c.in_ok-explain.ensures))
-    ∙ ap₂ with_subcommand with_audit (ap (λ (a : App). a.top) c.in_ok-explain.ensures) in
-    IfOk-weaker c.subcommand-5.result _ _
-    (λ line added. added.shape (local c.in_ok-save.save (ap (λ (a : App). a.top.is_plain) c.in_ok-save.ensures))
-    ∙ ap₂ with_subcommand with_explain (ap (λ (a : App). a.top) c.in_ok-save.ensures))
-    c.subcommand-5.ensures
+    let top : app_of c.after_help-top.result ≡ top_line = ap app_of_fields c.after_help-top.ensures ∙ c.top_line.ensures in
+    let with_run = c.with_command-line.ensures _ _ top c.run_line.ensures refl in
+    let with_check = c.with_command-line-2.ensures _ _ with_run c.check_line.ensures refl in
+    let with_audit = c.with_command-line-3.ensures _ _ with_check c.audit_line.ensures refl in
+    let with_show = c.with_command-line-4.ensures _ _ with_audit c.show_line.ensures refl in
+    let with_explain = c.with_command-line-5.ensures _ _ with_show c.explain_line.ensures refl in
+    let with_save = c.with_command-line-6.ensures _ _ with_explain c.save_line.ensures refl in
+    let with_lint = c.with_command-line-7.ensures _ _ with_save c.lint_line.ensures refl in
+    c.with_command.ensures _ _ with_lint c.drive_line.ensures refl

@@ -8,10 +8,9 @@ pub returns : goal.returns
 returns c =
     let named : app_of c.after_help.result ≡ new_app (codes "explain") =
     ap app_of_fields c.after_help.ensures ∙ (ap app_of_fields c.about.ensures ∙ c.new.ensures.app) in
-    let with_moment = c.in_ok-arg.ensures.shape c.moment_option.ensures.local ∙ ap₂ with_rule named c.moment_option.ensures.rule in
-    let with_each = c.in_ok-arg-2.ensures.shape c.flag.ensures.local ∙ ap₂ with_rule with_moment c.flag.ensures.rule in
-    let with_client = c.in_ok-arg-3.ensures.shape c.client_option.ensures.local ∙ ap₂ with_rule with_each c.client_option.ensures.rule in
-    let with_agent = c.in_ok-arg-4.ensures.shape c.agent_option.ensures.local ∙ ap₂ with_rule with_client c.agent_option.ensures.rule in
-    let with_summary = c.in_ok-arg-5.ensures.shape c.flag-2.ensures.local ∙ ap₂ with_rule with_agent c.flag-2.ensures.rule in
-    IfOk-weaker c.arg-6.result _ _
-    (λ line added. added.shape c.from_option.ensures.local ∙ ap₂ with_rule with_summary c.from_option.ensures.rule) c.arg-6.ensures
+    let first = IfOk-weaker c.arg-line.result _ _ (λ line added. added.shape c.moment_option.ensures.local ∙ ap₂ with_rule named c.moment_option.ensures.rule) c.arg-line.ensures in
+    let with_each = c.with_argument-line.ensures _ _ first c.flag-each.ensures.rule in
+    let with_client = c.with_argument-line-2.ensures _ _ with_each c.client_option.ensures.rule in
+    let with_agent = c.with_argument-line-3.ensures _ _ with_client c.agent_option.ensures.rule in
+    let with_summary = c.with_argument-line-4.ensures _ _ with_agent c.flag-summary.ensures.rule in
+    c.with_argument.ensures _ _ with_summary c.from_option.ensures.rule

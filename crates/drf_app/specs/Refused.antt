@@ -1,0 +1,41 @@
+-- What a command does whose words ask for nothing that there is.
+use Rattle.std.specs.Prelude.{◌≡◌, ℕ, ◌⊎◌, List, Result, IfErr, is_err}
+use Rattle.clap.specs.declared.error.kind.ErrorKind.{ErrorKind}
+use Rattle.clap.specs.declared.error.kind.ErrorKind.TheVariants.{OutOfMemory, DisplayHelp, DisplayVersion}
+use Rattle.drf_journal.specs.declared.fault.RunFault.{RunFault}
+use Rattle.drf_journal.specs.declared.fault.RunFault.TheVariants.{Write, Memory}
+use Rattle.drf_app.specs.Streams.{Streams}
+use Rattle.drf_app.specs.Told.{IsTold, IsToldOf, fault_line, status_of}
+
+-- memory ran out before anything was written
+pub record HasNoMemory (old new : Streams) (answer : ℕ) : Type 0 where
+  pub input : new.input ≡ old.input
+  pub output : new.output ≡ old.output
+  pub status : answer ≡ 1
+  pub told : IsTold (fault_line Memory) old.errors.bytes new.errors.bytes new.errors.failed
+
+-- help or the version was written
+pub record HasShown (old new : Streams) (answer : ℕ) : Type 0 where
+  pub ended : Result (Unit {0}) RunFault
+  pub text : List ℕ
+  pub input : new.input ≡ old.input
+  pub shown : IsTold text old.output.bytes new.output.bytes new.output.failed
+  pub fault : IfErr ended (λ fault. fault ≡ Write)
+  pub cause : new.output.failed ≡ is_err ended
+  pub status : answer ≡ status_of ended
+  pub told : IsToldOf ended old.errors.bytes new.errors.bytes new.errors.failed
+
+-- what is wrong with the words was told
+pub record HasExplained (old new : Streams) (answer : ℕ) : Type 0 where
+  pub text : List ℕ
+  pub input : new.input ≡ old.input
+  pub output : new.output ≡ old.output
+  pub status : answer ≡ 2
+  pub told : IsTold text old.errors.bytes new.errors.bytes new.errors.failed
+
+-- what is done where words ask for no task
+abbrev pub HasRefused : ErrorKind → Streams → Streams → ℕ → Type 0
+HasRefused OutOfMemory old new answer = HasNoMemory old new answer
+HasRefused DisplayHelp old new answer = HasShown old new answer ⊎ HasNoMemory old new answer
+HasRefused DisplayVersion old new answer = HasShown old new answer ⊎ HasNoMemory old new answer
+HasRefused mistake old new answer = HasExplained old new answer ⊎ HasNoMemory old new answer

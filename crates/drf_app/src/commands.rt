@@ -1,0 +1,42 @@
+//! A whole command line.
+ghost use Rattle.std.specs.Prelude.{◌≡◌, ◌≤◌, ◌^◌, map, true, false};
+ghost use Rattle.drf_journal.specs.Device.{IsNew};
+ghost use Rattle.drf_app.specs.Done.{HasObeyed};
+ghost use Rattle.drf_app.specs.Streams.{stream_of};
+
+use crate::drive::drive;
+use crate::tasks::perform;
+use drf_files::FileBytes;
+use drf_journal::Device;
+use std::alloc::Global;
+use std::convert::AsStr;
+use std::io::{Read, Write};
+use std::sync::Wait;
+use std::thread::Threads;
+
+/// Performs what the arguments ask for, as [`perform`] does, a drive included: its exit status is 0, 1 where a file or a stream failed, memory ran out
+/// or a drive did not close, 2 where the arguments ask for nothing that there is, or 3 where a line of a file is no event or a file is no state.
+pub fn command<S: AsStr, F: FileBytes, R: Read, W: Write, E: Write>(
+    rt: &(impl Threads + Wait + Sync),
+    alloc: Global,
+    words: &[S],
+    files: &mut F,
+    input: &mut Device<R>,
+    output: &mut Device<W>,
+    errors: &mut Device<E>,
+) -> u8
+    requires input { IsNew input.old.calls input.old.failed }
+    requires output { IsNew output.old.calls output.old.failed }
+    requires errors { IsNew errors.old.calls errors.old.failed }
+    ensures obeyed { HasObeyed (F.known files.old) (map S.text words.now)
+        (record { input = stream_of R.remaining input.old; output = stream_of W.contents output.old; errors = stream_of E.contents errors.old })
+        (record { input = stream_of R.remaining input.new; output = stream_of W.contents output.new; errors = stream_of E.contents errors.new })
+        result }
+    ensures flushed { output.old.flushed ≡ true → output.new.failed ≡ false → output.new.flushed ≡ true }
+    ensures reads { input.new.calls ≤ 2 ^ 40 }
+{
+    match perform(rt, alloc, words, files, input, output, errors) {
+        Some(status) => status,
+        None => drive(rt, alloc, words, files, output, errors),
+    }
+}

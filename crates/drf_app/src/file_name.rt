@@ -1,0 +1,43 @@
+//! The name of a file, as it is told.
+ghost use Rattle.std.specs.Prelude.{◌≡◌, ◌++◌, OnOk};
+ghost use Rattle.std.specs.List.{flat_map};
+ghost use Rattle.drf_app.specs.FileNames.{told_byte, told_name};
+
+use std::alloc::AllocError;
+
+// Adds a byte of a name.
+fn push_byte(text: &mut Vec<u8>, byte: u8) -> Result<(), AllocError>
+    ensures { OnOk result (text.new.items ≡ text.old.items ++ told_byte byte) }
+{
+    if byte >= 128 {
+        text.push(byte)?;
+        return Ok(());
+    }
+    for escaped in byte.escape_ascii() {
+        text.push(escaped)?;
+    }
+    Ok(())
+}
+
+fn push_bytes(text: &mut Vec<u8>, bytes: &[u8]) -> Result<(), AllocError>
+    ensures { OnOk result (text.new.items ≡ text.old.items ++ flat_map told_byte bytes.now) }
+{
+    for byte in bytes {
+        push_byte(text, *byte)?;
+    }
+    Ok(())
+}
+
+/// Adds the name of a file, with no control byte of ASCII, and in quotes where it has a space.
+pub(crate) fn push_name(text: &mut Vec<u8>, name: &str) -> Result<(), AllocError>
+    ensures { OnOk result (text.new.items ≡ text.old.items ++ told_name name.now) }
+{
+    let bytes = name.as_bytes();
+    if !bytes.contains(&b' ') {
+        return push_bytes(text, bytes);
+    }
+    text.push(b'"')?;
+    push_bytes(text, bytes)?;
+    text.push(b'"')?;
+    Ok(())
+}

@@ -1,0 +1,65 @@
+//! What is told on standard error, and the statuses of the program.
+ghost use Rattle.std.specs.Prelude.{◌≡◌, false, Err};
+ghost use Rattle.drf_journal.specs.declared.fault.RunFault.{RunFault};
+ghost use Rattle.std.specs.IoError.{error_kind};
+ghost use Rattle.drf_app.specs.Told.{fault_line, no_text_line, status_of, IsTold, IsToldOf};
+
+use drf_journal::{Device, RunFault, write_whole};
+use std::io;
+use std::io::{ErrorKind, Write};
+
+fn fault_line(fault: RunFault) -> &'static str
+    ensures { result.now ≡ fault_line fault }
+{
+    match fault {
+        RunFault::Read => "drf: read fault\n",
+        RunFault::Write => "drf: write fault\n",
+        RunFault::Memory => "drf: out of memory\n",
+    }
+}
+
+/// Writes bytes as far as the device takes them. Where that fails, the status alone tells of it.
+pub(crate) fn tell_bytes<W: Write>(errors: &mut Device<W>, bytes: &[u8])
+    requires { errors.old.failed ≡ false }
+    ensures { IsTold bytes.now (W.contents errors.old.inner) (W.contents errors.new.inner) errors.new.failed }
+{
+    let _ = write_whole(errors, bytes);
+}
+
+/// Writes a text as far as the device takes it. Where that fails, the status alone tells of it.
+pub(crate) fn tell<W: Write>(errors: &mut Device<W>, text: &str)
+    requires { errors.old.failed ≡ false }
+    ensures { IsTold text.now (W.contents errors.old.inner) (W.contents errors.new.inner) errors.new.failed }
+{
+    tell_bytes(errors, text.as_bytes());
+}
+
+/// Tells of a fault, and gives the program's status.
+pub(crate) fn finish<T: Drop, E: Write>(ended: Result<T, RunFault>, errors: &mut Device<E>) -> u8
+    requires { errors.old.failed ≡ false }
+    ensures status { result ≡ status_of ended }
+    ensures told { IsToldOf ended (E.contents errors.old.inner) (E.contents errors.new.inner) errors.new.failed }
+{
+    match ended {
+        Ok(_) => 0,
+        Err(fault) => {
+            tell(errors, fault_line(fault));
+            1
+        }
+    }
+}
+
+/// The status where the words of the command line cannot be had: 1 where memory ran out, 2 where one is no UTF-8.
+pub fn no_words<E: Write>(error: &io::Error, errors: &mut Device<E>) -> u8
+    requires { errors.old.failed ≡ false }
+    ensures memory { error_kind error.now ≡ ErrorKind.OutOfMemory → (result ≡ 1)
+        × IsTold (fault_line RunFault.Memory) (E.contents errors.old.inner) (E.contents errors.new.inner) errors.new.failed }
+    ensures no_text { ¬ (error_kind error.now ≡ ErrorKind.OutOfMemory) → (result ≡ 2)
+        × IsTold no_text_line (E.contents errors.old.inner) (E.contents errors.new.inner) errors.new.failed }
+{
+    if error.kind() == ErrorKind::OutOfMemory {
+        return finish::<(), E>(Err(RunFault::Memory), errors);
+    }
+    tell(errors, "drf: a word of the command line is not UTF-8\n");
+    2
+}

@@ -1,0 +1,163 @@
+//! What the arguments of a command ask for.
+ghost use Rattle.std.specs.Prelude.{◌≡◌, [], map, take, unwrap_or, option_map, codes};
+ghost use Rattle.clap.specs.Words.{all_of, found_of, rows_of};
+ghost use Rattle.drf_app.specs.Line.{asked_by, asked_for, asked_of_client, name_of, IsCommand, SaysMoment, SaysRequest, SaysScope, SaysTask};
+
+use crate::arguments::flag_of;
+use crate::line::MOST_FILES;
+use clap::ArgMatches;
+use drf_rows::LATEST_MOMENT;
+use drf_why::Whom;
+
+/// What is told of the next cycle.
+#[derive(Clone, Copy)]
+pub enum Scope<'a> {
+    /// On each agent the clients in order, as long as what is left is worth an offer.
+    Short,
+    /// Each client on each agent, or whom the words name.
+    Each(Whom<'a>),
+    /// What all that comes to for each client.
+    Summary,
+    /// The words ask for several of these.
+    Several,
+}
+
+/// What a command does. A drive of files is no such task, since its threads wait for each other.
+#[derive(Clone, Copy)]
+pub enum Task<'a> {
+    /// The replies to event lines; with `echo` each line, as it was read, before its reply; with `ask` the answers to lines that ask.
+    Run { echo: bool, ask: bool },
+    /// Whether a journal is right.
+    Check,
+    /// What each agent has, and what is free of it, after the events of event lines.
+    Audit,
+    /// What the cycle at a moment in milliseconds would offer after the events of event lines, and why it would offer nothing. The clock
+    /// never goes back: 0 is the moment at which it stands.
+    Explain { at: u64, scope: Scope<'a> },
+    /// The state after the events of event lines; with `epoch` as a cluster begins anew that keeps its tasks.
+    Save { epoch: bool },
+    /// The state after the events of event lines, as tables; with `json` as lines for programs.
+    Show { json: bool },
+    /// What is wrong with the lines that are no events; with `write` the others are written in their written form.
+    Lint { write: bool },
+}
+
+/// What the words ask for.
+#[derive(Clone, Copy)]
+pub struct Request<'a> {
+    pub task: Task<'a>,
+    /// The file with the state that the task begins with; without it there are no rows.
+    pub from: Option<&'a str>,
+}
+
+/// The moment that the words of a command say, at most the latest; 0 where they say none.
+fn moment_of(explain: &ArgMatches) -> u64
+    ensures { SaysMoment (rows_of (found_of explain.now)) result }
+{
+    match explain.get_one::<u64>("at") {
+        Some(at) => at.min(LATEST_MOMENT),
+        None => 0,
+    }
+}
+
+/// The scope that the two values of `--client` name.
+fn client_scope<'a>(client: &[&'a str]) -> Scope<'a>
+    ensures { asked_for result ≡ asked_of_client (map (λ text. text.now) client.now) }
+{
+    let [framework, role] = client else {
+        return Scope::Several;
+    };
+    Scope::Each(Whom::Client { framework, role })
+}
+
+/// The scope that those words name, of which one alone may be said beside `--each`.
+fn scope_by<'a>(
+    each: bool,
+    summary: bool,
+    agent: Option<&'a str>,
+    client: Option<&[&'a str]>,
+) -> Scope<'a>
+    ensures { asked_for result
+        ≡ asked_by each summary (option_map (λ name. name.now) agent.entry) (option_map (λ texts. map (λ text. text.now) texts.now) client.entry) }
+{
+    match (summary, agent, client) {
+        (false, None, None) if each => Scope::Each(Whom::All),
+        (false, None, None) => Scope::Short,
+        (true, None, None) => Scope::Summary,
+        (false, Some(name), None) => Scope::Each(Whom::Agent(name)),
+        (false, None, Some(client)) => client_scope(client),
+        _ => Scope::Several,
+    }
+}
+
+/// The scope that the words of a command say.
+fn scope_of<'a>(explain: &ArgMatches<'a>) -> Scope<'a>
+    ensures { SaysScope (rows_of (found_of explain.now)) result }
+{
+    let each = flag_of(explain, "each");
+    let summary = flag_of(explain, "summary");
+    let agent = explain.get_str("agent");
+    let client = explain.get_strs("client");
+    scope_by(each, summary, agent, client)
+}
+
+/// The task of the command of a name, and what its words say.
+fn task_of<'a>(name: &str, command: &ArgMatches<'a>) -> Task<'a>
+    requires command { IsCommand name.now }
+    requires task { ¬ (name.now ≡ codes "drive") }
+    ensures name { name.now ≡ name_of result }
+    ensures says { SaysTask (rows_of (found_of command.now)) result }
+{
+    if name == "run" {
+        let echo = flag_of(command, "echo");
+        let ask = flag_of(command, "ask");
+        return Task::Run { echo, ask };
+    }
+    if name == "check" {
+        return Task::Check;
+    }
+    if name == "audit" {
+        return Task::Audit;
+    }
+    if name == "explain" {
+        let at = moment_of(command);
+        let scope = scope_of(command);
+        return Task::Explain { at, scope };
+    }
+    if name == "save" {
+        let epoch = flag_of(command, "epoch");
+        return Task::Save { epoch };
+    }
+    if name == "show" {
+        let json = flag_of(command, "json");
+        return Task::Show { json };
+    }
+    let write = flag_of(command, "write");
+    Task::Lint { write }
+}
+
+/// Returns what the arguments of the command of a name ask for.
+pub(crate) fn request_of<'a>(name: &str, command: &ArgMatches<'a>) -> Request<'a>
+    requires command { IsCommand name.now }
+    requires task { ¬ (name.now ≡ codes "drive") }
+    ensures name { name.now ≡ name_of result.task }
+    ensures says { SaysRequest (rows_of (found_of command.now)) result }
+{
+    let task = task_of(name, command);
+    let from = command.get_str("from");
+    Request { task, from }
+}
+
+/// Returns the first 64 of some names.
+fn first_names<'m, 'a>(names: &'m [&'a str]) -> &'m [&'a str]
+    ensures { result.now ≡ take 64 names.now }
+{
+    &names[..names.len().min(MOST_FILES)]
+}
+
+/// Returns the files that the arguments of `drive` name, at most 64.
+pub(crate) fn files_of<'m, 'a>(drive: &'m ArgMatches<'a>) -> &'m [&'a str]
+    ensures { map (λ name. name.now) result.now ≡ take 64 (unwrap_or (all_of (codes "FILE") (rows_of (found_of drive.now))) []) }
+{
+    first_names(drive.get_strs("FILE").unwrap_or_default())
+}

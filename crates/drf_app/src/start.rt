@@ -1,0 +1,132 @@
+//! The allocator that a task begins with.
+ghost use Rattle.std.specs.Prelude.{◌≡◌, Some, [], false, IfErr, IfOk, option_map, unwrap_or};
+ghost use Rattle.drf_core.specs.Machine.{live, opened};
+ghost use Rattle.drf_journal.specs.declared.fault.RunFault.TheVariants.{Memory};
+ghost use Rattle.drf_rows.specs.LimitNumbers.{ceilings};
+ghost use Rattle.drf_app.specs.Starts.{HasToldStart, IsInFile, IsStart, IsStartFault};
+ghost use Rattle.drf_app.specs.declared.start.StartFault.TheVariants.{Run};
+
+use crate::refused_line::{RefusedLine, tell_line};
+use crate::unread::tell_file;
+use drf_core::Core;
+use drf_files::FileBytes;
+use drf_hash::HashKey;
+use drf_journal::{Device, ProgramSorter, RunFault};
+use drf_rows::Limits;
+use drf_state::{StateError, StateFault, read_state};
+use std::alloc::{AllocError, Global};
+use std::io::Write;
+
+/// Why a task has not begun.
+#[derive(Clone, Copy, PartialEq, Eq)]
+pub(crate) enum StartFault {
+    /// The file was not read, or memory ran out.
+    Run(RunFault),
+    /// The file is no state: the number of the first line that has a fault, and its first fault.
+    Line { number: u64, fault: StateFault },
+}
+
+impl From<RunFault> for StartFault {
+    ghost use Rattle.std.specs.Prelude.{◌≡◌};
+    ghost use Rattle.drf_app.specs.declared.start.StartFault.TheVariants.{Run};
+
+    ghost from_gives = { λ fault gives. gives ≡ Run fault };
+
+    fn from(fault: RunFault) -> StartFault {
+        StartFault::Run(fault)
+    }
+}
+
+impl From<AllocError> for StartFault {
+    ghost use Rattle.std.specs.Prelude.{◌≡◌};
+    ghost use Rattle.drf_journal.specs.declared.fault.RunFault.TheVariants.{Memory};
+    ghost use Rattle.drf_app.specs.declared.start.StartFault.TheVariants.{Run};
+
+    ghost from_gives = { λ _ gives. gives ≡ Run Memory };
+
+    fn from(_: AllocError) -> StartFault {
+        StartFault::Run(RunFault::Memory)
+    }
+}
+
+impl From<StateError> for StartFault {
+    ghost use Rattle.std.specs.Prelude.{◌≡◌};
+    ghost use Rattle.drf_app.specs.Starts.{start_fault_of};
+
+    ghost from_gives = { λ error gives. gives ≡ start_fault_of error };
+
+    fn from(error: StateError) -> StartFault {
+        match error {
+            StateError::Line { number, fault } => StartFault::Line { number, fault },
+            StateError::Memory => StartFault::Run(RunFault::Memory),
+        }
+    }
+}
+
+/// The allocator with the rows that a file says.
+fn read_start<F: FileBytes>(
+    alloc: Global,
+    files: &mut F,
+    name: &str,
+) -> Result<Core<ProgramSorter>, StartFault>
+    ensures ok { IfOk result (λ core. IsInFile (F.known files.old) name.now (live core)) }
+    ensures limits { IfOk result (λ core. core.limits ≡ ceilings) }
+    ensures err { IfErr result (IsStartFault (F.known files.old) (Some name.now)) }
+    ensures same { F.known files.new ≡ F.known files.old }
+{
+    let bytes = files.bytes(name)?;
+    let key = files.hash_key();
+    Ok(read_state(alloc, Limits::full(), key, &bytes)?)
+}
+
+/// An allocator with no rows.
+fn open_start(alloc: Global, key: HashKey) -> Result<Core<ProgramSorter>, StartFault>
+    ensures ok { IfOk result (λ core. live core ≡ opened ceilings) }
+    ensures limits { IfOk result (λ core. core.limits ≡ ceilings) }
+    ensures err { IfErr result (λ fault. fault ≡ Run Memory) }
+{
+    Ok(Core::open_keyed(alloc, Limits::full(), key)?)
+}
+
+/// The allocator that a task begins with: with no rows, or with those that a file says, which is read then.
+pub(crate) fn begin<F: FileBytes>(
+    alloc: Global,
+    files: &mut F,
+    from: Option<&str>,
+) -> Result<Core<ProgramSorter>, StartFault>
+    ensures ok { IfOk result (λ core. IsStart (F.known files.old) (option_map (λ name. name.now) from.entry) (live core)) }
+    ensures limits { IfOk result (λ core. core.limits ≡ ceilings) }
+    ensures err { IfErr result (IsStartFault (F.known files.old) (option_map (λ name. name.now) from.entry)) }
+    ensures same { F.known files.new ≡ F.known files.old }
+{
+    match from {
+        Some(name) => read_start(alloc, files, name),
+        None => open_start(alloc, files.hash_key()),
+    }
+}
+
+/// Tells why a task has not begun, and gives the program's status.
+pub(crate) fn tell_start<E: Write>(
+    alloc: Global,
+    from: Option<&str>,
+    fault: StartFault,
+    errors: &mut Device<E>,
+) -> u8
+    requires { errors.old.failed ≡ false }
+    ensures { HasToldStart (unwrap_or (option_map (λ name. name.now) from.entry) []) fault result
+        (E.contents errors.old.inner) (E.contents errors.new.inner) errors.new.failed }
+{
+    let file = from.unwrap_or("");
+    match fault {
+        StartFault::Run(fault) => tell_file(alloc, file, fault, errors),
+        StartFault::Line { number, fault } => {
+            let line = RefusedLine {
+                file,
+                line: number,
+                fault: fault.number(),
+                name: fault.name(),
+            };
+            tell_line(alloc, line, errors)
+        }
+    }
+}

@@ -1,0 +1,49 @@
+//! A file that gave no bytes.
+ghost use Rattle.std.specs.Prelude.{◌≡◌, false, IfOk};
+ghost use Rattle.drf_app.specs.Told.{HasToldFile, HasToldUnread, unread_line};
+
+use crate::file_name::push_name;
+use crate::messages::{finish, tell_bytes};
+use drf_journal::{Device, RunFault};
+use std::alloc::{AllocError, Global};
+use std::io::Write;
+
+fn unread_line(alloc: Global, file: &str) -> Result<Vec<u8>, AllocError>
+    ensures { IfOk result (λ line. line.items ≡ unread_line file.now) }
+{
+    let mut line = Vec::new(alloc);
+    line.extend_from_slice("drf: read fault: ".as_bytes())?;
+    push_name(&mut line, file)?;
+    line.push(b'\n')?;
+    Ok(line)
+}
+
+/// Tells of a file that cannot be read.
+fn tell_unread<E: Write>(alloc: Global, file: &str, errors: &mut Device<E>) -> u8
+    requires { errors.old.failed ≡ false }
+    ensures { HasToldUnread file.now result (E.contents errors.old.inner) (E.contents errors.new.inner) errors.new.failed }
+{
+    match unread_line(alloc, file) {
+        Ok(line) => {
+            tell_bytes(errors, &line);
+            1
+        }
+        Err(_) => finish::<(), E>(Err(RunFault::Read), errors),
+    }
+}
+
+/// Tells why the file of a name gave no bytes, and gives the program's status. The name stands behind a read fault, if memory is found for it.
+pub(crate) fn tell_file<E: Write>(
+    alloc: Global,
+    file: &str,
+    fault: RunFault,
+    errors: &mut Device<E>,
+) -> u8
+    requires { errors.old.failed ≡ false }
+    ensures { HasToldFile file.now fault result (E.contents errors.old.inner) (E.contents errors.new.inner) errors.new.failed }
+{
+    match fault {
+        RunFault::Read => tell_unread(alloc, file, errors),
+        RunFault::Write | RunFault::Memory => finish::<(), E>(Err(fault), errors),
+    }
+}

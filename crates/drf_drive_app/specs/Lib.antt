@@ -1,3 +1,0 @@
-pub mod Line
-pub mod Drives
-pub mod Done

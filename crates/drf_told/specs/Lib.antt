@@ -1,5 +1,0 @@
-pub mod Names
-pub mod Told
-pub mod Streams
-pub mod Refused
-pub mod Words

@@ -173,7 +173,7 @@ def real_devices(program, path):
         ("a file that is not there", '"$2" drive "$1" /none', (1, b"", b"drf: read fault: /none\n")),
         ("a folder is driven", '"$2" drive "$1" /', (1, b"", b"drf: read fault: /\n")),
     ):
-        done = subprocess.run(["bash", "-o", "pipefail", "-c", script, program, path(program)], capture_output=True, timeout=60)
+        done = subprocess.run(["bash", "-o", "pipefail", "-c", script, program, path, program], capture_output=True, timeout=60)
         ends.append((done.returncode, done.stdout, done.stderr) == wanted)
         if not ends[-1]:
             print(f"{name}: status {done.returncode}, {done.stdout[:80]}, {done.stderr[:80]}")

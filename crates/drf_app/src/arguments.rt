@@ -1,4 +1,4 @@
-//! What every command line is made of: options, arguments and commands that are put together, and how they are read.
+//! The parts of a command line: how options and commands are put together, and how arguments are read.
 ghost use Rattle.std.specs.Prelude.{◌≡◌, true, false, map, IfOk, MatchResult};
 ghost use Rattle.clap.specs.Words.{app_of, fault_of, found_of, is_simple_and_free, rows_of, rule_of, with_rule, with_subcommand, App, HasKind, Rule};
 ghost use Rattle.drf_app.specs.Arguments.{flag, top_line, HasEntered, HasFlag};
@@ -16,7 +16,7 @@ pub(crate) fn top_line<'a>(alloc: Global) -> Command<'a>
     ensures { app_of result ≡ top_line }
 {
     Command::new(alloc, "drf")
-        .about("Shares the machines of a cluster among teams by Dominant Resource Fairness")
+        .about("Divides the machines of a cluster among teams by Dominant Resource Fairness")
         .version(VERSION)
         .subcommand_required(true)
         .disable_help_subcommand(true)
@@ -33,8 +33,8 @@ pub(crate) fn flag<'a>(alloc: Global, name: &'a str, help: &'a str) -> Arg<'a>
         .action(ArgAction::SetTrue)
 }
 
-/// Adds an argument to a command, if there was memory for that command. No `?` stands where commands are put together, since the proof of each
-/// exit goes through the release of all that is owned there.
+/// Adds an argument to a command, or passes the error on. No `?` is used where commands are put together: the proof of each exit would cover the
+/// release of everything that is owned there.
 pub(crate) fn with_argument<'a>(
     command: Result<Command<'a>, AllocError>,
     argument: Arg<'a>,
@@ -46,7 +46,7 @@ pub(crate) fn with_argument<'a>(
     command?.arg(argument)
 }
 
-/// Adds a command to a command line, if there was memory for both.
+/// Adds a command to a command line, or passes the error of either on.
 pub(crate) fn with_command<'a>(
     line: Result<Command<'a>, AllocError>,
     command: Result<Command<'a>, AllocError>,
@@ -65,7 +65,8 @@ pub(crate) fn flag_of(command: &ArgMatches, name: &str) -> bool
     command.get_flag(name)
 }
 
-/// Reads arguments, of which the first is the program's name: returns the command that they name, and its own arguments.
+/// Parses arguments, the first of which is the program's name. Returns the name of the command, and its own arguments. Errors: help or the version was
+/// asked for, the arguments are wrong, or memory ran out.
 pub(crate) fn enter<'a, S: AsStr>(
     line: Command<'a>,
     words: &'a [S],
@@ -83,7 +84,7 @@ pub(crate) fn enter<'a, S: AsStr>(
     Ok(command)
 }
 
-/// Reads the arguments of the program, of which the first is its name: returns the command that they name, and its own arguments.
+/// Parses the arguments of `drf`, as [`enter`] does.
 pub(crate) fn read_arguments<'a, S: AsStr>(
     alloc: Global,
     words: &'a [S],

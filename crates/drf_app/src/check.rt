@@ -1,4 +1,4 @@
-//! The check of a journal, and what is said of it.
+//! `drf check`: verifies a journal and writes the verdict.
 ghost use Rattle.std.specs.Prelude.{◌≡◌, ◌≤◌, ◌^◌, true, false, IfOk, string_bytes};
 ghost use Rattle.drf_core.specs.Machine.{live};
 ghost use Rattle.drf_journal.specs.Device.{IsNew};
@@ -25,7 +25,7 @@ fn verdict_line(alloc: Global, verdict: Verdict) -> Result<String, AllocError>
     Ok(line)
 }
 
-/// Writes what is said of a journal.
+/// Writes the verdict.
 fn say<W: Write>(alloc: Global, verdict: Verdict, output: &mut Device<W>) -> Result<(), RunFault>
     requires { output.old.failed ≡ false }
     ensures said { IsSaid verdict result (W.contents output.old.inner) (W.contents output.new.inner) output.new.failed }
@@ -35,7 +35,7 @@ fn say<W: Write>(alloc: Global, verdict: Verdict, output: &mut Device<W>) -> Res
     write_whole(output, line.as_str().as_bytes())
 }
 
-/// Checks the journal on `input`, which begins with an allocator, and writes what is said of it on `output`.
+/// Verifies the journal on `input`, which starts from the state of `core`, and writes the verdict to `output`.
 pub(crate) fn check<R: Read, W: Write>(
     alloc: Global,
     core: Core<ProgramSorter>,
@@ -54,7 +54,7 @@ pub(crate) fn check<R: Read, W: Write>(
     Ok(verdict)
 }
 
-/// The program's status at a verdict.
+/// Returns the exit status for a verdict.
 pub(crate) fn verdict_status(verdict: Verdict) -> u8
     ensures { result ≡ verdict_status verdict }
 {

@@ -1,4 +1,4 @@
-//! A whole command line.
+//! `command`: performs what the arguments of the program ask for.
 ghost use Rattle.std.specs.Prelude.{◌≡◌, ◌≤◌, ◌^◌, map, true, false};
 ghost use Rattle.drf_journal.specs.Device.{IsNew};
 ghost use Rattle.drf_app.specs.Done.{HasObeyed};
@@ -14,8 +14,8 @@ use std::io::{Read, Write};
 use std::sync::Wait;
 use std::thread::Threads;
 
-/// Performs what the arguments ask for, as [`perform`] does, a drive included: its exit status is 0, 1 where a file or a stream failed, memory ran out
-/// or a drive did not close, 2 where the arguments ask for nothing that there is, or 3 where a line of a file is no event or a file is no state.
+/// Performs what the arguments ask for, the first of which is the program's name, and returns the exit status: that of [`perform`], or of a drive. A drive
+/// also returns 1 if it did not close, and 3 if a line of a file is not an event.
 pub fn command<S: AsStr, F: FileBytes, R: Read, W: Write, E: Write>(
     rt: &(impl Threads + Wait + Sync),
     alloc: Global,

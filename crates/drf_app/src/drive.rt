@@ -1,4 +1,4 @@
-//! A drive of files, and what is told of it.
+//! `drf drive`: runs files of event lines concurrently, and reports how that ended.
 ghost use Rattle.std.specs.Prelude.{◌≡◌, ◌≤◌, true, false, length, map};
 ghost use Rattle.drf_core.specs.Machine.{live};
 ghost use Rattle.drf_rows.specs.LimitNumbers.{ceilings};
@@ -37,7 +37,7 @@ fn name_at<'a>(names: &[&'a str], file: usize) -> &'a str
     }
 }
 
-/// Tells of the file at a place, which cannot be read.
+/// Reports the file at an index, which cannot be read, and returns the exit status.
 fn tell_unread<E: Write>(alloc: Global, names: &[&str], file: usize, errors: &mut Device<E>) -> u8
     requires { errors.old.failed ≡ false }
     ensures { HasToldUnread (name_at (map (λ name. name.now) names.now) file) result (E.contents errors.old.inner) (E.contents errors.new.inner) errors.new.failed }
@@ -45,7 +45,7 @@ fn tell_unread<E: Write>(alloc: Global, names: &[&str], file: usize, errors: &mu
     tell_file(alloc, name_at(names, file), RunFault::Read, errors)
 }
 
-/// Tells how a drive ended, and gives the program's status.
+/// Reports how a drive ended, and returns the exit status.
 fn tell_end<E: Write>(
     alloc: Global,
     names: &[&str],
@@ -75,7 +75,7 @@ fn tell_end<E: Write>(
     }
 }
 
-/// Runs files side by side, on one master that begins with an allocator within the full limits, and writes the journal on `output`.
+/// Runs files concurrently, on one master that starts from `core`, and writes the journal to `output`. Returns the exit status.
 fn drive_files<F: FileBytes, W: Write, E: Write>(
     rt: &(impl Threads + Wait + Sync),
     alloc: Global,
@@ -99,7 +99,7 @@ fn drive_files<F: FileBytes, W: Write, E: Write>(
     tell_end(alloc, names, ended, errors)
 }
 
-/// Runs the files that the arguments of `drive` name, from the state in the file that they name.
+/// Runs the files that the arguments of `drive` name, from the state in the file of `--from`. Returns the exit status.
 fn drive_named<F: FileBytes, W: Write, E: Write>(
     rt: &(impl Threads + Wait + Sync),
     alloc: Global,

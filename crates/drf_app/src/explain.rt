@@ -1,4 +1,4 @@
-//! What is told of the next cycle.
+//! `drf explain`: says what the next cycle would offer, and why clients would get nothing.
 ghost use Rattle.std.specs.Prelude.{◌≡◌, ◌≤◌, ◌^◌, true, false};
 ghost use Rattle.drf_core.specs.Machine.{live};
 ghost use Rattle.drf_journal.specs.Device.{IsNew};
@@ -14,8 +14,7 @@ use drf_why::{tell_each, tell_summary};
 use std::alloc::Global;
 use std::io::{Read, Write};
 
-/// Tells of the cycle at a moment, in milliseconds, that an allocator would make after the events of a reader's lines, and gives the program's
-/// status.
+/// Explains the cycle that would follow the events of `input` at the time `at` (milliseconds), and returns the exit status.
 #[tactic(auto, using(crate::proofs::Flushed::flushed_unless_failed))]
 pub(crate) fn explain<R: Read, W: Write, E: Write>(
     alloc: Global,

@@ -1,4 +1,4 @@
-//! The name of a file, as it is told.
+//! How the name of a file is written in messages.
 ghost use Rattle.std.specs.Prelude.{◌≡◌, ◌++◌, OnOk};
 ghost use Rattle.std.specs.List.{flat_map};
 ghost use Rattle.drf_app.specs.FileNames.{told_byte, told_name};
@@ -28,7 +28,7 @@ fn push_bytes(text: &mut Vec<u8>, bytes: &[u8]) -> Result<(), AllocError>
     Ok(())
 }
 
-/// Adds the name of a file, with no control byte of ASCII, and in quotes where it has a space.
+/// Appends the name of a file, with ASCII control bytes escaped, and in quotes if it has a space.
 pub(crate) fn push_name(text: &mut Vec<u8>, name: &str) -> Result<(), AllocError>
     ensures { OnOk result (text.new.items ≡ text.old.items ++ told_name name.now) }
 {

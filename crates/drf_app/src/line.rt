@@ -1,4 +1,4 @@
-//! The form of the command line: each command with its options and its help.
+//! The command line: each command with its options and its help texts.
 ghost use Rattle.std.specs.Prelude.{◌≡◌, false, IfOk};
 ghost use Rattle.clap.specs.Words.{app_of, rule_of};
 ghost use Rattle.drf_app.specs.Line.{agent_option, audit_line, check_line, client_option, drf_line, drive_line, explain_line, file_words, from_option, lint_line, moment_option, run_line, save_line, show_line};
@@ -9,13 +9,13 @@ use clap::{Arg, ArgAction, Command};
 use drf_rows::LATEST_MOMENT;
 use std::alloc::{AllocError, Global};
 
-/// What help calls the two values of `--client`.
+/// The names of the two values of `--client` in help.
 const CLIENT_NAMES: &[&str] = &["FRAMEWORK", "ROLE"];
 
-/// How many files `drive` takes at most.
+/// The most files that `drive` takes.
 pub(crate) const MOST_FILES: usize = 64;
 
-/// Returns `--from STATE`.
+/// Returns the option `--from STATE`.
 fn from_option<'a>(alloc: Global) -> Arg<'a>
     ensures rule { rule_of result ≡ from_option }
     ensures local { result.global ≡ false }
@@ -23,9 +23,7 @@ fn from_option<'a>(alloc: Global) -> Arg<'a>
     Arg::new(alloc, "from")
         .long("from")
         .value_name("STATE")
-        .help(
-            "Begins with the state in this file, as `save` writes it, and not with an empty cluster",
-        )
+        .help("Starts from the state in this file, which `save` wrote, instead of an empty cluster")
         .action(ArgAction::Set)
 }
 
@@ -33,7 +31,7 @@ fn run_line<'a>(alloc: Global) -> Result<Command<'a>, AllocError>
     ensures { IfOk result (λ line. app_of line ≡ run_line) }
 {
     let line = Command::new(alloc, "run")
-        .about("Answers each event line of standard input by a line on standard output")
+        .about("Replies to each event line of standard input with one line on standard output")
         .after_help("Example: drf run < examples/day.jsonl")
         .arg(flag(
             alloc,
@@ -43,7 +41,7 @@ fn run_line<'a>(alloc: Global) -> Result<Command<'a>, AllocError>
     let ask = flag(
         alloc,
         "ask",
-        "Answers lines that ask, as `?report`, `?explain 5000`, `?offers f1`, `?tasks`, `?state` or `?tables`: no events, and in no journal",
+        "Also answers questions such as `?report`, `?explain 5000`, `?offers f1`, `?tasks`, `?state` and `?tables`, which are not events and are not in a journal",
     );
     with_argument(with_argument(line, ask), from_option(alloc))
 }
@@ -52,7 +50,7 @@ fn check_line<'a>(alloc: Global) -> Result<Command<'a>, AllocError>
     ensures { IfOk result (λ line. app_of line ≡ check_line) }
 {
     Command::new(alloc, "check")
-        .about("Tells whether the journal on standard input is right")
+        .about("Verifies that each reply in the journal on standard input is right")
         .after_help("Example: drf run --echo < examples/day.jsonl | drf check")
         .arg(from_option(alloc))
 }
@@ -62,7 +60,7 @@ fn audit_line<'a>(alloc: Global) -> Result<Command<'a>, AllocError>
 {
     Command::new(alloc, "audit")
         .about(
-            "Tells what each machine has, what is free and how much is out, after the event lines of standard input",
+            "Prints what each machine has, what is free on it and how many offers and tasks it has, after the event lines of standard input",
         )
         .after_help("Example: drf audit < examples/day.jsonl")
         .arg(from_option(alloc))
@@ -73,10 +71,14 @@ fn show_line<'a>(alloc: Global) -> Result<Command<'a>, AllocError>
 {
     let line = Command::new(alloc, "show")
         .about(
-            "Takes the event lines or the journal on standard input, and shows the state after them: who has what, and how full each table is",
+            "Shows the state after the event lines or the journal on standard input: who has what, and how full each table is",
         )
         .after_help("Example: drf show < examples/day.jsonl")
-        .arg(flag(alloc, "json", "One JSON object a line, for programs"));
+        .arg(flag(
+            alloc,
+            "json",
+            "Prints one JSON object per line, for programs",
+        ));
     with_argument(line, from_option(alloc))
 }
 
@@ -86,7 +88,9 @@ fn moment_option<'a>(alloc: Global) -> Arg<'a>
 {
     Arg::new(alloc, "at")
         .long("at")
-        .help("The moment of that cycle, in milliseconds; without it, the last moment of the lines")
+        .help(
+            "The time of that cycle, in milliseconds; without it, the latest timestamp of the lines",
+        )
         .value_parser(ValueParser::Unsigned(0, LATEST_MOMENT))
         .action(ArgAction::Set)
 }
@@ -99,7 +103,7 @@ fn client_option<'a>(alloc: Global) -> Arg<'a>
         .long("client")
         .value_names(CLIENT_NAMES)
         .help(
-            "Tells of this framework in this role on each agent, and of whom is offered something there before it",
+            "Explains this framework in this role on each agent, with the clients that are offered something there before it",
         )
         .action(ArgAction::Set)
 }
@@ -111,7 +115,7 @@ fn agent_option<'a>(alloc: Global) -> Arg<'a>
     Arg::new(alloc, "agent")
         .long("agent")
         .value_name("NAME")
-        .help("Tells of each client on this agent")
+        .help("Explains each client on this agent")
         .action(ArgAction::Set)
 }
 
@@ -120,7 +124,7 @@ fn explain_line<'a>(alloc: Global) -> Result<Command<'a>, AllocError>
 {
     let line = Command::new(alloc, "explain")
         .about(
-            "Tells what the next cycle would offer to whom, and why to others nothing, after the event lines of standard input",
+            "Says what the next cycle would offer to which client, and why other clients would get nothing, after the event lines of standard input",
         )
         .after_help(
             "Examples: head -12 examples/day.jsonl | drf explain, and with explain --summary or explain --client batch data in its place",
@@ -129,7 +133,7 @@ fn explain_line<'a>(alloc: Global) -> Result<Command<'a>, AllocError>
     let each = flag(
         alloc,
         "each",
-        "Tells of each client on each agent, also where too little is left to offer",
+        "Explains each client on each agent, even where too little is left to offer",
     );
     let line = with_argument(line, each);
     let line = with_argument(line, client_option(alloc));
@@ -137,7 +141,7 @@ fn explain_line<'a>(alloc: Global) -> Result<Command<'a>, AllocError>
     let summary = flag(
         alloc,
         "summary",
-        "Tells of each client on how many agents it is offered something, on how many nothing for which cause, and who was offered it",
+        "Counts for each client on how many agents it is offered something, on how many it gets nothing and why, and which clients come before it",
     );
     let line = with_argument(line, summary);
     with_argument(line, from_option(alloc))
@@ -147,16 +151,14 @@ fn save_line<'a>(alloc: Global) -> Result<Command<'a>, AllocError>
     ensures { IfOk result (λ line. app_of line ≡ save_line) }
 {
     let line = Command::new(alloc, "save")
-        .about(
-            "Takes the event lines or the journal on standard input, and writes the state after them",
-        )
+        .about("Writes the state after the event lines or the journal on standard input")
         .after_help(
             "Example: drf save < monday.jsonl > monday.state, then drf run --from monday.state < tuesday.jsonl",
         )
         .arg(flag(
             alloc,
             "epoch",
-            "Ends all offers, and counts offers and events from the beginning: for a history that is full",
+            "Ends all offers, and restarts the counts of offers and events: for a history that is full",
         ));
     with_argument(line, from_option(alloc))
 }
@@ -166,13 +168,13 @@ fn lint_line<'a>(alloc: Global) -> Result<Command<'a>, AllocError>
 {
     Command::new(alloc, "lint")
         .about(
-            "Tells of each line of standard input that is no event what is wrong with it, and where; the status is 3 where there is one",
+            "Reports each line of standard input that is not an event, what is wrong with it, and where; the exit status is then 3",
         )
         .after_help("Example: drf lint < examples/day.jsonl")
         .arg(flag(
             alloc,
             "write",
-            "Writes each event in its written form on standard output, and tells of the other lines on standard error",
+            "Writes each event in its written form to standard output, and reports the other lines on standard error",
         ))
 }
 
@@ -192,7 +194,7 @@ fn drive_line<'a>(alloc: Global) -> Result<Command<'a>, AllocError>
 {
     let line = Command::new(alloc, "drive")
         .about(
-            "Runs files of event lines side by side, each on a thread of its own, and writes the journal",
+            "Runs files of event lines concurrently, each on a thread of its own, and writes the journal",
         )
         .after_help("Example: drf drive examples/first.jsonl examples/teams.jsonl | drf check")
         .arg(from_option(alloc));
@@ -204,7 +206,7 @@ pub(crate) fn drf_line<'a>(alloc: Global) -> Result<Command<'a>, AllocError>
     ensures { IfOk result (λ line. app_of line ≡ drf_line) }
 {
     let top = top_line(alloc).after_help(
-        "The script ./drf has one command more: serve, the lines over HTTP.",
+        "The script ./drf has one more command: serve, which starts the service (HTTP, web page).",
     );
     let line = with_command(Ok(top), run_line(alloc));
     let line = with_command(line, check_line(alloc));

@@ -1,4 +1,4 @@
-//! A look at event lines, and what is told of it.
+//! `drf lint`: reports what is wrong with lines that are not events.
 ghost use Rattle.std.specs.Prelude.{◌≡◌, ◌≤◌, ◌^◌, true, false};
 ghost use Rattle.std.specs.Io.KnownBytes.{Keeps};
 ghost use Rattle.drf_journal.specs.Device.{IsNew};
@@ -11,7 +11,8 @@ use drf_lint::run_lint;
 use std::alloc::Global;
 use std::io::{Read, Write};
 
-/// Tells of the lines on standard output, or, with `write`, of them on standard error and the events on standard output. How many are no events.
+/// Reports lines that are not events on standard output or, with `write`, on standard error, with the events on standard output. Returns how many
+/// lines are not events.
 fn look<R: Read, W: Write, E: Write>(
     alloc: Global,
     write: bool,
@@ -35,7 +36,7 @@ fn look<R: Read, W: Write, E: Write>(
     }
 }
 
-/// Hands on what was written before a fault of the other stream.
+/// Flushes what was written before an error of the other stream.
 fn hand_on<W: Write>(output: &mut Device<W>)
     ensures bytes { Keeps (W.contents output.old.inner) (W.contents output.new.inner) }
     ensures flushed { output.new.failed ≡ false → output.new.flushed ≡ true }
@@ -46,7 +47,7 @@ fn hand_on<W: Write>(output: &mut Device<W>)
     let _ = output.flush();
 }
 
-/// Tells of a fault, unless standard error itself has failed, and gives the program's status.
+/// Reports an error, unless standard error itself has failed, and returns the exit status.
 fn close<E: Write>(ended: Result<u64, RunFault>, errors: &mut Device<E>) -> u8
     ensures status { result ≡ lint_status ended }
     ensures told { IsLintEnd ended errors.old.failed (E.contents errors.old.inner) (E.contents errors.new.inner) errors.new.failed }
@@ -59,7 +60,7 @@ fn close<E: Write>(ended: Result<u64, RunFault>, errors: &mut Device<E>) -> u8
     }
 }
 
-/// Looks at the lines of `input`, tells of those that are no events, and gives the program's status.
+/// Reports the lines of `input` that are not events, and returns the exit status.
 pub(crate) fn lint<R: Read, W: Write, E: Write>(
     alloc: Global,
     write: bool,

@@ -1,4 +1,4 @@
-//! What is told on standard error, and the statuses of the program.
+//! Error messages on standard error, and exit statuses.
 ghost use Rattle.std.specs.Prelude.{◌≡◌, false, Err};
 ghost use Rattle.drf_journal.specs.declared.fault.RunFault.{RunFault};
 ghost use Rattle.std.specs.IoError.{error_kind};
@@ -18,7 +18,7 @@ fn fault_line(fault: RunFault) -> &'static str
     }
 }
 
-/// Writes bytes as far as the device takes them. Where that fails, the status alone tells of it.
+/// Writes bytes as far as the device takes them. If that fails, only the exit status shows the error.
 pub(crate) fn tell_bytes<W: Write>(errors: &mut Device<W>, bytes: &[u8])
     requires { errors.old.failed ≡ false }
     ensures { IsTold bytes.now (W.contents errors.old.inner) (W.contents errors.new.inner) errors.new.failed }
@@ -26,7 +26,7 @@ pub(crate) fn tell_bytes<W: Write>(errors: &mut Device<W>, bytes: &[u8])
     let _ = write_whole(errors, bytes);
 }
 
-/// Writes a text as far as the device takes it. Where that fails, the status alone tells of it.
+/// Writes a text as far as the device takes it. If that fails, only the exit status shows the error.
 pub(crate) fn tell<W: Write>(errors: &mut Device<W>, text: &str)
     requires { errors.old.failed ≡ false }
     ensures { IsTold text.now (W.contents errors.old.inner) (W.contents errors.new.inner) errors.new.failed }
@@ -34,7 +34,7 @@ pub(crate) fn tell<W: Write>(errors: &mut Device<W>, text: &str)
     tell_bytes(errors, text.as_bytes());
 }
 
-/// Tells of a fault, and gives the program's status.
+/// Reports an error, if there is one, and returns the exit status: 0 or 1.
 pub(crate) fn finish<T: Drop, E: Write>(ended: Result<T, RunFault>, errors: &mut Device<E>) -> u8
     requires { errors.old.failed ≡ false }
     ensures status { result ≡ status_of ended }
@@ -49,7 +49,7 @@ pub(crate) fn finish<T: Drop, E: Write>(ended: Result<T, RunFault>, errors: &mut
     }
 }
 
-/// The status where the words of the command line cannot be had: 1 where memory ran out, 2 where one is no UTF-8.
+/// Reports that the arguments cannot be read, and returns the exit status: 1 if memory ran out, 2 if one is not UTF-8.
 pub fn no_words<E: Write>(error: &io::Error, errors: &mut Device<E>) -> u8
     requires { errors.old.failed ≡ false }
     ensures memory { error_kind error.now ≡ ErrorKind.OutOfMemory → (result ≡ 1)

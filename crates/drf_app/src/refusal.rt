@@ -1,4 +1,4 @@
-//! Words that ask for no task: for help or the version, or a mistake.
+//! Arguments that name no task: help, the version, or a mistake.
 ghost use Rattle.std.specs.Prelude.{◌≡◌, true, false};
 ghost use Rattle.clap.specs.Words.{kind_of};
 ghost use Rattle.drf_journal.specs.declared.fault.RunFault.{RunFault};
@@ -12,7 +12,7 @@ use drf_journal::{Device, RunFault, write_whole};
 use std::alloc::Global;
 use std::io::Write;
 
-/// Writes help or the version on `output`, and what is wrong with the words on `errors`, and gives the program's status.
+/// Writes help or the version to `output`, or what is wrong with the arguments to `errors`, and returns the exit status.
 pub(crate) fn refuse<W: Write, E: Write>(
     alloc: Global,
     error: &Error,

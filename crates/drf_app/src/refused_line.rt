@@ -1,4 +1,4 @@
-//! A line of a file that is not what it must be.
+//! The report of a wrong line in a file.
 ghost use Rattle.std.specs.Prelude.{◌≡◌, ◌∷◌, ◌++◌, [], false, OnOk, IfOk, codes, decimal};
 ghost use Rattle.drf_app.specs.Told.{HasToldLine, refused_line};
 
@@ -9,15 +9,15 @@ use itoa::Buffer;
 use std::alloc::{AllocError, Global};
 use std::io::Write;
 
-/// A line of a file, and its fault.
+/// A wrong line of a file, and its error.
 #[derive(Clone, Copy)]
 pub(crate) struct RefusedLine<'a> {
     pub file: &'a str,
-    /// Its number, from 1.
+    /// The line's number, from 1.
     pub line: u64,
-    /// The number that its fault is told by.
+    /// The number of the error.
     pub fault: u64,
-    /// The name that its fault is told by.
+    /// The name of the error.
     pub name: &'a str,
 }
 
@@ -51,7 +51,7 @@ fn refused_line(alloc: Global, line: RefusedLine<'_>) -> Result<Vec<u8>, AllocEr
     Ok(text)
 }
 
-/// Tells of a line that is not what it must be, and gives the program's status.
+/// Reports a wrong line, and returns the exit status: 3, or 1 if memory ran out.
 pub(crate) fn tell_line<E: Write>(
     alloc: Global,
     line: RefusedLine<'_>,

@@ -9,48 +9,48 @@ use clap::ArgMatches;
 use drf_rows::LATEST_MOMENT;
 use drf_why::Whom;
 
-/// What is told of the next cycle.
+/// Which clients and agents `explain` writes about.
 #[derive(Clone, Copy)]
 pub enum Scope<'a> {
-    /// On each agent the clients in order, as long as what is left is worth an offer.
+    /// The clients on each agent, in order, as long as enough is left to offer.
     Short,
-    /// Each client on each agent, or whom the words name.
+    /// Each client on each agent, or those that the arguments name.
     Each(Whom<'a>),
-    /// What all that comes to for each client.
+    /// A summary for each client.
     Summary,
-    /// The words ask for several of these.
+    /// The arguments ask for several of these, which is an error.
     Several,
 }
 
-/// What a command does. A drive of files is no such task, since its threads wait for each other.
+/// What a command does. `drive` is not a task: its threads wait for each other.
 #[derive(Clone, Copy)]
 pub enum Task<'a> {
-    /// The replies to event lines; with `echo` each line, as it was read, before its reply; with `ask` the answers to lines that ask.
+    /// Replies to event lines; with `echo`, writes each line as it was read before its reply; with `ask`, answers questions.
     Run { echo: bool, ask: bool },
-    /// Whether a journal is right.
+    /// Verifies a journal.
     Check,
-    /// What each agent has, and what is free of it, after the events of event lines.
+    /// Prints the total and the free resources of each agent after the events.
     Audit,
-    /// What the cycle at a moment in milliseconds would offer after the events of event lines, and why it would offer nothing. The clock
-    /// never goes back: 0 is the moment at which it stands.
+    /// Says what the cycle at a time (milliseconds) would offer after the events, and why it would offer nothing. The clock never goes back: 0 means
+    /// its current time.
     Explain { at: u64, scope: Scope<'a> },
-    /// The state after the events of event lines; with `epoch` as a cluster begins anew that keeps its tasks.
+    /// Writes the state after the events; with `epoch`, without offers and with counts restarted.
     Save { epoch: bool },
-    /// The state after the events of event lines, as tables; with `json` as lines for programs.
+    /// Shows the state after the events as tables; with `json`, as lines for programs.
     Show { json: bool },
-    /// What is wrong with the lines that are no events; with `write` the others are written in their written form.
+    /// Reports what is wrong with lines that are not events; with `write`, writes the events in their written form.
     Lint { write: bool },
 }
 
-/// What the words ask for.
+/// What the arguments ask for.
 #[derive(Clone, Copy)]
 pub struct Request<'a> {
     pub task: Task<'a>,
-    /// The file with the state that the task begins with; without it there are no rows.
+    /// The file with the state that the task starts from; without it the cluster is empty.
     pub from: Option<&'a str>,
 }
 
-/// The moment that the words of a command say, at most the latest; 0 where they say none.
+/// Returns the value of `--at` (milliseconds), at most the latest timestamp; 0 without it.
 fn moment_of(explain: &ArgMatches) -> u64
     ensures { SaysMoment (rows_of (found_of explain.now)) result }
 {
@@ -60,7 +60,7 @@ fn moment_of(explain: &ArgMatches) -> u64
     }
 }
 
-/// The scope that the two values of `--client` name.
+/// Returns the scope that the two values of `--client` name.
 fn client_scope<'a>(client: &[&'a str]) -> Scope<'a>
     ensures { asked_for result ≡ asked_of_client (map (λ text. text.now) client.now) }
 {
@@ -70,7 +70,7 @@ fn client_scope<'a>(client: &[&'a str]) -> Scope<'a>
     Scope::Each(Whom::Client { framework, role })
 }
 
-/// The scope that those words name, of which one alone may be said beside `--each`.
+/// Returns the scope for these options, of which only one may be given beside `--each`.
 fn scope_by<'a>(
     each: bool,
     summary: bool,
@@ -90,7 +90,7 @@ fn scope_by<'a>(
     }
 }
 
-/// The scope that the words of a command say.
+/// Returns the scope that the arguments of `explain` ask for.
 fn scope_of<'a>(explain: &ArgMatches<'a>) -> Scope<'a>
     ensures { SaysScope (rows_of (found_of explain.now)) result }
 {
@@ -101,7 +101,7 @@ fn scope_of<'a>(explain: &ArgMatches<'a>) -> Scope<'a>
     scope_by(each, summary, agent, client)
 }
 
-/// The task of the command of a name, and what its words say.
+/// Returns the task of a command, by its name and its arguments.
 fn task_of<'a>(name: &str, command: &ArgMatches<'a>) -> Task<'a>
     requires command { IsCommand name.now }
     requires task { ¬ (name.now ≡ codes "drive") }
@@ -136,7 +136,7 @@ fn task_of<'a>(name: &str, command: &ArgMatches<'a>) -> Task<'a>
     Task::Lint { write }
 }
 
-/// Returns what the arguments of the command of a name ask for.
+/// Returns the request of a command, by its name and its arguments.
 pub(crate) fn request_of<'a>(name: &str, command: &ArgMatches<'a>) -> Request<'a>
     requires command { IsCommand name.now }
     requires task { ¬ (name.now ≡ codes "drive") }

@@ -1,4 +1,4 @@
-//! A run of event lines, which may be asked.
+//! `drf run`: replies to event lines, and answers questions among them.
 ghost use Rattle.std.specs.Prelude.{◌≡◌, ◌≤◌, ◌^◌, true, OnOk};
 ghost use Rattle.std.specs.Io.KnownBytes.{IsAtEnd};
 ghost use Rattle.drf_core.specs.Machine.{live};
@@ -14,7 +14,7 @@ use drf_rows::Limits;
 use std::alloc::Global;
 use std::io::{Read, Write};
 
-/// Answers the lines of a reader by an allocator within the full limits, with `ask` also those that ask, and tells how many events there were.
+/// Replies to the lines of `input`, with `ask` also to questions, and returns how many events there were.
 pub(crate) fn answer<R: Read, W: Write>(
     alloc: Global,
     core: Core<ProgramSorter>,

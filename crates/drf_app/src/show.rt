@@ -1,4 +1,4 @@
-//! The state, shown.
+//! `drf show`: prints the state as tables.
 ghost use Rattle.std.specs.Prelude.{◌≡◌, ◌≤◌, ◌^◌, true};
 ghost use Rattle.drf_core.specs.Machine.{live};
 ghost use Rattle.drf_journal.specs.Device.{IsNew};
@@ -21,7 +21,7 @@ fn form_of(json: bool) -> Form
     if json { Form::Json } else { Form::Aligned }
 }
 
-/// Shows the state of an allocator within the full limits, after the events of a reader's lines, as tables or, with `json`, as lines.
+/// Prints the state after the events of `input`, as tables or, with `json`, as lines.
 pub(crate) fn show<R: Read, W: Write>(
     rt: &(impl Threads + Sync),
     alloc: Global,

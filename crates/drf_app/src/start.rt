@@ -1,4 +1,4 @@
-//! The allocator that a task begins with.
+//! The allocator that a command starts from: empty, or with the state in a file.
 ghost use Rattle.std.specs.Prelude.{◌≡◌, Some, [], false, IfErr, IfOk, option_map, unwrap_or};
 ghost use Rattle.drf_core.specs.Machine.{live, opened};
 ghost use Rattle.drf_journal.specs.declared.fault.RunFault.TheVariants.{Memory};
@@ -17,12 +17,12 @@ use drf_state::{StateError, StateFault, read_state};
 use std::alloc::{AllocError, Global};
 use std::io::Write;
 
-/// Why a task has not begun.
+/// Why a command could not start.
 #[derive(Clone, Copy, PartialEq, Eq)]
 pub(crate) enum StartFault {
-    /// The file was not read, or memory ran out.
+    /// The file cannot be read, or memory ran out.
     Run(RunFault),
-    /// The file is no state: the number of the first line that has a fault, and its first fault.
+    /// The file is not a state: the number of the first wrong line, and its first error.
     Line { number: u64, fault: StateFault },
 }
 
@@ -63,7 +63,7 @@ impl From<StateError> for StartFault {
     }
 }
 
-/// The allocator with the rows that a file says.
+/// Returns the allocator with the state in a file.
 fn read_start<F: FileBytes>(
     alloc: Global,
     files: &mut F,
@@ -79,7 +79,7 @@ fn read_start<F: FileBytes>(
     Ok(read_state(alloc, Limits::full(), key, &bytes)?)
 }
 
-/// An allocator with no rows.
+/// Returns an empty allocator.
 fn open_start(alloc: Global, key: HashKey) -> Result<Core<ProgramSorter>, StartFault>
     ensures ok { IfOk result (λ core. live core ≡ opened ceilings) }
     ensures limits { IfOk result (λ core. core.limits ≡ ceilings) }
@@ -88,7 +88,7 @@ fn open_start(alloc: Global, key: HashKey) -> Result<Core<ProgramSorter>, StartF
     Ok(Core::open_keyed(alloc, Limits::full(), key)?)
 }
 
-/// The allocator that a task begins with: with no rows, or with those that a file says, which is read then.
+/// Returns the allocator that a command starts from: empty, or with the state in the file `from`, which is read now.
 pub(crate) fn begin<F: FileBytes>(
     alloc: Global,
     files: &mut F,
@@ -105,7 +105,7 @@ pub(crate) fn begin<F: FileBytes>(
     }
 }
 
-/// Tells why a task has not begun, and gives the program's status.
+/// Reports why a command could not start, and returns the exit status.
 pub(crate) fn tell_start<E: Write>(
     alloc: Global,
     from: Option<&str>,

@@ -1,4 +1,4 @@
-//! Every command but `drive`.
+//! `perform`: every command but `drive`.
 ghost use Rattle.std.specs.Prelude.{◌≡◌, ◌≤◌, ◌^◌, ℕ, List, None, IfSome, map, true, false, codes};
 ghost use Rattle.clap.specs.Words.{found_of, rows_of};
 ghost use Rattle.drf_core.specs.Machine.{live};
@@ -28,7 +28,7 @@ use std::convert::AsStr;
 use std::io::{Read, Write};
 use std::thread::Threads;
 
-/// Does a task that begins with an allocator.
+/// Performs a task that starts from `core`, and returns the exit status.
 #[tactic(auto, using(crate::proofs::Flushed::flushed_unless_failed))]
 fn perform_task<R: Read, W: Write, E: Write>(
     rt: &(impl Threads + Sync),
@@ -77,7 +77,7 @@ fn perform_task<R: Read, W: Write, E: Write>(
     }
 }
 
-/// Does what is asked for, or tells why it has not begun.
+/// Performs a request, or reports why it could not start. Returns the exit status.
 fn perform_request<F: FileBytes, R: Read, W: Write, E: Write>(
     rt: &(impl Threads + Sync),
     alloc: Global,
@@ -104,7 +104,7 @@ fn perform_request<F: FileBytes, R: Read, W: Write, E: Write>(
     }
 }
 
-/// Performs the command of a name, unless it is a drive.
+/// Performs a command, by its name and its arguments, unless it is `drive`.
 fn perform_named<F: FileBytes, R: Read, W: Write, E: Write>(
     rt: &(impl Threads + Sync),
     alloc: Global,
@@ -135,10 +135,9 @@ fn perform_named<F: FileBytes, R: Read, W: Write, E: Write>(
     Some(perform_request(rt, alloc, request, files, input, output, errors))
 }
 
-/// Performs what the arguments ask for, of which the first is the program's name: reads the file that they name, then `input`, writes `output`,
-/// reports errors on `errors`, and returns the exit status. That is 0, 1 where a file or a stream failed or memory ran out, 2 where the arguments ask for
-/// nothing that there is, or 3 where a journal is wrong, a file is no state or `lint` found a line that is no event. Returns `None`, and does
-/// nothing, where they ask for a drive.
+/// Performs what the arguments ask for, the first of which is the program's name: reads the file of `--from`, then `input`, writes `output`, and reports errors
+/// on `errors`. Returns the exit status: 0; 1 if a file or a stream failed or memory ran out; 2 if the arguments are wrong; 3 if a journal is wrong, a file is
+/// not a state, or `lint` found a line that is not an event. Returns `None`, having done nothing, if the arguments ask for `drive`.
 pub fn perform<S: AsStr, F: FileBytes, R: Read, W: Write, E: Write>(
     rt: &(impl Threads + Sync),
     alloc: Global,

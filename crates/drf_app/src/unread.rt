@@ -1,4 +1,4 @@
-//! A file that gave no bytes.
+//! The report of a file that cannot be read.
 ghost use Rattle.std.specs.Prelude.{◌≡◌, false, IfOk};
 ghost use Rattle.drf_app.specs.Told.{HasToldFile, HasToldUnread, unread_line};
 
@@ -18,7 +18,7 @@ fn unread_line(alloc: Global, file: &str) -> Result<Vec<u8>, AllocError>
     Ok(line)
 }
 
-/// Tells of a file that cannot be read.
+/// Reports a file that cannot be read, and returns the exit status.
 fn tell_unread<E: Write>(alloc: Global, file: &str, errors: &mut Device<E>) -> u8
     requires { errors.old.failed ≡ false }
     ensures { HasToldUnread file.now result (E.contents errors.old.inner) (E.contents errors.new.inner) errors.new.failed }
@@ -32,7 +32,7 @@ fn tell_unread<E: Write>(alloc: Global, file: &str, errors: &mut Device<E>) -> u
     }
 }
 
-/// Tells why the file of a name gave no bytes, and gives the program's status. The name stands behind a read fault, if memory is found for it.
+/// Reports why a file gave no bytes, and returns the exit status. A read error is followed by the file's name, if there is memory for it.
 pub(crate) fn tell_file<E: Write>(
     alloc: Global,
     file: &str,

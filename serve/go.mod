@@ -1,5 +1,5 @@
 // For those with internet: `go mod tidy && go build`. Debian's packages, which serve/build takes where they are, need no modules.
-module durzhanok/serve
+module gateway
 
 go 1.19
 

@@ -50,7 +50,7 @@ class Durzhanok:
     def open(self, path, body=None, key=None, timeout=40):
         """One request to the first gateway; what is no 200 is an urllib.error.HTTPError."""
         headers = {"Authorization": f"Bearer {self.token}", **({"Idempotency-Key": key} if key else {})}
-        url = self.urls[0] + path
+        url = self.urls[0] + "/drf/v1" + path
         return urllib.request.urlopen(urllib.request.Request(url, body, headers), timeout=timeout, context=self.security if url.startswith("https") else None)
 
     def call(self, path, body=None, key=None):

@@ -27,7 +27,7 @@ def test_refusals(programs):
         g = fleet.gateways[0]
         line = json.dumps(AGENT) + "\n"
 
-        def told(want, text, path="/events", body=line, **words):
+        def told(want, text, path="/drf/v1/events", body=line, **words):
             status, answer, _ = g.ask(path, body, **words)
             assert status == want and text in answer, f"{path}: {status} {answer}, not {want} {text}"
 
@@ -37,19 +37,19 @@ def test_refusals(programs):
         told(400, "no line", body="")
         told(413, "4194304", body="x" * (4 << 20) + "x")
         told(403, "line 2", body='{"event":"suppress","framework":"site","role":"web"}\n' + line, name="site")
-        told(403, "read", path="/report", body=None, name="site")
+        told(403, "read", path="/drf/v1/report", body=None, name="site")
         told(404, "no such call", path="/nothing", body=None)
         told(405, "POST", body=None)
-        told(410, "too long ago", Idempotency_Key=old_key(30))
+        told(410, "too long ago", Idempotency_Key=old_key(2))
         told(400, "yet to come", Idempotency_Key=old_key(-1))  # it would outlive what is kept of it
         told(400, "visible", Idempotency_Key="a b")
-        told(400, "milliseconds", path="/explain?at=-1", body=None)
-        told(400, "bytes", path="/journal?from=x", body=None)
-        told(403, "speak for", path="/agents/n1/alive", name="site")
-        told(501, "does not watch", path="/agents/n1/alive", name="rack")
-        first, again = (g.ask("/events", line, Idempotency_Key=key)[:3] for key in (old_key(1), old_key(2)))
+        told(400, "milliseconds", path="/drf/v1/explain?at=-1", body=None)
+        told(400, "bytes", path="/drf/v1/journal?from=x", body=None)
+        told(403, "speak for", path="/drf/v1/agents/n1/alive", name="site")
+        told(501, "does not watch", path="/drf/v1/agents/n1/alive", name="rack")
+        first, again = (g.ask("/drf/v1/events", line, Idempotency_Key=key)[:3] for key in (old_key(0.1), old_key(0.2)))
         assert first[0] == 200 and first[1] == '{"ok":true}\n' and again[1].startswith('{"name":"KnownAgent"'), (first, again)
-        first, again = (g.ask("/events", line + '{"event":"cycle"}\n', Idempotency_Key="k1") for _ in range(2))
+        first, again = (g.ask("/drf/v1/events", line + '{"event":"cycle"}\n', Idempotency_Key="k1") for _ in range(2))
         assert first[0] == again[0] == 200 and first[1] == again[1] and first[2]["Drf-Message"] == again[2]["Drf-Message"]
         told(409, "other lines", body=line, Idempotency_Key="k1")
         told(200, "", body=line, Idempotency_Key="k1", name="ops")  # another caller's key is another key
@@ -58,7 +58,7 @@ def test_refusals(programs):
         for longest in (65537, 65536, 65520):  # with and without the moment that is put in
             told(200, "{", body='{"event":"cycle","role":"' + "<" * (longest - 27) + '"}', name="ops")
             told(200, "{", body='{"event":"cycle","role":"' + "<" * (longest - 27) + '"}')
-        status, journal, _ = g.ask("/journal")
+        status, journal, _ = g.ask("/drf/v1/journal")
         verdict = subprocess.run([programs.drf, "check"], input=journal, capture_output=True, text=True, check=False).stdout
         assert verdict == f"good {journal.count(chr(10)) // 2}\n" and '{"at":$,"event"\n' in journal, verdict
 
@@ -72,9 +72,9 @@ def test_any_bytes(programs):
     with Fleet("alone", programs.gateway, programs.drf, "-cycle", "0") as fleet:
         g = fleet.gateways[0]
         for some in (lines, lines[::-1]):
-            status, answer, _ = g.ask("/events", b"\n".join(some) + b"\n")
+            status, answer, _ = g.ask("/drf/v1/events", b"\n".join(some) + b"\n")
             assert status == 200 and answer.count("\n") == len(some), (status, answer[:300])
-        request = urllib.request.Request(g.url + "/journal", headers={"Authorization": "Bearer " + fleet.tokens["eye"]})
+        request = urllib.request.Request(g.url + "/drf/v1/journal", headers={"Authorization": "Bearer " + fleet.tokens["eye"]})
         journal = urllib.request.urlopen(request, timeout=20).read()
         told = subprocess.run([programs.drf, "check"], input=journal, capture_output=True, check=False).stdout.decode()
         assert told == f"good {2 * len(lines)}\n" and b"\n?" not in journal and g.is_ready(), told
@@ -88,7 +88,7 @@ def test_rights(programs):
         g = fleet.gateways[0]
 
         def may(name, line, want=200):
-            status, answer, _ = g.ask("/events", line if isinstance(line, str) else json.dumps(line), name=name)
+            status, answer, _ = g.ask("/drf/v1/events", line if isinstance(line, str) else json.dumps(line), name=name)
             assert status == want, f"{name} {line}: {status} {answer}"
             return answer
 
@@ -112,9 +112,9 @@ def test_rights(programs):
             may("site", broken + "\n" + broken, 403)
         may("site", {"event": "decline", "framework": "site", "offer": 1, "at": 99}, 403)
         may("ops", {"event": "cycle", "at": 99})
-        journal = g.ask("/journal")[1]
+        journal = g.ask("/drf/v1/journal")[1]
         assert '{"event":"finish","framework":"site","task":"t"}' in journal and '"framework":"other"' not in journal, journal
-        status, answer, _ = g.ask("/frameworks/other/offers", name="site")
+        status, answer, _ = g.ask("/drf/v1/frameworks/other/offers", name="site")
         assert status == 403, answer
 
 
@@ -142,7 +142,7 @@ def test_streams(programs):
     with Fleet("alone", programs.gateway, programs.drf, "-cycle", "0") as fleet:
         g = fleet.gateways[0]
         offer = g.send(SITE, AGENT, {"event": "cycle"})[2]["offers"][0]
-        offers, replies = listen(g, "/frameworks/site/offers", "site"), listen(g, "/replies", "eye")
+        offers, replies = listen(g, "/drf/v1/frameworks/site/offers", "site"), listen(g, "/drf/v1/replies", "eye")
         assert wait(lambda: offers == [("offer", offer)]), offers
         time.sleep(0.3)
         g.send({"event": "add_agent", "agent": "n<2>\u2028", "total": "cpus:1"}, {"event": "decline", "framework": "site", "offer": offer["offer"], "refuse_ms": 0})
@@ -174,12 +174,12 @@ def test_figures(programs):
         status, text, _ = g.ask("/metrics", name="eye")
         for figure in ('drf_events_total{answer="KnownAgent",event="add_agent"} 1', 'drf_offers_made_total{framework="site"} 1', 'drf_role_dominant_share_ratio{role="web"} 1', "drf_ready 1"):
             assert status == 200 and figure + "\n" in text, (figure, text)
-        report, lines = json.loads(g.ask("/report")[1]), g.ask("/explain")[1].splitlines()
+        report, lines = json.loads(g.ask("/drf/v1/report")[1]), g.ask("/drf/v1/explain")[1].splitlines()
         assert report["nodes"][0]["path"] == "web" and report["nodes"][0]["share"] == "1/1", report
         assert lines == ['{"agent":"n1","why":"NothingFree"}'], lines
         g.send({"event": "decline", "framework": "site", "offer": 1, "refuse_ms": 0})
-        assert json.loads(g.ask("/report")[1])["nodes"][0]["share"] == "0/1"
-        assert '"grant":"cpus:4;mem:4096"' in g.ask("/explain?at=99999999999999")[1]
+        assert json.loads(g.ask("/drf/v1/report")[1])["nodes"][0]["share"] == "0/1"
+        assert '"grant":"cpus:4;mem:4096"' in g.ask("/drf/v1/explain?at=99999999999999")[1]
 
 
 def test_questions(programs):
@@ -193,7 +193,7 @@ def test_questions(programs):
             while not stop.is_set():
                 answers.append(g.ask(path))
 
-        askers = [threading.Thread(target=ask, args=words) for words in (("/state", told), ("/state", told), ("/report", others), ("/explain", others), ("/metrics", others))]
+        askers = [threading.Thread(target=ask, args=words) for words in (("/drf/v1/state", told), ("/drf/v1/state", told), ("/drf/v1/report", others), ("/drf/v1/explain", others), ("/metrics", others))]
         for asker in askers:
             asker.start()
         for offer in range(1, 31):
@@ -202,7 +202,7 @@ def test_questions(programs):
         stop.set()
         for asker in askers:
             asker.join()
-        journal = g.ask("/journal")[1]
+        journal = g.ask("/drf/v1/journal")[1]
 
         def of_drf(*words, lines=None):
             text = "".join(journal.splitlines(keepends=True)[:lines])
@@ -214,17 +214,17 @@ def test_questions(programs):
         for message, text in states.items():
             rows = of_drf("save", lines=2 * message).splitlines()[:-1]
             assert text == f'{{"message":{message},"rows":[{",".join(rows)}]}}\n', (message, text, rows)
-        assert g.ask("/explain")[1] == of_drf("explain") and g.ask("/explain?at=0009999999999999")[1] == of_drf("explain", "--at", "9999999999999")
-        pid = g.status()["allocator"]["pid"]
+        assert g.ask("/drf/v1/explain")[1] == of_drf("explain") and g.ask("/drf/v1/explain?at=0009999999999999")[1] == of_drf("explain", "--at", "9999999999999")
+        pid = g.status()["allocator"]["questions_pid"]
         os.kill(pid, signal.SIGSTOP)
-        asker = threading.Thread(target=lambda: told.append(g.ask("/report")))
+        asker = threading.Thread(target=lambda: told.append(g.ask("/drf/v1/report")))
         asker.start()
         time.sleep(0.5)
-        assert asker.is_alive()
+        assert asker.is_alive() and g.send({"event": "rescind", "offer": 99}) == [{"name": "UnknownOffer", "refused": 7}]  # events do not wait for answers
         os.kill(pid, signal.SIGKILL)
         asker.join(5)
         assert told[-1][0] == 503 and "ask again" in told[-1][1], told[-1]
-        assert wait(lambda: g.ask("/report")[0] == 200, 20), g.log()[-500:]
+        assert wait(lambda: g.ask("/drf/v1/report")[0] == 200, 20), g.log()[-500:]
 
 
 def test_figures_by_promtool(programs):
@@ -253,19 +253,19 @@ def test_tokens_again(programs):
             g.process.send_signal(signal.SIGHUP)
             time.sleep(0.3)
 
-        streams = [threading.Thread(target=read_stream, args=(g, path, "eye", [], threading.Event()), daemon=True) for path in ("/replies", "/frameworks/site/offers", "/journal?follow=1")]
+        streams = [threading.Thread(target=read_stream, args=(g, path, "eye", [], threading.Event()), daemon=True) for path in ("/drf/v1/replies", "/drf/v1/frameworks/site/offers", "/drf/v1/journal?follow=1")]
         for stream in streams:
             stream.start()
         time.sleep(0.5)
         assert all(stream.is_alive() for stream in streams)
         reload(json.dumps([caller for caller in json.loads(right) if caller["name"] != "eye"]))
         assert wait(lambda: not any(stream.is_alive() for stream in streams), 5), "a stream outlives its token"
-        assert g.ask("/status", name="eye")[0] == 401 and g.ask("/status")[0] == 200
+        assert g.ask("/drf/v1/status", name="eye")[0] == 401 and g.ask("/drf/v1/status")[0] == 200
         for bad in ("[", "[{}]", right.replace('"eye"', '"cycle"'), right.replace('"read"', '"reed"')):
             reload(bad)
-            assert g.ask("/status")[0] == 200 and "the old ones stay" in g.log(), bad
+            assert g.ask("/drf/v1/status")[0] == 200 and "the old tokens stay in use" in g.log(), bad
         reload(right)
-        assert g.ask("/status", name="eye")[0] == 200
+        assert g.ask("/drf/v1/status", name="eye")[0] == 200
 
 
 def test_cycles_once(programs):
@@ -274,12 +274,12 @@ def test_cycles_once(programs):
         one.send(SITE, AGENT)
         time.sleep(4)
         fleet.agreed()
-        journal = one.ask("/journal")[1].splitlines()
+        journal = one.ask("/drf/v1/journal")[1].splitlines()
         cycles = [int(json.loads(line)["at"]) for line in journal[::2] if '"cycle"' in line]
         slots = [at // 200 for at in cycles]
         assert len(set(slots)) == len(slots) and 3 <= len(slots) <= 14, slots  # while nothing happens one in ten
         other.send({"event": "rescind", "offer": 1}, key="again")
-        assert one.ask("/events", '{"event": "rescind", "offer": 1}\n', Idempotency_Key="again")[1] == '{"ok":true}\n'
+        assert one.ask("/drf/v1/events", '{"event": "rescind", "offer": 1}\n', Idempotency_Key="again")[1] == '{"ok":true}\n'
 
 
 def test_time_outs(programs):
@@ -287,19 +287,19 @@ def test_time_outs(programs):
     with Fleet("outer", programs.gateway, programs.drf, *words) as fleet:
         one, other = fleet.gateways
         one.send(SITE, AGENT, {**AGENT, "agent": "other"})
-        offers = listen(one, "/frameworks/site/offers", "site")
+        offers = listen(one, "/drf/v1/frameworks/site/offers", "site")
         assert wait(lambda: ("gone", {"offer": 1, "why": "rescind"}) in offers, 8), offers
-        assert json.loads(one.ask("/agents/n1/alive", "", name="rack")[1]) == {"was_alive": False}
-        assert json.loads(other.ask("/agents/n1/alive", "", name="rack")[1]) == {"was_alive": True}
-        assert json.loads(one.ask("/frameworks/site/alive", "", name="site")[1]) == {"was_alive": False}
-        wait(lambda: '"remove_framework"' in one.ask("/journal")[1], 10)
-        wait(lambda: '"remove_agent"' in one.ask("/journal")[1], 10)
+        assert json.loads(one.ask("/drf/v1/agents/n1/alive", "", name="rack")[1]) == {"was_alive": False}
+        assert json.loads(other.ask("/drf/v1/agents/n1/alive", "", name="rack")[1]) == {"was_alive": True}
+        assert json.loads(one.ask("/drf/v1/frameworks/site/alive", "", name="site")[1]) == {"was_alive": False}
+        wait(lambda: '"remove_framework"' in one.ask("/drf/v1/journal")[1], 30)
+        wait(lambda: '"remove_agent"' in one.ask("/drf/v1/journal")[1], 30)
         fleet.agreed()
-        lines = one.ask("/journal")[1].splitlines()
+        lines = one.ask("/drf/v1/journal")[1].splitlines()
         pairs = list(zip(lines[::2], lines[1::2]))
         for line in ('{"agent":"n1","event":"deactivate_agent"}', '{"agent":"n1","event":"remove_agent"}', '{"event":"remove_framework","framework":"site"}', '{"event":"rescind","offer":1}'):
             assert pairs.count((line, '{"ok":true}')) == 1 and sum(line == other for other, _ in pairs) == 1, (line, [pair for pair in pairs if "cycle" not in pair[0]])
-        assert json.loads(one.ask("/agents/n1/alive", "", name="rack")[1]) == {"was_alive": False}
+        assert one.ask("/drf/v1/agents/n1/alive", "", name="rack")[0] == 404
 
 
 def test_tls(programs):

@@ -58,7 +58,7 @@ class Callers:
         begun, text = time.time(), "\n".join(lines) + "\n"
         while True:
             gateway = chance.choice(self.fleet.gateways)
-            status, answer, headers = gateway.ask("/events", text, timeout=10, Idempotency_Key=key)
+            status, answer, headers = gateway.ask("/drf/v1/events", text, timeout=10, Idempotency_Key=key)
             with self.lock:
                 self.tries += 1
                 if status == 200:
@@ -92,7 +92,7 @@ class Archive:
 
     def take(self, gateway):
         at = self.at.get(gateway.name, 0)
-        status, text, _ = gateway.ask(f"/journal?from={at}", timeout=5)
+        status, text, _ = gateway.ask(f"/drf/v1/journal?from={at}", timeout=5)
         with self.lock:
             if status == 410:
                 self.at[gateway.name] = len(self.whole)

@@ -47,14 +47,14 @@ def test_killed_drf(programs):
 def test_killed_gateway(programs):
     with Fleet("alone", programs.gateway, programs.drf) as fleet:
         g = fleet.gateways[0]
-        first = [g.ask("/events", json.dumps(rescind(n)), Idempotency_Key=f"k{n}") for n in range(20)]
-        before = g.ask("/journal")[1]
+        first = [g.ask("/drf/v1/events", json.dumps(rescind(n)), Idempotency_Key=f"k{n}") for n in range(20)]
+        before = g.ask("/drf/v1/journal")[1]
         g.kill()
         g.start()
         g.until_ready()
-        again = [g.ask("/events", json.dumps(rescind(n)), Idempotency_Key=f"k{n}") for n in range(20)]
+        again = [g.ask("/drf/v1/events", json.dumps(rescind(n)), Idempotency_Key=f"k{n}") for n in range(20)]
         assert [(a[:2], a[2]["Drf-Message"]) for a in first] == [(a[:2], a[2]["Drf-Message"]) for a in again]
-        assert g.ask("/journal")[1].startswith(before)
+        assert g.ask("/drf/v1/journal")[1].startswith(before)
 
 
 def test_two_in_one_folder(programs):
@@ -111,7 +111,7 @@ def test_other_echo(programs):
         g.start()
         g.until_ready()
         g.send(rescind(1))
-        status, answer, _ = g.ask("/events", json.dumps(rescind(77)), timeout=40)
+        status, answer, _ = g.ask("/drf/v1/events", json.dumps(rescind(77)), timeout=40)
         assert status in (0, 503, 504), answer
         ended(g, "echoed")
 
@@ -141,17 +141,17 @@ def test_lost_majority(programs):
         for n in (0, 1):
             fleet.kill_server(n)
         begun = time.time()
-        status, answer, _ = one.ask("/events", json.dumps(rescind(2)), Idempotency_Key="while", timeout=60)
+        status, answer, _ = one.ask("/drf/v1/events", json.dumps(rescind(2)), Idempotency_Key="while", timeout=60)
         took = time.time() - begun
-        assert status == 503 and "perhaps taken" in answer and took < 15, (status, answer, took)
+        assert status == 503 and "may have been applied" in answer and took < 15, (status, answer, took)
         time.sleep(11)  # longer than clocks may differ
         for n in (0, 1):
             fleet.start_server(n)
         begun = time.time()
-        assert wait(lambda: other.ask("/events", json.dumps(rescind(2)), Idempotency_Key="while")[0] == 200, 30)
+        assert wait(lambda: other.ask("/drf/v1/events", json.dumps(rescind(2)), Idempotency_Key="while")[0] == 200, 30)
         back = time.time() - begun
         fleet.agreed()
-        assert one.ask("/journal")[1].count('"offer": 2}') == 1
+        assert one.ask("/drf/v1/journal")[1].count('"offer": 2}') == 1
         return f"refused after {took:.1f} s, back after {back:.1f} s"
 
 
@@ -164,7 +164,7 @@ def test_leader_killed(programs):
             n = 0
             while not stop.is_set():
                 n += 1
-                while not stop.is_set() and fleet.gateways[k].ask("/events", json.dumps(rescind(n)), Idempotency_Key=f"k{k}-{n}")[0] != 200:
+                while not stop.is_set() and fleet.gateways[k].ask("/drf/v1/events", json.dumps(rescind(n)), Idempotency_Key=f"k{k}-{n}")[0] != 200:
                     time.sleep(0.01)
                 longest[k] = max(longest[k], time.time() - last[k])
                 last[k] = time.time()
@@ -230,7 +230,7 @@ def test_wiped_member(programs):
         third.start()
         ended(third, "bootstrapped")
         first.send(rescind(77))
-        assert first.ask("/journal")[1].count('"offer": 77}') == 1
+        assert first.ask("/drf/v1/journal")[1].count('"offer": 77}') == 1
 
 
 def mounted(folder, size, image=None):
@@ -275,12 +275,12 @@ def test_full_disk(programs):
             with open(os.path.join(point, "rest"), "wb") as file:
                 free = shutil.disk_usage(point).free - (100 << 20)
                 os.posix_fallocate(file.fileno(), 0, free)
-            status, answer, _ = g.ask("/events", json.dumps(rescind(2)), Idempotency_Key="full")
-            assert status == 503 and "nearly full" in answer and "nothing was taken" in answer, answer
-            assert g.ask("/report")[0] == 200
+            status, answer, _ = g.ask("/drf/v1/events", json.dumps(rescind(2)), Idempotency_Key="full")
+            assert status == 503 and "nearly full" in answer and "nothing was applied" in answer, answer
+            assert g.ask("/drf/v1/report")[0] == 200
             os.remove(os.path.join(point, "rest"))
-            assert g.ask("/events", json.dumps(rescind(2)), Idempotency_Key="full")[0] == 200
-            assert g.ask("/journal")[1].count('"offer": 2}') == 1
+            assert g.ask("/drf/v1/events", json.dumps(rescind(2)), Idempotency_Key="full")[0] == 200
+            assert g.ask("/drf/v1/journal")[1].count('"offer": 2}') == 1
     finally:
         subprocess.run(["umount", "-l", point], check=False)
         shutil.rmtree(folder, ignore_errors=True)
@@ -304,7 +304,7 @@ def test_power_cut(programs):
                 while not stop.is_set():
                     count += 1
                     event = rescind(number * 10**6 + count)
-                    status, answer, headers = g.ask("/events", json.dumps(event), timeout=5)
+                    status, answer, headers = g.ask("/drf/v1/events", json.dumps(event), timeout=5)
                     if status == 200:
                         acknowledged[event["offer"]] = answer
             threads = [threading.Thread(target=caller, args=(n,)) for n in range(1, 9)]
@@ -322,7 +322,7 @@ def test_power_cut(programs):
             g.folder = os.path.join(second, "data")
             g.start()
             g.until_ready()
-            journal = g.ask("/journal")[1]
+            journal = g.ask("/drf/v1/journal")[1]
             lost = [number for number in before if f'"offer": {number}}}' not in journal]
             assert len(before) > 100 and not lost, f"{len(lost)} of {len(before)} lost"
             return f"{len(before)} acknowledged batches before the cut"
@@ -346,28 +346,28 @@ def test_states(programs):
             g.send(rescind(1000 + n), key=f"k{n}")
             time.sleep(0.03)
         assert wait(lambda: g.status()["state"] >= 3, 20), g.log()[-500:]
-        assert wait(lambda: len(keys_in(fleet, "drf/s/")) <= 3 and len(keys_in(fleet, "drf/k/")) > 20), keys_in(fleet, "drf/s/")
+        assert wait(lambda: len(keys_in(fleet, "drf/snapshots/")) <= 3 and g.status()["kept_keys"] > 20), keys_in(fleet, "drf/snapshots/")
         assert len(keys_in(fleet, "drf/m/")) < 190
         bounds = g.status()["journal"]
-        assert bounds["from"] > 0 and g.ask("/journal?from=0")[0] == 410
-        status, answer, headers = g.ask("/events", json.dumps(rescind(1000)) + "\n", Idempotency_Key="k0")
+        assert bounds["from"] > 0 and g.ask("/drf/v1/journal?from=0")[0] == 410
+        status, answer, headers = g.ask("/drf/v1/events", json.dumps(rescind(1000)) + "\n", Idempotency_Key="k0")
         assert status == 410 and "message" in answer and headers["Drf-Message"] == "2", (status, answer, headers)
-        assert g.ask("/events", json.dumps(rescind(1)) + "\n", Idempotency_Key="k0")[0] == 409
-        assert g.ask("/events", json.dumps(rescind(1199)) + "\n", Idempotency_Key="k199")[0] == 200
-        rows = json.loads(g.ask("/state")[1])["rows"]
+        assert g.ask("/drf/v1/events", json.dumps(rescind(1)) + "\n", Idempotency_Key="k0")[0] == 409
+        assert g.ask("/drf/v1/events", json.dumps(rescind(1199)) + "\n", Idempotency_Key="k199")[0] == 200
+        rows = json.loads(g.ask("/drf/v1/state")[1])["rows"]
         assert any(row["row"] == "offer" and row["offer"] == offer["offer"] for row in rows), rows[:5]
-        before, report = g.status(), g.ask("/report")[1]
+        before, report = g.status(), g.ask("/drf/v1/report")[1]
         g.kill()
         for name in os.listdir(g.folder):
-            if name.startswith(("journal", "state", "answered")):
+            if name.startswith(("journal", "state", "registry", "answered")):
                 os.remove(os.path.join(g.folder, name))
         g.start()
         g.until_ready()
         after = g.status()
         assert (after["messages"], after["lines"], after["journal"]["end"], after["offers"]) == (before["messages"], before["lines"], before["journal"]["end"], 1), (before, after)
-        assert g.ask("/report")[1] == report
+        assert g.ask("/drf/v1/report")[1] == report
         assert g.send({"event": "decline", "framework": "site", "offer": offer["offer"]}) == [{"ok": True}]
-        text = g.ask("/journal")[1]
+        text = g.ask("/drf/v1/journal")[1]
         state = os.path.join(g.folder, f"state.{min(int(name[6:]) for name in os.listdir(g.folder) if name.startswith('state.')):08d}")
         assert os.path.exists(state) and text
 
@@ -399,7 +399,7 @@ def test_epoch(programs):
         offers = other.send({"event": "cycle"})[0]["offers"]
         assert [offer["offer"] for offer in offers] == [1, 2], offers
         fleet.agreed()
-        reports = [json.loads(g.ask("/report")[1]) for g in fleet.gateways]
+        reports = [json.loads(g.ask("/drf/v1/report")[1]) for g in fleet.gateways]
         assert reports[0] == reports[1] and reports[0]["nodes"], reports
         other.kill()
         other.start()

@@ -86,12 +86,12 @@ class Gateway:
 
     def send(self, *events, key=None, name="admin"):
         """The replies to events, which must be taken."""
-        status, text, _ = self.ask("/events", "".join(json.dumps(event) + "\n" for event in events), name=name, **({"Idempotency_Key": key} if key else {}))
+        status, text, _ = self.ask("/drf/v1/events", "".join(json.dumps(event) + "\n" for event in events), name=name, **({"Idempotency_Key": key} if key else {}))
         assert status == 200, f"{status} {text}"
         return [json.loads(line) for line in text.splitlines()]
 
     def status(self):
-        status, text, _ = self.ask("/status", timeout=2)
+        status, text, _ = self.ask("/drf/v1/status", timeout=2)
         return json.loads(text) if status == 200 else None
 
     def is_ready(self):

@@ -173,7 +173,7 @@ def a_hostile_text_is_text(browser, room):
     bad = "<b>x&amp;</b>"
     rows = stand_in.small_rows() + [stand_in.framework(bad, (bad, 1, False)), stand_in.agent(HOSTILE, "cpus:1;" + bad + ":{" + HOSTILE + "}"),
                                     stand_in.task(HOSTILE, bad, bad, HOSTILE, "cpus:1"), stand_in.offer(77, bad, bad, HOSTILE, bad + ":1")]
-    own.answers["/explain"] = (200, json.dumps({"client": bad + "/./" + bad, "why": HOSTILE}) + "\n")
+    own.answers["/drf/v1/explain"] = (200, json.dumps({"client": bad + "/./" + bad, "why": HOSTILE}) + "\n")
     own.show(rows)
     own.tell(HOSTILE + "\u202egnp\u0000", '{"name":"NotJson","refused":31}')
     own.tell(json.dumps({"event": "add_framework", "framework": HOSTILE, "roles": [HOSTILE]}), '{"name":"' + HOSTILE.replace('"', "'") + '","refused":33}')
@@ -193,7 +193,7 @@ def a_hostile_text_is_text(browser, room):
 @test
 def why_is_told_in_words(browser, room):
     own = small(browser)
-    own.answers["/explain"] = (200, "".join(json.dumps(line) + "\n" for line in [
+    own.answers["/drf/v1/explain"] = (200, "".join(json.dumps(line) + "\n" for line in [
         {"client": "web/./batch", "why": "Suppressed"}, {"agent": "n1", "client": "data/./batch", "role": "data", "why": "OverLimit"},
         {"agent": "n1", "client": "web/./site", "grant": "cpus:1"}, {"agent": "n2", "client": "data/./batch", "until": 1795860005000, "why": "HeldBack"},
         {"agent": "n3", "client": "web/./site", "grant": "cpus:2"}, {"agent": "n3", "clients": 2, "left": "cpus:0.005"}, {"agent": "n4", "why": "Inactive"}]))
@@ -229,9 +229,9 @@ def replaying_and_a_lost_gateway_are_told(browser, room):
 @test
 def without_states_shares_are_shown(browser, room):
     own = StandIn(PAGE, [])
-    own.answers["/state"] = (501, "drf has no `save`\n")
+    own.answers["/drf/v1/state"] = (501, "drf has no `save`\n")
     nodes = [{"count": 2, "held": "cpus:4", "path": path, "share": "1/2", "weighted": w} for path, w in (("web", "1/4"), ("web/.", "1/2"), ("web/./site", "1/2"))]
-    own.answers["/report"] = (200, {"nodes": nodes, "total": "cpus:8"})
+    own.answers["/drf/v1/report"] = (200, {"nodes": nodes, "total": "cpus:8"})
     browser.enter(own.url, TOKEN)
     browser.wait("the tree", lambda: browser.texts("#tree .name span") == ["web", "site"])
     equal("shares", browser.texts("#tree .share b, #tree .weighted"), ["50.0%", "25.0%", "50.0%", ""])
@@ -310,7 +310,7 @@ def contrast_is_enough_in_light_and_dark(browser, room):
         equal("texts of too little contrast, dark" if dark else "texts of too little contrast", browser.run(CONTRAST), [])
         background = browser.run("return getComputedStyle(document.body).backgroundColor")
         equal("dark", sum(int(part) for part in background[4:-1].split(",")) < 200, dark)
-        own.answers["/status"] = (401, "no such token")
+        own.answers["/drf/v1/status"] = (401, "no such token")
         browser.wait("the start", lambda: "not known" in browser.text("#denied"))
         equal("texts of too little contrast at the start", browser.run(CONTRAST), [])
         browser.console()

@@ -62,7 +62,7 @@ def live_rows_come_in(browser, room):
 def shares_are_those_of_the_report(browser, room):
     service = room.start()
     fill(service)
-    report = {node["path"]: node for node in service.get("/report")["nodes"]}
+    report = {node["path"]: node for node in service.get("/drf/v1/report")["nodes"]}
     browser.enter(service.url, service.tokens["eye"])
     browser.wait("the tree", lambda: browser.texts("#tree tbody tr"))
     shown = browser.run("return [...view.cluster.nodes.values()].map(n => [n.path, n.share, n.weighted, n.count])")
@@ -81,7 +81,7 @@ def hostile_lines_are_text(browser, room):
     service = room.service()
     browser.enter(service.url, service.tokens["eye"])
     browser.wait("the tree", lambda: browser.texts("#tree tbody tr"))
-    service.gateway.ask("/events", HOSTILE + "\u202e")
+    service.gateway.ask("/drf/v1/events", HOSTILE + "\u202e")
     service.client().send(event("add_framework", framework="odd", roles=["<b>&lt"]))
     browser.wait("the line", lambda: "Line: " + HOSTILE + "\\u{202e}" in browser.text("#feed"))
     browser.wait("the role", lambda: "<b>&lt" in browser.texts("#tree .name span"))
@@ -255,9 +255,9 @@ def the_example_runs_its_tasks(browser, room):
              "--framework", "site", "--role", "web", "--tasks", "20", "--seconds", "0.3"]
     done = subprocess.run(words, capture_output=True, text=True, timeout=60)
     equal("its last word", (done.returncode, done.stdout.splitlines()[-1:], done.stderr), (0, ["20 tasks ended"], ""))
-    journal = service.gateway.ask("/journal")[1]
+    journal = service.gateway.ask("/drf/v1/journal")[1]
     equal("tasks that ended", journal.count('"event":"finish"'), 20)
-    equal("what it left", service.get("/report")["nodes"], [])
+    equal("what it left", service.get("/drf/v1/report")["nodes"], [])
     good = subprocess.run([room.programs.drf, "check"], input=journal.encode(), capture_output=True, check=False)
     equal("the journal", good.stdout[:4], b"good")
     service.end()
@@ -270,9 +270,9 @@ def the_example_sends_heartbeats(browser, room):
     cluster.send(event("add_framework", framework="site", roles=["web"]))
     beat = cluster.keep_alive("/frameworks/site", seconds=0.3)
     time.sleep(4)
-    holds("it stands while it is alive", service.get("/report")["nodes"])
+    holds("it stands while it is alive", service.get("/drf/v1/report")["nodes"])
     beat.set()
-    browser.wait("it leaves when it is silent", lambda: not service.get("/report")["nodes"], 15)
+    browser.wait("it leaves when it is silent", lambda: not service.get("/drf/v1/report")["nodes"], 15)
     service.end()
 
 
@@ -303,7 +303,7 @@ def a_backup_is_restored(browser, room):
             "--initial-cluster", "g0=http://localhost:2380", "--initial-advertise-peer-urls", "http://localhost:2380")
     service.start()
     equal("what was taken is not taken again", cluster.send(event("add_framework", framework="site", roles=["web"]), key=key), [{"ok": True}])
-    equal("events", service.get("/status")["lines"], 1)
+    equal("events", service.get("/drf/v1/status")["lines"], 1)
     service.end()
 
 

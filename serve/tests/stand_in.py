@@ -104,9 +104,9 @@ class Handler(BaseHTTPRequestHandler):
             return self.answer(200, own.page, "text/html; charset=utf-8", Content_Security_Policy=policy(own.page))
         if self.headers.get("Authorization") != "Bearer " + TOKEN:
             return self.answer(401, "no such token\n", "text/plain")
-        if path == "/replies":
+        if path == "/drf/v1/replies":
             return self.stream(own)
-        if path == "/journal":
+        if path == "/drf/v1/journal":
             return self.answer(200, own.journal[int(self.path.split("=")[1]):], "application/x-ndjson")
         code, body = own.answers.get(path, (404, "no such call\n"))
         self.answer(code, body if isinstance(body, str) else json.dumps(body))
@@ -132,7 +132,7 @@ class StandIn:
 
     def __init__(self, page, rows):
         self.page, self.listeners, self.message, self.journal, self.ended = page, [], 1, "", False
-        self.answers = {"/explain": (200, ""), "/report": (200, {"nodes": [], "total": ""})}
+        self.answers = {"/drf/v1/explain": (200, ""), "/drf/v1/report": (200, {"nodes": [], "total": ""})}
         self.server = ThreadingHTTPServer(("127.0.0.1", 0), Handler)
         self.server.own, self.server.daemon_threads = self, True
         self.url = f"http://127.0.0.1:{self.server.server_port}"
@@ -141,8 +141,8 @@ class StandIn:
 
     def show(self, rows, **status):
         self.message += 1
-        self.answers["/state"] = (200, {"message": self.message, "rows": rows})
-        self.answers["/status"] = (200, {
+        self.answers["/drf/v1/state"] = (200, {"message": self.message, "rows": rows})
+        self.answers["/drf/v1/status"] = (200, {
             "name": "a", "ready": True, "fault": "", "clock_fault": "", "messages": self.message, "at": 1795860000000,
             "journal": {"from": 0, "end": len(self.journal)}, "allocator": {"restarts": 0}, **status})
 

@@ -43,7 +43,7 @@ func main() {
 			if *rate > 0 { // they do not all call at once
 				time.Sleep(time.Duration(float64(n) / *rate * float64(time.Second)))
 			}
-			results[n] = call(targets[n%len(targets)]+"/events", *token, n, *batch, end, *rate/float64(*callers))
+			results[n] = call(targets[n%len(targets)]+"/drf/v1/events", *token, n, *batch, end, *rate/float64(*callers))
 		}(n)
 	}
 	group.Wait()

@@ -1,0 +1,116 @@
+// The flags. Outside the proof.
+
+package main
+
+import (
+	"errors"
+	"flag"
+	"fmt"
+	"path/filepath"
+	"strconv"
+	"strings"
+	"time"
+
+	"gateway/internal/allocator"
+	"gateway/internal/etcd"
+	"gateway/internal/limit"
+)
+
+type options struct {
+	data, drf, listen, tokens, cert, key, prefix string
+	etcd                                         etcd.Config
+	bound, window                                time.Duration
+	cycle, offerTimeout                          time.Duration
+	agentTimeout, agentRemoval, frameworkTimeout time.Duration
+	removalRate                                  float64
+	maxKept                                      int
+	allocator                                    allocator.Config
+	limits                                       limit.Rates
+}
+
+// size is a flag in bytes, such as 256MiB.
+type size int64
+
+func (s *size) String() string { return strconv.FormatInt(int64(*s), 10) }
+
+func (s *size) Set(text string) error {
+	unit := int64(1)
+	for suffix, of := range map[string]int64{"KiB": 1 << 10, "MiB": 1 << 20, "GiB": 1 << 30} {
+		if strings.HasSuffix(text, suffix) {
+			text, unit = strings.TrimSuffix(text, suffix), of
+		}
+	}
+	number, err := strconv.ParseInt(text, 10, 64)
+	if err != nil || number < 0 || number > (1<<62)/unit {
+		return errors.New("expected bytes, or a number with KiB, MiB or GiB")
+	}
+	*s = size(number * unit)
+	return nil
+}
+
+func readOptions(arguments []string) (*options, error) {
+	o, flags := &options{}, flag.NewFlagSet("gateway", flag.ContinueOnError)
+	o.etcd.Quota = 8 << 30
+	flags.StringVar(&o.data, "data", "durzhanok-data", "folder of the journal, the snapshots and the embedded etcd")
+	flags.StringVar(&o.drf, "drf", "drf", "program of the allocator")
+	flags.StringVar(&o.listen, "listen", "127.0.0.1:8450", "address for callers")
+	flags.StringVar(&o.tokens, "tokens", "", "file of callers and their rights (DATA/tokens.json)")
+	flags.StringVar(&o.cert, "cert", "", "file of certificates, for callers to come over TLS; read again at SIGHUP")
+	flags.StringVar(&o.key, "key", "", "file of its key")
+	flags.StringVar(&o.etcd.Name, "name", "one", "this gateway's name among the others")
+	flags.StringVar(&o.etcd.Members, "members", "", "embedded etcd of several gateways: NAME=URL of each, with commas")
+	flags.BoolVar(&o.etcd.Joins, "join", false, "this member is new in an existing cluster")
+	flags.StringVar(&o.etcd.URLs, "etcd", "", "use this etcd and embed none: URLs, with commas")
+	flags.StringVar(&o.etcd.PeerCert, "peer-cert", "", "file of certificates, for etcd's members and clients")
+	flags.StringVar(&o.etcd.PeerKey, "peer-key", "", "file of its key")
+	flags.StringVar(&o.etcd.PeerCA, "peer-ca", "", "file of the authorities that etcd's members must be certified by")
+	flags.Var((*size)(&o.etcd.Quota), "etcd-quota", "size of etcd's store, such as 8GiB; with -etcd, that etcd's --quota-backend-bytes")
+	flags.StringVar(&o.prefix, "prefix", "drf/", "prefix of the keys in etcd")
+	flags.DurationVar(&o.cycle, "cycle", time.Second, "time between cycles (0: callers send them)")
+	flags.DurationVar(&o.bound, "clock-bound", 10*time.Second, "how far this machine's clock may be from the other gateways'")
+	flags.DurationVar(&o.window, "window", time.Hour, "time for which idempotency keys are kept")
+	flags.IntVar(&o.maxKept, "max-kept-keys", 2_000_000, "kept idempotency keys, above which batches with new keys are refused")
+	flags.DurationVar(&o.offerTimeout, "offer-timeout", 0, "time after which an offer is rescinded (0: never)")
+	flags.DurationVar(&o.agentTimeout, "agent-timeout", 0, "silence after which an agent that sent heartbeats is deactivated (0: never)")
+	flags.DurationVar(&o.agentRemoval, "agent-removal", 0, "time after that until it is removed (0: never)")
+	flags.DurationVar(&o.frameworkTimeout, "framework-timeout", 0, "silence after which a framework that sent heartbeats is removed (0: never)")
+	flags.Float64Var(&o.removalRate, "removal-rate", 1, "silent agents and frameworks that are ended a second, at most")
+	flags.Int64Var(&o.allocator.SnapshotMessages, "save-every", 20_000, "messages between snapshots")
+	flags.DurationVar(&o.allocator.SnapshotApart, "save-apart", time.Minute, "least time between snapshots: replies are kept for that long")
+	flags.Int64Var(&o.allocator.EpochLines, "epoch-every", 4_000_000_000, "lines of an epoch, at most 4294967295")
+	flags.Float64Var(&o.limits.Requests, "limit-requests", 25_000, "requests a second of one caller (0: no limit)")
+	flags.Float64Var(&o.limits.Bytes, "limit-bytes", 32<<20, "bytes of events a second of one caller (0: no limit)")
+	flags.Float64Var(&o.limits.Lines, "limit-lines", 500_000, "events a second of one caller (0: no limit)")
+	flags.IntVar(&o.limits.Streams, "limit-streams", 1000, "open streams of one caller (0: no limit)")
+	flags.DurationVar(&o.limits.Burst, "limit-burst", 2*time.Second, "how long a caller that was silent may exceed its limits")
+	if err := flags.Parse(arguments); err != nil {
+		return nil, err
+	}
+	for _, check := range []struct {
+		isWrong bool
+		problem string
+	}{
+		{flags.NArg() > 0, fmt.Sprintf("%q: arguments without a flag are not expected", flags.Arg(0))},
+		{(o.cert == "") != (o.key == ""), "-cert and -key: give both or none"},
+		{o.etcd.URLs != "" && o.etcd.Members != "", "-etcd and -members: give one of them"},
+		{o.bound < 2*time.Second, fmt.Sprintf("-clock-bound %v: expected at least 2s", o.bound)},
+		{o.cycle != 0 && o.cycle < 10*time.Millisecond, fmt.Sprintf("-cycle %v: expected 0 or at least 10ms", o.cycle)},
+		{o.window < 0, fmt.Sprintf("-window %v: expected at least 0s", o.window)},
+		{o.maxKept < 1, fmt.Sprintf("-max-kept-keys %d: expected at least 1", o.maxKept)},
+		{o.etcd.Quota < 64<<20, fmt.Sprintf("-etcd-quota %d: expected at least 64MiB", o.etcd.Quota)},
+		{o.removalRate <= 0, fmt.Sprintf("-removal-rate %v: expected more than 0", o.removalRate)},
+		{o.allocator.SnapshotMessages < 1, fmt.Sprintf("-save-every %d: expected at least 1", o.allocator.SnapshotMessages)},
+		{o.allocator.EpochLines < 1 || o.allocator.EpochLines > 1<<32-1, fmt.Sprintf("-epoch-every %d: expected 1 to 4294967295", o.allocator.EpochLines)},
+		{o.limits.Requests < 0 || o.limits.Bytes < 0 || o.limits.Lines < 0 || o.limits.Streams < 0, "-limit-..: expected 0 or more"},
+		{o.limits.Burst <= 0, fmt.Sprintf("-limit-burst %v: expected more than 0s", o.limits.Burst)},
+	} {
+		if check.isWrong {
+			return nil, errors.New(check.problem)
+		}
+	}
+	if o.tokens == "" {
+		o.tokens = filepath.Join(o.data, "tokens.json")
+	}
+	o.etcd.Folder, o.allocator.Folder, o.allocator.Program = o.data, o.data, o.drf
+	return o, nil
+}

@@ -1,0 +1,47 @@
+// Command gateway is the service around `drf run`. Outside the proof: it orders, stores, feeds and hands back lines, and never says itself what
+// a reply is.
+package main
+
+import (
+	"context"
+	"errors"
+	"flag"
+	"fmt"
+	"os"
+	"os/signal"
+	"syscall"
+
+	"gateway/internal/auth"
+)
+
+func main() {
+	if err := run(os.Args[1:]); err != nil && !errors.Is(err, flag.ErrHelp) {
+		fmt.Fprintln(os.Stderr, "gateway:", err)
+		os.Exit(1)
+	}
+}
+
+func run(arguments []string) error {
+	if len(arguments) > 0 && arguments[0] == "token" {
+		return addToken(arguments[1:])
+	}
+	o, err := readOptions(arguments)
+	if err != nil {
+		return err
+	}
+	ctx, stop := signal.NotifyContext(context.Background(), os.Interrupt, syscall.SIGTERM)
+	defer stop()
+	return o.serve(ctx)
+}
+
+// addToken creates a token and prints it.
+func addToken(arguments []string) error {
+	if len(arguments) < 3 {
+		return errors.New("usage: gateway token FILE NAME RIGHT..: rights are admin, operate, clock, read, framework:NAME, role:ROLE, agent:NAME, agent:PREFIX*")
+	}
+	token, err := auth.AddCaller(arguments[0], arguments[1], arguments[2:])
+	if err == nil {
+		fmt.Println(token)
+	}
+	return err
+}

@@ -1,0 +1,290 @@
+// The parts of a gateway, how they are connected, and their lives. Outside the proof.
+
+package main
+
+import (
+	"context"
+	"crypto/tls"
+	"errors"
+	"fmt"
+	"log"
+	"net"
+	"net/http"
+	"os"
+	"os/signal"
+	"path/filepath"
+	"sync"
+	"syscall"
+	"time"
+
+	"gateway/internal/allocator"
+	"gateway/internal/api"
+	"gateway/internal/auth"
+	"gateway/internal/disk"
+	"gateway/internal/etcd"
+	"gateway/internal/limit"
+	"gateway/internal/metrics"
+	"gateway/internal/oplog"
+	"gateway/internal/periodic"
+	"gateway/internal/registry"
+	"gateway/internal/session"
+)
+
+const (
+	endTime     = 5 * time.Second // within which the process ends after SIGTERM
+	largeBodies = 4               // that are handled at once
+	committers  = 2               // transactions under way at once
+)
+
+// openData creates the data folder, keeps a second gateway out of it, and creates a token that may do everything where there is none yet.
+func (o *options) openData() error {
+	wasOpen, err := disk.PrivateFolder(o.data)
+	if err != nil {
+		return fmt.Errorf("the data folder: %w", err)
+	}
+	if wasOpen {
+		log.Printf("%s: other users could read it; it is private now", o.data)
+	}
+	if _, err := disk.TryLock(filepath.Join(o.data, "lock")); errors.Is(err, disk.ErrLocked) { // it ends with the process
+		return fmt.Errorf("the data folder %s: another gateway uses it", o.data)
+	} else if err != nil {
+		return fmt.Errorf("the data folder: %w", err)
+	}
+	if _, err := os.Stat(o.tokens); !errors.Is(err, os.ErrNotExist) || filepath.Dir(o.tokens) != filepath.Clean(o.data) {
+		return err
+	}
+	token, err := auth.AddCaller(o.tokens, "admin", []string{"admin"})
+	if err != nil {
+		return err
+	}
+	log.Printf("%s/admin.token may do everything", o.data)
+	return disk.WriteFile(filepath.Join(o.data, "admin.token"), []byte(token+"\n"))
+}
+
+// gateway is a running service.
+type gateway struct {
+	*options
+	server  *api.Server
+	metrics *metrics.Metrics
+	ends    chan error // why a part cannot continue
+
+	mu          sync.Mutex
+	certificate *tls.Certificate
+}
+
+// serve runs the gateway until the context ends, or one of its parts cannot continue.
+func (o *options) serve(ctx context.Context) error {
+	if err := o.openData(); err != nil {
+		return err
+	}
+	callers, err := auth.ReadCallers(o.tokens)
+	if err != nil {
+		return err
+	}
+	journal, err := allocator.OpenJournal(o.data)
+	if err != nil {
+		return err
+	}
+	m := metrics.New()
+	g := &gateway{options: o, metrics: m, ends: make(chan error, 8), server: api.New(m, limit.New(o.limits), limit.NewSlots(largeBodies, 10*time.Second))}
+	g.server.SetCallers(callers)
+	closeServer, err := g.listen()
+	if err != nil {
+		return err
+	}
+	parts, stop := context.WithCancel(context.Background())
+	closed := make(chan struct{})
+	go func() {
+		defer close(closed)
+		g.runParts(parts, journal)
+	}()
+	go g.reload(parts)
+	select {
+	case err = <-g.ends:
+	case <-ctx.Done():
+	}
+	time.AfterFunc(endTime-500*time.Millisecond, func() {
+		log.Print("some parts did not end in time")
+		os.Exit(1)
+	})
+	g.server.SetCallers(&auth.Callers{}) // streams end
+	closeServer()
+	stop()
+	<-closed
+	if marked := journal.Mark(); err == nil {
+		err = marked
+	}
+	return err
+}
+
+// listen starts to answer, with 503 as long as there is no service.
+func (g *gateway) listen() (closeServer func(), err error) {
+	listener, err := net.Listen("tcp", g.options.listen)
+	if err != nil {
+		return nil, err
+	}
+	server := g.server.HTTPServer(func(*tls.ClientHelloInfo) (*tls.Certificate, error) {
+		g.mu.Lock()
+		defer g.mu.Unlock()
+		return g.certificate, nil
+	})
+	if g.cert != "" {
+		if err := g.readCertificate(); err != nil {
+			return nil, err
+		}
+		listener = tls.NewListener(listener, server.TLSConfig)
+	}
+	go func() {
+		if err := server.Serve(listener); !errors.Is(err, http.ErrServerClosed) {
+			g.ends <- err
+		}
+	}()
+	log.Printf("listening on %s", listener.Addr())
+	return func() {
+		ctx, cancel := context.WithTimeout(context.Background(), time.Second)
+		defer cancel()
+		server.Shutdown(ctx)
+	}, nil
+}
+
+func (g *gateway) readCertificate() error {
+	certificate, err := tls.LoadX509KeyPair(g.cert, g.key)
+	if err != nil {
+		return fmt.Errorf("the certificate: %w", err)
+	}
+	g.mu.Lock()
+	defer g.mu.Unlock()
+	g.certificate = &certificate
+	return nil
+}
+
+// reload reads tokens and certificates again at SIGHUP. A file that is wrong changes nothing.
+func (g *gateway) reload(ctx context.Context) {
+	hangups := make(chan os.Signal, 1)
+	signal.Notify(hangups, syscall.SIGHUP)
+	for {
+		select {
+		case <-hangups:
+		case <-ctx.Done():
+			return
+		}
+		if g.cert != "" {
+			if err := g.readCertificate(); err != nil {
+				log.Printf("the old certificate stays in use: %v", err)
+			}
+		}
+		callers, err := auth.ReadCallers(g.tokens)
+		if err != nil {
+			log.Printf("the old tokens stay in use: %v", err)
+			continue
+		}
+		g.server.SetCallers(callers)
+		log.Printf("%d tokens", callers.Len())
+	}
+}
+
+// runParts runs everything behind the server until the context ends.
+func (g *gateway) runParts(ctx context.Context, journal *allocator.Journal) {
+	cluster, err := etcd.Open(ctx, g.etcd)
+	if err != nil {
+		g.ends <- err
+		return
+	}
+	defer cluster.Close()
+	if !g.waitFor(ctx, cluster) {
+		return
+	}
+	service, run := g.build(cluster, journal)
+	g.server.SetService(service)
+	run(ctx)
+}
+
+// waitFor waits until the embedded member works.
+func (g *gateway) waitFor(ctx context.Context, cluster *etcd.Cluster) bool {
+	for problem := cluster.Problem(); problem != ""; problem = cluster.Problem() {
+		g.server.SetWaiting(problem)
+		select {
+		case <-time.After(100 * time.Millisecond):
+		case <-ctx.Done():
+			return false
+		}
+	}
+	return ctx.Err() == nil
+}
+
+// build creates the parts and connects them. What it returns runs them until a context ends.
+func (g *gateway) build(cluster *etcd.Cluster, journal *allocator.Journal) (*api.Service, func(context.Context)) {
+	clock := oplog.NewClock(cluster, g.prefix, g.etcd.Name, g.bound, g.etcd.IsAlone())
+	space := oplog.NewSpace(cluster, g.etcd.Quota)
+	list := oplog.New(cluster, g.prefix, clock, space, g.maxKept)
+	state := registry.New(g.metrics)
+	config := g.allocator
+	config.SnapshotBytes = space.SnapshotBytes()
+	a := allocator.New(config, list, journal, state, func(err error) { g.ends <- err })
+	questions := allocator.NewQuestions(a)
+	mayAppend := func() error {
+		if err := g.server.Healthy(); err != nil {
+			return err
+		}
+		return disk.CheckFree(g.data)
+	}
+	sessions := session.New(session.Config{Rate: g.removalRate, Burst: 10, Alone: g.etcd.IsAlone(), Timeouts: map[string]time.Duration{
+		registry.Agents: g.agentTimeout, session.Removals: g.agentRemoval, registry.Frameworks: g.frameworkTimeout}}, list, state, mayAppend)
+	runner := periodic.New(periodic.Config{Cycle: g.cycle, OfferTimeout: g.offerTimeout, Window: g.window}, list, a, state, mayAppend)
+	service := &api.Service{Name: g.etcd.Name, Folder: g.data, Window: g.window, Log: list, Journal: journal, Allocator: a, Questions: questions, Registry: state, Sessions: sessions}
+	g.addGauges(service)
+	return service, func(ctx context.Context) {
+		runs := []func(context.Context){clock.Run, space.Run, sessions.Run, runner.Run, questions.Run,
+			func(ctx context.Context) { markEachSecond(ctx, journal) },
+			func(ctx context.Context) {
+				if err := a.Run(ctx); err != nil {
+					g.ends <- err
+				}
+			}}
+		for n := 0; n < committers; n++ {
+			runs = append(runs, list.Run)
+		}
+		if g.cycle > 0 {
+			runs = append(runs, runner.RunCycles)
+		}
+		var group sync.WaitGroup
+		for _, run := range runs {
+			group.Add(1)
+			go func(run func(context.Context)) {
+				defer group.Done()
+				run(ctx)
+			}(run)
+		}
+		group.Wait()
+	}
+}
+
+func (g *gateway) addGauges(service *api.Service) {
+	add := func(name, help string, read func(s api.Status) float64) {
+		g.metrics.Gauge(name, help, func() float64 { return read(service.Status()) })
+	}
+	isTrue := map[bool]float64{true: 1}
+	add("drf_ready", "Whether this gateway is up to date.", func(s api.Status) float64 { return isTrue[s.Ready] })
+	add("drf_clock_agrees", "Whether this gateway's clock is near the service's.", func(s api.Status) float64 { return isTrue[s.ClockFault == ""] })
+	add("drf_messages", "Messages in the list so far.", func(s api.Status) float64 { return float64(s.Messages) })
+	add("drf_journal_bytes", "Bytes of the journal so far.", func(s api.Status) float64 { return float64(s.Bytes) })
+	add("drf_offers_standing", "Offers that exist.", func(s api.Status) float64 { return float64(s.Offers) })
+	add("drf_allocator_restarts", "How often the allocator was restarted.", func(s api.Status) float64 { return float64(s.Allocator.Restarts) })
+	add("drf_time_seconds", "The allocator's time.", func(s api.Status) float64 { return float64(s.At) / 1000 })
+	add("drf_kept_keys", "Idempotency keys of pruned messages that are kept.", func(s api.Status) float64 { return float64(s.KeptKeys) })
+	add("drf_etcd_used_bytes", "Used bytes of etcd's store.", func(s api.Status) float64 { return float64(s.Etcd.Used) })
+}
+
+// markEachSecond makes durable how much of the journal was answered.
+func markEachSecond(ctx context.Context, journal *allocator.Journal) {
+	for {
+		select {
+		case <-time.After(time.Second):
+		case <-ctx.Done():
+			return
+		}
+		if err := journal.Mark(); err != nil {
+			log.Print(err)
+		}
+	}
+}

@@ -1,0 +1,274 @@
+// Snapshots: what the allocator saves and the registry has is kept as files and in etcd, and what is before them is pruned. Outside the proof.
+
+package allocator
+
+import (
+	"bytes"
+	"context"
+	"fmt"
+	"io"
+	"log"
+	"os"
+	"os/exec"
+	"path/filepath"
+	"sort"
+	"strconv"
+	"strings"
+	"sync"
+	"time"
+
+	"gateway/internal/disk"
+	"gateway/internal/oplog"
+)
+
+// snapshots makes a snapshot at each marker: every gateway reaches it at the same position, and makes the same. The first one puts it into
+// etcd, the others compare. At an epoch's marker all resume from that snapshot, in which numbers begin again.
+type snapshots struct {
+	allocator *Allocator
+	making    sync.Mutex // one at a time
+	pruned    int64      // etcd's revision after the last pruning here
+
+	mu     sync.Mutex
+	marked oplog.Snapshot // at the last marker
+	made   oplog.Snapshot // the last whose files exist
+}
+
+func (s *snapshots) path(kind string, number int) string {
+	return filepath.Join(s.allocator.config.Folder, fmt.Sprintf("%s.%08d", kind, number))
+}
+
+// arguments are the program's to begin from a snapshot.
+func (s *snapshots) arguments(from oplog.Snapshot) []string {
+	if from.Number == 0 {
+		return nil
+	}
+	return []string{"--from", s.path("state", from.Number)}
+}
+
+// start returns the last snapshot but one, as the replies since that are kept, or the beginning, and restores the registry from it.
+func (s *snapshots) start(ctx context.Context) (from oplog.Snapshot, revision int64, err error) {
+	found, revision, err := s.allocator.log.Snapshots(ctx)
+	var content oplog.Content
+	if err == nil && len(found) > 1 {
+		from = found[len(found)-2]
+		content, err = s.fetch(ctx, from)
+	}
+	if err == nil {
+		err = s.allocator.registry.Restore(content.Registry, content.State, from.Messages, from.At, from.Epoch)
+	}
+	if err != nil {
+		return from, 0, err
+	}
+	s.mu.Lock()
+	defer s.mu.Unlock()
+	s.marked, s.made = from, from
+	s.removeBelow(from.Number)
+	return from, revision, nil
+}
+
+// fetch reads the files of a snapshot, or writes them from etcd.
+func (s *snapshots) fetch(ctx context.Context, from oplog.Snapshot) (c oplog.Content, err error) {
+	c.State, _ = os.ReadFile(s.path("state", from.Number))
+	if from.Registry != "" {
+		c.Registry, _ = os.ReadFile(s.path("registry", from.Number))
+	}
+	if disk.Digest(c.State) == from.Sha256 && (from.Registry == "" || disk.Digest(c.Registry) == from.Registry) {
+		return c, nil
+	}
+	if c, err = s.allocator.log.Content(ctx, from); err == nil {
+		err = s.write(from.Number, c)
+	}
+	return c, err
+}
+
+func (s *snapshots) write(number int, c oplog.Content) error {
+	if err := disk.WriteFile(s.path("registry", number), c.Registry); err != nil {
+		return fmt.Errorf("writing snapshot %d: %w", number, err)
+	}
+	if err := disk.WriteFile(s.path("state", number), c.State); err != nil {
+		return fmt.Errorf("writing snapshot %d: %w", number, err)
+	}
+	return nil
+}
+
+// removeBelow removes the files of snapshots before one.
+func (s *snapshots) removeBelow(number int) {
+	for _, kind := range []string{"state", "registry"} {
+		paths, _ := filepath.Glob(filepath.Join(s.allocator.config.Folder, kind+".*"))
+		for _, path := range paths {
+			if path < s.path(kind, number) {
+				os.Remove(path)
+			}
+		}
+	}
+}
+
+// onMarker is called after a marker's message. A snapshot is made while messages go on; an epoch's ends the generation.
+func (s *snapshots) onMarker(ctx context.Context, f *inFlight, now oplog.Position) error {
+	number, err := strconv.Atoi(strings.TrimPrefix(f.Key, markerKey))
+	if err != nil {
+		return &oplog.FatalError{Err: fmt.Errorf("the marker %s has no number", f.Key)}
+	}
+	s.mu.Lock()
+	s.marked = oplog.Snapshot{Position: now, Number: number, At: f.At, Epoch: s.marked.Epoch, Since: s.marked.Since, Sum: s.allocator.journal.sumSoFar()}
+	if f.Marker == oplog.MarkerEpoch {
+		s.marked.Epoch, s.marked.Since = s.marked.Epoch+1, now.Lines
+	}
+	marked := s.marked
+	s.mu.Unlock()
+	if f.Marker == oplog.MarkerEpoch {
+		s.allocator.registry.Begin(marked.Epoch)
+	}
+	registry, err := s.registryAt(marked)
+	if err != nil && f.Marker != oplog.MarkerEpoch { // others make it, or the next one is made
+		log.Printf("snapshot %d is not made here: %v", number, err)
+		return nil
+	}
+	if err != nil {
+		return err
+	}
+	if f.Marker == oplog.MarkerEpoch {
+		if marked, err = s.make(ctx, marked, registry, "--epoch"); err != nil {
+			return err
+		}
+		return epochError{marked}
+	}
+	go func() {
+		if _, err := s.make(ctx, marked, registry); err != nil && ctx.Err() == nil {
+			log.Printf("snapshot %d was not made: %v", number, err)
+			if oplog.IsFatal(err) {
+				s.allocator.fail(err)
+			}
+		}
+	}()
+	return nil
+}
+
+// registryAt returns the registry's snapshot at a marker. When the child was restarted, the registry may be past it, and the file has it.
+func (s *snapshots) registryAt(marked oplog.Snapshot) ([]byte, error) {
+	path := s.path("registry", marked.Number)
+	if text, is := s.allocator.registry.Snapshot(marked.Messages); is {
+		if err := disk.WriteFile(path, text); err != nil {
+			return nil, fmt.Errorf("writing snapshot %d: %w", marked.Number, err)
+		}
+		return text, nil
+	}
+	text, err := os.ReadFile(path)
+	if err != nil {
+		return nil, fmt.Errorf("the registry's snapshot %d is lost: %w", marked.Number, err)
+	}
+	return text, nil
+}
+
+const markerKey = "state/"
+
+// due returns the marker that is to be appended now, if one is. As the replies before a snapshot are forgotten soon, snapshots are some time
+// apart, unless the list grows too large for that.
+func (s *snapshots) due(now oplog.Position, at time.Time) (*oplog.Batch, bool) {
+	c := s.allocator.config
+	s.mu.Lock()
+	defer s.mu.Unlock()
+	b := &oplog.Batch{Key: fmt.Sprintf("%s%d", markerKey, s.marked.Number+1), Marker: oplog.MarkerSnapshot, Internal: true}
+	if now.Lines-s.marked.Since > c.EpochLines {
+		b.Marker = oplog.MarkerEpoch
+	}
+	isLate := now.Messages-s.marked.Messages >= c.SnapshotMessages && at.UnixMilli()-s.marked.At >= c.SnapshotApart.Milliseconds()
+	isLarge := c.SnapshotBytes > 0 && now.Bytes-s.marked.Bytes >= c.SnapshotBytes
+	return b, isLate || isLarge || b.Marker == oplog.MarkerEpoch
+}
+
+// epoch returns the epoch that the last marker began or was in.
+func (s *snapshots) epoch() int {
+	s.mu.Lock()
+	defer s.mu.Unlock()
+	return s.marked.Epoch
+}
+
+// newest returns the last snapshot whose files exist.
+func (s *snapshots) newest() oplog.Snapshot {
+	s.mu.Lock()
+	defer s.mu.Unlock()
+	return s.made
+}
+
+// make makes the snapshot at a marker, from the one before it and the journal between them, and publishes it.
+func (s *snapshots) make(ctx context.Context, marked oplog.Snapshot, registry []byte, arguments ...string) (oplog.Snapshot, error) {
+	s.making.Lock()
+	defer s.making.Unlock()
+	a := s.allocator
+	found, _, err := a.log.Snapshots(ctx)
+	if err != nil {
+		return marked, err
+	}
+	last := oplog.Snapshot{}
+	if k := sort.Search(len(found), func(k int) bool { return found[k].Number >= marked.Number }); k > 0 {
+		last = found[k-1]
+		if _, err := s.fetch(ctx, last); err != nil {
+			return marked, err
+		}
+	}
+	part := io.NewSectionReader(a.journal, last.Bytes, marked.Bytes-last.Bytes)
+	text, err := a.output(ctx, part, append(append([]string{"save"}, s.arguments(last)...), arguments...)...)
+	if err == nil {
+		err = s.write(marked.Number, oplog.Content{State: text, Registry: registry})
+	}
+	if err != nil {
+		return marked, err
+	}
+	marked.Sha256, marked.Registry = disk.Digest(text), disk.Digest(registry)
+	isFirst, err := a.log.Publish(ctx, marked, oplog.Content{State: text, Registry: registry})
+	if err != nil {
+		return marked, err
+	}
+	s.mu.Lock()
+	if marked.Number > s.made.Number {
+		s.made = marked
+	}
+	s.mu.Unlock()
+	if isFirst {
+		log.Printf("snapshot %d: message %d, %d bytes", marked.Number, marked.Messages, len(text)+len(registry))
+		err = s.prune(ctx, last)
+	}
+	a.positions.forget(last.Revision)
+	if fault := a.journal.prune(last.Bytes); fault != nil {
+		log.Printf("the journal keeps its space on the disk: %v", fault)
+	}
+	s.removeBelow(last.Number)
+	return marked, err
+}
+
+// prune removes from etcd what is before a snapshot. The space of what was pruned the last time can then be used again.
+func (s *snapshots) prune(ctx context.Context, from oplog.Snapshot) error {
+	if from.Number == 0 {
+		return nil
+	}
+	l := s.allocator.log
+	if err := l.Prune(ctx, from.Position); err != nil {
+		return err
+	}
+	if err := l.DropSnapshots(ctx, from.Number); err != nil {
+		return err
+	}
+	_, revision, err := l.Snapshots(ctx)
+	if err != nil {
+		return err
+	}
+	before := s.pruned
+	s.pruned = revision
+	if before == 0 {
+		return nil
+	}
+	return l.Compact(ctx, before)
+}
+
+// output runs the program on a text.
+func (a *Allocator) output(ctx context.Context, in io.Reader, arguments ...string) ([]byte, error) {
+	command := exec.CommandContext(ctx, a.config.Program, arguments...)
+	var complaint bytes.Buffer
+	command.Stdin, command.Stderr = in, &complaint
+	text, err := command.Output()
+	if err != nil {
+		return nil, fmt.Errorf("drf %s: %w: %.200s", arguments[0], err, complaint.String())
+	}
+	return text, nil
+}

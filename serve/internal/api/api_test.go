@@ -1,0 +1,134 @@
+// Tests of calls without a service: routes, keys, errors, slow callers. Outside the proof.
+
+package api
+
+import (
+	"errors"
+	"fmt"
+	"io"
+	"net"
+	"net/http"
+	"net/http/httptest"
+	"strings"
+	"testing"
+	"time"
+
+	"gateway/internal/allocator"
+	"gateway/internal/disk"
+	"gateway/internal/limit"
+	"gateway/internal/metrics"
+	"gateway/internal/oplog"
+	"gateway/internal/session"
+)
+
+func newServer() *Server {
+	return New(metrics.New(), limit.New(limit.Rates{Burst: time.Second}), limit.NewSlots(2, time.Second))
+}
+
+func TestRoutes(t *testing.T) {
+	for path, want := range map[string]string{
+		"/drf/v1/events": "", "/drf/v1/frameworks/site/offers": "site", "/drf/v1/agents/n1/alive": "n1", "/metrics": "",
+		"/events": "none", "/state": "none", "/drf/v1/metrics": "none", "/frameworks/site/offers": "none", "/drf/v1/": "none", "/drf/v1/agents//x": "none", "/drf/v1/a/b/c/d": "none",
+	} {
+		if _, name, is := route(path); is != (want != "none") || is && name != want {
+			t.Errorf("%s: %q %v", path, name, is)
+		}
+	}
+}
+
+// Random keys of 32 hexadecimal digits are not dated, whatever digit stands where a UUID has its version.
+func TestKeyTimes(t *testing.T) {
+	if at, is := keyTime("01890a5d-ac96-774b-bcce-b302099a8057"); !is || at.UnixMilli() != 0x01890a5dac96 {
+		t.Error(at, is)
+	}
+	for _, key := range []string{"", "k1", "01890a5d-ac96-474b-bcce-b302099a8057", "01890a5dac96774bbcceb302099a8057", "01890a5d-ac96-774b-7cce-b302099a8057",
+		"01890a5da-c96-774b-bcce-b302099a8057", oplog.Anonymous("a")} {
+		if _, is := keyTime(key); is {
+			t.Errorf("%q is dated", key)
+		}
+	}
+}
+
+func TestAnswersToErrors(t *testing.T) {
+	for _, c := range []struct {
+		err     error
+		status  int
+		applied string
+		retry   bool
+	}{
+		{&oplog.AppliedError{Message: 7}, 410, "yes", false},
+		{&oplog.ConflictError{}, 409, "no", false},
+		{&oplog.TooLargeError{}, 413, "no", false},
+		{&oplog.FullError{Keys: true}, 429, "no", true},
+		{&oplog.FullError{}, 503, "no", true},
+		{&oplog.UnavailableError{}, 503, "no", true},
+		{&oplog.UnavailableError{MayBeApplied: true}, 503, "unknown", true},
+		{&oplog.ClockError{Reason: "x"}, 503, "no", true},
+		{&allocator.NotReadyError{Reason: "x"}, 503, "no", true},
+		{&disk.SpaceError{}, 503, "no", true},
+		{&limit.Error{RetryAfter: time.Second}, 429, "no", true},
+		{&session.UnknownError{}, 404, "no", false},
+		{session.ErrNotWatched, 501, "no", false},
+		{allocator.ErrDue, 504, "yes", false},
+		{allocator.ErrForgotten, 410, "yes", false},
+		{refusal(403, "x"), 403, "no", false},
+		{errors.New("something else"), 500, "unknown", false},
+	} {
+		answer := answerTo(fmt.Errorf("in some call: %w", c.err))
+		if answer.status != c.status || answer.applied != c.applied || (answer.retry > 0) != c.retry {
+			t.Errorf("%T %v: %+v", c.err, c.err, answer)
+		}
+	}
+	if text := answerTo(errors.New("a secret path")).text; strings.Contains(text, "secret") || !strings.Contains(text, "the gateway's log has it as ") {
+		t.Error(text)
+	}
+}
+
+func TestAnswersBeforeThereIsAService(t *testing.T) {
+	s := newServer()
+	s.SetWaiting("this member waits for a majority")
+	w := httptest.NewRecorder()
+	s.ServeHTTP(w, httptest.NewRequest("GET", "/healthz", nil))
+	if w.Code != http.StatusServiceUnavailable || !strings.Contains(w.Body.String(), "waits for a majority") {
+		t.Error(w.Code, w.Body)
+	}
+	w = httptest.NewRecorder()
+	s.ServeHTTP(w, httptest.NewRequest("GET", "/", nil))
+	if w.Code != http.StatusOK {
+		t.Error(w.Code)
+	}
+}
+
+func TestPolicyNamesWhatThePageRuns(t *testing.T) {
+	if p := policyOf([]byte("<style>a</style><script>b</script>")); !strings.Contains(p, "script-src 'sha256-PiPoFgA5WUoziU9lZOGxNIu9egCI1CxKy3PurtWcAJ0='") {
+		t.Error(p)
+	}
+	if p := policyOf(nil); !strings.Contains(p, "script-src 'none'; style-src 'none'") {
+		t.Error(p)
+	}
+}
+
+// A caller without a token that never sends the rest of its request does not hold its connection for long.
+func TestSilentCallersAreDropped(t *testing.T) {
+	s := newServer()
+	s.inTime = 300 * time.Millisecond
+	listener, err := net.Listen("tcp", "127.0.0.1:0")
+	if err != nil {
+		t.Fatal(err)
+	}
+	server := s.HTTPServer(nil)
+	go server.Serve(listener)
+	defer server.Close()
+	for _, head := range []string{"POST /drf/v1/events HTTP/1.1\r\nHost: x\r\nContent-Length: 100000\r\n\r\n", "POST /drf/v1/agents/n1/alive HTTP/1.1\r\nHost: x\r\nTransfer-Encoding: chunked\r\n\r\n"} {
+		connection, err := net.Dial("tcp", listener.Addr().String())
+		if err != nil {
+			t.Fatal(err)
+		}
+		connection.SetDeadline(time.Now().Add(20 * time.Second))
+		connection.Write([]byte(head))
+		if text, err := io.ReadAll(connection); err != nil || len(text) > 0 && !strings.HasPrefix(string(text), "HTTP/1.1 401") {
+			t.Error(err, string(text))
+		}
+		connection.Close()
+	}
+}

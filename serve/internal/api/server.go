@@ -1,0 +1,235 @@
+// Package api answers HTTP calls: it knows callers, paths and statuses, and nothing of how messages are stored. Outside the proof: a reply
+// line in an answer is the allocator's.
+package api
+
+import (
+	"context"
+	"crypto/tls"
+	"net"
+	"net/http"
+	"strings"
+	"sync/atomic"
+	"time"
+
+	"gateway/internal/allocator"
+	"gateway/internal/auth"
+	"gateway/internal/limit"
+	"gateway/internal/metrics"
+	"gateway/internal/oplog"
+	"gateway/internal/registry"
+	"gateway/internal/session"
+)
+
+// Prefix is what the paths of calls begin with.
+const Prefix = "/drf/v1/"
+
+// patience is the time from a batch to its replies.
+const patience = 25 * time.Second
+
+// Service is what a server answers from.
+type Service struct {
+	Name      string
+	Folder    string        // whose disk must have space
+	Window    time.Duration // for which keys are kept
+	Log       *oplog.Log
+	Journal   *allocator.Journal
+	Allocator *allocator.Allocator
+	Questions *allocator.Questions
+	Registry  *registry.Registry
+	Sessions  *session.Manager
+}
+
+// Server answers calls. Before it has a service it answers 503.
+type Server struct {
+	metrics *metrics.Metrics
+	limiter *limit.Limiter
+	slots   *limit.Slots
+	policy  string
+	inTime  time.Duration // that a caller may take to send a request, and to take an answer or a part of it
+
+	callers atomic.Value // *auth.Callers
+	service atomic.Value // *Service
+	waiting atomic.Value // string: why there is no service
+}
+
+// New returns a server.
+func New(metrics *metrics.Metrics, limiter *limit.Limiter, slots *limit.Slots) *Server {
+	s := &Server{metrics: metrics, limiter: limiter, slots: slots, policy: policyOf(page), inTime: time.Minute}
+	s.callers.Store(&auth.Callers{})
+	s.waiting.Store("it starts")
+	return s
+}
+
+// SetCallers replaces the callers. Streams end, and who still may comes again.
+func (s *Server) SetCallers(callers *auth.Callers) {
+	old := s.callers.Swap(callers).(*auth.Callers)
+	if old.Replaced() != nil {
+		old.Replace()
+	}
+}
+
+// SetService lets calls be answered.
+func (s *Server) SetService(service *Service) { s.service.Store(service) }
+
+// SetWaiting says why there is no service yet.
+func (s *Server) SetWaiting(reason string) { s.waiting.Store(reason) }
+
+// request is a call that is answered.
+type request struct {
+	*Service
+	server  *Server
+	w       http.ResponseWriter
+	r       *http.Request
+	by      *auth.Caller
+	callers *auth.Callers
+	name    string // the NAME in the path, or empty
+}
+
+// call is by which method and with which right something is asked for, and what answers it.
+type call struct {
+	method, right string
+	answer        func(*request) error
+}
+
+var calls = map[string]call{
+	Prefix + "events":                 {http.MethodPost, "", (*request).events},
+	Prefix + "report":                 {http.MethodGet, "read", (*request).report},
+	Prefix + "state":                  {http.MethodGet, "read", (*request).state},
+	Prefix + "explain":                {http.MethodGet, "read", (*request).explain},
+	Prefix + "journal":                {http.MethodGet, "read", (*request).readJournal},
+	Prefix + "replies":                {http.MethodGet, "read", (*request).replies},
+	Prefix + "status":                 {http.MethodGet, "read", (*request).status},
+	Prefix + "frameworks/NAME/offers": {http.MethodGet, "", (*request).offers},
+	Prefix + "frameworks/NAME/alive":  {http.MethodPost, "", (*request).frameworkAlive},
+	Prefix + "agents/NAME/alive":      {http.MethodPost, "", (*request).agentAlive},
+	"/metrics":                        {http.MethodGet, "read", (*request).readMetrics},
+}
+
+// ServeHTTP answers a request.
+func (s *Server) ServeHTTP(w http.ResponseWriter, r *http.Request) {
+	limitTime(r, s.inTime)
+	head := w.Header()
+	head.Set("X-Content-Type-Options", "nosniff")
+	head.Set("Cache-Control", "no-store")
+	switch {
+	case r.URL.Path == "/" && r.Method == http.MethodGet:
+		head.Set("Content-Security-Policy", s.policy)
+		head.Set("Content-Type", "text/html; charset=utf-8")
+		head.Set("Referrer-Policy", "no-referrer")
+		w.Write(page)
+	case r.URL.Path == "/healthz":
+		if err := s.Healthy(); err != nil {
+			s.refuse(w, r, err)
+		}
+	default:
+		if err := s.dispatch(w, r); err != nil {
+			s.refuse(w, r, err)
+		}
+	}
+}
+
+// Healthy returns why this gateway does not take events, or nil.
+func (s *Server) Healthy() error {
+	service, err := s.ready()
+	if err != nil {
+		return err
+	}
+	if err := service.Allocator.Ready(); err != nil {
+		return err
+	}
+	if fault := service.Log.Clock.Fault(); fault != "" {
+		return &oplog.ClockError{Reason: fault}
+	}
+	return nil
+}
+
+// ready returns the service, unless there is none or it is cut off from the other gateways.
+func (s *Server) ready() (*Service, error) {
+	service, _ := s.service.Load().(*Service)
+	if service == nil {
+		return nil, &allocator.NotReadyError{Reason: s.waiting.Load().(string)}
+	}
+	if problem := service.Log.Cluster().Problem(); problem != "" {
+		return nil, &allocator.NotReadyError{Reason: problem}
+	}
+	if service.Log.Clock.IsCutOff() {
+		return nil, &allocator.NotReadyError{Reason: "it is cut off: etcd's majority does not answer"}
+	}
+	return service, nil
+}
+
+// route finds the call of a path, and the NAME in it.
+func route(path string) (c call, name string, is bool) {
+	if rest := strings.TrimPrefix(path, Prefix); rest != path {
+		if parts := strings.Split(rest, "/"); len(parts) == 3 {
+			name, parts[1] = parts[1], "NAME"
+			path = Prefix + strings.Join(parts, "/")
+		}
+	}
+	c, is = calls[path]
+	return c, name, is
+}
+
+// dispatch finds who calls, and what for.
+func (s *Server) dispatch(w http.ResponseWriter, r *http.Request) error {
+	callers := s.callers.Load().(*auth.Callers)
+	token, hasToken := auth.BearerToken(r.Header.Get("Authorization"))
+	by := (*auth.Caller)(nil)
+	if hasToken {
+		by = callers.Find(token)
+	}
+	c, name, is := route(r.URL.Path)
+	switch {
+	case by == nil:
+		w.Header().Set("WWW-Authenticate", "Bearer")
+		return refusal(http.StatusUnauthorized, "no known token: send `Authorization: Bearer TOKEN`")
+	case !is:
+		return refusal(http.StatusNotFound, "there is no such call: calls are below %s", Prefix)
+	case r.Method != c.method:
+		w.Header().Set("Allow", c.method)
+		return refusal(http.StatusMethodNotAllowed, "this call is a %s", c.method)
+	case c.right != "" && !by.Has(c.right, ""):
+		return refusal(http.StatusForbidden, "%s has no right to %s", by.Name, c.right)
+	}
+	if err := s.limiter.Request(by.Name); err != nil {
+		return err
+	}
+	service, err := s.ready()
+	if err != nil {
+		return err
+	}
+	return c.answer(&request{service, s, w, r, by, callers, name})
+}
+
+type connectionKey struct{}
+
+// HTTPServer returns a server for HTTP/1.1. With HTTP/2 several requests share a connection, and before Go 1.20 a deadline is the
+// connection's: one slow caller would end the others' answers.
+func (s *Server) HTTPServer(certificate func(*tls.ClientHelloInfo) (*tls.Certificate, error)) *http.Server {
+	return &http.Server{Handler: s, ReadHeaderTimeout: 10 * time.Second, IdleTimeout: 2 * time.Minute, MaxHeaderBytes: 1 << 16,
+		ConnContext: func(ctx context.Context, c net.Conn) context.Context {
+			return context.WithValue(ctx, connectionKey{}, c)
+		},
+		TLSConfig:    &tls.Config{MinVersion: tls.VersionTLS12, GetCertificate: certificate},
+		TLSNextProto: map[string]func(*http.Server, *tls.Conn, http.Handler){},
+	}
+}
+
+// limitTime bounds the time that a caller may take to send the rest of its request, and to take what is written; 0 is without bound.
+func limitTime(r *http.Request, within time.Duration) {
+	until := time.Time{}
+	if within > 0 {
+		until = time.Now().Add(within)
+	}
+	if connection, is := r.Context().Value(connectionKey{}).(net.Conn); is {
+		connection.SetDeadline(until)
+	}
+}
+
+// write writes an answer that is as of a message.
+func (q *request) write(kind string, message int64, text []byte) {
+	q.w.Header().Set("Content-Type", kind)
+	q.w.Header().Set("Drf-Message", formatInt(message))
+	limitTime(q.r, q.server.inTime)
+	q.w.Write(text)
+}

@@ -1,0 +1,56 @@
+// What a gateway reports of itself. Outside the proof.
+
+package api
+
+import (
+	"encoding/json"
+
+	"gateway/internal/oplog"
+)
+
+// Status is the answer to /status.
+type Status struct {
+	Name         string `json:"name"`
+	Ready        bool   `json:"ready"`
+	Fault        string `json:"fault"`
+	ClockFault   string `json:"clock_fault"`
+	ClockWarning string `json:"clock_warning"`
+	oplog.Position
+	At       int64 `json:"at"`
+	Epoch    int   `json:"epoch"`
+	Offers   int   `json:"offers"`
+	Snapshot int   `json:"state"`
+	KeptKeys int   `json:"kept_keys"`
+	Journal  struct {
+		From   int64  `json:"from"`
+		End    int64  `json:"end"`
+		Sha256 string `json:"sha256"`
+	} `json:"journal"`
+	Allocator struct {
+		Pid       int `json:"pid"`
+		Restarts  int `json:"restarts"`
+		Questions int `json:"questions_pid"`
+	} `json:"allocator"`
+	Etcd struct {
+		Used  int64 `json:"used"`
+		Quota int64 `json:"quota"`
+	} `json:"etcd"`
+}
+
+// Status returns what a service reports of itself.
+func (service *Service) Status() (s Status) {
+	a, info := service.Allocator.Status(), service.Registry.Info()
+	s.Name, s.ClockFault, s.ClockWarning = service.Name, service.Log.Clock.Fault(), service.Log.Clock.Warning()
+	s.Position, s.Fault, s.Ready, s.Snapshot = a.Position, a.Fault, a.Fault == "", a.Snapshot
+	s.Allocator.Pid, s.Allocator.Restarts, s.Allocator.Questions = a.Pid, a.Restarts, service.Questions.Pid()
+	s.Journal.From, s.Journal.End, s.Journal.Sha256 = service.Journal.Bounds()
+	s.At, s.Epoch, s.Offers = info.Now, info.Epoch, info.Offers
+	s.KeptKeys = service.Log.Kept.Count()
+	s.Etcd.Used, s.Etcd.Quota = service.Log.Space.Usage()
+	return s
+}
+
+func (q *request) status() error {
+	q.w.Header().Set("Content-Type", "application/json")
+	return json.NewEncoder(q.w).Encode(q.Service.Status())
+}

@@ -1,0 +1,146 @@
+// Package auth decides who may do what: tokens, their rights, and lines that are written again so that the allocator reads exactly what was
+// judged. Outside the proof.
+package auth
+
+import (
+	"bytes"
+	"crypto/rand"
+	"crypto/sha256"
+	"crypto/subtle"
+	"encoding/hex"
+	"encoding/json"
+	"errors"
+	"fmt"
+	"os"
+	"regexp"
+	"strings"
+
+	"gateway/internal/disk"
+)
+
+// Caller is who has a token. Its rights are admin, operate, clock, read, framework:NAME, role:ROLE, agent:NAME or agent:PREFIX*.
+type Caller struct {
+	Name   string   `json:"name"`
+	Sha256 string   `json:"sha256"`
+	Rights []string `json:"rights"`
+}
+
+// Callers is the content of a tokens file.
+type Callers struct {
+	list     []*Caller
+	replaced chan struct{}
+}
+
+// internalOwners own the keys of messages that gateways append for themselves.
+var internalOwners = map[string]bool{"cycle": true, "rescind": true, "silent": true, "state": true}
+
+const rightsText = "admin, operate, clock, read, framework:NAME, role:ROLE, agent:NAME or agent:PREFIX*"
+
+var (
+	isName  = regexp.MustCompile(`^[A-Za-z0-9_.-]{1,64}$`)
+	isRight = regexp.MustCompile(`^(admin|operate|clock|read|framework:[A-Za-z0-9_.-]{1,64}|agent:[A-Za-z0-9_.-]{0,64}\*?|role:[!-~]{1,64})$`)
+)
+
+// IsName reports whether a text may name a caller, an agent or a framework in a path.
+func IsName(text string) bool { return isName.MatchString(text) }
+
+// ReadCallers reads a tokens file.
+func ReadCallers(path string) (*Callers, error) {
+	text, err := os.ReadFile(path)
+	if err != nil {
+		return nil, fmt.Errorf("reading tokens: %w", err)
+	}
+	return parse(path, text)
+}
+
+func parse(path string, text []byte) (*Callers, error) {
+	callers := &Callers{replaced: make(chan struct{})}
+	reader := json.NewDecoder(bytes.NewReader(text))
+	reader.DisallowUnknownFields()
+	if err := reader.Decode(&callers.list); err != nil {
+		return nil, fmt.Errorf("%s: %w", path, err)
+	}
+	names := map[string]bool{}
+	for k, c := range callers.list {
+		if c == nil {
+			return nil, fmt.Errorf("%s: entry %d is null", path, k)
+		}
+		if sum, err := hex.DecodeString(c.Sha256); err != nil || len(sum) != sha256.Size {
+			return nil, fmt.Errorf("%s: token %q: %q is not a SHA-256 in hexadecimal", path, c.Name, c.Sha256)
+		}
+		switch {
+		case !isName.MatchString(c.Name):
+			return nil, fmt.Errorf("%s: token %q: a name has 1 to 64 letters, digits, dots, dashes and underscores", path, c.Name)
+		case internalOwners[c.Name]:
+			return nil, fmt.Errorf("%s: token %q: this name is reserved for the gateways", path, c.Name)
+		case names[c.Name]:
+			return nil, fmt.Errorf("%s: token %q: there are two of this name", path, c.Name)
+		}
+		names[c.Name] = true
+		for _, right := range c.Rights {
+			if !isRight.MatchString(right) {
+				return nil, fmt.Errorf("%s: token %q: unknown right %q; expected %s", path, c.Name, right, rightsText)
+			}
+		}
+	}
+	return callers, nil
+}
+
+// AddCaller creates a token, adds its digest to a file, and returns it. Two processes may do that at once.
+func AddCaller(path, name string, rights []string) (string, error) {
+	unlock, err := disk.Lock(path + ".lock")
+	if err != nil {
+		return "", err
+	}
+	defer unlock()
+	callers, err := ReadCallers(path)
+	if errors.Is(err, os.ErrNotExist) {
+		callers, err = &Callers{}, nil
+	}
+	if err != nil {
+		return "", err
+	}
+	secret := make([]byte, 24)
+	if _, err := rand.Read(secret); err != nil {
+		return "", fmt.Errorf("creating a token: %w", err)
+	}
+	token := hex.EncodeToString(secret)
+	list := append(callers.list, &Caller{Name: name, Sha256: disk.Digest([]byte(token)), Rights: rights})
+	text, err := json.MarshalIndent(list, "", "  ")
+	if err == nil {
+		_, err = parse(path, text)
+	}
+	if err == nil {
+		err = disk.WriteFile(path, append(text, '\n'))
+	}
+	return token, err
+}
+
+// Len returns the number of callers.
+func (c *Callers) Len() int { return len(c.list) }
+
+// Replace is called when the file is read again: streams of its callers end.
+func (c *Callers) Replace() { close(c.replaced) }
+
+// Replaced returns a channel that is closed when the file is read again.
+func (c *Callers) Replaced() <-chan struct{} { return c.replaced }
+
+// Find returns the caller with a token, or nil. It looks at every token, so that the time it takes does not depend on which it is.
+func (c *Callers) Find(token string) (found *Caller) {
+	sum := []byte(disk.Digest([]byte(token)))
+	for _, one := range c.list {
+		if subtle.ConstantTimeCompare(sum, []byte(strings.ToLower(one.Sha256))) == 1 {
+			found = one
+		}
+	}
+	return found
+}
+
+// BearerToken returns the token of an Authorization header. The scheme may be in any case.
+func BearerToken(header string) (string, bool) {
+	scheme, token, found := strings.Cut(header, " ")
+	if !found || !strings.EqualFold(scheme, "Bearer") {
+		return "", false
+	}
+	return strings.TrimLeft(token, " "), true
+}

@@ -1,0 +1,173 @@
+// Package etcd connects to etcd: to a member inside this process, or to the members of a cluster. Outside the proof.
+package etcd
+
+import (
+	"context"
+	"crypto/tls"
+	"fmt"
+	"log"
+	"strings"
+	"sync"
+	"time"
+
+	"go.etcd.io/etcd/clientv3"
+	"go.etcd.io/etcd/pkg/transport"
+	"go.uber.org/zap"
+)
+
+// Config says which etcd to use.
+type Config struct {
+	Folder                    string // of the embedded member: its data, log and socket
+	Name                      string
+	Members                   string // NAME=URL of each embedded member, with commas; empty for one alone
+	Joins                     bool   // this member is new in an existing cluster
+	URLs                      string // of an external etcd, with commas; empty for an embedded member
+	PeerCert, PeerKey, PeerCA string
+	Quota                     int64 // bytes of the embedded member's store
+}
+
+// IsAlone reports whether no other gateway can use the same etcd.
+func (c Config) IsAlone() bool { return c.URLs == "" && c.Members == "" }
+
+func (c Config) security() transport.TLSInfo {
+	return transport.TLSInfo{CertFile: c.PeerCert, KeyFile: c.PeerKey, TrustedCAFile: c.PeerCA, ClientCertAuth: c.PeerCA != ""}
+}
+
+// Cluster has a client for each member. It asks the first one until that does not answer: a client of all members would ask one that hangs
+// each third time, for as long as the connection exists.
+type Cluster struct {
+	stop       context.CancelFunc
+	isEmbedded bool
+	closed     chan struct{} // closed when an embedded member has stopped, or has had its time to
+
+	mu      sync.Mutex
+	clients []*clientv3.Client
+	left    chan struct{} // closed when the first client changes
+	problem string        // why the embedded member does not work, or empty
+}
+
+// Open connects to etcd. An embedded member may need other members before it works: Problem says whether it does.
+func Open(ctx context.Context, config Config) (*Cluster, error) {
+	ctx, stop := context.WithCancel(ctx)
+	c := &Cluster{stop: stop, closed: make(chan struct{}), left: make(chan struct{})}
+	var err error
+	if c.isEmbedded = config.URLs == ""; c.isEmbedded {
+		err = c.embed(ctx, config)
+	} else {
+		err = c.dial(ctx, config)
+	}
+	if err != nil {
+		stop()
+		return nil, err
+	}
+	return c, nil
+}
+
+func (c *Cluster) dial(ctx context.Context, config Config) error {
+	var security *tls.Config
+	if config.PeerCert != "" || config.PeerCA != "" {
+		var err error
+		if security, err = config.security().ClientConfig(); err != nil {
+			return fmt.Errorf("etcd's certificates: %w", err)
+		}
+	}
+	quiet := zap.NewProductionConfig()
+	quiet.Level = zap.NewAtomicLevelAt(zap.ErrorLevel)
+	for _, url := range strings.Split(config.URLs, ",") {
+		client, err := clientv3.New(clientv3.Config{Endpoints: []string{url}, TLS: security, LogConfig: &quiet, DialTimeout: 2 * time.Second, MaxCallSendMsgSize: 64 << 20})
+		if err != nil {
+			c.closeClients()
+			return fmt.Errorf("etcd at %s: %w", url, err)
+		}
+		c.clients = append(c.clients, client)
+	}
+	go c.watch(ctx)
+	close(c.closed)
+	return nil
+}
+
+// Client returns the client of the member to ask.
+func (c *Cluster) Client() *clientv3.Client {
+	c.mu.Lock()
+	defer c.mu.Unlock()
+	return c.clients[0]
+}
+
+// Endpoint returns the address of the member to ask, or an empty text for an embedded one.
+func (c *Cluster) Endpoint() string {
+	c.mu.Lock()
+	defer c.mu.Unlock()
+	if c.isEmbedded {
+		return ""
+	}
+	return c.clients[0].Endpoints()[0]
+}
+
+// Ask returns the client of the member to ask, and a context that ends after a time, or when another member is to be asked.
+func (c *Cluster) Ask(ctx context.Context, patience time.Duration) (*clientv3.Client, context.Context, context.CancelFunc) {
+	c.mu.Lock()
+	client, left := c.clients[0], c.left
+	c.mu.Unlock()
+	ctx, cancel := context.WithTimeout(ctx, patience)
+	go func() {
+		select {
+		case <-left:
+			cancel()
+		case <-ctx.Done():
+		}
+	}()
+	return client, ctx, cancel
+}
+
+// Leave moves on to the next member.
+func (c *Cluster) Leave(reason error) {
+	c.mu.Lock()
+	defer c.mu.Unlock()
+	if len(c.clients) > 1 {
+		log.Printf("leaving the etcd member %v: %v", c.clients[0].Endpoints(), reason)
+		c.clients = append(c.clients[1:], c.clients[0])
+		close(c.left)
+		c.left = make(chan struct{})
+	}
+}
+
+// watch leaves a member that does not answer what it can answer without a leader.
+func (c *Cluster) watch(ctx context.Context) {
+	for ctx.Err() == nil {
+		client, asked, cancel := c.Ask(ctx, 500*time.Millisecond)
+		if _, err := client.Get(asked, "/", clientv3.WithSerializable()); err != nil && ctx.Err() == nil {
+			c.Leave(err)
+		}
+		cancel()
+		time.Sleep(100 * time.Millisecond)
+	}
+}
+
+// Problem says why the embedded member does not work, such as "it was removed from the cluster". It is empty while the member works.
+func (c *Cluster) Problem() string {
+	c.mu.Lock()
+	defer c.mu.Unlock()
+	return c.problem
+}
+
+func (c *Cluster) setProblem(problem string) {
+	c.mu.Lock()
+	defer c.mu.Unlock()
+	if problem != "" && problem != c.problem {
+		log.Printf("etcd: %s", problem)
+	}
+	c.problem = problem
+}
+
+func (c *Cluster) closeClients() {
+	for _, client := range c.clients {
+		client.Close()
+	}
+}
+
+// Close ends the connections, and stops an embedded member.
+func (c *Cluster) Close() {
+	c.stop()
+	<-c.closed
+	c.closeClients()
+}

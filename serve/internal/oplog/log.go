@@ -1,0 +1,249 @@
+// Appending to the list: batches that wait together become one transaction. Outside the proof.
+
+package oplog
+
+import (
+	"context"
+	"errors"
+	"fmt"
+	"time"
+
+	"gateway/internal/etcd"
+
+	"go.etcd.io/etcd/clientv3"
+	"go.etcd.io/etcd/etcdserver/api/v3rpc/rpctypes"
+	"go.etcd.io/etcd/mvcc/mvccpb"
+	"google.golang.org/grpc/codes"
+	"google.golang.org/grpc/status"
+)
+
+// Log is the list, as one gateway uses it.
+type Log struct {
+	Clock *Clock
+	Kept  *Kept // the keys of pruned messages
+	Space *Space
+
+	cluster *etcd.Cluster
+	prefix  string
+	queue   chan *pending
+}
+
+// New returns the list whose keys in etcd begin with a prefix. Run must be called for it to append.
+func New(cluster *etcd.Cluster, prefix string, clock *Clock, space *Space, maxKept int) *Log {
+	l := &Log{Clock: clock, Space: space, cluster: cluster, prefix: prefix, queue: make(chan *pending)}
+	l.Kept = newKept(cluster, prefix, maxKept)
+	return l
+}
+
+// Cluster returns the etcd that stores the list.
+func (l *Log) Cluster() *etcd.Cluster { return l.cluster }
+
+// Path returns the key in etcd of something beside the list.
+func (l *Log) Path(name string) string { return l.prefix + name }
+
+func (l *Log) messages(key string) string { return l.prefix + "m/" + key }
+
+// Condition is what must hold for a batch to be appended.
+type Condition struct{ compare clientv3.Cmp }
+
+// Unchanged holds while a key of Path was last written at a revision.
+func (l *Log) Unchanged(key string, revision int64) Condition {
+	return Condition{clientv3.Compare(clientv3.ModRevision(key), "=", revision)}
+}
+
+// Untouched holds while no message after a revision touches a name.
+func (l *Log) Untouched(name string, revision int64) Condition {
+	return Condition{clientv3.Compare(clientv3.ModRevision(l.touched(name)), "<", revision+1)}
+}
+
+func (l *Log) touched(name string) string { return l.prefix + "touched/" + name }
+
+// pending is a batch on its way into the list.
+type pending struct {
+	*Batch
+	done chan struct{}
+	at   Revision
+	err  error
+}
+
+const (
+	maxGroup      = 100     // batches in a transaction: etcd takes 128 operations by default
+	maxGroupBytes = 1 << 20 // of a transaction, unless one batch has more
+)
+
+// Append appends a batch, or finds the message that has its key, and returns that message's revision. Errors: *AppliedError,
+// *ConflictError, ErrNotDue, *TooLargeError, *FullError, *UnavailableError, *ClockError, *FatalError.
+func (l *Log) Append(ctx context.Context, b *Batch) (Revision, error) {
+	p := &pending{Batch: b, done: make(chan struct{})}
+	select {
+	case l.queue <- p:
+	case <-ctx.Done():
+		return Revision{}, &UnavailableError{}
+	}
+	select {
+	case <-p.done:
+		return p.at, p.err
+	case <-ctx.Done():
+		return Revision{}, &UnavailableError{MayBeApplied: true}
+	}
+}
+
+// Run appends the batches that wait, those that came together in one transaction, until the context ends.
+func (l *Log) Run(ctx context.Context) {
+	for next := (*pending)(nil); ; {
+		if next == nil {
+			select {
+			case next = <-l.queue:
+			case <-ctx.Done():
+				return
+			}
+		}
+		var group []*pending
+		group, next = l.gather(next)
+		err := l.commit(ctx, group)
+		for _, p := range group {
+			if err != nil {
+				p.err = err
+			}
+			close(p.done)
+		}
+	}
+}
+
+// gather takes what waits, as far as it fits into one transaction, which has each key once; and returns the first batch that does not.
+func (l *Log) gather(first *pending) (group []*pending, next *pending) {
+	keys, size := map[string]bool{}, 0
+	for next = first; ; {
+		size += next.Size()
+		if len(group) > 0 && (keys[next.Key] || len(group) == maxGroup || size > maxGroupBytes) {
+			return group, next
+		}
+		keys[next.Key], group = true, append(group, next)
+		select {
+		case next = <-l.queue:
+		default:
+			return group, nil
+		}
+	}
+}
+
+// commit tries a group until it is committed: a member may die with a transaction, and the keys make it safe to send it again. A transaction
+// that a dead leader has is lost without notice, so patience is short at first.
+func (l *Log) commit(ctx context.Context, group []*pending) error {
+	start, patience := time.Now(), 500*time.Millisecond
+	for {
+		err := l.tryCommit(ctx, group, patience)
+		clock := (*ClockError)(nil)
+		switch {
+		case err == nil, errors.As(err, &clock), IsFatal(err):
+			return err
+		case errors.Is(err, errKeptChanged):
+			continue
+		case err == rpctypes.ErrRequestTooLarge, status.Code(err) == codes.ResourceExhausted:
+			return &TooLargeError{}
+		case err == rpctypes.ErrNoSpace:
+			return &FullError{What: "etcd's store is full"}
+		case ctx.Err() != nil, time.Since(start) > 7*time.Second:
+			return &UnavailableError{MayBeApplied: true, Err: err}
+		case time.Since(start) > 4*time.Second:
+			patience = 3 * time.Second
+		}
+		time.Sleep(20 * time.Millisecond)
+	}
+}
+
+// errKeptChanged reports that messages were pruned since this gateway last read their keys.
+var errKeptChanged = errors.New("messages were pruned")
+
+// tryCommit is one transaction. While its timestamp is within bounds, and no message was pruned whose key this gateway does not know, each
+// batch with a new key is put, each in a transaction of its own inside.
+func (l *Log) tryCommit(ctx context.Context, group []*pending, patience time.Duration) error {
+	client, ctx, cancel := l.cluster.Ask(ctx, patience)
+	defer cancel()
+	kept, err := l.Kept.load(ctx, client)
+	if err != nil {
+		return err
+	}
+	at := l.Clock.now().UnixMilli()
+	ops := make([]clientv3.Op, 0, len(group)+2)
+	for index, p := range group {
+		ours := l.messages(p.Key)
+		get := []clientv3.Op{clientv3.OpGet(ours)}
+		if p.err = l.check(kept, p.Batch); p.err != nil {
+			ops = append(ops, clientv3.OpTxn(nil, get, nil))
+			continue
+		}
+		when := []clientv3.Cmp{clientv3.Compare(clientv3.CreateRevision(ours), "=", 0)}
+		for _, condition := range p.Conditions {
+			when = append(when, condition.compare)
+		}
+		ops = append(ops, clientv3.OpTxn(when, []clientv3.Op{clientv3.OpPut(ours, p.value(at, index))}, get))
+	}
+	for _, name := range touchedBy(group) {
+		ops = append(ops, clientv3.OpPut(l.touched(name), ""))
+	}
+	clock, isSame := l.Clock.within(at), kept.isCurrent()
+	answer, err := client.Txn(ctx).If(append(clock, isSame)...).Then(ops...).Else(clientv3.OpTxn([]clientv3.Cmp{isSame}, nil, nil)).Commit()
+	if err != nil {
+		return err
+	}
+	if !answer.Succeeded {
+		if !answer.Responses[0].GetResponseTxn().Succeeded {
+			l.Kept.forget(kept)
+			return errKeptChanged
+		}
+		return l.Clock.refused()
+	}
+	for index, p := range group {
+		l.settle(p, kept, Revision{answer.Header.Revision, index}, answer.Responses[index].GetResponseTxn().Succeeded,
+			answer.Responses[index].GetResponseTxn().Responses[0].GetResponseRange().GetKvs())
+	}
+	return nil
+}
+
+// check returns why a batch is not put now, whatever the list has: its key is that of a pruned message, or there is no room.
+func (l *Log) check(kept *keptSet, b *Batch) error {
+	if entry, is := kept.find(b.Key); is {
+		return entry.compare(b)
+	}
+	if b.Internal {
+		return nil
+	}
+	if !isAnonymous(b.Key) && kept.count() >= l.Kept.max {
+		return &FullError{What: fmt.Sprintf("%d idempotency keys are kept, which is -max-kept-keys: send this later, or without a key", kept.count()), Keys: true}
+	}
+	return l.Space.check()
+}
+
+// settle records what became of a batch. A message that the list still has decides before anything else.
+func (l *Log) settle(p *pending, kept *keptSet, at Revision, wasPut bool, found []*mvccpb.KeyValue) {
+	switch {
+	case p.err == nil && wasPut:
+		p.at = at
+	case len(found) > 0:
+		p.at, p.err = l.again(p.Batch, found[0])
+	case p.err == nil:
+		p.err = ErrNotDue
+	}
+}
+
+// again compares a batch with the message that has its key.
+func (l *Log) again(b *Batch, kv *mvccpb.KeyValue) (Revision, error) {
+	m, err := l.decode(kv)
+	if err == nil && b.value(m.At, m.Revision.Sub) != string(kv.Value) {
+		err = &ConflictError{}
+	}
+	return m.Revision, err
+}
+
+func touchedBy(group []*pending) (names []string) {
+	known := map[string]bool{}
+	for _, p := range group {
+		for _, name := range p.Touches {
+			if !known[name] {
+				known[name], names = true, append(names, name)
+			}
+		}
+	}
+	return names
+}

@@ -1,0 +1,205 @@
+// Package registry is the state that is derived from messages and the allocator's replies: offers, frameworks, agents, and who listens to
+// them. It does no IO and reads no clock, so every gateway derives the same. Outside the proof: no reply depends on it.
+package registry
+
+import (
+	"bytes"
+	"encoding/json"
+	"fmt"
+	"sync"
+	"time"
+)
+
+// Message is a message of the list with the allocator's replies.
+type Message struct {
+	Number   int64
+	Revision int64 // of etcd, at which it was appended
+	Last     bool  // it is the last message of that revision
+	At       int64
+	Key      string
+	Note     []byte
+	Lines    [][]byte
+	Replies  [][]byte      // each with its line feed
+	Took     time.Duration // from the allocator's input to its reply
+}
+
+// State is one part of the derived state. The registry calls it with its lock held.
+type State interface {
+	// Name returns the part's name in a snapshot.
+	Name() string
+	// Begin starts an epoch: numbers of offers begin again.
+	Begin(epoch int)
+	// Apply takes a message and its replies.
+	Apply(m *Message)
+	// Snapshot returns the state. Equal states have equal snapshots.
+	Snapshot() []byte
+	// Restore replaces the state by a snapshot's.
+	Restore(snapshot []byte) error
+}
+
+// Observer counts what happens. The registry calls it with its lock held.
+type Observer interface {
+	Line(kind, answer string, took time.Duration)
+	OfferMade(framework string)
+	OfferEnded(framework, reason string)
+	FrameworkRemoved(framework string)
+}
+
+// Registry applies each message once, in order, to all its states. After a restart of the allocator messages come again, and are skipped.
+type Registry struct {
+	hub      *hub
+	observer Observer
+
+	mu       sync.RWMutex
+	cluster  *cluster
+	states   []State
+	applied  int64 // the last message
+	revision int64 // of etcd, all of whose messages are applied
+	now      int64 // the greatest timestamp
+	epoch    int
+	idle     bool // the last event was a cycle without offers
+}
+
+// New returns an empty registry with more states beside its own.
+func New(observer Observer, more ...State) *Registry {
+	r := &Registry{hub: newHub(), observer: observer}
+	r.cluster = newCluster(r.hub, observer)
+	r.states = append([]State{r.cluster}, more...)
+	return r
+}
+
+// Info is how far the registry is.
+type Info struct {
+	Applied, Revision, Now int64
+	Epoch                  int
+	Idle                   bool
+	Offers, Agents, Tasks  int
+}
+
+// Info returns how far the registry is.
+func (r *Registry) Info() Info {
+	r.mu.RLock()
+	defer r.mu.RUnlock()
+	return Info{r.applied, r.revision, r.now, r.epoch, r.idle, len(r.cluster.offers), len(r.cluster.agents), r.cluster.countTasks()}
+}
+
+// Apply takes a message, unless it was applied before.
+func (r *Registry) Apply(m *Message) {
+	r.mu.Lock()
+	defer r.mu.Unlock()
+	if m.Number <= r.applied {
+		return
+	}
+	if r.applied = m.Number; m.At > r.now {
+		r.now = m.At
+	}
+	for k, line := range m.Lines {
+		reply := bytes.TrimSuffix(m.Replies[k], []byte("\n"))
+		kind := Kind(line)
+		r.observer.Line(kind, answerOf(reply), m.Took)
+		line := line
+		r.hub.publish(AllReplies, func() []byte {
+			return Event(m.Number, "reply", map[string]interface{}{"message": m.Number, "line": string(line), "reply": json.RawMessage(reply)})
+		})
+		r.idle = kind == "cycle" && string(reply) == `{"offers":[]}`
+	}
+	for _, state := range r.states {
+		state.Apply(m)
+	}
+	if m.Last {
+		r.revision = m.Revision
+	}
+}
+
+// Begin starts an epoch, unless it was started before.
+func (r *Registry) Begin(epoch int) {
+	r.mu.Lock()
+	defer r.mu.Unlock()
+	if epoch <= r.epoch {
+		return
+	}
+	r.epoch = epoch
+	for _, state := range r.states {
+		state.Begin(epoch)
+	}
+}
+
+// Snapshot returns the states as one text, when the last message is the one with a number.
+func (r *Registry) Snapshot(number int64) (snapshot []byte, is bool) {
+	r.mu.RLock()
+	defer r.mu.RUnlock()
+	if r.applied != number {
+		return nil, false
+	}
+	texts := map[string]json.RawMessage{}
+	for _, state := range r.states {
+		texts[state.Name()] = state.Snapshot()
+	}
+	snapshot, err := json.Marshal(texts) // in order of names
+	return snapshot, err == nil
+}
+
+// Restore resumes from a snapshot after a message, unless the registry is there already: who listens must come again, and gets what exists.
+// An empty snapshot is replaced by the rows of the allocator's state, as snapshots of older gateways have nothing else.
+func (r *Registry) Restore(snapshot, rows []byte, message, at int64, epoch int) error {
+	r.mu.Lock()
+	defer r.mu.Unlock()
+	if message <= r.applied {
+		return nil
+	}
+	r.hub.closeAll()
+	r.applied, r.revision, r.now, r.epoch = message, 0, at, epoch
+	if len(snapshot) == 0 {
+		r.cluster.restoreRows(rows, at)
+		return nil
+	}
+	var texts map[string]json.RawMessage
+	if err := json.Unmarshal(snapshot, &texts); err != nil {
+		return fmt.Errorf("the registry's snapshot: %w", err)
+	}
+	for _, state := range r.states {
+		if err := state.Restore(texts[state.Name()]); err != nil {
+			return fmt.Errorf("the registry's snapshot of %s: %w", state.Name(), err)
+		}
+	}
+	return nil
+}
+
+// Kind returns the name of a line's event. Most lines have it once, in its shortest form, and need not be parsed for it.
+func Kind(line []byte) string {
+	prefix := []byte(`"event":"`)
+	if bytes.Count(line, prefix[:7]) == 1 && bytes.IndexByte(line, '\\') < 0 {
+		if _, rest, is := bytes.Cut(line, prefix); is {
+			kind, _, _ := bytes.Cut(rest, []byte(`"`))
+			return string(kind)
+		}
+	}
+	return Text(Fields(line), "event")
+}
+
+// Fields reads a line as the allocator does: exact keys, of equal ones the last. It is nil when the line is no object.
+func Fields(line []byte) map[string]json.RawMessage {
+	var object map[string]json.RawMessage
+	if json.Unmarshal(line, &object) != nil {
+		return nil
+	}
+	return object
+}
+
+// Text returns a field that is a text, or an empty text.
+func Text(object map[string]json.RawMessage, key string) string {
+	var text string
+	if json.Unmarshal(object[key], &text) != nil {
+		return ""
+	}
+	return text
+}
+
+// answerOf returns the name of a refusal, or ok.
+func answerOf(reply []byte) string {
+	if prefix := `{"name":"`; bytes.HasPrefix(reply, []byte(prefix)) {
+		name, _, _ := bytes.Cut(reply[len(prefix):], []byte(`"`))
+		return string(name)
+	}
+	return "ok"
+}

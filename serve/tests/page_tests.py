@@ -8,7 +8,7 @@ import stand_in
 from chromium import equal, holds, test
 from stand_in import StandIn, TOKEN
 
-PAGE = open(os.path.join(os.path.dirname(os.path.realpath(__file__)), "..", "page.html"), encoding="utf-8").read()
+PAGE = open(os.path.join(os.path.dirname(os.path.realpath(__file__)), "..", "internal", "api", "page.html"), encoding="utf-8").read()
 
 
 def small(browser):

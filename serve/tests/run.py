@@ -16,10 +16,11 @@ def main():
     words.add_argument("--long", action="store_true", help="chaos of minutes in place of seconds")
     options = words.parse_args()
     import calls
+    import conversion
     import faults
     programs = find_programs()
     passed = failed = 0
-    for test in calls.TESTS + faults.tests(options.long):
+    for test in calls.TESTS + conversion.TESTS + faults.tests(options.long):
         name = getattr(test, "name", test.__name__.removeprefix("test_"))
         if options.only not in name:
             continue

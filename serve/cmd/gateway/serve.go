@@ -194,9 +194,39 @@ func (g *gateway) runParts(ctx context.Context, journal *allocator.Journal) {
 	if !g.waitFor(ctx, cluster) {
 		return
 	}
-	service, run := g.build(cluster, journal)
+	clock := oplog.NewClock(cluster, g.prefix, g.etcd.Name, g.bound, g.etcd.IsAlone())
+	list := oplog.New(cluster, g.prefix, clock, oplog.NewSpace(cluster, g.etcd.Quota), g.maxKept)
+	if !g.prepare(ctx, list) {
+		return
+	}
+	service, run := g.build(list, journal)
 	g.server.SetService(service)
 	run(ctx)
+}
+
+// prepare makes the list be of this gateway's format, as soon as etcd answers.
+func (g *gateway) prepare(ctx context.Context, list *oplog.Log) bool {
+	var logged time.Time
+	for ctx.Err() == nil {
+		err := list.Prepare(ctx, g.data, g.etcd.IsAlone())
+		if err == nil {
+			return true
+		}
+		if errors.Is(err, oplog.ErrOlderGateway) || oplog.IsFatal(err) {
+			g.ends <- err
+			return false
+		}
+		g.server.SetWaiting(fmt.Sprintf("the list cannot be read: %v", err))
+		if time.Since(logged) > 10*time.Second && ctx.Err() == nil {
+			logged = time.Now()
+			log.Printf("the list cannot be read: %v", err)
+		}
+		select {
+		case <-time.After(500 * time.Millisecond):
+		case <-ctx.Done():
+		}
+	}
+	return false
 }
 
 // waitFor waits until the embedded member works.
@@ -213,13 +243,10 @@ func (g *gateway) waitFor(ctx context.Context, cluster *etcd.Cluster) bool {
 }
 
 // build creates the parts and connects them. What it returns runs them until a context ends.
-func (g *gateway) build(cluster *etcd.Cluster, journal *allocator.Journal) (*api.Service, func(context.Context)) {
-	clock := oplog.NewClock(cluster, g.prefix, g.etcd.Name, g.bound, g.etcd.IsAlone())
-	space := oplog.NewSpace(cluster, g.etcd.Quota)
-	list := oplog.New(cluster, g.prefix, clock, space, g.maxKept)
+func (g *gateway) build(list *oplog.Log, journal *allocator.Journal) (*api.Service, func(context.Context)) {
 	state := registry.New(g.metrics)
 	config := g.allocator
-	config.SnapshotBytes = space.SnapshotBytes()
+	config.SnapshotBytes = list.Space.SnapshotBytes()
 	a := allocator.New(config, list, journal, state, func(err error) { g.ends <- err })
 	questions := allocator.NewQuestions(a)
 	mayAppend := func() error {
@@ -234,7 +261,7 @@ func (g *gateway) build(cluster *etcd.Cluster, journal *allocator.Journal) (*api
 	service := &api.Service{Name: g.etcd.Name, Folder: g.data, Window: g.window, Log: list, Journal: journal, Allocator: a, Questions: questions, Registry: state, Sessions: sessions}
 	g.addGauges(service)
 	return service, func(ctx context.Context) {
-		runs := []func(context.Context){clock.Run, space.Run, sessions.Run, runner.Run, questions.Run,
+		runs := []func(context.Context){list.Clock.Run, list.Space.Run, sessions.Run, runner.Run, questions.Run,
 			func(ctx context.Context) { markEachSecond(ctx, journal) },
 			func(ctx context.Context) {
 				if err := a.Run(ctx); err != nil {

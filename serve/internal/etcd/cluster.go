@@ -3,14 +3,17 @@ package etcd
 
 import (
 	"context"
+	"crypto/sha256"
 	"crypto/tls"
 	"fmt"
+	"io"
 	"log"
 	"strings"
 	"sync"
 	"time"
 
 	"go.etcd.io/etcd/clientv3"
+	"go.etcd.io/etcd/embed"
 	"go.etcd.io/etcd/pkg/transport"
 	"go.uber.org/zap"
 )
@@ -38,6 +41,7 @@ func (c Config) security() transport.TLSInfo {
 type Cluster struct {
 	stop       context.CancelFunc
 	isEmbedded bool
+	member     *embed.Etcd   // or nil
 	closed     chan struct{} // closed when an embedded member has stopped, or has had its time to
 
 	mu      sync.Mutex
@@ -101,6 +105,26 @@ func (c *Cluster) Endpoint() string {
 		return ""
 	}
 	return c.clients[0].Endpoints()[0]
+}
+
+// WriteSnapshot writes the whole store, as `etcdctl snapshot save` does.
+func (c *Cluster) WriteSnapshot(ctx context.Context, to io.Writer) error {
+	if c.member == nil {
+		from, err := c.Client().Snapshot(ctx)
+		if err != nil {
+			return err
+		}
+		defer from.Close()
+		_, err = io.Copy(to, from)
+		return err
+	}
+	snapshot, sum := c.member.Server.Backend().Snapshot(), sha256.New()
+	defer snapshot.Close()
+	if _, err := snapshot.WriteTo(io.MultiWriter(to, sum)); err != nil {
+		return err
+	}
+	_, err := to.Write(sum.Sum(nil))
+	return err
 }
 
 // Ask returns the client of the member to ask, and a context that ends after a time, or when another member is to be asked.

@@ -49,6 +49,7 @@ func (c *Cluster) embed(ctx context.Context, o Config) error {
 	if err != nil {
 		return fmt.Errorf("the embedded etcd member: %w", err)
 	}
+	c.member = server
 	c.clients = []*clientv3.Client{v3client.New(server.Server)}
 	c.problem = "this member starts"
 	if o.Members != "" {

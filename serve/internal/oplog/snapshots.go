@@ -99,11 +99,7 @@ func (l *Log) unpack(ctx context.Context, s stored, revision int64) (c Content, 
 			packed = append(packed, answer.Kvs[0].Value...)
 		}
 	}
-	var text []byte
-	in, err := gzip.NewReader(bytes.NewReader(packed))
-	if err == nil {
-		text, err = io.ReadAll(in)
-	}
+	text, err := gunzip(packed)
 	if err == nil && len(text) == s.Sizes[0]+s.Sizes[1] {
 		c = Content{text[:s.Sizes[0]], text[s.Sizes[0]:]}
 	}
@@ -111,6 +107,14 @@ func (l *Log) unpack(ctx context.Context, s stored, revision int64) (c Content, 
 		return c, &FatalError{fmt.Errorf("snapshot %d in etcd is damaged: its digest is wrong (%v)", s.Number, err)}
 	}
 	return c, nil
+}
+
+func gunzip(packed []byte) ([]byte, error) {
+	in, err := gzip.NewReader(bytes.NewReader(packed))
+	if err != nil {
+		return nil, err
+	}
+	return io.ReadAll(in)
 }
 
 // Publish puts a snapshot into etcd, or compares it with the one that another gateway put under its number, and reports whether it was the
@@ -145,6 +149,9 @@ func (l *Log) Publish(ctx context.Context, s Snapshot, c Content) (isFirst bool,
 	}
 	theirs := stored{}
 	err = json.Unmarshal(answer.Responses[0].GetResponseRange().Kvs[0].Value, &theirs)
+	if theirs.Registry == "" { // it was converted, and has no registry
+		s.Registry = ""
+	}
 	if err != nil || !reflect.DeepEqual(theirs.Snapshot, s) {
 		return false, &FatalError{fmt.Errorf("snapshot %d differs from another gateway's: %+v here, %+v there (%v)", s.Number, s, theirs.Snapshot, err)}
 	}

@@ -11,21 +11,12 @@ import (
 	"time"
 
 	"gateway/internal/etcd"
+	"gateway/internal/etcdtest"
 )
 
 // withEtcd returns an etcd of the test's own.
 func withEtcd(t *testing.T) *etcd.Cluster {
-	cluster, err := etcd.Open(context.Background(), etcd.Config{Name: "one", Folder: t.TempDir(), Quota: 1 << 30})
-	if err != nil {
-		t.Fatal(err)
-	}
-	t.Cleanup(cluster.Close)
-	for end := time.Now().Add(30 * time.Second); cluster.Problem() != ""; time.Sleep(10 * time.Millisecond) {
-		if time.Now().After(end) {
-			t.Fatal(cluster.Problem())
-		}
-	}
-	return cluster
+	return etcdtest.Start(t, 1<<30)
 }
 
 // listOf returns a list with a clock, and appends until the test ends.

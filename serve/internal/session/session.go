@@ -137,6 +137,13 @@ func (m *Manager) waitRegistered(ctx context.Context, kind, name string) (regist
 	}
 }
 
+// waitApplied waits a moment for the registry to have a message, so that the condition of the next ending can hold.
+func (m *Manager) waitApplied(ctx context.Context, revision int64) {
+	for end := time.Now().Add(time.Second); m.registry.Info().Revision < revision && ctx.Err() == nil && time.Now().Before(end); {
+		time.Sleep(2 * time.Millisecond)
+	}
+}
+
 // Run ends silent sessions until the context ends.
 func (m *Manager) Run(ctx context.Context) {
 	m.lastRun, m.calm = m.running(), m.running()
@@ -208,7 +215,6 @@ func (m *Manager) endSilent(ctx context.Context, kind string) error {
 	ctx, cancel := context.WithTimeout(ctx, 20*time.Second)
 	defer cancel()
 	watched, alive := m.key("watched", kind, ""), m.key("alive", kind, "")
-	applied := m.registry.Info().Revision
 	answer, err := m.log.Cluster().Client().Txn(ctx).Then(clientv3.OpGet(watched, clientv3.WithPrefix()), clientv3.OpGet(alive, clientv3.WithPrefix(), clientv3.WithKeysOnly())).Commit()
 	if err != nil {
 		return err
@@ -223,6 +229,7 @@ func (m *Manager) endSilent(ctx context.Context, kind string) error {
 			delete(m.silent, key)
 			continue
 		}
+		applied := m.registry.Info().Revision // before the registration is looked up
 		registration, is := m.registry.Registration(registered(kind), name)
 		isCurrent := is && strconv.FormatInt(registration, 10) == string(kv.Value)
 		if isCurrent && !m.mayEnd(kind, key) {
@@ -247,14 +254,19 @@ func (m *Manager) end(ctx context.Context, kind, name, key string, revision, reg
 		if err != nil {
 			return err
 		}
-		b := &oplog.Batch{Key: fmt.Sprintf("silent/%s/%s/%d", kind, name, revision), Touches: []string{registered(kind)}, Internal: true,
+		b := &oplog.Batch{Key: fmt.Sprintf("silent/%s/%s/%d", kind, name, revision), Internal: true,
 			Conditions: []oplog.Condition{m.log.Unchanged(key, revision), m.log.Untouched(registered(kind), applied)}}
+		if kind != registry.Agents { // which are deactivated, and stay registered
+			b.Touches = []string{registered(kind)}
+		}
 		b.Add(line, false)
-		_, err = m.log.Append(ctx, b)
+		at, err := m.log.Append(ctx, b)
 		wasApplied := (*oplog.AppliedError)(nil)
 		if errors.Is(err, oplog.ErrNotDue) { // it is looked at again
+			m.tokens++
 			return nil
 		}
+		m.waitApplied(ctx, at.Main)
 		if err != nil && !errors.As(err, &wasApplied) {
 			return err
 		}

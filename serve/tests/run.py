@@ -12,17 +12,18 @@ from programs import find_programs
 
 def main():
     words = argparse.ArgumentParser()
-    words.add_argument("--only", default="", help="run the tests whose name has this")
+    words.add_argument("--only", default="", help="run the tests whose names have one of these, with commas")
     words.add_argument("--long", action="store_true", help="chaos of minutes in place of seconds")
     options = words.parse_args()
     import calls
     import conversion
+    import defects
     import faults
     programs = find_programs()
     passed = failed = 0
-    for test in calls.TESTS + conversion.TESTS + faults.tests(options.long):
+    for test in calls.TESTS + conversion.TESTS + defects.TESTS + faults.tests(options.long):
         name = getattr(test, "name", test.__name__.removeprefix("test_"))
-        if options.only not in name:
+        if not any(part in name for part in options.only.split(",")):
             continue
         begun = time.time()
         try:

@@ -162,6 +162,9 @@ func (s *snapshots) registryAt(marked oplog.Snapshot) ([]byte, error) {
 
 const markerKey = "state/"
 
+// shortApart is the time between snapshots while callers are refused for want of space.
+const shortApart = 2 * time.Second
+
 // due returns the marker that is to be appended now, if one is. As the replies before a snapshot are forgotten soon, snapshots are some time
 // apart, unless the list grows too large for that.
 func (s *snapshots) due(now oplog.Position, at time.Time) (*oplog.Batch, bool) {
@@ -174,7 +177,8 @@ func (s *snapshots) due(now oplog.Position, at time.Time) (*oplog.Batch, bool) {
 	}
 	isLate := now.Messages-s.marked.Messages >= c.SnapshotMessages && at.UnixMilli()-s.marked.At >= c.SnapshotApart.Milliseconds()
 	isLarge := c.SnapshotBytes > 0 && now.Bytes-s.marked.Bytes >= c.SnapshotBytes
-	return b, isLate || isLarge || b.Marker == oplog.MarkerEpoch
+	isShort := s.allocator.log.Space.IsShort() && at.UnixMilli()-s.marked.At >= shortApart.Milliseconds()
+	return b, isLate || isLarge || isShort || b.Marker == oplog.MarkerEpoch
 }
 
 // epoch returns the epoch that the last marker began or was in.
@@ -255,6 +259,9 @@ func (s *snapshots) prune(ctx context.Context, from oplog.Snapshot) error {
 	}
 	before := s.pruned
 	s.pruned = revision
+	if l.Space.IsShort() { // a gateway that reads older messages starts again from a snapshot
+		before = revision
+	}
 	if before == 0 {
 		return nil
 	}

@@ -97,6 +97,19 @@ func (c *Cluster) Client() *clientv3.Client {
 	return c.clients[0]
 }
 
+// Size returns the bytes of the store that are in use, and those of its file.
+func (c *Cluster) Size(ctx context.Context) (used, file int64, err error) {
+	if c.member != nil { // whose server panics where the member was removed
+		backend := c.member.Server.Backend()
+		return backend.SizeInUse(), backend.Size(), nil
+	}
+	answer, err := c.Client().Status(ctx, c.Endpoint())
+	if err != nil {
+		return 0, 0, err
+	}
+	return answer.DbSizeInUse, answer.DbSize, nil
+}
+
 // Endpoint returns the address of the member to ask, or an empty text for an embedded one.
 func (c *Cluster) Endpoint() string {
 	c.mu.Lock()

@@ -220,6 +220,7 @@ func (l *Log) settle(p *pending, kept *keptSet, at Revision, wasPut bool, found 
 	switch {
 	case p.err == nil && wasPut:
 		p.at = at
+		l.Space.add(p.Size())
 	case len(found) > 0:
 		p.at, p.err = l.again(p.Batch, found[0])
 	case p.err == nil:

@@ -17,10 +17,11 @@ import (
 	"go.etcd.io/etcd/etcdserver/etcdserverpb"
 )
 
-// Shares of the quota: a snapshot is due when the messages since the last one have a sixteenth; callers may fill three quarters of it.
+// Shares of the quota: a snapshot is due when the messages since the last one have a sixteenth; callers may fill half of it. The rest is for
+// snapshots, and for what was pruned and etcd has not given back yet.
 const (
 	snapshotShare = 16
-	callerShare   = 0.75
+	callerShare   = 2
 )
 
 // Space watches how full etcd's store is.
@@ -29,7 +30,7 @@ type Space struct {
 	quota   int64
 
 	mu   sync.Mutex
-	used int64 // bytes of the store that are not free for reuse
+	used int64 // bytes of the store that are not free for reuse, with what was appended here since they were counted
 	file int64 // bytes of its file
 }
 
@@ -48,6 +49,19 @@ func (s *Space) Usage() (used, quota int64) {
 	return s.used, s.quota
 }
 
+// add counts what was appended.
+func (s *Space) add(bytes int) {
+	if s == nil {
+		return
+	}
+	s.mu.Lock()
+	defer s.mu.Unlock()
+	s.used += int64(bytes)
+}
+
+// IsShort reports whether callers are refused for want of space: it is time to prune.
+func (s *Space) IsShort() bool { return s.check() != nil }
+
 // check returns a *FullError when only the reserve is left.
 func (s *Space) check() error {
 	if s == nil {
@@ -55,7 +69,7 @@ func (s *Space) check() error {
 	}
 	s.mu.Lock()
 	defer s.mu.Unlock()
-	if float64(s.used) < callerShare*float64(s.quota) {
+	if s.used < s.quota/callerShare {
 		return nil
 	}
 	return &FullError{What: fmt.Sprintf("etcd's store has %d of %d MiB (-etcd-quota): the rest is for snapshots and pruning", s.used>>20, s.quota>>20)}
@@ -63,7 +77,7 @@ func (s *Space) check() error {
 
 // Run measures the store until the context ends, and recovers one that became full.
 func (s *Space) Run(ctx context.Context) {
-	for ; ctx.Err() == nil; time.Sleep(250 * time.Millisecond) {
+	for ; ctx.Err() == nil; time.Sleep(100 * time.Millisecond) {
 		if err := s.measure(ctx); err != nil && ctx.Err() == nil {
 			log.Printf("etcd's store: %v", err)
 			time.Sleep(5 * time.Second)
@@ -74,18 +88,17 @@ func (s *Space) Run(ctx context.Context) {
 func (s *Space) measure(ctx context.Context) error {
 	client, ctx, cancel := s.cluster.Ask(ctx, 5*time.Second)
 	defer cancel()
-	endpoint := s.cluster.Endpoint()
-	answer, err := client.Status(ctx, endpoint)
+	used, file, err := s.cluster.Size(ctx)
 	if err != nil {
 		return fmt.Errorf("its size is unknown: %w", err)
 	}
 	s.mu.Lock()
-	s.used, s.file = answer.DbSizeInUse, answer.DbSize
+	s.used, s.file = used, file
 	s.mu.Unlock()
-	if answer.DbSize < s.quota/2 {
+	if file < s.quota/2 || s.cluster.Problem() != "" {
 		return nil
 	}
-	return s.recover(ctx, client, endpoint)
+	return s.recover(ctx, client, s.cluster.Endpoint())
 }
 
 // recover frees the space of what was pruned, and clears etcd's alarm of a full store. Etcd counts the whole file, so a file near the quota is

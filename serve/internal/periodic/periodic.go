@@ -76,24 +76,28 @@ func (r *Runner) RunCycles(ctx context.Context) {
 	}
 }
 
+const ticks = 4 // of Run, a second
+
 // Run looks for what is due until the context ends.
 func (r *Runner) Run(ctx context.Context) {
-	for second := 0; ctx.Err() == nil; second++ {
+	for tick := 0; ctx.Err() == nil; tick++ {
 		if r.ready() == nil {
-			r.rescindLate(ctx)
+			if tick%ticks == 0 {
+				r.rescindLate(ctx)
+			}
 			if b, is := r.allocator.Marker(r.log.Clock.Now()); is {
 				if err := r.put(ctx, b); err != nil && ctx.Err() == nil {
 					log.Printf("appending %s: %v", b.Key, err)
 				}
 			}
-			if second%30 == 0 {
+			if tick%(30*ticks) == 0 {
 				if err := r.log.Kept.DropExpired(ctx, r.log.Clock.Now(), r.config.Window); err != nil && ctx.Err() == nil {
 					log.Print(err)
 				}
 			}
 		}
 		select {
-		case <-time.After(time.Second):
+		case <-time.After(time.Second / ticks):
 		case <-ctx.Done():
 		}
 	}

@@ -132,3 +132,82 @@ func TestSilentCallersAreDropped(t *testing.T) {
 		connection.Close()
 	}
 }
+
+// A caller who sends its body too slowly gets 400, and does not hold its connection for longer.
+func TestSlowBodies(t *testing.T) {
+	s := newServer()
+	s.inTime = time.Second
+	handler := http.HandlerFunc(func(w http.ResponseWriter, r *http.Request) {
+		limitTime(r, s.inTime)
+		_, release, err := (&request{server: s, w: w, r: r}).body()
+		if err == nil {
+			release()
+			return
+		}
+		s.refuse(w, r, err)
+	})
+	listener, err := net.Listen("tcp", "127.0.0.1:0")
+	if err != nil {
+		t.Fatal(err)
+	}
+	server := s.HTTPServer(nil)
+	server.Handler = handler
+	go server.Serve(listener)
+	defer server.Close()
+	connection, err := net.Dial("tcp", listener.Addr().String())
+	if err != nil {
+		t.Fatal(err)
+	}
+	defer connection.Close()
+	start := time.Now()
+	fmt.Fprint(connection, "POST /drf/v1/events HTTP/1.1\r\nHost: x\r\nContent-Length: 1000\r\n\r\n")
+	go func() {
+		for n := 0; n < 300; n++ {
+			if _, err := connection.Write([]byte("x")); err != nil {
+				return
+			}
+			time.Sleep(100 * time.Millisecond)
+		}
+	}()
+	connection.SetReadDeadline(time.Now().Add(20 * time.Second))
+	text := make([]byte, 1<<12)
+	n, err := connection.Read(text)
+	if err != nil || !strings.HasPrefix(string(text[:n]), "HTTP/1.1 400") || !strings.Contains(string(text[:n]), "Drf-Applied: no") {
+		t.Errorf("%v: %q", err, text[:n])
+	}
+	if took := time.Since(start); took > 10*time.Second {
+		t.Error(took)
+	}
+}
+
+// A large body waits for a slot, a small one does not.
+func TestLargeBodiesWait(t *testing.T) {
+	s := New(metrics.New(), limit.New(limit.Rates{Burst: time.Second}), limit.NewSlots(1, 50*time.Millisecond))
+	body := func(size int) (func(), error) {
+		r := httptest.NewRequest("POST", "/drf/v1/events", strings.NewReader(strings.Repeat("x", size)))
+		text, release, err := (&request{server: s, w: httptest.NewRecorder(), r: r}).body()
+		if err == nil && len(text) != size {
+			t.Errorf("read %d of %d bytes", len(text), size)
+		}
+		return release, err
+	}
+	release, err := body(maxBody)
+	if err != nil {
+		t.Fatal(err)
+	}
+	limited := (*limit.Error)(nil)
+	if _, err := body(maxBody); !errors.As(err, &limited) {
+		t.Error("a second large one:", err)
+	}
+	if _, err := body(smallBody - 1); err != nil {
+		t.Error("a small one:", err)
+	}
+	release()
+	refused := (*answerError)(nil)
+	if _, err := body(maxBody + 1); !errors.As(err, &refused) || refused.status != 413 {
+		t.Error("one that is too large:", err)
+	}
+	if _, err := body(maxBody); err != nil {
+		t.Error("afterwards:", err)
+	}
+}

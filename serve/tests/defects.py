@@ -319,4 +319,21 @@ def test_old_paths(programs):
             assert g.ask(path)[0] == 200, path
 
 
+def test_state_differences(programs):
+    """Whoever has a state gets what changed since, and not all of it again."""
+    with Fleet("alone", programs.gateway, programs.drf, "-cycle", "0") as fleet:
+        g = fleet.gateways[0]
+        g.send(*[{"event": "add_agent", "agent": f"n{n}", "total": "cpus:8;mem:8192"} for n in range(1000)])
+        first = json.loads(g.ask("/drf/v1/state?since=0")[1])
+        g.send({"event": "remove_agent", "agent": "n500"}, {"event": "set_agent", "agent": "n7", "total": "cpus:9"}, SITE)
+        time.sleep(1.2)
+        text = g.ask(f"/drf/v1/state?since={first['message']}")[1]
+        after = json.loads(text)
+        rows = [row for edit in after["edits"] for row in (first["rows"][edit[0]:edit[0] + edit[1]] if isinstance(edit, list) else [edit])]
+        assert rows == json.loads(g.ask("/drf/v1/state")[1])["rows"] and len(rows) == 1001, len(rows)
+        assert len(text) < 1000, len(text)
+        assert "rows" in json.loads(g.ask("/drf/v1/state?since=999")[1]) and g.ask("/drf/v1/state?since=x")[0] == 400
+        return f"{len(text)} bytes of {len(json.dumps(first))}"
+
+
 TESTS = [test for name, test in list(globals().items()) if name.startswith("test_")]

@@ -5,10 +5,8 @@ package api
 import (
 	"context"
 	"encoding/json"
-	"fmt"
 	"net/http"
 	"strconv"
-	"strings"
 	"time"
 
 	"gateway/internal/allocator"
@@ -53,22 +51,6 @@ func (q *request) explain() error {
 		text = append(append(text, line...), '\n')
 	}
 	q.write("application/x-ndjson", answer.Message, text)
-	return nil
-}
-
-// state writes all rows of the allocator's state.
-func (q *request) state() error {
-	answer, err := q.ask("state", "", q.server.inTime)
-	if err != nil {
-		return err
-	}
-	file := ""
-	if err := json.Unmarshal(answer.Text, &file); err != nil {
-		return err
-	}
-	rows := strings.Split(file, "\n")
-	rows = rows[:len(rows)-2] // the last one has their number and digest
-	q.write("application/json", answer.Message, []byte(fmt.Sprintf("{\"message\":%d,\"rows\":[%s]}\n", answer.Message, strings.Join(rows, ","))))
 	return nil
 }
 

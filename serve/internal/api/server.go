@@ -47,6 +47,8 @@ type Server struct {
 	policy  string
 	inTime  time.Duration // that a caller may take to send a request, and to take an answer or a part of it
 
+	states stateCache
+
 	callers atomic.Value // *auth.Callers
 	service atomic.Value // *Service
 	waiting atomic.Value // string: why there is no service

@@ -52,17 +52,36 @@ def test_pause(programs):
         for thread in threads:
             thread.start()
         time.sleep(6)
-        for _ in range(2):
-            g.process.send_signal(signal.SIGSTOP)
-            time.sleep(8)
-            g.process.send_signal(signal.SIGCONT)
-            time.sleep(6)
+        g.process.send_signal(signal.SIGSTOP)
+        time.sleep(8)
+        g.process.send_signal(signal.SIGCONT)
+        time.sleep(6)
         journal = g.ask("/drf/v1/journal")[1]
         stop.set()
         for thread in threads:
             thread.join()
         assert "remove" not in journal and "deactivate" not in journal, journal
         assert wait(lambda: "remove_agent" in g.ask("/drf/v1/journal")[1] and "remove_framework" in g.ask("/drf/v1/journal")[1], 40), "who is silent stays"
+
+
+def test_pause_of_one(programs):
+    """While one of two gateways is stopped, the other does not end those who send their heartbeats to it."""
+    with Fleet("outer", programs.gateway, programs.drf, "-cycle", "0", "-framework-timeout", "2s") as fleet:
+        one, other = fleet.gateways
+        one.send(SITE)
+        stop, found = threading.Event(), []
+        thread = threading.Thread(target=beat, args=(one, "/drf/v1/frameworks/site/alive", "site", stop, found))
+        thread.start()
+        time.sleep(7)
+        one.process.send_signal(signal.SIGSTOP)
+        time.sleep(6)
+        one.process.send_signal(signal.SIGCONT)
+        time.sleep(4)
+        journal = other.ask("/drf/v1/journal")[1]
+        stop.set()
+        thread.join()
+        assert "remove_framework" not in journal, journal
+        assert wait(lambda: "remove_framework" in other.ask("/drf/v1/journal")[1], 40), "who is silent stays"
 
 
 def test_full_etcd(programs):

@@ -20,7 +20,7 @@ import (
 
 const (
 	maxSocketPath = 100   // of a Unix socket's path, which the system limits to 107 bytes
-	raftEntries   = 5_000 // applied entries that a member holds in memory before it writes a snapshot of its own
+	raftEntries   = 1_000 // applied entries after which a member writes a snapshot of its own, and those that it then still holds in memory
 )
 
 // embed starts a member in this process. Without other members it listens on no port: its one socket is in the data folder, for etcdctl.
@@ -49,6 +49,7 @@ func (c *Cluster) embed(ctx context.Context, o Config) error {
 	if err != nil {
 		return fmt.Errorf("the embedded etcd member: %w", err)
 	}
+	server.Server.Cfg.SnapshotCatchUpEntries = raftEntries // etcd 3.4 has no flag for it, and reads it with its first snapshot
 	c.member = server
 	c.clients = []*clientv3.Client{v3client.New(server.Server)}
 	c.problem = "this member starts"

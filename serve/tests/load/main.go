@@ -1,6 +1,6 @@
 // Loads a service and measures it: callers that post batches one after another. Outside the proof.
 //
-//	load -urls http://127.0.0.1:8450 -token TOKEN -callers 16 -batch 100 -seconds 10 [-rate 1500]
+//	load -urls http://127.0.0.1:8450 -token TOKEN -callers 16 -batch 100 -seconds 10 [-rate 1500] [-keys] [-count 300000]
 package main
 
 import (
@@ -28,7 +28,9 @@ func main() {
 	callers := flag.Int("callers", 16, "callers side by side")
 	batch := flag.Int("batch", 100, "events in a batch")
 	seconds := flag.Float64("seconds", 10, "how long")
+	keys := flag.Bool("keys", false, "send an Idempotency-Key with each batch")
 	rate := flag.Float64("rate", 0, "batches a second of all callers together; 0 is as many as can be")
+	count := flag.Int("count", 0, "batches of all callers together, after which they stop; 0 is no bound")
 	flag.Parse()
 	http.DefaultTransport.(*http.Transport).MaxIdleConnsPerHost = *callers
 	targets := strings.Split(*urls, ",")
@@ -43,23 +45,37 @@ func main() {
 			if *rate > 0 { // they do not all call at once
 				time.Sleep(time.Duration(float64(n) / *rate * float64(time.Second)))
 			}
-			results[n] = call(targets[n%len(targets)]+"/drf/v1/events", *token, n, *batch, end, *rate/float64(*callers))
+			results[n] = job{url: targets[n%len(targets)] + "/drf/v1/events", token: *token, caller: n, batch: *batch, keys: *keys, end: end,
+				rate: *rate / float64(*callers), count: *count / *callers}.run()
 		}(n)
 	}
 	group.Wait()
 	tell(results, *callers, *batch, time.Since(begun))
 }
 
-// call posts batches until a moment, at a rate or one behind the other's answer.
-func call(url, token string, caller, batch int, end time.Time, rate float64) (r result) {
+// job is what one caller does.
+type job struct {
+	url, token    string
+	caller, batch int
+	keys          bool
+	end           time.Time
+	rate          float64
+	count         int
+}
+
+// run posts batches until the end, at a rate or each after the answer to the one before.
+func (j job) run() (r result) {
 	next := time.Now()
-	for number := 0; time.Now().Before(end); number++ {
-		if rate > 0 {
+	for number := 0; time.Now().Before(j.end) && (j.count == 0 || number < j.count); number++ {
+		if j.rate > 0 {
 			time.Sleep(time.Until(next))
-			next = next.Add(time.Duration(float64(time.Second) / rate))
+			next = next.Add(time.Duration(float64(time.Second) / j.rate))
 		}
-		begun := time.Now()
-		if why := post(url, token, lines(caller, number, batch)); why != "" {
+		begun, key := time.Now(), ""
+		if j.keys {
+			key = fmt.Sprintf("load-%d-%d-%d", j.end.UnixNano(), j.caller, number)
+		}
+		if why := post(j.url, j.token, key, lines(j.caller, number, j.batch)); why != "" {
 			r.fails++
 			r.why = why
 			time.Sleep(10 * time.Millisecond)
@@ -88,12 +104,15 @@ func lines(caller, number, batch int) []byte {
 	return text.Bytes()
 }
 
-func post(url, token string, body []byte) string {
+func post(url, token, key string, body []byte) string {
 	request, err := http.NewRequest(http.MethodPost, url, bytes.NewReader(body))
 	if err != nil {
 		return err.Error()
 	}
 	request.Header.Set("Authorization", "Bearer "+token)
+	if key != "" {
+		request.Header.Set("Idempotency-Key", key)
+	}
 	answer, err := http.DefaultClient.Do(request)
 	if err != nil {
 		return err.Error()

@@ -23,6 +23,7 @@ class Callers:
     def __init__(self, fleet, count, seed):
         self.fleet, self.stop, self.lock = fleet, threading.Event(), threading.Lock()
         self.acknowledged, self.forgotten, self.refused, self.longest, self.tries = {}, [], [], 0.0, 0
+        self.claims = {}  # of each batch's first line: what the answers to it said of it
         self.threads = [threading.Thread(target=self.run, args=(number, random.Random(seed * 1000 + number)), daemon=True) for number in range(count)]
         for thread in self.threads:
             thread.start()
@@ -61,6 +62,7 @@ class Callers:
             status, answer, headers = gateway.ask("/drf/v1/events", text, timeout=10, Idempotency_Key=key)
             with self.lock:
                 self.tries += 1
+                self.claims.setdefault(lines[0], set()).add(headers.get("Drf-Applied", "unknown" if status == 0 else "missing"))
                 if status == 200:
                     self.acknowledged[key] = Acknowledged(lines, int(headers["Drf-Message"]), answer.splitlines())
                     self.longest = max(self.longest, time.time() - begun)
@@ -177,6 +179,9 @@ def judge(fleet, archive, load):
         if '"offer": 1000' in lines[k] and lines[k].startswith('{"event": "rescind"'):
             twice += lines[k] in at
             at[lines[k]] = k
+    assert not any("missing" in said for said in load.claims.values()), "an answer does not say whether it applied the batch"
+    untrue = [(line, said) for line, said in load.claims.items() if ("yes" in said and line not in at) or (said == {"no"} and line in at)]
+    assert not untrue, f"{len(untrue)} answers were not true: {untrue[:3]}"
     lost = [line for line in [batch.lines[0] for batch in load.acknowledged.values()] + load.forgotten if line not in at]
     assert not lost and not twice, f"{len(lost)} lost, {twice} twice"
     for batch in load.acknowledged.values():

@@ -53,16 +53,17 @@ type otherClock struct {
 }
 
 const (
-	liveFor  = 3 * time.Second // a gateway whose record does not change for so long is not running
-	leaseFor = 5 * time.Second // a gateway that does not reach etcd for so long is cut off
-	farAhead = time.Hour       // of a lone gateway's clock: worth a warning
+	liveFor  = 3 * time.Second         // a gateway whose record does not change for so long is not running
+	waitFor  = 1500 * time.Millisecond // for others, before the shared clock is moved far
+	leaseFor = 5 * time.Second         // a gateway that does not reach etcd for so long is cut off
+	farAhead = time.Hour               // of a lone gateway's clock: worth a warning
 )
 
 // NewClock returns the clock of the gateway with a name. Bound is how far its time may be from the others'.
 func NewClock(cluster *etcd.Cluster, prefix, name string, bound time.Duration, alone bool) *Clock {
 	c := &Clock{cluster: cluster, name: name, prefix: prefix + "clocks/", bound: bound, alone: alone, now: time.Now, running: sinceBoot,
 		others: map[string]*otherClock{}, fault: "its clock is not compared yet", lost: make(chan struct{})}
-	c.offset, c.reached = c.apart(), c.running()
+	c.offset, c.reached, c.sharing = c.apart(), c.running(), c.running()
 	return c
 }
 
@@ -250,7 +251,7 @@ func (c *Clock) judge(at, shared int64) (median int64, err error) {
 	if ahead < -c.bound {
 		return 0, fmt.Errorf("the clock of this machine is %s the service's: set it right", apartText(ahead))
 	}
-	if ahead > c.bound && !c.alone && c.running()-c.sharing < liveFor {
+	if ahead > c.bound && !c.alone && c.running()-c.sharing < waitFor {
 		return 0, fmt.Errorf("the clock of this machine is %s the service's, which may have other gateways: waiting for them", apartText(ahead))
 	}
 	if shared > 0 && ahead > farAhead {

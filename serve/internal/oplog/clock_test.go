@@ -43,7 +43,7 @@ func clockOf(cluster *etcd.Cluster, name string, m *machine, alone bool) *Clock 
 		defer m.mu.Unlock()
 		return m.running
 	}
-	c.offset, c.reached = c.apart(), c.running()
+	c.offset, c.reached, c.sharing = c.apart(), c.running(), c.running()
 	return c
 }
 
@@ -58,6 +58,7 @@ func expectRenew(t *testing.T, what string, c *Clock, text string) {
 func TestTwoClocks(t *testing.T) {
 	cluster := withEtcd(t)
 	ours, theirs := &machine{}, &machine{}
+	ours.pass(0, time.Hour) // the machine runs for longer than the gateway
 	a, b := clockOf(cluster, "a", ours, false), clockOf(cluster, "b", theirs, false)
 	expectRenew(t, "the first waits whether there is another", a, "waiting")
 	ours.pass(liveFor, liveFor)

@@ -30,6 +30,7 @@ const (
 	segmentSize  = 5000 // entries of a segment, at most
 	maxAhead     = time.Minute
 	segmentSuite = "kept/"
+	loadTime     = 10 * time.Second // for all segments, of which there may be 80 MB
 )
 
 func digestOf(text []byte) (digest [16]byte) {
@@ -186,10 +187,8 @@ func (k *Kept) Count() int {
 
 // Find returns the number of the pruned message that had a key.
 func (k *Kept) Find(ctx context.Context, key string) (message int64, is bool, err error) {
-	client, ctx, cancel := k.cluster.Ask(ctx, 3*time.Second)
-	defer cancel()
 	k.forget(nil)
-	set, err := k.load(ctx, client)
+	set, err := k.load(ctx)
 	if err != nil {
 		return 0, false, err
 	}
@@ -207,12 +206,14 @@ func (k *Kept) forget(set *keptSet) {
 }
 
 // load returns the copy, which it reads from etcd where there is none.
-func (k *Kept) load(ctx context.Context, client *clientv3.Client) (*keptSet, error) {
+func (k *Kept) load(ctx context.Context) (*keptSet, error) {
 	k.mu.Lock()
 	defer k.mu.Unlock()
 	if k.set != nil {
 		return k.set, nil
 	}
+	client, ctx, cancel := k.cluster.Ask(ctx, loadTime)
+	defer cancel()
 	answer, err := client.Txn(ctx).Then(clientv3.OpGet(k.guard()), clientv3.OpGet(k.prefix+segmentSuite, clientv3.WithPrefix(), clientv3.WithKeysOnly())).Commit()
 	if err != nil {
 		return nil, err
@@ -241,7 +242,7 @@ func (k *Kept) load(ctx context.Context, client *clientv3.Client) (*keptSet, err
 	return set, nil
 }
 
-// segmentOp returns the operations that add a segment.
+// segmentOps returns the operations that add a segment.
 func (k *Kept) segmentOps(first, revision int64, entries []keptEntry) []clientv3.Op {
 	name := fmt.Sprintf("%s%s%016d-%d", k.prefix, segmentSuite, first, revision)
 	return []clientv3.Op{clientv3.OpPut(k.guard(), ""), clientv3.OpPut(name, string(encodeSegment(entries)))}
@@ -251,7 +252,7 @@ func (k *Kept) segmentOps(first, revision int64, entries []keptEntry) []clientv3
 func (k *Kept) DropExpired(ctx context.Context, now time.Time, window time.Duration) error {
 	client, ctx, cancel := k.cluster.Ask(ctx, 10*time.Second)
 	defer cancel()
-	set, err := k.load(ctx, client)
+	set, err := k.load(ctx)
 	if err != nil {
 		return fmt.Errorf("reading the kept keys: %w", err)
 	}

@@ -90,6 +90,7 @@ func (l *Log) Append(ctx context.Context, b *Batch) (Revision, error) {
 
 // Run appends the batches that wait, those that came together in one transaction, until the context ends.
 func (l *Log) Run(ctx context.Context) {
+	l.Kept.load(ctx) // so that the first batch need not wait for it
 	for next := (*pending)(nil); ; {
 		if next == nil {
 			select {
@@ -158,12 +159,12 @@ var errKeptChanged = errors.New("messages were pruned")
 // tryCommit is one transaction. While its timestamp is within bounds, and no message was pruned whose key this gateway does not know, each
 // batch with a new key is put, each in a transaction of its own inside.
 func (l *Log) tryCommit(ctx context.Context, group []*pending, patience time.Duration) error {
-	client, ctx, cancel := l.cluster.Ask(ctx, patience)
-	defer cancel()
-	kept, err := l.Kept.load(ctx, client)
+	kept, err := l.Kept.load(ctx)
 	if err != nil {
 		return err
 	}
+	client, ctx, cancel := l.cluster.Ask(ctx, patience)
+	defer cancel()
 	at := l.Clock.now().UnixMilli()
 	ops := make([]clientv3.Op, 0, len(group)+2)
 	for index, p := range group {

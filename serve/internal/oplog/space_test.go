@@ -91,7 +91,7 @@ func TestKeptKeysAreSmall(t *testing.T) {
 		t.Errorf("%.1f bytes of the store each, %v", each, err)
 	}
 	start := heap()
-	set, err := k.load(ctx, cluster.Client())
+	set, err := k.load(ctx)
 	if err != nil || set.count() != count {
 		t.Fatal(set.count(), err)
 	}

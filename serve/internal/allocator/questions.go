@@ -127,7 +127,8 @@ func (q *Questions) stop() {
 		return
 	}
 	q.end()
-	q.child.command.Wait()
+	<-q.child.ended
+	q.child.close()
 	q.child = nil
 	atomic.StoreInt64(&q.pid, 0)
 }
@@ -177,7 +178,7 @@ func (q *Questions) start(ctx context.Context, epoch int) error {
 		return err
 	}
 	q.child, q.at, q.epoch = child, from.Position, epoch
-	atomic.StoreInt64(&q.pid, int64(child.command.Process.Pid))
+	atomic.StoreInt64(&q.pid, int64(child.pid))
 	return nil
 }
 

@@ -56,6 +56,7 @@ func expectRenew(t *testing.T, what string, c *Clock, text string) {
 }
 
 func TestTwoClocks(t *testing.T) {
+	t.Parallel()
 	cluster := withEtcd(t)
 	ours, theirs := &machine{}, &machine{}
 	ours.pass(0, time.Hour) // the machine runs for longer than the gateway
@@ -85,6 +86,7 @@ func TestTwoClocks(t *testing.T) {
 
 // Of three gateways one whose clock drifts is refused, whichever way it drifts, and the two others continue.
 func TestMajorityOfClocks(t *testing.T) {
+	t.Parallel()
 	for _, step := range []time.Duration{-400 * time.Millisecond, 400 * time.Millisecond} {
 		cluster := withEtcd(t)
 		machines := []*machine{{}, {}, {}}
@@ -130,6 +132,7 @@ func TestMajorityOfClocks(t *testing.T) {
 
 // A lone gateway starts when its clock is far ahead of the last time, and says so.
 func TestLoneClockFarAhead(t *testing.T) {
+	t.Parallel()
 	cluster := withEtcd(t)
 	expectRenew(t, "the first start", clockOf(cluster, "one", &machine{}, true), "")
 	later := clockOf(cluster, "one", &machine{wall: 5 * time.Hour}, true)
@@ -142,6 +145,7 @@ func TestLoneClockFarAhead(t *testing.T) {
 
 // A gateway that no majority answers knows that it is cut off, and that it no longer is.
 func TestCutOff(t *testing.T) {
+	t.Parallel()
 	cluster, m := withEtcd(t), &machine{}
 	c := clockOf(cluster, "one", m, true)
 	expectRenew(t, "at first", c, "")

@@ -11,6 +11,7 @@ import (
 )
 
 func TestNewListIsMarked(t *testing.T) {
+	t.Parallel()
 	ctx, l := context.Background(), withList(t, &machine{})
 	for n := 0; n < 2; n++ {
 		if err := l.Prepare(ctx, t.TempDir(), true); err != nil {
@@ -24,6 +25,7 @@ func TestNewListIsMarked(t *testing.T) {
 
 // A newer gateway does not join older ones that run, and does once they have stopped.
 func TestOlderGatewayRuns(t *testing.T) {
+	t.Parallel()
 	ctx, l := context.Background(), withList(t, &machine{})
 	renew := func() {
 		if _, err := l.cluster.Client().Put(ctx, "drf/clock", stamp(time.Now().UnixMilli())); err != nil {

@@ -57,6 +57,7 @@ func (l *Log) all(ctx context.Context, after Revision) (all []Message, err error
 }
 
 func TestWrongClockStampsNothing(t *testing.T) {
+	t.Parallel()
 	cluster, ctx := withEtcd(t), context.Background()
 	right, wrong := &machine{}, &machine{wall: time.Minute}
 	if err := clockOf(cluster, "a", right, true).renew(ctx); err != nil {
@@ -73,6 +74,7 @@ func TestWrongClockStampsNothing(t *testing.T) {
 }
 
 func TestOneOrder(t *testing.T) {
+	t.Parallel()
 	cluster, ctx := withEtcd(t), context.Background()
 	c := clockOf(cluster, "a", &machine{}, true)
 	if err := c.renew(ctx); err != nil {
@@ -131,6 +133,7 @@ func TestOneOrder(t *testing.T) {
 }
 
 func TestKeyIsUsedOnce(t *testing.T) {
+	t.Parallel()
 	ctx, m := context.Background(), &machine{}
 	l := withList(t, m)
 	cycle := func() *Batch {
@@ -182,6 +185,7 @@ func TestKeyIsUsedOnce(t *testing.T) {
 
 // A gateway that does not know yet what another one pruned appends nothing a second time.
 func TestPruningByAnotherGateway(t *testing.T) {
+	t.Parallel()
 	ctx := context.Background()
 	one := withList(t, &machine{})
 	other := listOf(t, one.cluster, one.Clock)
@@ -202,6 +206,7 @@ func TestPruningByAnotherGateway(t *testing.T) {
 }
 
 func TestPrunedMessagesKeepTheirNumbers(t *testing.T) {
+	t.Parallel()
 	ctx := context.Background()
 	l := withList(t, &machine{})
 	var places []Revision
@@ -231,6 +236,7 @@ func TestPrunedMessagesKeepTheirNumbers(t *testing.T) {
 
 // A batch without a key of its caller leaves nothing behind.
 func TestAnonymousKeysAreNotKept(t *testing.T) {
+	t.Parallel()
 	ctx := context.Background()
 	l := withList(t, &machine{})
 	at, err := l.Append(ctx, batchOf(Anonymous("a"), "x"))
@@ -243,6 +249,7 @@ func TestAnonymousKeysAreNotKept(t *testing.T) {
 }
 
 func TestKeptKeysAreBounded(t *testing.T) {
+	t.Parallel()
 	ctx := context.Background()
 	l := withList(t, &machine{})
 	l.Kept.max = 3
@@ -269,6 +276,7 @@ func TestKeptKeysAreBounded(t *testing.T) {
 }
 
 func TestConditions(t *testing.T) {
+	t.Parallel()
 	ctx := context.Background()
 	l := withList(t, &machine{})
 	first, err := l.cluster.Client().Put(ctx, "drf/watched/n1", "")
@@ -302,6 +310,7 @@ func TestConditions(t *testing.T) {
 }
 
 func TestForgottenMessagesAreNotPassedOver(t *testing.T) {
+	t.Parallel()
 	ctx := context.Background()
 	l := withList(t, &machine{})
 	for n := 0; n < 3; n++ {
@@ -328,6 +337,7 @@ func TestForgottenMessagesAreNotPassedOver(t *testing.T) {
 
 // Messages are read whole and in order when they are of very different sizes.
 func TestLoadOfLargeMessages(t *testing.T) {
+	t.Parallel()
 	ctx := context.Background()
 	l := withList(t, &machine{})
 	large := make([]byte, 60_000)

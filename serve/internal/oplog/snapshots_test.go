@@ -10,6 +10,7 @@ import (
 )
 
 func TestSnapshotsInParts(t *testing.T) {
+	t.Parallel()
 	ctx := context.Background()
 	l := withList(t, &machine{})
 	state := make([]byte, 3<<20)

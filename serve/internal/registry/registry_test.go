@@ -176,7 +176,7 @@ func has(r *Registry) (d defined) {
 // A registry has what its definition has after any messages; and so has one that was restored from a snapshot on the way, or gets messages
 // again, as after a restart of the allocator.
 func TestRegistryIsAsDefined(t *testing.T) {
-	for seed := int64(1); seed <= 60; seed++ {
+	for seed := int64(1); seed <= 25; seed++ {
 		h := &history{rand.New(rand.NewSource(seed)), 0}
 		var messages []*Message
 		first, restored := New(&counts{}), (*Registry)(nil)

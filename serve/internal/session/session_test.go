@@ -179,6 +179,7 @@ const (
 )
 
 func TestSilentOnesAreEnded(t *testing.T) {
+	t.Parallel()
 	w := newWorld(t)
 	w.follow()
 	m := w.manager(map[string]time.Duration{registry.Agents: time.Second, Removals: time.Second, registry.Frameworks: time.Second}, 10, 10)
@@ -204,6 +205,7 @@ func TestSilentOnesAreEnded(t *testing.T) {
 
 // The lease of a framework that left does not end the one that registered again under its name.
 func TestStaleLeaseEndsNobody(t *testing.T) {
+	t.Parallel()
 	w := newWorld(t)
 	w.follow()
 	m := w.manager(map[string]time.Duration{registry.Frameworks: time.Second}, 10, 10)
@@ -228,6 +230,7 @@ func TestStaleLeaseEndsNobody(t *testing.T) {
 
 // A gateway that has not seen yet that a framework registered again does not end it either.
 func TestStaleLeaseAtAGatewayBehind(t *testing.T) {
+	t.Parallel()
 	w := newWorld(t)
 	m := w.manager(map[string]time.Duration{registry.Frameworks: time.Second}, 10, 10)
 	line := []byte(addSite)
@@ -263,6 +266,7 @@ func TestStaleLeaseAtAGatewayBehind(t *testing.T) {
 
 // After a pause of the service time-outs start again, so that those who kept sending heartbeats are not ended.
 func TestPauseEndsNobody(t *testing.T) {
+	t.Parallel()
 	w := newWorld(t)
 	w.follow()
 	m := w.manager(map[string]time.Duration{registry.Frameworks: time.Second}, 10, 10)
@@ -286,6 +290,7 @@ func TestPauseEndsNobody(t *testing.T) {
 }
 
 func TestEndingsAreLimited(t *testing.T) {
+	t.Parallel()
 	w := newWorld(t)
 	w.follow()
 	m := w.manager(map[string]time.Duration{registry.Agents: time.Second}, 0.5, 3)
@@ -325,6 +330,7 @@ func TestEndingsAreLimited(t *testing.T) {
 }
 
 func TestHeartbeatsOfTheUnknown(t *testing.T) {
+	t.Parallel()
 	w := newWorld(t)
 	w.follow()
 	m := w.manager(map[string]time.Duration{registry.Agents: time.Second}, 10, 10)

@@ -1,0 +1,98 @@
+// Tests of the embedded member and of connections. Outside the proof.
+
+package etcd
+
+import (
+	"bytes"
+	"context"
+	"crypto/sha256"
+	"errors"
+	"os"
+	"path/filepath"
+	"strings"
+	"testing"
+	"time"
+)
+
+func TestLoneMember(t *testing.T) {
+	ctx, folder := context.Background(), t.TempDir()
+	c, err := Open(ctx, Config{Name: "one", Folder: folder, Quota: 1 << 30})
+	if err != nil {
+		t.Fatal(err)
+	}
+	for end := time.Now().Add(30 * time.Second); c.Problem() != ""; time.Sleep(10 * time.Millisecond) {
+		if time.Now().After(end) {
+			t.Fatal(c.Problem())
+		}
+	}
+	if _, err := c.Client().Put(ctx, "a", "b"); err != nil {
+		t.Fatal(err)
+	}
+	if _, err := os.Stat(filepath.Join(folder, "etcd.sock")); err != nil && len(folder) < 80 {
+		t.Error("it has no socket:", err)
+	}
+	used, file, err := c.Size(ctx)
+	if err != nil || used <= 0 || file < used {
+		t.Error(used, file, err)
+	}
+	var snapshot bytes.Buffer
+	if err := c.WriteSnapshot(ctx, &snapshot); err != nil {
+		t.Fatal(err)
+	}
+	store := snapshot.Bytes()[:snapshot.Len()-sha256.Size]
+	if sum := sha256.Sum256(store); !bytes.Equal(sum[:], snapshot.Bytes()[len(store):]) {
+		t.Error("a snapshot does not end with its digest")
+	}
+	start := time.Now()
+	c.Close()
+	if took := time.Since(start); took > 5*time.Second {
+		t.Error("closing took", took)
+	}
+}
+
+// A member that lacks a majority says so, and stops when it is told to.
+func TestMemberWithoutMajority(t *testing.T) {
+	c, err := Open(context.Background(), Config{Name: "a", Folder: t.TempDir(), Quota: 1 << 30, Members: "a=http://127.0.0.1:42380,b=http://127.0.0.1:42381,c=http://127.0.0.1:42382"})
+	if err != nil {
+		t.Fatal(err)
+	}
+	if problem := c.Problem(); !strings.Contains(problem, "waits for a majority of the members a=http") {
+		t.Error(problem)
+	}
+	start := time.Now()
+	c.Close()
+	if took := time.Since(start); took > 5*time.Second {
+		t.Error("closing took", took)
+	}
+}
+
+func TestMembersAreChecked(t *testing.T) {
+	for members, want := range map[string]string{"a=http://127.0.0.1:1,b": `"b" is not NAME=URL`, "b=http://127.0.0.1:1": "does not have this gateway's -name"} {
+		if _, err := Open(context.Background(), Config{Name: "a", Folder: t.TempDir(), Members: members}); err == nil || !strings.Contains(err.Error(), want) {
+			t.Errorf("%s: %v", members, err)
+		}
+	}
+}
+
+// Requests under way end when their member is left.
+func TestLeave(t *testing.T) {
+	c, err := Open(context.Background(), Config{URLs: "http://127.0.0.1:1,http://127.0.0.1:2"})
+	if err != nil {
+		t.Fatal(err)
+	}
+	defer c.Close()
+	c.mu.Lock()
+	one, other := c.clients[0], c.clients[1]
+	c.mu.Unlock()
+	client, ctx, cancel := c.Ask(context.Background(), time.Minute)
+	defer cancel()
+	if client != one && client != other {
+		t.Error("no member is asked")
+	}
+	c.Leave(errors.New("it hangs"))
+	select {
+	case <-ctx.Done():
+	case <-time.After(10 * time.Second):
+		t.Error("a request to a member that was left continues")
+	}
+}

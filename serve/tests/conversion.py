@@ -5,7 +5,7 @@ import subprocess
 import tarfile
 import time
 
-from fleet import HERE, Fleet, NotRun
+from fleet import HERE, Fleet, NotRun, wait
 
 FIXTURES = os.path.join(HERE, "fixtures")
 
@@ -16,7 +16,7 @@ def test_conversion(programs):
     rows = json.load(open(os.path.join(FIXTURES, "before-packages.state.json")))["rows"]
     if time.time() * 1000 < was["at"]:
         raise NotRun("the clock of this machine is behind the fixture's")
-    fleet = Fleet("alone", programs.gateway, programs.drf, "-cycle", "0", "-window", "1000000h", "-agent-timeout", "600s")
+    fleet = Fleet("alone", programs.gateway, programs.drf, "-cycle", "0", "-window", "1000000h", "-agent-timeout", "600s", save_every=20)
     g, = fleet.gateways
     with tarfile.open(os.path.join(FIXTURES, "before-packages.tgz")) as archive:
         archive.extractall(fleet.folder)
@@ -47,6 +47,19 @@ def test_conversion(programs):
         g.until_ready()
         assert g.log().count("it is converted") == 1 and g.status()["messages"] == messages
         assert g.ask("/drf/v1/events", first, Idempotency_Key="first")[0] == 410
+        # Snapshots after the conversion are the same whichever snapshot a gateway started from.
+        for turn in range(3):
+            number = g.status()["state"]
+            g.send({"event": "add_agent", "agent": f"new{turn}", "total": "cpus:1"}, {"event": "remove_agent", "agent": f"new{turn}"})
+            for n in range(25):
+                g.send({"event": "rescind", "offer": 5000 + n})
+            assert wait(lambda: g.status()["state"] > number, 20), g.log()[-600:]
+            g.kill()
+            g.start()
+            g.until_ready()
+            time.sleep(1)
+            assert g.is_ready() and g.process.poll() is None, g.log()[-600:]
+        assert "differs" not in g.log(), g.log()[-600:]
         return f"{was['messages']} messages"
 
 

@@ -1,5 +1,5 @@
-// Package allocator runs the proved program as a child: it feeds it the lines of the list in order, compares their echoes, writes the
-// replies to the journal, and makes snapshots. Outside the proof: it answers nothing itself.
+// Package allocator, outside the proof, runs the proved program as a child: it feeds it the lines of the list in order, compares their
+// echoes, writes the replies to the journal, and makes snapshots. It answers nothing itself.
 package allocator
 
 import (

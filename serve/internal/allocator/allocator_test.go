@@ -214,7 +214,10 @@ func TestResume(t *testing.T) {
 			}
 			until(t, "a snapshot", func() bool { return r.Status().Snapshot == made })
 		}
-		until(t, "pruning", func() bool { return r.log.Kept.Count() > 0 })
+		until(t, "pruning", func() bool {
+			_, is, err := r.log.Kept.Find(context.Background(), "a/1")
+			return is && err == nil
+		})
 		if err := r.journal.Mark(); err != nil {
 			t.Fatal(err)
 		}

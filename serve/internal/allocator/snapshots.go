@@ -119,6 +119,9 @@ func (s *snapshots) onMarker(ctx context.Context, f *inFlight, now oplog.Positio
 	if f.Marker == oplog.MarkerEpoch {
 		s.allocator.registry.Begin(marked.Epoch)
 	}
+	if err := s.adoptConverted(ctx, marked); err != nil {
+		return err
+	}
 	registry, err := s.registryAt(marked)
 	if err != nil && f.Marker != oplog.MarkerEpoch { // others make it, or the next one is made
 		log.Printf("snapshot %d is not made here: %v", number, err)
@@ -141,6 +144,24 @@ func (s *snapshots) onMarker(ctx context.Context, f *inFlight, now oplog.Positio
 			}
 		}
 	}()
+	return nil
+}
+
+// adoptConverted makes the registry be what a gateway has that starts at this snapshot, where that was converted and has no registry.
+func (s *snapshots) adoptConverted(ctx context.Context, marked oplog.Snapshot) error {
+	found, _, err := s.allocator.log.Snapshots(ctx)
+	if err != nil {
+		return err
+	}
+	for _, one := range found {
+		if one.Number == marked.Number && one.Registry == "" {
+			content, err := s.allocator.log.Content(ctx, one)
+			if err != nil {
+				return err
+			}
+			s.allocator.registry.ResetRows(content.State, marked.Messages, marked.At)
+		}
+	}
 	return nil
 }
 

@@ -1,5 +1,5 @@
-// Package auth decides who may do what: tokens, their rights, and lines that are written again so that the allocator reads exactly what was
-// judged. Outside the proof.
+// Package auth, outside the proof, decides who may do what: tokens, their rights, and lines that are written again so that the allocator
+// reads exactly what was judged.
 package auth
 
 import (

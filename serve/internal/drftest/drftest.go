@@ -1,5 +1,5 @@
-// Package drftest has a stand-in for drf, for tests of other packages: it answers a cycle with an offer, every other line with ok, and a
-// question with the number of lines before it. Outside the proof.
+// Package drftest, outside the proof, has a stand-in for drf, for tests of other packages: it answers a cycle with an offer, every other
+// line with ok, and a question with the number of lines before it.
 package drftest
 
 import (

@@ -1,5 +1,5 @@
-// Package metrics has the figures for Prometheus: counts of what was answered, and gauges that are read when they are asked for. Outside the
-// proof.
+// Package metrics, outside the proof, has the figures for Prometheus: counts of what was answered, and gauges that are read when they are
+// asked for.
 package metrics
 
 import (

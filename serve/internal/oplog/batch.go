@@ -1,5 +1,5 @@
-// Package oplog is the replicated list of messages, which etcd stores: batches are appended once, in groups, and read back in one order.
-// Outside the proof: it orders and stores lines, and interprets none of them.
+// Package oplog, outside the proof, is the replicated list of messages, which etcd stores: batches are appended once, in groups, and read
+// back in one order. It orders and stores lines, and interprets none of them.
 package oplog
 
 import (

@@ -1,5 +1,5 @@
-// Tests of the conversion of older lists. The whole of it is tested with a fixture that an older gateway made: tests/conversion.py. Outside
-// the proof.
+// Tests of the conversion of older lists, outside the proof. The whole of it is tested with a fixture that an older gateway made:
+// tests/conversion.py.
 
 package oplog
 

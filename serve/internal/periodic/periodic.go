@@ -1,5 +1,5 @@
-// Package periodic appends the messages that gateways add by themselves: cycles, the end of late offers, and markers of snapshots. Outside
-// the proof.
+// Package periodic, outside the proof, appends the messages that gateways add by themselves: cycles, the end of late offers, and markers of
+// snapshots.
 package periodic
 
 import (

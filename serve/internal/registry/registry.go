@@ -1,5 +1,5 @@
-// Package registry is the state that is derived from messages and the allocator's replies: offers, frameworks, agents, and who listens to
-// them. It does no IO and reads no clock, so every gateway derives the same. Outside the proof: no reply depends on it.
+// Package registry, outside the proof, is the state that is derived from messages and the allocator's replies: offers, frameworks, agents,
+// and who listens to them. It does no IO and reads no clock, so every gateway derives the same. No reply depends on it.
 package registry
 
 import (
@@ -163,6 +163,15 @@ func (r *Registry) Restore(snapshot, rows []byte, message, at int64, epoch int) 
 		}
 	}
 	return nil
+}
+
+// ResetRows replaces the cluster by the rows of the allocator's state after a message, when that is the last one.
+func (r *Registry) ResetRows(rows []byte, message, at int64) {
+	r.mu.Lock()
+	defer r.mu.Unlock()
+	if r.applied == message {
+		r.cluster.restoreRows(rows, at)
+	}
 }
 
 // Kind returns the name of a line's event. Most lines have it once, in its shortest form, and need not be parsed for it.

@@ -232,6 +232,9 @@ func (m *Manager) endSilent(ctx context.Context, kind string) error {
 		applied := m.registry.Info().Revision // before the registration is looked up
 		registration, is := m.registry.Registration(registered(kind), name)
 		isCurrent := is && strconv.FormatInt(registration, 10) == string(kv.Value)
+		if !isCurrent && applied < kv.ModRevision { // the registry may not have its owner's registration yet
+			continue
+		}
 		if isCurrent && !m.mayEnd(kind, key) {
 			continue
 		}

@@ -15,10 +15,11 @@ import urllib.error
 import urllib.request
 
 BROKEN = (OSError, http.client.HTTPException)
+RETRIED = (429, 500, 502, 503, 504)  # statuses after which the same request is sent again
 
 
 class Refused(Exception):
-    """The gateway took nothing (or, for 410, took it before and no longer has the replies): `status` says which, the text says why."""
+    """The gateway refused the request: `status` and the text say why. After a 410 the batch was applied before, and its replies are no longer kept."""
 
     def __init__(self, status, why):
         super().__init__(f"{status}: {why}")
@@ -26,7 +27,7 @@ class Refused(Exception):
 
 
 class Unanswered(Exception):
-    """No gateway answered in time. The batch is perhaps taken: `send` it again with this `key` to learn."""
+    """No gateway answered in time. The batch may have been applied: `send` it again with this `key` to find out."""
 
     def __init__(self, key, why):
         super().__init__(f"{why}; send it again with the key {key}")
@@ -62,8 +63,9 @@ class Durzhanok:
                     return answer.read()
             except urllib.error.HTTPError as fault:
                 why = fault.read().decode(errors="replace").strip()
-                if fault.code not in (500, 502, 503, 504):
+                if fault.code not in RETRIED:
                     raise Refused(fault.code, why) from None
+                wait = max(wait, float(fault.headers.get("Retry-After", 0)) if fault.code == 429 else 0)
             except BROKEN as fault:
                 why = str(fault)
             if time.monotonic() > until:
@@ -92,7 +94,7 @@ class Durzhanok:
                     wait = 0.05
                     yield from self.follow(stream, standing)
             except urllib.error.HTTPError as fault:
-                if fault.code not in (500, 502, 503, 504):
+                if fault.code not in RETRIED:
                     raise Refused(fault.code, fault.read().decode(errors="replace").strip()) from None
             except BROKEN:
                 pass

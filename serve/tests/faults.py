@@ -135,7 +135,7 @@ def test_list_lost_its_end(programs):
 
 
 def test_lost_majority(programs):
-    with Fleet("outer", programs.gateway, programs.drf, "-cycle", "0") as fleet:
+    with Fleet("outer", programs.gateway, programs.drf, "-cycle", "0", "-clock-bound", "4s") as fleet:
         one, other = fleet.gateways
         one.send(rescind(1))
         for n in (0, 1):
@@ -144,7 +144,7 @@ def test_lost_majority(programs):
         status, answer, _ = one.ask("/drf/v1/events", json.dumps(rescind(2)), Idempotency_Key="while", timeout=60)
         took = time.time() - begun
         assert status == 503 and "may have been applied" in answer and took < 15, (status, answer, took)
-        time.sleep(11)  # longer than clocks may differ
+        time.sleep(5)  # longer than clocks may differ
         for n in (0, 1):
             fleet.start_server(n)
         begun = time.time()
@@ -173,11 +173,11 @@ def test_leader_killed(programs):
             thread.start()
         found = []
         for how in (signal.SIGKILL, signal.SIGSTOP):
-            time.sleep(2)
+            time.sleep(1)
             leader = wait(lambda: [n for n in [fleet.leader()] if n is not None])[0]
             longest[:] = [0, 0]
             fleet.servers[leader][2].send_signal(how)
-            time.sleep(7)
+            time.sleep(6)
             found.append(max(time.time() - min(last), *longest))
             fleet.kill_server(leader)
             fleet.start_server(leader)
@@ -432,6 +432,6 @@ def chaos_of(kind, seconds, seed, with_states):
 
 
 def tests(is_long):
-    seconds, seed = (300, random.randrange(10**6)) if is_long else (15, 7)
+    seconds, seed = (300, random.randrange(10**6)) if is_long else (10, 7)
     return [test for name, test in globals().items() if name.startswith("test_")] + [chaos_of(kind, seconds, seed + k, with_states)
                                                                                    for k, (kind, with_states) in enumerate((("alone", False), ("three", False), ("outer", False), ("outer", True)))]

@@ -107,7 +107,7 @@ func (o *options) serve(ctx context.Context) error {
 		log.Print("some parts did not end in time")
 		os.Exit(1)
 	})
-	g.server.SetCallers(&auth.Callers{}) // streams end
+	g.server.EndStreams()
 	closeServer()
 	stop()
 	<-closed

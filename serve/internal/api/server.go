@@ -70,6 +70,9 @@ func (s *Server) SetCallers(callers *auth.Callers) {
 	}
 }
 
+// EndStreams ends the streams that are open.
+func (s *Server) EndStreams() { s.SetCallers(s.callers.Load().(*auth.Callers).Renewed()) }
+
 // SetService lets calls be answered.
 func (s *Server) SetService(service *Service) { s.service.Store(service) }
 

@@ -116,6 +116,9 @@ func AddCaller(path, name string, rights []string) (string, error) {
 	return token, err
 }
 
+// Renewed returns the same callers, whose streams end separately from those that are open.
+func (c *Callers) Renewed() *Callers { return &Callers{list: c.list, replaced: make(chan struct{})} }
+
 // Len returns the number of callers.
 func (c *Callers) Len() int { return len(c.list) }
 

@@ -30,9 +30,15 @@ type Space struct {
 	quota   int64
 
 	mu   sync.Mutex
-	used int64 // bytes of the store that are not free for reuse, with what was appended here since they were counted
+	used int64 // bytes of the store that are not free for reuse, when they were last counted
 	file int64 // bytes of its file
+
+	// What was appended here in this period, and in the one before: etcd counts it when it has written it to its file.
+	appended, before int64
+	period           time.Time
 }
+
+const countAfter = 500 * time.Millisecond // is a period
 
 // NewSpace returns the space of a store with a quota in bytes.
 func NewSpace(cluster *etcd.Cluster, quota int64) *Space {
@@ -49,6 +55,9 @@ func (s *Space) Usage() (used, quota int64) {
 	return s.used, s.quota
 }
 
+// taken returns the used bytes, with those that etcd may not have counted. The lock is held.
+func (s *Space) taken() int64 { return s.used + s.appended + s.before }
+
 // add counts what was appended.
 func (s *Space) add(bytes int) {
 	if s == nil {
@@ -56,7 +65,7 @@ func (s *Space) add(bytes int) {
 	}
 	s.mu.Lock()
 	defer s.mu.Unlock()
-	s.used += int64(bytes)
+	s.appended += int64(bytes)
 }
 
 // IsShort reports whether callers are refused for want of space: it is time to prune.
@@ -69,10 +78,10 @@ func (s *Space) check() error {
 	}
 	s.mu.Lock()
 	defer s.mu.Unlock()
-	if s.used < s.quota/callerShare {
+	if s.taken() < s.quota/callerShare {
 		return nil
 	}
-	return &FullError{What: fmt.Sprintf("etcd's store has %d of %d MiB (-etcd-quota): the rest is for snapshots and pruning", s.used>>20, s.quota>>20)}
+	return &FullError{What: fmt.Sprintf("etcd's store has %d of %d MiB (-etcd-quota): the rest is for snapshots and pruning", s.taken()>>20, s.quota>>20)}
 }
 
 // Run measures the store until the context ends, and recovers one that became full.
@@ -94,6 +103,9 @@ func (s *Space) measure(ctx context.Context) error {
 	}
 	s.mu.Lock()
 	s.used, s.file = used, file
+	if time.Since(s.period) > countAfter {
+		s.appended, s.before, s.period = 0, s.appended, time.Now()
+	}
 	s.mu.Unlock()
 	if file < s.quota/2 || s.cluster.Problem() != "" {
 		return nil

@@ -9,6 +9,7 @@ import (
 	"fmt"
 	"runtime"
 	"testing"
+	"time"
 
 	"gateway/internal/etcdtest"
 
@@ -54,6 +55,15 @@ func TestSpaceIsReserved(t *testing.T) {
 	}
 	if err := l.Space.measure(ctx); err != nil {
 		t.Fatal(err)
+	}
+	if _, err := l.Append(ctx, batchOf("a/1", "x")); !errors.As(err, &full) {
+		t.Error("before etcd has counted what was appended:", err)
+	}
+	for n := 0; n < 2; n++ {
+		l.Space.period = time.Time{}
+		if err := l.Space.measure(ctx); err != nil {
+			t.Fatal(err)
+		}
 	}
 	if _, err := l.Append(ctx, batchOf("a/1", "x")); err != nil {
 		t.Error("when there is space:", err)

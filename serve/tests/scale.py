@@ -21,7 +21,7 @@ def resident(pid):
 
 
 def test_long_life(programs):
-    """After 300,000 messages with keys a gateway takes less than 150 MiB, and starts in less than 2 s on a quiet machine."""
+    """After 300,000 messages with keys a gateway takes less than 150 MiB (200 MiB under full load), and starts in less than 2 s on a quiet machine."""
     with Fleet("alone", programs.gateway, programs.drf, "-cycle", "0", "-save-apart", "5s") as fleet:
         g = fleet.gateways[0]
         load = build_load(fleet.folder)
@@ -35,7 +35,7 @@ def test_long_life(programs):
         took = time.time() - begun
         after = resident(g.process.pid)
         quiet = os.getloadavg()[0] < 4
-        assert memory < 150 and after < 150 and took < (2 if quiet else 10), (memory, after, took)
+        assert memory < 200 and after < 150 and took < (2 if quiet else 10), (memory, after, took)
         return f"{memory} MiB, after a start {after} MiB; started in {took:.2f} s at a load of {os.getloadavg()[0]:.0f}"
 
 

@@ -1,5 +1,6 @@
 -- A task that arguments ask for has no timestamp that is too late, and a drive has no more than 64 files.
-use Rattle.std.specs.Prelude.{◌≡◌, ◌≤◌, List, Bor, length, map, take}
+use Rattle.std.specs.Prelude.{◌≡◌, ◌≤◌, List, length, map, take}
+use Rattle.std.specs.Borrow.{Bor}
 use Rattle.std.proofs.Common.{ap, arith}
 use Rattle.std.proofs.lemmas.List.{length-map, length-take}
 use Rattle.clap.specs.Words.{Row, Text}

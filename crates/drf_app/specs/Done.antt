@@ -145,7 +145,11 @@ pub data HasObeyed (known : Known) (words : List (List ℕ)) (old new : Streams)
   driven : (asks : AsksDrive words) → HasDoneDrive known (drive_of asks.rows) old new answer → HasObeyed known words old new answer
   refused : (error : Error) → IsRefused words error → HasRefused (kind_of error) old new answer → HasObeyed known words old new answer
 
+-- nothing was read or written
+abbrev pub AreSame : Streams → Streams → Type 0
+AreSame old new = new ≡ old
+
 -- the words ask for a drive, and nothing was done as yet
 pub record IsLeft (words : List (List ℕ)) (old new : Streams) : Type 0 where
   pub asks : AsksDrive words
-  pub same : new ≡ old
+  pub same : AreSame old new

@@ -5,7 +5,7 @@ ghost use Rattle.drf_core.specs.Machine.{live};
 ghost use Rattle.drf_journal.specs.Device.{IsNew};
 ghost use Rattle.drf_rows.specs.LimitNumbers.{ceilings};
 ghost use Rattle.drf_app.specs.Streams.{stream_of};
-ghost use Rattle.drf_app.specs.Done.{HasDone, HasDoneFrom, HasObeyed, IsLeft};
+ghost use Rattle.drf_app.specs.Done.{AreSame, HasDone, HasDoneFrom, HasObeyed, IsLeft};
 ghost use Rattle.drf_app.specs.Line.{IsCommand, IsWithinBounds, Names};
 
 use crate::arguments::read_arguments;
@@ -123,7 +123,9 @@ fn perform_named<F: FileBytes, R: Read, W: Write, E: Write>(
         → IfSome result (HasObeyed (F.known files.old) words
         (record { input = stream_of R.remaining input.old; output = stream_of W.contents output.old; errors = stream_of E.contents errors.old })
         (record { input = stream_of R.remaining input.new; output = stream_of W.contents output.new; errors = stream_of E.contents errors.new })) }
-    ensures left { result ≡ None → (name.now ≡ codes "drive") × ((record { input = stream_of R.remaining input.new; output = stream_of W.contents output.new; errors = stream_of E.contents errors.new }) ≡ (record { input = stream_of R.remaining input.old; output = stream_of W.contents output.old; errors = stream_of E.contents errors.old })) }
+    ensures left { result ≡ None → (name.now ≡ codes "drive") × AreSame
+        (record { input = stream_of R.remaining input.old; output = stream_of W.contents output.old; errors = stream_of E.contents errors.old })
+        (record { input = stream_of R.remaining input.new; output = stream_of W.contents output.new; errors = stream_of E.contents errors.new }) }
     ensures files { result ≡ None → F.known files.new ≡ F.known files.old }
     ensures flushed { output.old.flushed ≡ true → output.new.failed ≡ false → output.new.flushed ≡ true }
     ensures reads { input.new.calls ≤ 2 ^ 40 }

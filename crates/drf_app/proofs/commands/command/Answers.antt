@@ -1,4 +1,4 @@
-use Rattle.std.proofs.Common.{map, refl, subst}
+use Rattle.std.proofs.Common.{map, subst}
 use Rattle.drf_files.specs.Files.{Known}
 use Rattle.drf_app.specs.Done.{HasObeyed}
 use Rattle.drf_app.specs.Streams.{Streams, stream_of}

@@ -6,7 +6,7 @@ use Rattle.drf_app.proofs.drive.drive.Goals as goal
 
 -- two answers of one parse are the same
 same_name : {a b : Text × List Row} → Some a ≡ Some b → a.0 ≡ b.0
-same_name e = let same = cc in ap (λ (p : Text × List Row). p.0) same
+same_name {a = a} {b = b} e = let same : a ≡ b = cc in ap (λ (p : Text × List Row). p.0) same
 
 pub returns-in-Ok-clause-obeyed : goal.returns-in-Ok-clause-obeyed
 returns-in-Ok-clause-obeyed g c = λ input.

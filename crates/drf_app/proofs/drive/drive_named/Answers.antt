@@ -1,4 +1,4 @@
-use Rattle.std.proofs.Common.{◌≡◌, ◌∙◌, List, ℕ, codes, inl, inr, refl, subst}
+use Rattle.std.proofs.Common.{◌∙◌, List, codes, inl, inr, map, refl, subst}
 use Rattle.std.specs.Prelude.{Option}
 use Rattle.clap.specs.Words.{Text, found_of}
 use Rattle.clap.proofs.WalkLemmas.{first_value-rows}
@@ -20,7 +20,7 @@ returns-in-Ok-clause-done g c = λ input.
     let known = g.F.FileBytes.known c.args.files.now in
     let start = live c.in-Ok.core in
     let from = c.get_str-from.ensures ∙ first_value-rows (found_of c.args.arguments.now) (codes "from") in
-    let driven = subst (λ (k : Known). HasDriven start k _ old new c.drive_files.result) c.begin.ensures.same (c.drive_files.ensures.driven input) in
+    let driven = subst (λ (k : Known). HasDriven start k (map (λ name. name.now) c.files_of-names.result.now) old new c.drive_files.result) c.begin.ensures.same (c.drive_files.ensures.driven input) in
     inr (
       start,
       subst (λ (name : Option Text). IsStart known name start) from c.in-Ok.ensures.ok,

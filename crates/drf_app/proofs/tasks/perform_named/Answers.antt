@@ -1,4 +1,4 @@
-use Rattle.std.proofs.Common.{List, subst}
+use Rattle.std.proofs.Common.{subst}
 use Rattle.clap.specs.Words.{Text, found_of, rows_of}
 use Rattle.drf_app.specs.Line.{Names}
 use Rattle.drf_app.specs.Done.{done}

@@ -1,0 +1,180 @@
+"""Outside the proof. Measures a run: what each role holds and uses over time, and how long its tasks wait.
+
+The figures of a role include those of the roles below it, as its share does in the allocator. The root, "", is the whole cluster."""
+from resources import RANGES, SET
+
+ROOT = ""
+# The number of equal parts of the time for which the picture has a mean.
+PARTS = 192
+
+
+def roles_above(role):
+    """Returns the role, the roles above it, and the root."""
+    parts = role.split("/")
+    return ["/".join(parts[:count]) for count in range(len(parts), 0, -1)] + [ROOT]
+
+
+def dominant(amounts, totals):
+    """Returns the greatest fraction of the totals that the amounts are of any scalar."""
+    share = 0.0
+    for name, amount in amounts.items():
+        if amount:
+            share = max(share, amount / totals[name])
+    return share
+
+
+class Node:
+    """What a role holds (offers and tasks) and uses (tasks) now, and the sums of that over the time until `at`."""
+
+    __slots__ = ("held", "used", "at", "share", "use", "used_sums", "parts")
+
+    def __init__(self, at):
+        self.held, self.used, self.at = {}, {}, at
+        self.share = self.use = 0.0
+        self.used_sums = {}
+        self.parts = [0.0] * PARTS
+
+
+class Account:
+    """The resources of a cluster over the time from `start` to `end`, in milliseconds. Amounts are in thousandths."""
+
+    def __init__(self, start, end):
+        self.start, self.end = start, end
+        self.step = (end - start) / PARTS or 1.0
+        self.totals, self.total_sums, self.totals_at = {}, {}, start
+        self.nodes = {ROOT: Node(start)}
+        self.paths = {}
+
+    def nodes_of(self, role):
+        nodes = self.paths.get(role)
+        if nodes is None:
+            nodes = self.paths[role] = [self.nodes.setdefault(it, Node(self.start)) for it in roles_above(role)]
+        return nodes
+
+    def settle(self, node, at):
+        """Adds what the node holds and uses from its last change until `at` to its sums."""
+        since = at - node.at
+        if since <= 0:
+            return
+        node.share += dominant(node.held, self.totals) * since
+        use = dominant(node.used, self.totals)
+        if use:
+            node.use += use * since
+            sums = node.used_sums
+            for name, amount in node.used.items():
+                sums[name] = sums.get(name, 0) + amount * since
+            begin = node.at - self.start
+            part, last = int(begin / self.step), min(int((begin + since) / self.step), PARTS - 1)
+            while part <= last:
+                inside = min(begin + since, (part + 1) * self.step) - max(begin, part * self.step)
+                node.parts[part] += use * max(inside, 0.0)
+                part += 1
+        node.at = at
+
+    def change(self, role, at, held, used, sign):
+        """Adds amounts by key to what a role holds and uses, or with the sign -1 takes them away."""
+        for node in self.nodes_of(role):
+            if at > node.at:
+                self.settle(node, at)
+            for amounts, there in ((held, node.held), (used, node.used)):
+                if amounts:
+                    for key, amount in amounts.items():
+                        if key[0] != RANGES and key[0] != SET:
+                            there[key] = there.get(key, 0) + sign * amount
+
+    def change_total(self, at, amounts, sign):
+        """Adds an agent's amounts to the totals, or with the sign -1 takes them away."""
+        for node in self.nodes.values():
+            self.settle(node, at)
+        if at > self.totals_at:
+            for name, amount in self.totals.items():
+                self.total_sums[name] = self.total_sums.get(name, 0) + amount * (at - self.totals_at)
+            self.totals_at = at
+        for key, amount in amounts.items():
+            if key[0] != RANGES and key[0] != SET:
+                self.totals[key] = self.totals.get(key, 0) + sign * amount
+
+    def close(self):
+        """Completes the sums at the end of the time."""
+        self.change_total(self.end, {}, 1)
+
+
+def ranked(waits, numerator, denominator):
+    """Returns the waiting time of nearest rank, and whether it is only a lower bound.
+
+    `waits` is a sorted list of (milliseconds, is_over); a wait that is not over is known to last at least so long. The nearest rank is
+    the least wait that is not exceeded by numerator/denominator of all waits."""
+    place = -(-len(waits) * numerator // denominator) - 1
+    return waits[place][0], any(not is_over for _, is_over in waits[:place + 1])
+
+
+def waiting(waits):
+    """Returns the median and the 95th percentile of (milliseconds, is_over), or None if there is none."""
+    if not waits:
+        return None
+    waits = sorted(waits, key=lambda it: (it[0], not it[1]))
+    low, low_bound = ranked(waits, 1, 2)
+    # Of an even number of waits the median is the mean of the two in the middle.
+    high, high_bound = (waits[len(waits) // 2][0], any(not it[1] for it in waits[:len(waits) // 2 + 1])) if len(waits) % 2 == 0 else (low, low_bound)
+    p95, p95_bound = ranked(waits, 95, 100)
+    middle = low + high
+    return {
+        "median": middle // 2 if middle % 2 == 0 else middle / 2,
+        "median_is_lower_bound": low_bound or high_bound,
+        "p95": p95,
+        "p95_is_lower_bound": p95_bound,
+    }
+
+
+class Outcome:
+    """What became of the tasks of a role: waits as (milliseconds, is_over), and counts."""
+
+    __slots__ = ("waits", "started", "finished", "lost")
+
+    def __init__(self):
+        self.waits = []
+        self.started = self.finished = self.lost = 0
+
+
+def outcomes(tasks, results):
+    """Returns the outcome of each role. `results` yields for each task (role, start or None, until when it waited if it did not start,
+    whether it finished, whether it was lost)."""
+    found = {}
+    for task, (role, start, until, is_finished, is_lost) in zip(tasks, results, strict=True):
+        wait = (start - task.arrival, True) if start is not None else (max(until - task.arrival, 0), False)
+        for path in roles_above(role):
+            outcome = found.setdefault(path, Outcome())
+            outcome.waits.append(wait)
+            outcome.started += start is not None
+            outcome.finished += is_finished
+            outcome.lost += is_lost
+    return found
+
+
+def figures(account, found):
+    """Returns the figures of each role of a closed account, by role."""
+    time = account.end - account.start
+    result = {}
+    for role in sorted({*account.nodes, *found}):
+        node, outcome = account.nodes.get(role) or Node(account.start), found.get(role) or Outcome()
+        use = {
+            name: {"mean": amount / time / 1000, "fraction": amount / account.total_sums[name]}
+            for name, amount in sorted(node.used_sums.items()) if amount
+        }
+        result[role] = {
+            "tasks": len(outcome.waits),
+            "started": outcome.started,
+            "finished": outcome.finished,
+            "lost": outcome.lost,
+            "waiting_ms": waiting(outcome.waits),
+            "finished_per_hour": outcome.finished * 3_600_000 / time if time else 0.0,
+            "share": node.share / time if time else 0.0,
+            "use": {"share": node.use / time if time else 0.0, "resources": use},
+        }
+    return result
+
+
+def series(account, role):
+    """Returns the mean dominant fraction that the tasks of a role use, for each of the equal parts of the time."""
+    node = account.nodes.get(role)
+    return [it / account.step for it in node.parts] if node else [0.0] * PARTS

@@ -1,0 +1,124 @@
+"""Outside the proof. Talks to the proved program: `drf run` as a child process, `drf check` and `drf lint`."""
+import json
+import os
+import subprocess
+
+from errors import BadInput, Failed
+
+OK = b'{"ok":true}\n'
+# So many lines are sent before their replies are read. Their short replies fit into a pipe.
+UNREAD = 1000
+# ./drf ends with this status where it has no program for this machine.
+NO_PROGRAM = 4
+
+
+def program():
+    """Returns the path of the program: the repository's ./drf, which runs the one that the environment variable DRF names if there is one."""
+    return os.path.join(os.path.dirname(os.path.dirname(os.path.realpath(__file__))), "drf")
+
+
+def message_of(done):
+    """Returns what a command wrote to standard error, on one line and without the name of the program."""
+    return done.stderr.decode(errors="replace").strip().replace("\n", "; ").removeprefix("drf: ")
+
+
+def run(words, source):
+    """Runs a command with a file as standard input."""
+    try:
+        return subprocess.run([program(), *words], stdin=source, capture_output=True)
+    except OSError as error:
+        raise Failed(f"{program()}: {error.strerror}") from None
+
+
+def check(name, source, state):
+    """Checks a journal with `drf check`. Raises BadInput at the first line that is not right."""
+    done = run(["check", *(["--from", state] if state else [])], source)
+    verdict = done.stdout.decode().split()
+    if done.returncode == 0 and verdict[:1] == ["good"]:
+        return
+    if verdict[:2] == ["bad", "line"]:
+        number = int(verdict[2])
+        raise BadInput(f"{name} line {number}: the reply is missing, cut or wrong; lines 1 to {number - 2} are a good journal, replay those"
+                       if number > 2 else f"{name} line 2: the reply is missing, cut or wrong; is this a journal of `drf run --echo`"
+                       + (" that continues the state?" if state else " from an empty cluster, or do you need --from STATE?"))
+    if done.returncode == 3:
+        raise BadInput(message_of(done))
+    raise Failed(message_of(done) or f"drf check ended with status {done.returncode}", NO_PROGRAM if done.returncode == NO_PROGRAM else 1)
+
+
+def lint(source):
+    """Returns the first finding of `drf lint`, such as `line 3 column 10: 32 BadShape: ..`, or None."""
+    done = run(["lint"], source)
+    if done.returncode not in (0, 3):
+        raise Failed(message_of(done), NO_PROGRAM if done.returncode == NO_PROGRAM else 1)
+    return done.stdout.decode(errors="replace").splitlines()[0] if done.returncode else None
+
+
+class Allocator:
+    """A `drf run`. Lines are sent in groups; `on_refusal` is called with the line and the reply for each one that is refused."""
+
+    def __init__(self, state, on_refusal):
+        self.on_refusal, self.lines = on_refusal, []
+        words = [program(), "run", *(["--from", state] if state else [])]
+        self.child = subprocess.Popen(words, stdin=subprocess.PIPE, stdout=subprocess.PIPE, stderr=subprocess.PIPE)
+
+    def send(self, line):
+        """Sends a line whose reply is expected to be {"ok":true}."""
+        self.lines.append(line)
+        if len(self.lines) == UNREAD:
+            self._replies()
+
+    def ask(self, line):
+        """Sends a line and returns its reply, which may be a refusal."""
+        self._replies()
+        self.lines.append(line)
+        return self._exchange()[0]
+
+    def cycle(self, at):
+        """Sends a cycle with the lines before it, and returns its offers."""
+        self.lines.append(f'{{"event":"cycle","at":{at}}}')
+        return json.loads(self._replies(True))["offers"]
+
+    def _replies(self, is_cycle=False):
+        lines = self.lines
+        replies = self._exchange()
+        last = replies.pop() if is_cycle else None
+        for line, reply in zip(lines, replies):
+            if reply != OK:
+                self.on_refusal(line, json.loads(reply))
+        return last
+
+    def _exchange(self):
+        lines, self.lines = self.lines, []
+        if not lines:
+            return []
+        try:
+            self.child.stdin.write(("\n".join(lines) + "\n").encode())
+            self.child.stdin.flush()
+        except OSError:
+            self._ended()
+        read = self.child.stdout.readline
+        replies = [read() for _ in lines]
+        if not replies[-1].endswith(b"\n"):
+            self._ended()
+        return replies
+
+    def _ended(self):
+        self.child.kill()
+        said = self.child.stderr.read().decode(errors="replace").strip().removeprefix("drf: ")
+        raise Failed(f"the allocator ended before the replay did: {said or 'no message'}")
+
+    def close(self):
+        """Reads the replies that are left, and ends the allocator."""
+        self._replies()
+        self.kill()
+
+    def kill(self):
+        """Ends the allocator."""
+        self.child.kill()
+        self.child.wait()
+        for pipe in (self.child.stdin, self.child.stdout, self.child.stderr):
+            try:
+                pipe.close()
+            except OSError:
+                pass

@@ -344,9 +344,8 @@ def find_arrivals(client):
                     if at < task.start and (amounts is None or fits(task.bundle.amounts, amounts)):
                         floor = max(floor, after_all(at))
                         break
-                if left and left[0][0] < task.start:
-                    left = [it for it in left if it[0] == task.start]
-                task.place = floor
+                # Until this start, this task was the next one: what was left before says nothing of later tasks.
+                left, task.place = [], floor
 
 
 def set_arrivals(journal, how):

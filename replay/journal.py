@@ -2,6 +2,7 @@
 answers offers. README.md explains the model."""
 import json
 from bisect import bisect_right
+from operator import itemgetter
 
 from errors import BadInput
 from figures import Account
@@ -27,7 +28,7 @@ class Task:
     """A task that the journal starts. `finish` is (milliseconds after the start, cycles at that time), or None if the journal shows no
     finish; `ran` is how long it ran in the journal; `place` is the key of its arrival and `arrival` its time."""
 
-    __slots__ = ("index", "client", "bundle", "use", "start", "phase", "agent", "finish", "ran", "is_lost", "place", "arrival")
+    __slots__ = ("index", "client", "bundle", "use", "start", "phase", "agent", "finish", "ran", "is_lost", "place", "place_played", "arrival")
 
     def __init__(self, index, client, use, start, phase, agent):
         self.index, self.client, self.bundle, self.use, self.start, self.phase, self.agent = index, client, read(use), use, start, phase, agent
@@ -35,13 +36,13 @@ class Task:
 
 
 class Habit:
-    """How a client dealt with one offer of the journal: after how many milliseconds, after how many cycles of the same time, and for how
-    long it refuses what it declines or leaves over."""
+    """How a client dealt with one offer of the journal: after how many milliseconds, after how many cycles of the same time, as which of
+    all answers, and for how long it refuses what it declines or leaves over."""
 
-    __slots__ = ("made", "delay", "phase", "kind", "decline", "accept")
+    __slots__ = ("made", "delay", "phase", "order", "kind", "decline", "accept")
 
     def __init__(self, made):
-        self.made, self.delay, self.phase, self.kind, self.decline, self.accept = made, None, 0, UNANSWERED, None, None
+        self.made, self.delay, self.phase, self.order, self.kind, self.decline, self.accept = made, None, 0, 0, UNANSWERED, None, None
 
 
 class Client:
@@ -115,7 +116,7 @@ class Journal:
         self.state, self.name = state, name
         self.clients, self.tasks, self.events, self.count = {}, [], [], 0
         self.agents, self.frameworks = list(state.agents), set(state.frameworks)
-        self._running, self._offers = {}, {}
+        self._running, self._offers, self._ended = {}, {}, 0
         self._on_agent, self._of_framework, self._totals = {}, {}, {}
         # The state's tasks have no start in the journal.
         self._clock, self._cycles = state.clock, 0
@@ -197,7 +198,8 @@ class Journal:
         del self._on_agent[offer.agent][number]
         del self._of_framework[offer.client.framework][number]
         habit = offer.habit
-        habit.kind, habit.delay = kind, self._clock - habit.made[0]
+        self._ended += 1
+        habit.kind, habit.delay, habit.order = kind, self._clock - habit.made[0], self._ended
         habit.phase = self._cycles if habit.delay else self._cycles - habit.made[1] - 1
         return offer
 
@@ -348,17 +350,31 @@ def find_arrivals(client):
                 left, task.place = [], floor
 
 
-def set_arrivals(journal, how):
-    """Sets when each task arrives: at its place (`earliest`), at its start (`latest`), or halfway (`middle`). Returns its keys in order.
-
-    The tasks of a client never change their order."""
-    last = {}
+def spells(journal):
+    """Returns the tasks of each client in groups that have the same place, in order."""
+    found = {}
     for task in journal.tasks:
-        place, begin = task.place, max(task.place[0], journal.start)
-        if how == "latest":
-            place = max(place, (task.start, 0, -1, 0))
-        elif how == "middle" and (begin + task.start) // 2 > begin:
-            place = after_all((begin + task.start) // 2)
-        place = last[task.client] = max(place, last.get(task.client, BEGIN))
-        task.arrival = max(place[0], journal.start)
-        yield place, "arrive", task, 0
+        groups = found.setdefault(task.client, [])
+        if not groups or groups[-1][0].place != task.place:
+            groups.append([])
+        groups[-1].append(task)
+    return [group for groups in found.values() for group in groups]
+
+
+def set_arrivals(journal, how):
+    """Sets when each task arrives, and returns the arrivals as events in order.
+
+    A task arrives between its place and its start: at its place (`earliest`), at its start (`latest`), or so that the tasks of one place
+    arrive at equal distances until the last of them starts, but none after its start (`even`). The tasks of a client keep their order."""
+    for group in spells(journal):
+        begin, last = max(group[0].place[0], journal.start), group[0].place
+        for number, task in enumerate(group, 1):
+            place = task.place
+            if how == "latest":
+                place = max(place, (task.start, 0, -1, 0))
+            elif how == "even":
+                at = min(begin + (group[-1].start - begin) * number // (len(group) + 1), task.start)
+                place = max(place, (at, 0, -1, 0))
+            place = last = max(place, last)
+            task.place_played, task.arrival = place, max(place[0], journal.start)
+    return sorted(((task.place_played, "arrive", task, 0) for task in journal.tasks), key=itemgetter(0))

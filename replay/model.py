@@ -127,9 +127,9 @@ class Replay:
             else:
                 self.end_offer(held)
 
-    def later(self, at, phase, rank, act, held):
+    def later(self, at, phase, rank, act, held, order=0):
         self.serial += 1
-        heappush(self.heap, ((at, phase, rank, self.serial), act, held))
+        heappush(self.heap, ((at, phase, rank, order, self.serial), act, held))
 
     # What the frameworks do
 
@@ -203,7 +203,7 @@ class Replay:
         self.account.change(actor.role, max(made[0], self.journal.start), held.bundle.amounts, None, 1)
         habit = held.habit
         act = self.rescind if habit.kind is RESCINDED else self.answer
-        self.later(made[0] + habit.delay, habit.phase if habit.delay else habit.phase + phase + 1, ANSWER, act, held)
+        self.later(made[0] + habit.delay, habit.phase if habit.delay else habit.phase + phase + 1, ANSWER, act, held, habit.order)
 
     def cycle(self, at, phase):
         for actor in list(self.waiting_suppressed):
@@ -310,7 +310,7 @@ class Replay:
             self.follow(event["event"], event)
 
     def react(self):
-        (at, self.phase, _, _), act, held = heappop(self.heap)
+        (at, self.phase, *_), act, held = heappop(self.heap)
         self.at = max(self.at, at)
         if not held.is_over:
             act(held)

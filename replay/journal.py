@@ -28,7 +28,7 @@ class Task:
     """A task that the journal starts. `finish` is (milliseconds after the start, cycles at that time), or None if the journal shows no
     finish; `ran` is how long it ran in the journal; `place` is the key of its arrival and `arrival` its time."""
 
-    __slots__ = ("index", "client", "bundle", "use", "start", "phase", "agent", "finish", "ran", "is_lost", "place", "place_played", "arrival")
+    __slots__ = ("index", "client", "bundle", "use", "start", "phase", "agent", "finish", "ran", "is_lost", "place", "arrival")
 
     def __init__(self, index, client, use, start, phase, agent):
         self.index, self.client, self.bundle, self.use, self.start, self.phase, self.agent = index, client, read(use), use, start, phase, agent
@@ -279,8 +279,7 @@ class Journal:
                 client.log.append(("left", at, None, 0))
             case "revive":
                 client = self.clients[event["framework"], event["role"]]
-                if client.is_suppressed:
-                    client.log.append(("begin", (at, self._cycles, EVENT, number + 0.5)))
+                client.log.append(("begin" if client.is_suppressed else "revive", (at, self._cycles, EVENT, number + 0.5)))
                 client.is_suppressed = False
         self.events.append((key, kind, event, number))
 
@@ -322,25 +321,25 @@ class Journal:
                 task.ran = self.end - task.start
         for client in self.clients.values():
             client.complete(self.end)
-            find_arrivals(client)
         del self._running, self._offers, self._on_agent, self._of_framework
 
 
-def find_arrivals(client):
+def find_arrivals(client, trusts_revives):
     """Sets the place of each task of a client: the last time at which the journal shows that the task was not waiting yet, because the
     client registered, was suppressed or revived, or declined or left over what the task needs although the task would have been next.
+    A revive of a client that is not suppressed counts only if `trusts_revives`.
 
     What the client left over at the time of the start itself says nothing: a framework may choose among offers that it answers together.
     Nor does the rest of an accept with as many tasks as the client ever starts with one."""
     floor, left = BEGIN, []
     for kind, *more in client.log:
-        if kind == "begin":
+        if kind == "begin" or kind == "revive" and trusts_revives:
             floor, left = max(floor, more[0]), []
         elif kind == "left":
             at, amounts, count = more
             if count != client.most_tasks:
                 left.append((at, amounts))
-        else:
+        elif kind == "start":
             for task in more[0]:
                 for at, amounts in reversed(left):
                     if at < task.start and (amounts is None or fits(task.bundle.amounts, amounts)):
@@ -350,31 +349,16 @@ def find_arrivals(client):
                 left, task.place = [], floor
 
 
-def spells(journal):
-    """Returns the tasks of each client in groups that have the same place, in order."""
-    found = {}
-    for task in journal.tasks:
-        groups = found.setdefault(task.client, [])
-        if not groups or groups[-1][0].place != task.place:
-            groups.append([])
-        groups[-1].append(task)
-    return [group for groups in found.values() for group in groups]
-
-
 def set_arrivals(journal, how):
     """Sets when each task arrives, and returns the arrivals as events in order.
 
-    A task arrives between its place and its start: at its place (`earliest`), at its start (`latest`), or so that the tasks of one place
-    arrive at equal distances until the last of them starts, but none after its start (`even`). The tasks of a client keep their order."""
-    for group in spells(journal):
-        begin, last = max(group[0].place[0], journal.start), group[0].place
-        for number, task in enumerate(group, 1):
-            place = task.place
-            if how == "latest":
-                place = max(place, (task.start, 0, -1, 0))
-            elif how == "even":
-                at = min(begin + (group[-1].start - begin) * number // (len(group) + 1), task.start)
-                place = max(place, (at, 0, -1, 0))
-            place = last = max(place, last)
-            task.place_played, task.arrival = place, max(place[0], journal.start)
-    return sorted(((task.place_played, "arrive", task, 0) for task in journal.tasks), key=itemgetter(0))
+    A task arrives at the earliest time that the journal leaves open (`earliest`), the same with every revive taken as a sign that nothing
+    was waiting before (`revive`), or at its start (`latest`). The tasks of a client keep their order."""
+    for client in journal.clients.values():
+        find_arrivals(client, how == "revive")
+    last = {}
+    for task in journal.tasks:
+        place = max(task.place, (task.start, 0, -1, 0)) if how == "latest" else task.place
+        task.place = last[task.client] = max(place, last.get(task.client, BEGIN))
+        task.arrival = max(task.place[0], journal.start)
+    return sorted(((task.place, "arrive", task, 0) for task in journal.tasks), key=itemgetter(0))

@@ -31,11 +31,11 @@ def run(words, source):
 
 
 def check(name, source, state):
-    """Checks a journal with `drf check`. Raises BadInput at the first line that is not right."""
+    """Checks a journal with `drf check`, and returns the number of its events. Raises BadInput at the first line that is not right."""
     done = run(["check", *(["--from", state] if state else [])], source)
     verdict = done.stdout.decode().split()
     if done.returncode == 0 and verdict[:1] == ["good"]:
-        return
+        return int(verdict[1])
     if verdict[:2] == ["bad", "line"]:
         number = int(verdict[2])
         raise BadInput(f"{name} line {number}: the reply is missing, cut or wrong; lines 1 to {number - 2} are a good journal, replay those"

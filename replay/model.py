@@ -89,10 +89,11 @@ class Replay:
             self.refused[event["event"], reply["name"]] += 1
         return "refused" not in reply
 
-    def demand(self, source, event, when):
+    def demand(self, source, event, when, kind=None):
+        """Asks an event of the policy. Raises BadInput if the allocator refuses it."""
         reply = json.loads(self.allocator.ask(compact(event)))
         if "refused" in reply:
-            raise BadInput(f'{source}: {event["event"]}: refused {reply["refused"]} {reply["name"]} {when}')
+            raise BadInput(f'{source}: {kind or event["event"]}: refused {reply["refused"]} {reply["name"]} {when}')
 
     # What is held
 
@@ -251,7 +252,11 @@ class Replay:
                     self.allocator.send(compact(event))
                     self.end_task(held, None)
                 return
-        if not self.is_accepted(event):
+        changed = self.policy.source_of(kind, event)
+        if changed is not None:
+            source, own = changed
+            self.demand(source, event, f'when "{event.get("framework") or event["agent"]}" registers', own)
+        elif not self.is_accepted(event):
             return
         self.follow(kind, event)
         if kind == "add_agent":

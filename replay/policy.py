@@ -1,6 +1,4 @@
 """Outside the proof. The policy of a replay: event lines that take the place of the journal's own events about the same thing."""
-import json
-
 from errors import BadInput
 
 WEIGHTS = {"set_weight": "weight", "set_limit": "limit"}
@@ -20,6 +18,8 @@ class Policy:
         self.start, self.at_agent = [], {}
         self.own, self.gone_agents, self.added, self.totals, self.activity = set(), set(), set(), {}, set()
         self.reservations, self.roles, self.gone_frameworks = set(), {}, set()
+        # Of each event of the journal that the policy changes: the line of the policy, and its kind.
+        self.sources = {}
         for source, event in lines:
             self._take(source, event, journal)
 
@@ -44,6 +44,7 @@ class Policy:
                 raise BadInput(f'{source}: "roles" of "{framework}" is empty; expected at least one role')
             else:
                 self.roles[framework] = event["roles"]
+                self.sources["add_framework", framework] = source, kind
         else:
             raise BadInput(f'{source}: "{kind}" is no event of a policy; expected one of {", ".join(KINDS)}')
 
@@ -63,6 +64,7 @@ class Policy:
                 return
             case "set_agent":
                 self.totals[agent] = event["total"]
+                self.sources["add_agent", agent] = source, kind
                 return
             case "reserve" | "unreserve":
                 self.reservations.add((agent, event["role"]))
@@ -98,11 +100,11 @@ class Policy:
                     return {**event, "total": self.totals[agent]}
         return event
 
+    def source_of(self, kind, event):
+        """Returns the (source, kind) of the policy's event that changed an event of the journal, or None."""
+        return self.sources.get((kind, event.get("framework") or event.get("agent")))
+
     def role_of(self, framework, role):
         """Returns the role in which a framework has the demand that it had in `role` in the journal."""
         roles = self.roles.get(framework)
         return role if roles is None or role in roles else roles[0]
-
-    def texts(self):
-        """Returns the lines of the policy as texts."""
-        return [json.dumps(event, separators=(",", ":")) for _, event in self.lines]

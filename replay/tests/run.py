@@ -356,7 +356,7 @@ def test_bad_policies(room):
         b'{"event":"remove_framework","framework":"g"}\n': r'policy line 2: no framework "g" in .*',
         b'{"event":"add_framework","framework":"f","roles":[]}\n': r'policy line 2: "roles" of "f" is empty; expected at least one role',
         b'{"event":"reserve","agent":"n1","role":"a","resources":"cpus:9"}\n': r'policy line 2: reserve: refused 15 NotCovered when agent "n1" registers',
-        b'{"event":"set_agent","agent":"n1","total":"cpus:99999999999999"}\n': r'policy line 2: .*refused 18 TooLarge.*',
+        b'{"event":"set_agent","agent":"n1","total":"cpus:99999999999999"}\n': r'policy line 2: set_agent: refused 18 TooLarge when "n1" registers',
         b"not JSON\n": r"policy line 2 column 1: 31 NotJson: .*",
     }
     for line, expected in cases.items():

@@ -30,13 +30,12 @@ def text(x, y, words, kind="", anchor="start"):
 def steps(values, left, right, bottom, height, most):
     """Returns the path of a staircase over the width."""
     wide = (right - left) / len(values)
-    points, last = [], None
+    points = []
     for place, value in enumerate(values):
         y = bottom - height * min(value / most, 1.0)
         x = left + place * wide
-        points.append(f"{'M' if last is None else 'L'}{x:.1f} {y:.1f}")
+        points.append(f"{'L' if place else 'M'}{x:.1f} {y:.1f}")
         points.append(f"L{x + wide:.1f} {y:.1f}")
-        last = y
     return "".join(points)
 
 
@@ -45,7 +44,7 @@ def times(start, end):
     length = max(end - start, 1)
     sizes = [1, 2, 5, 10, 20, 50, 100, 200, 500] + [it * 1000 for it in (1, 2, 5, 10, 20, 30, 60, 120, 300, 600, 1200, 1800, 3600, 7200, 14_400, 21_600, 43_200)]
     size = next((it for it in sizes if length / it <= 7), None) or 86_400_000 * math.ceil(length / 86_400_000 / 7)
-    return [(it, duration(it)) for it in range(0, length + 1, size)]
+    return [(it, duration(it) if it else "0") for it in range(0, length + 1, size)]
 
 
 def bars(lines, y, name, cases, value, label):

@@ -99,8 +99,12 @@ def notes(report):
     journal, agreed = report["journal"], report["agreement"]
     yield (f'{journal["name"]}: {journal["events"]} events, {journal["tasks"]} tasks, '
            f'{duration(journal["to_ms"] - journal["from_ms"])}; waiting times with {report["arrivals"]} arrivals')
+    gone = [it["agent"] for it in report["policy"] if it["event"] == "remove_agent"]
     for event in report["policy"]:
-        yield "policy: " + json.dumps(event, separators=(",", ":"))
+        if event["event"] != "remove_agent":
+            yield "policy: " + json.dumps(event, separators=(",", ":"))
+    if gone:
+        yield f'policy: without {len(gone)} agents: {", ".join(gone if len(gone) <= 12 else [*gone[:5], "..", *gone[-5:]])}'
     text = (f'agreement: with nothing changed, {agreed["within"]} of {agreed["tasks"]} tasks ({percent(agreed["fraction"])}) start within '
             f'{duration(agreed["tolerance_ms"])} of the journal')
     if agreed["difference_ms"]:

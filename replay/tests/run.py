@@ -376,6 +376,7 @@ def test_bad_options(room):
         (["--without-agents", "-1"], 2, "--without-agents -1: expected a number from 0"),
         (["--without-agent", "n9"], 3, '--without-agent n9: no agent "n9" in .*'),
         (["--policy", f"{room.path}/none"], 1, ".*none: cannot be read: No such file or directory"),
+        (["--svg", "/dev/stdout"], 1, "/dev/stdout: cannot be written: not a regular file"),
         (["--svg", f"{room.path}/none/x.svg"], 1, ".*none/x.svg: cannot be written: No such file or directory"),
     ):
         said = room.replay(journal, *words, status=status)

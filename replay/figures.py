@@ -1,7 +1,7 @@
 """Outside the proof. Measures a run: what each role holds and uses over time, and how long its tasks wait.
 
 The figures of a role include those of the roles below it, as its share does in the allocator. The root, "", is the whole cluster."""
-from resources import RANGES, SET
+from collections import defaultdict
 
 ROOT = ""
 # The number of equal parts of the time for which the picture has a mean.
@@ -29,7 +29,7 @@ class Node:
     __slots__ = ("held", "used", "at", "share", "use", "used_sums", "parts")
 
     def __init__(self, at):
-        self.held, self.used, self.at = {}, {}, at
+        self.held, self.used, self.at = defaultdict(int), defaultdict(int), at
         self.share = self.use = 0.0
         self.used_sums = {}
         self.parts = [0.0] * PARTS
@@ -72,31 +72,31 @@ class Account:
         node.at = at
 
     def change(self, role, at, held, used, sign):
-        """Adds amounts by key to what a role holds and uses, or with the sign -1 takes them away."""
-        for node in self.nodes_of(role):
+        """Adds the pairs (name, amount) of scalars to what a role holds and uses, or with the sign -1 takes them away."""
+        for node in self.paths.get(role) or self.nodes_of(role):
             if at > node.at:
                 self.settle(node, at)
-            for amounts, there in ((held, node.held), (used, node.used)):
-                if amounts:
-                    for key, amount in amounts.items():
-                        if key[0] != RANGES and key[0] != SET:
-                            there[key] = there.get(key, 0) + sign * amount
+            there = node.held
+            for name, amount in held:
+                there[name] += sign * amount
+            there = node.used
+            for name, amount in used:
+                there[name] += sign * amount
 
-    def change_total(self, at, amounts, sign):
-        """Adds an agent's amounts to the totals, or with the sign -1 takes them away."""
+    def change_total(self, at, scalars, sign):
+        """Adds an agent's scalars to the totals, or with the sign -1 takes them away."""
         for node in self.nodes.values():
             self.settle(node, at)
         if at > self.totals_at:
             for name, amount in self.totals.items():
                 self.total_sums[name] = self.total_sums.get(name, 0) + amount * (at - self.totals_at)
             self.totals_at = at
-        for key, amount in amounts.items():
-            if key[0] != RANGES and key[0] != SET:
-                self.totals[key] = self.totals.get(key, 0) + sign * amount
+        for name, amount in scalars:
+            self.totals[name] = self.totals.get(name, 0) + sign * amount
 
     def close(self):
         """Completes the sums at the end of the time."""
-        self.change_total(self.end, {}, 1)
+        self.change_total(self.end, (), 1)
 
 
 def ranked(waits, numerator, denominator):

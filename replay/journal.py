@@ -6,7 +6,7 @@ from operator import itemgetter
 
 from errors import BadInput
 from figures import Account
-from resources import fits, read, Bundle, take
+from resources import Bundle, fits, read, scalars_of, take
 
 # How an offer ended in the journal: the framework answered it, it was rescinded, or something else ended it.
 ANSWERED, RESCINDED, UNANSWERED = "answered", "rescinded", "unanswered"
@@ -160,7 +160,7 @@ class Journal:
         # The end is known when all is read; the picture's parts are not measured for the journal itself.
         self.account = Account(self.start, LAST)
         for agent, total in self.state.agents.items():
-            self._totals[agent] = read(total).amounts
+            self._totals[agent] = read(total).scalars
             self.account.change_total(self.start, self._totals[agent], 1)
         for framework, roles in self.state.frameworks.items():
             self._register(framework, roles, BEGIN)
@@ -171,7 +171,7 @@ class Journal:
         for row in self.state.tasks:
             task = Task(None, self.clients[row["framework"], row["role"]], row["use"], None, 0, row["agent"])
             self._run(row["framework"], row["task"], task)
-            self.account.change(row["role"], self.start, task.bundle.amounts, task.bundle.amounts, 1)
+            self.account.change(row["role"], self.start, task.bundle.scalars, task.bundle.scalars, 1)
 
     def _register(self, framework, roles, place):
         self.frameworks.add(framework)
@@ -190,7 +190,7 @@ class Journal:
         self._offers[number] = Offer(client, habit, offer["agent"], bundle)
         self._on_agent.setdefault(offer["agent"], {})[number] = None
         self._of_framework.setdefault(offer["framework"], {})[number] = None
-        self.account.change(client.role, max(made[0], self.start), bundle.amounts, None, 1)
+        self.account.change(client.role, max(made[0], self.start), bundle.scalars, (), 1)
 
     def _end_offer(self, number, kind):
         """Removes an outstanding offer, notes how it ended, and returns it."""
@@ -212,7 +212,7 @@ class Journal:
         task = self._running.pop(place)
         del self._on_agent[task.agent][place]
         del self._of_framework[place[0]][place]
-        self.account.change(task.client.role, self._clock, task.bundle.amounts, task.bundle.amounts, -1)
+        self.account.change(task.client.role, self._clock, task.bundle.scalars, task.bundle.scalars, -1)
         if task.start is not None:
             task.ran = self._clock - task.start
             task.is_lost = is_lost
@@ -227,7 +227,7 @@ class Journal:
                 self._end_task(place, True)
             else:
                 offer = self._end_offer(place, UNANSWERED)
-                self.account.change(offer.client.role, self._clock, offer.bundle.amounts, None, -1)
+                self.account.change(offer.client.role, self._clock, offer.bundle.scalars, (), -1)
 
     def _take(self, number, event, line, reply):
         """Takes in an accepted event at the time of the clock. Its line has this number."""
@@ -243,11 +243,11 @@ class Journal:
                 client.decline = offer.habit.decline = event.get("refuse_ms", DEFAULT_REFUSE)
                 offer.habit.accept = client.accept
                 client.log.append(("left", at, offer.bundle.amounts, 0))
-                self.account.change(client.role, at, offer.bundle.amounts, None, -1)
+                self.account.change(client.role, at, offer.bundle.scalars, (), -1)
                 return
             case "rescind":
                 offer = self._end_offer(event["offer"], RESCINDED)
-                self.account.change(offer.client.role, at, offer.bundle.amounts, None, -1)
+                self.account.change(offer.client.role, at, offer.bundle.scalars, (), -1)
                 return
             case "cycle":
                 self._cycle(key, number, reply)
@@ -260,8 +260,8 @@ class Journal:
                 agent = event["agent"]
                 if kind == "add_agent" and agent not in self.agents:
                     self.agents.append(agent)
-                self.account.change_total(at, self._totals.get(agent, {}), -1)
-                self._totals[agent] = read(event["total"]).amounts
+                self.account.change_total(at, self._totals.get(agent, ()), -1)
+                self._totals[agent] = read(event["total"]).scalars
                 self.account.change_total(at, self._totals[agent], 1)
             case "remove_agent":
                 agent = event["agent"]
@@ -298,12 +298,12 @@ class Journal:
             take(left, task.bundle)
             for key, amount in task.bundle.amounts.items():
                 used[key] = used.get(key, 0) + amount
-        rest = Bundle(left).amounts
+        rest = Bundle(left)
         client.most_tasks = max(client.most_tasks, len(started))
         client.log.append(("start", started))
-        client.log.append(("left", at, rest, len(started)))
-        self.account.change(client.role, at, rest, None, -1)
-        self.account.change(client.role, at, None, used, 1)
+        client.log.append(("left", at, rest.amounts, len(started)))
+        self.account.change(client.role, at, rest.scalars, (), -1)
+        self.account.change(client.role, at, (), scalars_of(used), 1)
 
     def _cycle(self, key, number, reply):
         at = key[0]

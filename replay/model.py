@@ -10,7 +10,7 @@ from allocator import Allocator
 from errors import BadInput, Failed
 from figures import Account
 from journal import ANSWER, DEFAULT_REFUSE, FINISH, RESCINDED, Habit, set_arrivals
-from resources import fits, read, take, text_of
+from resources import fits, read, scalars_of, take, text_of
 
 DEFAULT_HABIT = Habit((0, 0, 0))
 DEFAULT_HABIT.delay, DEFAULT_HABIT.kind = 0, "answered"
@@ -110,8 +110,8 @@ class Replay:
 
     def end_task(self, held, how):
         self.let_go(held)
-        amounts = held.bundle.amounts
-        self.account.change(held.actor.role, self.at, amounts, amounts, -1)
+        scalars = held.bundle.scalars
+        self.account.change(held.actor.role, self.at, scalars, scalars, -1)
         if held.task is not None:
             self.ends[held.task.index] = how
         else:
@@ -119,7 +119,7 @@ class Replay:
 
     def end_offer(self, held):
         self.let_go(held)
-        self.account.change(held.actor.role, self.at, held.bundle.amounts, None, -1)
+        self.account.change(held.actor.role, self.at, held.bundle.scalars, (), -1)
 
     def lose(self, there):
         for held in list(there):
@@ -169,8 +169,8 @@ class Replay:
                 self.later(at + task.ran + 1, 0, FINISH, self.release, running)
         self.allocator.send(f'{{"event":"accept","framework":"{actor.framework}","offer":{held.number},"at":{at},"tasks":[{",".join(texts)}]'
                             f',"refuse_ms":{held.habit.accept}}}')
-        self.account.change(actor.role, at, rest, None, -1)
-        self.account.change(actor.role, at, None, used, 1)
+        self.account.change(actor.role, at, scalars_of(rest), (), -1)
+        self.account.change(actor.role, at, (), scalars_of(used), 1)
 
     def finish(self, held):
         self.send_finish(held, "finished")
@@ -201,7 +201,7 @@ class Replay:
         held = Held(actor, offer["agent"], read(offer["resources"]), offer["offer"], actor.habit(made))
         actor.open += 1
         self.hold(held)
-        self.account.change(actor.role, max(made[0], self.journal.start), held.bundle.amounts, None, 1)
+        self.account.change(actor.role, max(made[0], self.journal.start), held.bundle.scalars, (), 1)
         habit = held.habit
         act = self.rescind if habit.kind is RESCINDED else self.answer
         self.later(made[0] + habit.delay, habit.phase if habit.delay else habit.phase + phase + 1, ANSWER, act, held, habit.order)
@@ -270,8 +270,8 @@ class Replay:
         match kind:
             case "add_agent" | "set_agent":
                 agent = event["agent"]
-                self.account.change_total(at, self.totals.get(agent, {}), -1)
-                self.totals[agent] = read(event["total"]).amounts
+                self.account.change_total(at, self.totals.get(agent, ()), -1)
+                self.totals[agent] = read(event["total"]).scalars
                 self.account.change_total(at, self.totals[agent], 1)
             case "remove_agent":
                 self.lose(self.on_agent.get(event["agent"], ()))
@@ -309,7 +309,7 @@ class Replay:
             held = Held(self.actors[row["framework"], row["role"]], row["agent"], read(row["use"]), name=row["task"])
             self.named[row["framework"], row["task"]] = held
             self.hold(held)
-            self.account.change(row["role"], self.at, held.bundle.amounts, held.bundle.amounts, 1)
+            self.account.change(row["role"], self.at, held.bundle.scalars, held.bundle.scalars, 1)
         for source, event in self.policy.start:
             self.demand(source, event, "at the start")
             self.follow(event["event"], event)

@@ -5,6 +5,8 @@ from figures import ROOT, figures, outcomes, ranked
 
 ALL = "(all)"
 CASES = ("journal", "before", "after")
+# Below this agreement the report warns of a role, and names so many.
+LEAST_AGREEMENT, MOST_NAMED = 0.9, 6
 
 
 def measured(account, tasks, results):
@@ -110,9 +112,11 @@ def notes(report):
     if agreed["difference_ms"]:
         text += f'; 95% within {duration(agreed["difference_ms"]["p95"])}, the worst {duration(agreed["difference_ms"]["greatest"])} off'
     yield text
-    for role, it in agreed["roles"].items():
-        if it["fraction"] < 0.9:
-            yield f'warning: role {role}: only {percent(it["fraction"])} agree; its frameworks do not follow the model, so do not rely on its figures'
+    poor = sorted((it["fraction"], role) for role, it in agreed["roles"].items() if it["fraction"] < LEAST_AGREEMENT)
+    if poor:
+        shown = [f"{role} {percent(fraction)}" for fraction, role in poor[:MOST_NAMED]] + [".."] * (len(poor) > MOST_NAMED)
+        yield (f'warning: {len(poor)} of {len(agreed["roles"])} roles agree to less than {percent(LEAST_AGREEMENT)} ({", ".join(shown)}); '
+               "their frameworks do not follow the model, so do not rely on their figures")
     for case, refusals in report["refused"].items():
         for it in refusals:
             yield f'note: {case}: {it["count"]} {it["event"]} events of the journal were refused with {it["name"]}'

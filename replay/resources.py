@@ -58,10 +58,16 @@ def key_of(name, value):
     return name if isinstance(value, int) else (RANGES if isinstance(value, tuple) else SET) + name
 
 
-class Bundle:
-    """The pieces of a resource text by (name, role), with the role "" for unreserved, and the amounts by key over all reservations."""
+def scalars_of(amounts):
+    """Returns the (name, amount) of the scalars in amounts by key that are not 0."""
+    return [it for it in amounts.items() if it[1] and it[0][0] != RANGES and it[0][0] != SET]
 
-    __slots__ = ("pieces", "amounts")
+
+class Bundle:
+    """The pieces of a resource text by (name, role), with the role "" for unreserved; the amounts by key over all reservations; and those of
+    the scalars as pairs."""
+
+    __slots__ = ("pieces", "amounts", "scalars")
 
     def __init__(self, pieces):
         self.pieces = pieces
@@ -69,6 +75,7 @@ class Bundle:
         for (name, _), value in pieces.items():
             key = key_of(name, value)
             self.amounts[key] = self.amounts.get(key, 0) + size_of(value)
+        self.scalars = scalars_of(self.amounts)
 
 
 @lru_cache(maxsize=1 << 16)

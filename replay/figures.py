@@ -43,7 +43,7 @@ class Account:
         self.step = (end - start) / PARTS or 1.0
         self.totals, self.total_sums, self.totals_at = {}, {}, start
         self.nodes = {ROOT: Node(start)}
-        self.paths = {}
+        self.paths, self.changes, self.at = {}, {}, start
 
     def nodes_of(self, role):
         nodes = self.paths.get(role)
@@ -73,18 +73,34 @@ class Account:
 
     def change(self, role, at, held, used, sign):
         """Adds the pairs (name, amount) of scalars to what a role holds and uses, or with the sign -1 takes them away."""
-        for node in self.paths.get(role) or self.nodes_of(role):
-            if at > node.at:
-                self.settle(node, at)
-            there = node.held
-            for name, amount in held:
-                there[name] += sign * amount
-            there = node.used
-            for name, amount in used:
-                there[name] += sign * amount
+        if at > self.at:
+            self.apply()
+            self.at = at
+        change = self.changes.get(role)
+        if change is None:
+            change = self.changes[role] = defaultdict(int), defaultdict(int)
+        there = change[0]
+        for name, amount in held:
+            there[name] += sign * amount
+        there = change[1]
+        for name, amount in used:
+            there[name] += sign * amount
+
+    def apply(self):
+        """Applies the changes of the time `at`. Until time goes on, they are only collected."""
+        for role, (held, used) in self.changes.items():
+            for node in self.paths.get(role) or self.nodes_of(role):
+                self.settle(node, self.at)
+                for name, amount in held.items():
+                    node.held[name] += amount
+                for name, amount in used.items():
+                    node.used[name] += amount
+        self.changes.clear()
 
     def change_total(self, at, scalars, sign):
         """Adds an agent's scalars to the totals, or with the sign -1 takes them away."""
+        self.apply()
+        self.at = max(self.at, at)
         for node in self.nodes.values():
             self.settle(node, at)
         if at > self.totals_at:
@@ -139,11 +155,12 @@ class Outcome:
 def outcomes(tasks, results):
     """Returns the outcome of each role. `results` yields for each task (role, start or None, until when it waited if it did not start,
     whether it finished, whether it was lost)."""
-    found = {}
+    found, above = {}, {}
     for task, (role, start, until, is_finished, is_lost) in zip(tasks, results, strict=True):
         wait = (start - task.arrival, True) if start is not None else (max(until - task.arrival, 0), False)
-        for path in roles_above(role):
-            outcome = found.setdefault(path, Outcome())
+        if role not in above:
+            above[role] = [found.setdefault(it, Outcome()) for it in roles_above(role)]
+        for outcome in above[role]:
             outcome.waits.append(wait)
             outcome.started += start is not None
             outcome.finished += is_finished

@@ -43,9 +43,11 @@ def agreement(tasks, starts, tolerance):
 def agreements(journal, replay, tolerance):
     """Returns the agreement of all tasks, with that of each role under `roles`."""
     result = {"tolerance_ms": tolerance, **agreement(journal.tasks, replay.starts, tolerance), "roles": {}}
-    for role in sorted({it.client.role for it in journal.tasks}):
-        chosen = [it for it in journal.tasks if it.client.role == role]
-        result["roles"][role] = agreement(chosen, [replay.starts[it.index] for it in chosen], tolerance)
+    by_role = {}
+    for task in journal.tasks:
+        by_role.setdefault(task.client.role, []).append(task)
+    for role, tasks in sorted(by_role.items()):
+        result["roles"][role] = agreement(tasks, [replay.starts[it.index] for it in tasks], tolerance)
     return result
 
 

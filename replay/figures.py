@@ -71,20 +71,31 @@ class Account:
                 part += 1
         node.at = at
 
-    def change(self, role, at, held, used, sign):
-        """Adds the pairs (name, amount) of scalars to what a role holds and uses, or with the sign -1 takes them away."""
+    def changes_of(self, role, at):
+        """Returns the changes of a role at a time: of what it holds, and of what it uses."""
         if at > self.at:
             self.apply()
             self.at = at
-        change = self.changes.get(role)
-        if change is None:
-            change = self.changes[role] = defaultdict(int), defaultdict(int)
-        there = change[0]
+        changes = self.changes.get(role)
+        if changes is None:
+            changes = self.changes[role] = defaultdict(int), defaultdict(int)
+        return changes
+
+    def change(self, role, at, held, used, sign):
+        """Adds the pairs (name, amount) of scalars to what a role holds and uses, or with the sign -1 takes them away."""
+        holds, uses = self.changes_of(role, at)
         for name, amount in held:
-            there[name] += sign * amount
-        there = change[1]
+            holds[name] += sign * amount
         for name, amount in used:
-            there[name] += sign * amount
+            uses[name] += sign * amount
+
+    def accept(self, role, at, rest, used):
+        """Takes what an accept leaves over from what a role holds, and adds what its tasks use to what it uses."""
+        holds, uses = self.changes_of(role, at)
+        for name, amount in rest:
+            holds[name] -= amount
+        for name, amount in used:
+            uses[name] += amount
 
     def apply(self):
         """Applies the changes of the time `at`. Until time goes on, they are only collected."""

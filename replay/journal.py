@@ -2,17 +2,19 @@
 answers offers. README.md explains the model."""
 import json
 from bisect import bisect_right
+from collections import defaultdict
 from operator import itemgetter
 
 from errors import BadInput
 from figures import Account
-from resources import Bundle, fits, read, scalars_of, take
+from resources import fits, read, scalars_of
 
 # How an offer ended in the journal: the framework answered it, it was rescinded, or something else ended it.
 ANSWERED, RESCINDED, UNANSWERED = "answered", "rescinded", "unanswered"
 # The order of what happens at the same time, after the same number of cycles.
 FINISH, EVENT, ANSWER, CYCLE = range(4)
 LAST = 1 << 62
+decode = json.JSONDecoder().raw_decode
 DEFAULT_REFUSE = 5000
 
 # A key says when something happens: (time, cycles before it at this time, one of the ranks above, position).
@@ -117,7 +119,7 @@ class Journal:
         self.clients, self.tasks, self.events, self.count = {}, [], [], 0
         self.agents, self.frameworks = list(state.agents), set(state.frameworks)
         self._running, self._offers, self._ended = {}, {}, 0
-        self._on_agent, self._of_framework, self._totals = {}, {}, {}
+        self._on_agent, self._of_framework, self._totals = defaultdict(dict), defaultdict(dict), {}
         # The state's tasks have no start in the journal.
         self._clock, self._cycles = state.clock, 0
         self.start = None
@@ -128,9 +130,9 @@ class Journal:
             self.count += 1
             if number & 0x3FFF == 0:
                 progress(2 * number)
-            if reply.startswith(b'{"name"'):
+            if reply.startswith('{"name"'):
                 continue
-            event = json.loads(line)
+            event = decode(line)[0] if line.startswith("{") else json.loads(line)
             kind = event["event"]
             if kind == "report":
                 continue
@@ -188,8 +190,8 @@ class Journal:
         bundle = read(offer["resources"])
         number = offer["offer"]
         self._offers[number] = Offer(client, habit, offer["agent"], bundle)
-        self._on_agent.setdefault(offer["agent"], {})[number] = None
-        self._of_framework.setdefault(offer["framework"], {})[number] = None
+        self._on_agent[offer["agent"]][number] = None
+        self._of_framework[offer["framework"]][number] = None
         self.account.change(client.role, max(made[0], self.start), bundle.scalars, (), 1)
 
     def _end_offer(self, number, kind):
@@ -205,8 +207,8 @@ class Journal:
 
     def _run(self, framework, name, task):
         self._running[framework, name] = task
-        self._on_agent.setdefault(task.agent, {})[framework, name] = None
-        self._of_framework.setdefault(framework, {})[framework, name] = None
+        self._on_agent[task.agent][framework, name] = None
+        self._of_framework[framework][framework, name] = None
 
     def _end_task(self, place, is_lost):
         task = self._running.pop(place)
@@ -289,27 +291,25 @@ class Journal:
         client = offer.client
         client.accept = offer.habit.accept = event.get("refuse_ms", DEFAULT_REFUSE)
         offer.habit.decline = client.decline
-        started, left, used = [], dict(offer.bundle.pieces), {}
-        for it in event.get("tasks") or [event]:
+        started, used, bundle = [], {}, offer.bundle
+        for it in event.get("tasks") or (event,):
             task = Task(len(self.tasks), client, it["use"], at, self._cycles, offer.agent)
             self._run(client.framework, it["task"], task)
             self.tasks.append(task)
             started.append(task)
-            take(left, task.bundle)
             for key, amount in task.bundle.amounts.items():
                 used[key] = used.get(key, 0) + amount
-        rest = Bundle(left)
+        rest = {key: amount - used.get(key, 0) for key, amount in bundle.amounts.items()}
         client.most_tasks = max(client.most_tasks, len(started))
         client.log.append(("start", started))
-        client.log.append(("left", at, rest.amounts, len(started)))
-        self.account.change(client.role, at, rest.scalars, (), -1)
-        self.account.change(client.role, at, (), scalars_of(used), 1)
+        client.log.append(("left", at, rest, len(started)))
+        self.account.accept(client.role, at, scalars_of(rest), scalars_of(used))
 
     def _cycle(self, key, number, reply):
         at = key[0]
         self.events.append(((at, self._cycles, CYCLE, number), "cycle", None, number))
         places = {}
-        for offer in json.loads(reply)["offers"]:
+        for offer in decode(reply)[0]["offers"]:
             place = offer["framework"], offer["role"]
             count = places[place] = places.get(place, 0) + 1
             self._offer(offer, (at, self._cycles), count)

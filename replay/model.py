@@ -2,7 +2,8 @@
 
 README.md states the model of frameworks that is played here."""
 import json
-from collections import Counter, deque
+from collections import Counter, defaultdict, deque
+from functools import lru_cache
 from heapq import heappop, heappush
 from operator import itemgetter
 
@@ -15,6 +16,9 @@ from resources import fits, read, scalars_of, take, text_of
 DEFAULT_HABIT = Habit((0, 0, 0))
 DEFAULT_HABIT.delay, DEFAULT_HABIT.kind = 0, "answered"
 DEFAULT_HABIT.decline = DEFAULT_HABIT.accept = DEFAULT_REFUSE
+
+
+quoted = lru_cache(maxsize=1 << 16)(json.dumps)
 
 
 class Actor:
@@ -65,7 +69,8 @@ class Replay:
         self.starts, self.until, self.ends = [None] * count, [journal.end] * count, [None] * count
         self.refused, self.retried = Counter(), 0
         self.account = Account(journal.start, journal.end)
-        self.actors, self.on_agent, self.of_framework, self.totals, self.named = {}, {}, {}, {}, {}
+        self.on_agent, self.of_framework = defaultdict(dict), defaultdict(dict)
+        self.actors, self.totals, self.named = {}, {}, {}
         self.heap, self.serial, self.at, self.waiting_suppressed = [], 0, journal.start, set()
         self.prefix = unused_prefix([row["task"] for row in journal.state.tasks])
         self.allocator = Allocator(state_path, self.on_refusal)
@@ -98,8 +103,8 @@ class Replay:
     # What is held
 
     def hold(self, held):
-        self.on_agent.setdefault(held.agent, {})[held] = None
-        self.of_framework.setdefault(held.actor.framework, {})[held] = None
+        self.on_agent[held.agent][held] = None
+        self.of_framework[held.actor.framework][held] = None
 
     def let_go(self, held):
         held.is_over = True
@@ -147,18 +152,23 @@ class Replay:
             self.suppress(actor)
 
     def start(self, held, actor, queue):
-        at, rest, left = self.at, dict(held.bundle.amounts), dict(held.bundle.pieces)
+        at, bundle, most = self.at, held.bundle, actor.most_tasks
+        rest, left = dict(bundle.amounts), None if bundle.is_plain else dict(bundle.pieces)
         used, texts = {}, []
         self.let_go(held)
-        while queue and len(texts) < actor.most_tasks and fits(queue[0].bundle.amounts, rest):
+        while queue and len(texts) < most and fits(queue[0].bundle.amounts, rest):
             task = queue.popleft()
-            pieces = take(left, task.bundle)
-            use = task.use if pieces == task.bundle.pieces else text_of(pieces)
-            texts.append(f'{{"task":"{self.prefix}{task.index}","use":{json.dumps(use)}}}')
+            use = task.use
+            if left is None and not task.bundle.is_plain:
+                left = {(name, ""): amount for name, amount in rest.items() if amount}
+            if left is not None:
+                pieces = take(left, task.bundle)
+                use = use if pieces == task.bundle.pieces else text_of(pieces)
+            texts.append(f'{{"task":"{self.prefix}{task.index}","use":{quoted(use)}}}')
             for key, amount in task.bundle.amounts.items():
                 rest[key] -= amount
                 used[key] = used.get(key, 0) + amount
-            running = Held(actor, held.agent, task.bundle, task=task)
+            running = Held(actor, held.agent, task.bundle, None, None, task)
             self.hold(running)
             self.starts[task.index] = at
             if task.finish is not None:
@@ -169,8 +179,7 @@ class Replay:
                 self.later(at + task.ran + 1, 0, FINISH, self.release, running)
         self.allocator.send(f'{{"event":"accept","framework":"{actor.framework}","offer":{held.number},"at":{at},"tasks":[{",".join(texts)}]'
                             f',"refuse_ms":{held.habit.accept}}}')
-        self.account.change(actor.role, at, scalars_of(rest), (), -1)
-        self.account.change(actor.role, at, (), scalars_of(used), 1)
+        self.account.accept(actor.role, at, scalars_of(rest), scalars_of(used))
 
     def finish(self, held):
         self.send_finish(held, "finished")

@@ -64,10 +64,10 @@ def scalars_of(amounts):
 
 
 class Bundle:
-    """The pieces of a resource text by (name, role), with the role "" for unreserved; the amounts by key over all reservations; and those of
-    the scalars as pairs."""
+    """The pieces of a resource text by (name, role), with the role "" for unreserved; the amounts by key over all reservations; those of
+    the scalars as pairs; and whether all pieces are unreserved scalars."""
 
-    __slots__ = ("pieces", "amounts", "scalars")
+    __slots__ = ("pieces", "amounts", "scalars", "is_plain")
 
     def __init__(self, pieces):
         self.pieces = pieces
@@ -76,6 +76,7 @@ class Bundle:
             key = key_of(name, value)
             self.amounts[key] = self.amounts.get(key, 0) + size_of(value)
         self.scalars = scalars_of(self.amounts)
+        self.is_plain = len(self.scalars) == len(pieces) and not any(role for _, role in pieces)
 
 
 @lru_cache(maxsize=1 << 16)

@@ -396,6 +396,15 @@ def test_bad_options(room):
     assert "cannot be read" in room.replay("absent.journal", status=1)
 
 
+def test_outputs_that_fail(room):
+    journal = room.write("hand.journal", hand())
+    with open("/dev/full", "w") as full:
+        done = subprocess.run([REPLAY, "--quiet", journal], stdout=full, stderr=subprocess.PIPE)
+    assert (done.returncode, done.stderr) == (1, b"drf-replay: standard output: No space left on device\n"), done
+    piped = subprocess.run(["bash", "-c", f"{REPLAY} --quiet <(cat {journal})"], capture_output=True)
+    assert piped.returncode == 0 and b"3 of 3 tasks (100.0%)" in piped.stdout, piped
+
+
 def test_bad_states(room):
     journal = room.write("hand.journal", hand())
     said = room.replay(journal, "--from", room.write("bad.state", b'{"row":"state"}\n'), status=3)

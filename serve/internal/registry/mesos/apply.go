@@ -1,0 +1,233 @@
+// The fold: what lines and notes do to the rows. A note takes effect where the replies to its own lines allow it. Outside the proof.
+
+package mesos
+
+import (
+	"bytes"
+	"crypto/sha256"
+	"encoding/json"
+	"fmt"
+
+	"gateway/internal/registry"
+)
+
+// Begin starts an epoch: numbers of offers begin again.
+func (s *State) Begin(epoch int) {
+	s.mu.Lock()
+	defer s.mu.Unlock()
+	s.endOffers(func(Offer) bool { return true })
+	s.Epoch = epoch
+}
+
+// Apply takes a message and its replies.
+func (s *State) Apply(m *registry.Message) {
+	s.mu.Lock()
+	defer s.mu.Unlock()
+	s.number, s.at = m.Number, m.At
+	answers := make([]string, len(m.Lines))
+	for k, line := range m.Lines {
+		answers[k] = registry.AnswerOf(m.Replies[k])
+		s.follow(registry.Kind(line), line, m.Replies[k], answers[k] == "ok")
+	}
+	if n, is := decode(m.Note); is {
+		s.apply(&n, answers)
+	}
+}
+
+// follow looks at a line, whoever sent it.
+func (s *State) follow(kind string, line, reply []byte, isOK bool) {
+	switch {
+	case kind == "finish": // where it is refused, there is no such hold
+		fields := registry.Fields(line)
+		key := HoldKey(registry.Text(fields, "framework"), registry.Text(fields, "task"))
+		delete(s.Users, key)
+		delete(s.Unused, key)
+	case !isOK:
+	case kind == "cycle":
+		s.addOffers(reply)
+	case kind == "accept", kind == "decline":
+		delete(s.Offers, numberOf(line))
+	case kind == "rescind":
+		number := numberOf(line)
+		s.endOffers(func(o Offer) bool { return o.Offer == number })
+	case kind == "deactivate_agent":
+		name := registry.Text(registry.Fields(line), "agent")
+		s.endOffers(func(o Offer) bool { return o.Agent == name })
+	case kind == "remove_agent":
+		name := registry.Text(registry.Fields(line), "agent")
+		s.endOffers(func(o Offer) bool { return o.Agent == name })
+		s.removeAgent(name)
+	case kind == "remove_framework":
+		s.removeFramework(registry.Text(registry.Fields(line), "framework"))
+	}
+}
+
+func numberOf(line []byte) (number uint64) {
+	json.Unmarshal(registry.Fields(line)["offer"], &number)
+	return number
+}
+
+func (s *State) addOffers(reply []byte) {
+	var made struct{ Offers []Offer }
+	json.Unmarshal(reply, &made)
+	byFramework, order := map[string][]OfferOf{}, []string{}
+	for _, o := range made.Offers {
+		id, is := s.IDs[o.Framework]
+		if !is {
+			continue
+		}
+		s.Offers[o.Offer] = o
+		if byFramework[id] == nil {
+			order = append(order, id)
+		}
+		byFramework[id] = append(byFramework[id], s.offerOf(o))
+	}
+	for _, id := range order {
+		s.toFramework(s.Frameworks[id], Event{Kind: "OFFERS", Offers: byFramework[id]})
+	}
+}
+
+func (s *State) offerOf(o Offer) OfferOf {
+	id := s.IDs[o.Framework]
+	one := OfferOf{s.OfferID(o.Offer), o, s.Frameworks[id].Subscription, nil}
+	if a := s.Agents[o.Agent]; a != nil {
+		one.AgentInfo = a.Info
+	}
+	return one
+}
+
+func (s *State) endOffers(is func(Offer) bool) {
+	for _, o := range s.offersWith(is) {
+		s.toFramework(s.Frameworks[s.IDs[o.Framework]], Event{Kind: "RESCIND", Message: s.OfferID(o.Offer)})
+		delete(s.Offers, o.Offer)
+	}
+}
+
+func (s *State) toFramework(f *Framework, e Event) {
+	if f != nil && f.IsConnected {
+		e.Stream, e.Framework = f.Stream, f.ID
+		s.publish(e)
+	}
+}
+
+func (s *State) toAgent(id string, e Event) {
+	if a := s.Agents[id]; a != nil && a.IsConnected {
+		e.Stream = a.Stream
+		s.publish(e)
+	}
+}
+
+func (s *State) update(f *Framework, status Status) {
+	s.toFramework(f, Event{Kind: "UPDATE", Status: &status})
+}
+
+// removeFramework ends a framework's tasks. Its holds went with it.
+func (s *State) removeFramework(name string) {
+	id, is := s.IDs[name]
+	if !is {
+		return
+	}
+	f := s.Frameworks[id]
+	for _, o := range s.OffersOf(id) {
+		delete(s.Offers, o.Offer)
+	}
+	for _, task := range f.TaskNames() {
+		t := f.Tasks[task]
+		if !IsTerminal(t.State) {
+			s.toAgent(t.Agent, Event{Kind: "KILL", Tasks: []TaskOf{taskOf(f, t)}})
+			t.State = "TASK_KILLED"
+		}
+		for _, h := range t.Holds {
+			delete(s.Users, HoldKey(name, h.Name))
+			delete(s.Unused, HoldKey(name, h.Name))
+		}
+		s.complete(f, t)
+	}
+	for key := range s.Unused { // holds that no task has any more
+		if framework, _, _ := bytes.Cut([]byte(key), []byte("/")); string(framework) == name {
+			delete(s.Unused, key)
+		}
+	}
+	if f.IsConnected {
+		s.publish(Event{Kind: EventEnd, Stream: f.Stream})
+	}
+	delete(s.Frameworks, id)
+	delete(s.IDs, name)
+	if s.Removed = append(s.Removed, Removed{id, s.at, f.Subscription}); len(s.Removed) > maxRemoved {
+		s.Removed = append([]Removed(nil), s.Removed[len(s.Removed)-maxRemoved:]...)
+	}
+}
+
+// complete moves a terminal task to those that nobody waits for.
+func (s *State) complete(f *Framework, t *Task) {
+	delete(f.Tasks, t.Task)
+	if s.Completed = append(s.Completed, Completed{f.ID, t.Task, t.Agent, t.State, s.at}); len(s.Completed) > maxCompleted {
+		s.Completed = append([]Completed(nil), s.Completed[len(s.Completed)-maxCompleted:]...)
+	}
+}
+
+// removeAgent ends an agent's tasks. Its holds went with it.
+func (s *State) removeAgent(id string) {
+	a := s.Agents[id]
+	delete(s.Agents, id)
+	if a != nil && a.IsConnected {
+		s.publish(Event{Kind: EventEnd, Stream: a.Stream, Message: "the agent was removed"})
+	}
+	for _, framework := range s.FrameworkIDs() {
+		f := s.Frameworks[framework]
+		for _, name := range f.TaskNames() {
+			if t := f.Tasks[name]; t.Agent == id && !IsTerminal(t.State) {
+				sum := sha256.Sum256([]byte(fmt.Sprintf("%d %s %s", s.number, f.ID, name)))
+				s.add(f, t, Status{Task: name, Agent: id, State: s.lost(f, "TASK_GONE"), Reason: "REASON_AGENT_REMOVED", Message: "Agent " + id + " was removed", UUID: sum[:16], At: s.at})
+			}
+			if t := f.Tasks[name]; t != nil && t.Agent == id {
+				for _, h := range t.Holds {
+					delete(s.Users, HoldKey(f.Name, h.Name))
+					delete(s.Unused, HoldKey(f.Name, h.Name))
+				}
+			}
+		}
+		if a != nil {
+			s.toFramework(f, Event{Kind: "FAILURE", Agent: id})
+		}
+	}
+}
+
+// lost returns a state, or TASK_LOST for a framework that does not know the former.
+func (s *State) lost(f *Framework, state string) string {
+	if f.Has("PARTITION_AWARE") {
+		return state
+	}
+	return "TASK_LOST"
+}
+
+// add adds a status to a task, which its framework is to acknowledge.
+func (s *State) add(f *Framework, t *Task, status Status) {
+	t.State, t.Last, t.Taken = status.State, &status, t.Taken+1
+	if t.Unacked = append(t.Unacked, status); len(t.Unacked) == 1 {
+		s.update(f, status)
+	}
+	if IsTerminal(t.State) {
+		for _, h := range t.Holds {
+			s.leaveHold(HoldKey(f.Name, h.Name))
+		}
+	}
+}
+
+// leaveHold takes a user from a hold. One without users is to be finished, by a message of its own: who is last is not known before.
+func (s *State) leaveHold(key string) {
+	users, is := s.Users[key]
+	if !is {
+		return
+	}
+	if users--; users > 0 {
+		s.Users[key] = users
+		return
+	}
+	delete(s.Users, key)
+	s.Unused[key] = s.number
+}
+
+func taskOf(f *Framework, t *Task) TaskOf {
+	return TaskOf{Framework: f.ID, User: f.User, Task: t.Task, Group: t.Group, State: t.State, Info: t.Info, Number: t.Number, GraceMS: t.GraceMS, IsKilling: t.IsKilling}
+}

@@ -1,0 +1,255 @@
+// The fold against a small allocator and a slow definition. Outside the proof.
+
+package mesos
+
+import (
+	"encoding/json"
+	"fmt"
+	"reflect"
+	"sort"
+	"strings"
+	"testing"
+
+	"gateway/internal/registry"
+)
+
+// slowTask is a task as the definition has it.
+type slowTask struct {
+	framework, task, agent string
+	number                 int64
+	statuses               []string // uuids, in order
+	acked                  int
+	isDone                 bool // no status is taken any more
+}
+
+// define looks at all messages, for each task that was ever launched, what became of it.
+func define(messages []*registry.Message) (rows []string) {
+	var tasks []*slowTask
+	isFramework, ofName := map[string]bool{}, map[string]string{}
+	for _, m := range messages {
+		n, _ := decode(m.Note)
+		for k, line := range m.Lines {
+			if registry.AnswerOf(m.Replies[k]) != "ok" {
+				continue
+			}
+			fields := registry.Fields(line)
+			switch registry.Kind(line) {
+			case "remove_framework":
+				id := ofName[registry.Text(fields, "framework")]
+				isFramework[id] = false
+				kept := tasks[:0:0]
+				for _, t := range tasks {
+					if t.framework != id {
+						kept = append(kept, t)
+					}
+				}
+				tasks = kept
+			case "remove_agent":
+				for _, t := range tasks {
+					if t.agent == registry.Text(fields, "agent") && !t.isDone {
+						t.isDone, t.statuses = true, append(t.statuses, "gone")
+					}
+				}
+			}
+		}
+		switch n.Kind {
+		case NoteSubscribe:
+			if isFramework[n.Framework] || registry.AnswerOf(m.Replies[0]) == "ok" {
+				isFramework[n.Framework], ofName[n.Subscription.Name] = true, n.Framework
+			}
+		case NoteAccept:
+			for _, l := range n.Launches {
+				does := isFramework[n.Framework]
+				for _, h := range l.Holds {
+					does = does && registry.AnswerOf(m.Replies[h.Line]) == "ok"
+				}
+				for _, t := range tasks {
+					does = does && (t.framework != n.Framework || t.task != l.Task)
+				}
+				if does {
+					tasks = append(tasks, &slowTask{framework: n.Framework, task: l.Task, agent: l.Agent, number: m.Number})
+				}
+			}
+		case NoteStatus:
+			for _, t := range tasks {
+				isNew := len(t.statuses) == 0 || t.statuses[len(t.statuses)-1] != string(n.Status.UUID)
+				if t.framework == n.Framework && t.task == n.Task && t.number == n.Launch && !t.isDone && isNew {
+					t.statuses, t.isDone = append(t.statuses, string(n.Status.UUID)), IsTerminal(n.Status.State)
+				}
+			}
+		case NoteAck:
+			kept := tasks[:0:0]
+			for _, t := range tasks {
+				for _, ack := range n.Acks {
+					if ack.Framework == t.framework && ack.Task == t.task && t.acked < len(t.statuses) && (t.statuses[t.acked] == string(ack.UUID) || t.statuses[t.acked] == "gone" && len(ack.UUID) == 16) {
+						t.acked++
+					}
+				}
+				if !t.isDone || t.acked < len(t.statuses) {
+					kept = append(kept, t)
+				}
+			}
+			tasks = kept
+		}
+	}
+	for _, t := range tasks {
+		rows = append(rows, fmt.Sprintf("%s %s %d: %d of %d, done %v", t.framework, t.task, t.number, t.acked, len(t.statuses), t.isDone))
+	}
+	sort.Strings(rows)
+	return rows
+}
+
+// check compares a state with the allocator.
+func (w *world) check(s *State) error {
+	holds := map[string]bool{}
+	for key := range s.Users {
+		holds[key] = true
+	}
+	for key := range s.Unused {
+		if holds[key] {
+			return fmt.Errorf("the hold %s is used and unused", key)
+		}
+		holds[key] = true
+	}
+	for key := range w.tasks {
+		if !holds[key] {
+			return fmt.Errorf("the allocator's task %s leaks", key)
+		}
+	}
+	for key := range s.Users { // one that is unused may have gone with its agent
+		if w.tasks[key] == "" {
+			return fmt.Errorf("the hold %s is not a task of the allocator's", key)
+		}
+	}
+	for _, f := range s.Frameworks {
+		for _, t := range f.Tasks {
+			for _, h := range t.Holds {
+				if key := HoldKey(f.Name, h.Name); !IsTerminal(t.State) && s.Users[key] == 0 {
+					return fmt.Errorf("task %s runs without its hold %s", t.Task, key)
+				}
+			}
+		}
+	}
+	if !reflect.DeepEqual(w.offers, s.Offers) {
+		return fmt.Errorf("the offers %v are not the allocator's %v", s.Offers, w.offers)
+	}
+	if len(s.Frameworks) != len(w.frameworks) || len(s.IDs) != len(s.Frameworks) {
+		return fmt.Errorf("%d frameworks, and %d of the allocator's", len(s.Frameworks), len(w.frameworks))
+	}
+	return nil
+}
+
+// streams checks what is published: nothing comes on a stream before its first event or after its end, and updates of a task are in order.
+type streams struct {
+	first  map[string]bool
+	ended  map[string]bool
+	failed string
+}
+
+func (c *streams) publish(e Event) {
+	switch {
+	case e.Kind == EventReset:
+	case e.Kind == EventEnd:
+		c.ended[e.Stream] = true
+	case c.ended[e.Stream]:
+		c.failed = fmt.Sprintf("%s came after the end of %s", e.Kind, e.Stream)
+	case e.Kind == "SUBSCRIBED" || e.Kind == "REGISTERED":
+		if c.first[e.Stream] {
+			c.failed = "a stream begins twice"
+		}
+		c.first[e.Stream] = true
+	case !c.first[e.Stream]:
+		c.failed = fmt.Sprintf("%s came before the beginning of %s", e.Kind, e.Stream)
+	}
+}
+
+// Random messages of gateways whose knowledge may be old, with restarts from snapshots on the way.
+func TestFoldIsAsDefined(t *testing.T) {
+	const seeds, steps = 200, 500
+	launched, ended := 0, 0
+	for seed := int64(1); seed <= seeds; seed++ {
+		w, c := newWorld(seed), &streams{first: map[string]bool{}, ended: map[string]bool{}}
+		s := New(c.publish)
+		seen := New(func(Event) {})
+		var messages []*registry.Message
+		for step := 0; step < steps; step++ {
+			if w.Intn(4) == 0 {
+				seen.Restore(s.Snapshot())
+			}
+			m := w.random(seen)
+			messages = append(messages, m)
+			s.Apply(m)
+			if err := w.check(s); err != nil || c.failed != "" {
+				t.Fatalf("seed %d, message %d: %v %s\n%s %s", seed, m.Number, err, c.failed, m.Lines, m.Note)
+			}
+			if w.Intn(50) == 0 { // a restart
+				restored := New(c.publish)
+				if err := restored.Restore(s.Snapshot()); err != nil || string(restored.Snapshot()) != string(s.Snapshot()) {
+					t.Fatalf("seed %d, message %d: restored as %s, want %s (%v)", seed, m.Number, restored.Snapshot(), s.Snapshot(), err)
+				}
+				s = restored
+			}
+			if step%125 == 124 {
+				if got, want := rowsOf(s), define(messages); !reflect.DeepEqual(got, want) {
+					t.Fatalf("seed %d, message %d:\n%s\nwant\n%s", seed, m.Number, strings.Join(got, "\n"), strings.Join(want, "\n"))
+				}
+			}
+		}
+		for _, m := range messages {
+			if n, is := decode(m.Note); is && n.Kind == NoteAccept {
+				launched += len(n.Launches)
+			}
+		}
+		ended += len(s.Completed)
+	}
+	if launched < 10000 || ended < 1000 {
+		t.Errorf("only %d launches and %d ends", launched, ended)
+	}
+}
+
+func rowsOf(s *State) (rows []string) {
+	for _, f := range s.Frameworks {
+		for _, t := range f.Tasks {
+			rows = append(rows, fmt.Sprintf("%s %s %d: %s, done %v", f.ID, t.Task, t.Number, progressOf(t), IsTerminal(t.State)))
+		}
+	}
+	sort.Strings(rows)
+	return rows
+}
+
+// progressOf counts statuses by what the test's world put into the row.
+func progressOf(t *Task) string {
+	return fmt.Sprintf("%d of %d", t.Taken-len(t.Unacked), t.Taken)
+}
+
+func TestPruning(t *testing.T) {
+	s, w := New(func(Event) {}), newWorld(1)
+	for k := 0; k < maxRemoved+5; k++ {
+		name := fmt.Sprintf("x.%d", k)
+		s.Apply(w.message(&Note{Kind: NoteSubscribe, Framework: fmt.Sprint(k), Stream: "s", Subscription: &Subscription{Name: name}}, line("add_framework", "framework", name)))
+		for n := 0; n < 30; n++ {
+			s.complete(s.Frameworks[fmt.Sprint(k)], &Task{Launch: Launch{Task: fmt.Sprint(n)}, State: "TASK_FINISHED"})
+		}
+		s.Apply(w.message(nil, line("remove_framework", "framework", name)))
+	}
+	if len(s.Removed) != maxRemoved || len(s.Completed) != maxCompleted || s.WasRemoved("4") || !s.WasRemoved("5") || len(s.Frameworks) != 0 {
+		t.Error(len(s.Removed), len(s.Completed), len(s.Frameworks))
+	}
+}
+
+func TestNotesOfOthersAreIgnored(t *testing.T) {
+	s := New(func(Event) {})
+	empty := string(s.Snapshot())
+	for _, note := range []string{"", "x", "{}", `{"kind":"cluster","id":"c"}`, `[1]`, `{"mesos":7}`, `{"mesos":"unknown"}`, `{"mesos":"accept"}`, `{"mesos":"status","framework":"f"}`} {
+		s.Apply(&registry.Message{Number: 1, Note: []byte(note)})
+	}
+	if string(s.Snapshot()) != empty {
+		t.Errorf("%s", s.Snapshot())
+	}
+	if err := s.Restore([]byte("x")); err == nil {
+		t.Error("a broken snapshot was restored")
+	}
+	if err := s.Restore(nil); err != nil || !json.Valid(s.Snapshot()) {
+		t.Error(err)
+	}
+}

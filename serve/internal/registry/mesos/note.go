@@ -1,0 +1,130 @@
+// Package mesos is what Mesos knows and the allocator does not: descriptions of frameworks and agents, tasks, and statuses that are not
+// acknowledged. It is derived from the list's messages, their notes and the allocator's replies alone, so every gateway derives the same.
+// Outside the proof.
+package mesos
+
+import "encoding/json"
+
+// Kinds of notes.
+const (
+	NoteCluster    = "cluster"     // names the cluster, once
+	NoteSubscribe  = "subscribe"   // a framework subscribes, for the first time or again
+	NoteLeave      = "leave"       // a framework's stream ended
+	NoteAccept     = "accept"      // offers were accepted
+	NoteKill       = "kill"        // a task is to be killed
+	NoteShutdown   = "shutdown"    // all tasks of an executor are to be killed
+	NoteReconcile  = "reconcile"   // a framework asks for the states of tasks
+	NoteAck        = "acknowledge" // frameworks have statuses
+	NoteMessage    = "message"     // of a framework to an executor
+	NoteReport     = "report"      // of an executor to its framework
+	NoteAgent      = "agent"       // an agent registers
+	NoteAgentLeave = "agent_leave" // an agent's link ended
+	NoteStatus     = "status"      // an agent has a status of a task
+)
+
+// Note is what a message says beside its lines.
+type Note struct {
+	Kind      string `json:"mesos"`
+	ID        string `json:"id,omitempty"`
+	Framework string `json:"framework,omitempty"`
+	Agent     string `json:"agent,omitempty"`
+	Task      string `json:"task,omitempty"`
+	Executor  string `json:"executor,omitempty"`
+	Stream    string `json:"stream,omitempty"`
+	Gateway   string `json:"gateway,omitempty"` // that has the stream
+
+	Subscription *Subscription `json:"subscription,omitempty"`
+	Info         []byte        `json:"info,omitempty"` // AgentInfo
+	IsOurs       bool          `json:"ours,omitempty"` // the gateway ended, not the framework
+	Launches     []Launch      `json:"launches,omitempty"`
+	Refused      []Status      `json:"refused,omitempty"` // tasks that are not launched
+	GraceMS      int64         `json:"grace_ms,omitempty"`
+	Launch       int64         `json:"launch,omitempty"`
+	Status       *Status       `json:"status,omitempty"`
+	Acks         []Ack         `json:"acks,omitempty"`
+	Asked        []Asked       `json:"asked,omitempty"`
+	Data         []byte        `json:"data,omitempty"`
+}
+
+// Subscription is what is known of a framework from its last SUBSCRIBE.
+type Subscription struct {
+	Name         string   `json:"name"` // the allocator's
+	Principal    string   `json:"principal"`
+	User         string   `json:"user"`
+	Info         []byte   `json:"info"` // FrameworkInfo
+	Roles        []string `json:"roles"`
+	Capabilities []string `json:"capabilities,omitempty"`
+	FailoverMS   int64    `json:"failover_ms,omitempty"`
+}
+
+// Has reports whether a framework has a capability.
+func (s *Subscription) Has(capability string) bool {
+	for _, one := range s.Capabilities {
+		if one == capability {
+			return true
+		}
+	}
+	return false
+}
+
+// Launch is a task of an ACCEPT. It exists when all of its lines were answered `ok`.
+type Launch struct {
+	Task     string `json:"task"`
+	Agent    string `json:"agent"`
+	Executor string `json:"executor,omitempty"`
+	Info     []byte `json:"info"` // TaskInfo
+	Group    string `json:"group,omitempty"`
+	Role     string `json:"role"`
+	Holds    []Hold `json:"holds"`
+}
+
+// Hold is one of the allocator's tasks, which has resources for one or more of Mesos' tasks.
+type Hold struct {
+	Name string `json:"name"`
+	Line int    `json:"line"` // of the message, which launched it
+}
+
+// Status is a status of a task.
+type Status struct {
+	Task    string `json:"task"`
+	Agent   string `json:"agent,omitempty"`
+	State   string `json:"state"`
+	Reason  string `json:"reason,omitempty"`
+	Message string `json:"message,omitempty"`
+	UUID    []byte `json:"uuid,omitempty"` // of one that is repeated until it is acknowledged
+	At      int64  `json:"at,omitempty"`
+	Raw     []byte `json:"raw,omitempty"` // TaskStatus, of one that an agent sent
+}
+
+// Ack is an acknowledgement.
+type Ack struct {
+	Framework string `json:"framework"`
+	Task      string `json:"task"`
+	UUID      []byte `json:"uuid"`
+}
+
+// Asked is a task of RECONCILE.
+type Asked struct {
+	Task  string `json:"task"`
+	Agent string `json:"agent,omitempty"`
+}
+
+// Encode writes a note.
+func (n *Note) Encode() []byte {
+	text, _ := json.Marshal(n)
+	return text
+}
+
+// decode reads a note, unless it is another part's.
+func decode(text []byte) (n Note, is bool) {
+	return n, len(text) > 0 && json.Unmarshal(text, &n) == nil && n.Kind != ""
+}
+
+// IsTerminal reports whether a task in a state has ended.
+func IsTerminal(state string) bool {
+	switch state {
+	case "TASK_FINISHED", "TASK_FAILED", "TASK_KILLED", "TASK_ERROR", "TASK_LOST", "TASK_DROPPED", "TASK_GONE", "TASK_GONE_BY_OPERATOR":
+		return true
+	}
+	return false
+}

@@ -1,0 +1,230 @@
+// What each kind of note does. Outside the proof.
+
+package mesos
+
+import "bytes"
+
+// apply is the effect of a note. Answers are the names of refusals of the message's lines, or ok.
+func (s *State) apply(n *Note, answers []string) {
+	f := s.Frameworks[n.Framework]
+	switch n.Kind {
+	case NoteCluster:
+		if s.Cluster == "" {
+			s.Cluster = n.ID
+		}
+	case NoteSubscribe:
+		s.subscribe(n, answers)
+	case NoteAgent:
+		s.register(n, answers)
+	case NoteAgentLeave:
+		if a := s.Agents[n.Agent]; a != nil && a.IsConnected && a.Stream == n.Stream {
+			a.IsConnected, a.Left = false, s.at
+			s.publish(Event{Kind: EventEnd, Stream: n.Stream})
+		}
+	case NoteAck:
+		for _, ack := range n.Acks {
+			s.acknowledge(ack)
+		}
+	case NoteMessage:
+		s.toAgent(n.Agent, Event{Kind: "MESSAGE", Framework: n.Framework, Executor: n.Executor, Data: n.Data})
+	}
+	if f == nil {
+		return
+	}
+	switch n.Kind {
+	case NoteLeave:
+		if f.IsConnected && f.Stream == n.Stream {
+			s.publish(Event{Kind: EventEnd, Stream: n.Stream})
+			f.IsConnected, f.IsOurs, f.Left = false, n.IsOurs, s.at
+		}
+	case NoteAccept:
+		s.launch(f, n, answers)
+	case NoteKill:
+		s.kill(f, n.Task, n.Agent, n.GraceMS)
+	case NoteShutdown:
+		for _, name := range f.TaskNames() {
+			if t := f.Tasks[name]; t.Agent == n.Agent && t.Executor == n.Executor && !IsTerminal(t.State) {
+				s.kill(f, name, "", n.GraceMS)
+			}
+		}
+	case NoteReconcile:
+		s.reconcile(f, n.Asked)
+	case NoteReport:
+		s.toFramework(f, Event{Kind: "MESSAGE", Agent: n.Agent, Executor: n.Executor, Data: n.Data})
+	case NoteStatus:
+		s.status(f, n)
+	}
+}
+
+// subscribe adds a framework, when its first line adds it to the allocator, or replaces its stream.
+func (s *State) subscribe(n *Note, answers []string) {
+	f := s.Frameworks[n.Framework]
+	switch {
+	case f == nil && (len(answers) == 0 || answers[0] != "ok"):
+		s.publish(Event{Kind: EventEnd, Stream: n.Stream, Message: "the allocator did not take the framework"})
+		return
+	case f == nil:
+		f = &Framework{ID: n.Framework, Registered: s.at, Tasks: map[string]*Task{}}
+		s.Frameworks[f.ID], s.IDs[n.Subscription.Name] = f, f.ID
+	default:
+		if f.Reregistered = s.at; f.IsConnected {
+			s.publish(Event{Kind: EventEnd, Stream: f.Stream, Message: "Framework failed over"})
+		}
+	}
+	f.Subscription, f.Stream, f.Gateway, f.IsConnected, f.IsOurs, f.Left = *n.Subscription, n.Stream, n.Gateway, true, false, 0
+	s.toFramework(f, Event{Kind: "SUBSCRIBED"})
+	var offers []OfferOf
+	for _, o := range s.OffersOf(f.ID) {
+		offers = append(offers, s.offerOf(o))
+	}
+	if len(offers) > 0 {
+		s.toFramework(f, Event{Kind: "OFFERS", Offers: offers})
+	}
+	for _, name := range f.TaskNames() {
+		if t := f.Tasks[name]; len(t.Unacked) > 0 {
+			s.update(f, t.Unacked[0])
+		}
+	}
+}
+
+// register adds an agent, or replaces its stream, when its last line activates it.
+func (s *State) register(n *Note, answers []string) {
+	if len(answers) == 0 || answers[len(answers)-1] != "ok" {
+		s.publish(Event{Kind: EventEnd, Stream: n.Stream, Message: "the allocator did not take the agent"})
+		return
+	}
+	a := s.Agents[n.Agent]
+	if a == nil {
+		a = &Agent{ID: n.Agent, Registered: s.at}
+		s.Agents[n.Agent] = a
+	} else if a.Reregistered = s.at; a.IsConnected {
+		s.publish(Event{Kind: EventEnd, Stream: a.Stream, Message: "the agent registered again"})
+	}
+	a.Info, a.Stream, a.Gateway, a.IsConnected, a.Left = n.Info, n.Stream, n.Gateway, true, 0
+	var tasks []TaskOf
+	for _, framework := range s.FrameworkIDs() {
+		f := s.Frameworks[framework]
+		for _, name := range f.TaskNames() {
+			if t := f.Tasks[name]; t.Agent == a.ID && !IsTerminal(t.State) {
+				tasks = append(tasks, taskOf(f, t))
+			}
+		}
+	}
+	s.toAgent(a.ID, Event{Kind: "REGISTERED", Tasks: tasks})
+}
+
+// launch adds the tasks of an ACCEPT whose lines were answered `ok`.
+func (s *State) launch(f *Framework, n *Note, answers []string) {
+	isOK := func(h Hold) bool { return h.Line < len(answers) && answers[h.Line] == "ok" }
+	for _, l := range n.Launches {
+		for _, h := range l.Holds {
+			if key := HoldKey(f.Name, h.Name); isOK(h) {
+				s.Users[key]++ // which is taken back where the task does not exist
+			}
+		}
+	}
+	for _, status := range n.Refused {
+		status.At = s.at
+		s.update(f, status)
+	}
+	var started []TaskOf
+	for _, l := range n.Launches {
+		refusal := Status{Task: l.Task, Agent: l.Agent, At: s.at}
+		for _, h := range l.Holds {
+			if !isOK(h) {
+				refusal.State, refusal.Reason, refusal.Message = s.lost(f, "TASK_DROPPED"), "REASON_INVALID_OFFERS", "Task launched with invalid offers: "+answers[h.Line]
+			}
+		}
+		if f.Tasks[l.Task] != nil {
+			refusal.State, refusal.Reason, refusal.Message = "TASK_ERROR", "REASON_TASK_INVALID", "Task has duplicate ID: "+l.Task
+		}
+		if refusal.State != "" {
+			for _, h := range l.Holds {
+				if isOK(h) {
+					s.leaveHold(HoldKey(f.Name, h.Name))
+				}
+			}
+			s.update(f, refusal)
+			continue
+		}
+		t := &Task{Launch: l, Number: s.number, State: "TASK_STAGING"}
+		f.Tasks[l.Task] = t
+		started = append(started, taskOf(f, t))
+	}
+	byAgent := map[string][]TaskOf{}
+	for _, one := range started {
+		byAgent[f.Tasks[one.Task].Agent] = append(byAgent[f.Tasks[one.Task].Agent], one)
+	}
+	for agent, tasks := range byAgent { // one: an ACCEPT is of one agent
+		s.toAgent(agent, Event{Kind: "RUN", Tasks: tasks})
+	}
+}
+
+func (s *State) kill(f *Framework, task, agent string, graceMS int64) {
+	t := f.Tasks[task]
+	switch {
+	case t == nil:
+		s.update(f, s.unknown(f, task, agent))
+	case !IsTerminal(t.State):
+		t.IsKilling, t.GraceMS = true, graceMS
+		s.toAgent(t.Agent, Event{Kind: "KILL", Tasks: []TaskOf{taskOf(f, t)}})
+	}
+}
+
+// unknown is the status of a task that is not known. As messages are applied in order, nothing is missed that came before.
+func (s *State) unknown(f *Framework, task, agent string) Status {
+	status := Status{Task: task, Agent: agent, State: s.lost(f, "TASK_UNKNOWN"), Reason: "REASON_RECONCILIATION", Message: "Reconciliation: Task is unknown", At: s.at}
+	if s.Agents[agent] != nil {
+		status.State, status.Message = s.lost(f, "TASK_GONE"), "Reconciliation: Task is unknown to the agent"
+	}
+	return status
+}
+
+// reconcile reports the latest states of the tasks that are asked for, or of all.
+func (s *State) reconcile(f *Framework, asked []Asked) {
+	if len(asked) == 0 {
+		for _, name := range f.TaskNames() {
+			asked = append(asked, Asked{Task: name})
+		}
+	}
+	for _, one := range asked {
+		t := f.Tasks[one.Task]
+		if t == nil {
+			s.update(f, s.unknown(f, one.Task, one.Agent))
+			continue
+		}
+		status := Status{Task: t.Task, Agent: t.Agent, State: t.State, Reason: "REASON_RECONCILIATION", Message: "Reconciliation: Latest task state", At: s.at}
+		if t.Last != nil {
+			status.Raw = t.Last.Raw
+		}
+		s.update(f, status)
+	}
+}
+
+// status takes a status from an agent, unless the task has ended or the status came before.
+func (s *State) status(f *Framework, n *Note) {
+	t := f.Tasks[n.Task]
+	if t == nil || n.Status == nil || t.Number != n.Launch || t.Agent != n.Agent || IsTerminal(t.State) || t.Last != nil && bytes.Equal(t.Last.UUID, n.Status.UUID) {
+		return
+	}
+	status := *n.Status
+	status.Task, status.Agent, status.At = t.Task, t.Agent, s.at
+	s.add(f, t, status)
+}
+
+func (s *State) acknowledge(ack Ack) {
+	f := s.Frameworks[ack.Framework]
+	if f == nil {
+		return
+	}
+	t := f.Tasks[ack.Task]
+	if t == nil || len(t.Unacked) == 0 || !bytes.Equal(t.Unacked[0].UUID, ack.UUID) {
+		return
+	}
+	switch t.Unacked = append([]Status(nil), t.Unacked[1:]...); {
+	case len(t.Unacked) > 0:
+		s.update(f, t.Unacked[0])
+	case IsTerminal(t.State):
+		s.complete(f, t)
+	}
+}

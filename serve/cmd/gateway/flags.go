@@ -14,6 +14,7 @@ import (
 	"gateway/internal/allocator"
 	"gateway/internal/etcd"
 	"gateway/internal/limit"
+	mesosserver "gateway/internal/mesos/server"
 )
 
 type options struct {
@@ -26,6 +27,7 @@ type options struct {
 	maxKept                                      int
 	allocator                                    allocator.Config
 	limits                                       limit.Rates
+	mesos                                        mesosserver.Config
 }
 
 // size is a flag in bytes, such as 256MiB.
@@ -49,7 +51,7 @@ func (s *size) Set(text string) error {
 }
 
 func readOptions(arguments []string) (*options, error) {
-	o, flags := &options{}, flag.NewFlagSet("gateway", flag.ContinueOnError)
+	o, flags := &options{mesos: mesosserver.DefaultConfig()}, flag.NewFlagSet("gateway", flag.ContinueOnError)
 	o.etcd.Quota = 8 << 30
 	flags.StringVar(&o.data, "data", "durzhanok-data", "folder of the journal, the snapshots and the embedded etcd")
 	flags.StringVar(&o.drf, "drf", "drf", "program of the allocator")
@@ -83,6 +85,9 @@ func readOptions(arguments []string) (*options, error) {
 	flags.Float64Var(&o.limits.Lines, "limit-lines", 500_000, "events a second of one caller (0: no limit)")
 	flags.IntVar(&o.limits.Streams, "limit-streams", 1000, "open streams of one caller (0: no limit)")
 	flags.DurationVar(&o.limits.Burst, "limit-burst", 2*time.Second, "how long a caller that was silent may exceed its limits")
+	flags.DurationVar(&o.mesos.AgentGone, "mesos-agent-gone", o.mesos.AgentGone, "how long an agent of Mesos' may be away until it is removed and its tasks are lost")
+	flags.DurationVar(&o.mesos.GatewayGrace, "mesos-gateway-grace", o.mesos.GatewayGrace, "how long a framework of Mesos' may take to come again when its gateway ended, if its failover_timeout is less")
+	flags.DurationVar(&o.mesos.MaxRefuse, "mesos-max-refuse", o.mesos.MaxRefuse, "greatest refuse_seconds of frameworks of Mesos'")
 	if err := flags.Parse(arguments); err != nil {
 		return nil, err
 	}
@@ -102,6 +107,7 @@ func readOptions(arguments []string) (*options, error) {
 		{o.allocator.SnapshotMessages < 1, fmt.Sprintf("-save-every %d: expected at least 1", o.allocator.SnapshotMessages)},
 		{o.allocator.EpochLines < 1 || o.allocator.EpochLines > 1<<32-1, fmt.Sprintf("-epoch-every %d: expected 1 to 4294967295", o.allocator.EpochLines)},
 		{o.limits.Requests < 0 || o.limits.Bytes < 0 || o.limits.Lines < 0 || o.limits.Streams < 0, "-limit-..: expected 0 or more"},
+		{o.mesos.AgentGone < time.Second || o.mesos.GatewayGrace < 0 || o.mesos.MaxRefuse < 0, "-mesos-..: expected at least 1s for -mesos-agent-gone, and no negative times"},
 		{o.limits.Burst <= 0, fmt.Sprintf("-limit-burst %v: expected more than 0s", o.limits.Burst)},
 	} {
 		if check.isWrong {

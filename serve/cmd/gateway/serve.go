@@ -23,10 +23,12 @@ import (
 	"gateway/internal/disk"
 	"gateway/internal/etcd"
 	"gateway/internal/limit"
+	mesosserver "gateway/internal/mesos/server"
 	"gateway/internal/metrics"
 	"gateway/internal/oplog"
 	"gateway/internal/periodic"
 	"gateway/internal/registry"
+	"gateway/internal/registry/mesos"
 	"gateway/internal/session"
 )
 
@@ -244,7 +246,9 @@ func (g *gateway) waitFor(ctx context.Context, cluster *etcd.Cluster) bool {
 
 // build creates the parts and connects them. What it returns runs them until a context ends.
 func (g *gateway) build(list *oplog.Log, journal *allocator.Journal) (*api.Service, func(context.Context)) {
-	state := registry.New(g.metrics)
+	streams := mesosserver.NewStreams()
+	mesosState := mesos.New(streams.Publish)
+	state := registry.New(g.metrics, mesosState)
 	config := g.allocator
 	config.SnapshotBytes = list.Space.SnapshotBytes()
 	a := allocator.New(config, list, journal, state, func(err error) { g.ends <- err })
@@ -259,9 +263,13 @@ func (g *gateway) build(list *oplog.Log, journal *allocator.Journal) (*api.Servi
 		registry.Agents: g.agentTimeout, session.Removals: g.agentRemoval, registry.Frameworks: g.frameworkTimeout}}, list, state, mayAppend)
 	runner := periodic.New(periodic.Config{Cycle: g.cycle, OfferTimeout: g.offerTimeout, Window: g.window}, list, a, state, mayAppend)
 	service := &api.Service{Name: g.etcd.Name, Folder: g.data, Window: g.window, Log: list, Journal: journal, Allocator: a, Questions: questions, Registry: state, Sessions: sessions}
+	mesosConfig := g.mesos
+	mesosConfig.Name, mesosConfig.Folder, mesosConfig.Address, mesosConfig.Alone = g.etcd.Name, g.data, g.options.listen, g.etcd.IsAlone()
+	mesosCalls := mesosserver.New(mesosConfig, list, a, state, mesosState, streams, mayAppend)
+	service.Mounts = mesosCalls.Mounts()
 	g.addGauges(service)
 	return service, func(ctx context.Context) {
-		runs := []func(context.Context){list.Clock.Run, list.Space.Run, sessions.Run, runner.Run, questions.Run,
+		runs := []func(context.Context){list.Clock.Run, list.Space.Run, sessions.Run, runner.Run, questions.Run, mesosCalls.Run,
 			func(ctx context.Context) { markEachSecond(ctx, journal) },
 			func(ctx context.Context) {
 				if err := a.Run(ctx); err != nil {

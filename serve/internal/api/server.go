@@ -37,6 +37,7 @@ type Service struct {
 	Questions *allocator.Questions
 	Registry  *registry.Registry
 	Sessions  *session.Manager
+	Mounts    map[string]func(*Call) error // by path, calls of other APIs
 }
 
 // Server answers calls. Before it has a service it answers 503.
@@ -124,6 +125,10 @@ func (s *Server) ServeHTTP(w http.ResponseWriter, r *http.Request) {
 		w.Write(page)
 	case r.URL.Path == "/healthz":
 		if err := s.Healthy(); err != nil {
+			s.refuse(w, r, err)
+		}
+	case mountable[r.URL.Path]:
+		if err := s.mounted(w, r); err != nil {
 			s.refuse(w, r, err)
 		}
 	default:

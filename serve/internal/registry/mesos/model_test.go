@@ -189,7 +189,7 @@ func TestFoldIsAsDefined(t *testing.T) {
 				}
 				s = restored
 			}
-			if step%125 == 124 {
+			if step%250 == 249 {
 				if got, want := rowsOf(s), define(messages); !reflect.DeepEqual(got, want) {
 					t.Fatalf("seed %d, message %d:\n%s\nwant\n%s", seed, m.Number, strings.Join(got, "\n"), strings.Join(want, "\n"))
 				}

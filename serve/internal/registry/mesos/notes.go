@@ -124,8 +124,9 @@ func (s *State) launch(f *Framework, n *Note, answers []string) {
 		}
 	}
 	for _, status := range n.Refused {
-		status.At = s.at
-		s.update(f, status)
+		if status.At = s.at; status.Reason != "REASON_INVALID_OFFERS" || !s.wasLaunched(f, status.Task) {
+			s.update(f, status)
+		}
 	}
 	var started []TaskOf
 	for _, l := range n.Launches {
@@ -135,7 +136,7 @@ func (s *State) launch(f *Framework, n *Note, answers []string) {
 				refusal.State, refusal.Reason, refusal.Message = s.lost(f, "TASK_DROPPED"), "REASON_INVALID_OFFERS", "Task launched with invalid offers: "+answers[h.Line]
 			}
 		}
-		if f.Tasks[l.Task] != nil {
+		if f.Tasks[l.Task] != nil && refusal.State == "" {
 			refusal.State, refusal.Reason, refusal.Message = "TASK_ERROR", "REASON_TASK_INVALID", "Task has duplicate ID: "+l.Task
 		}
 		if refusal.State != "" {
@@ -144,7 +145,9 @@ func (s *State) launch(f *Framework, n *Note, answers []string) {
 					s.leaveHold(HoldKey(f.Name, h.Name))
 				}
 			}
-			s.update(f, refusal)
+			if refusal.Reason != "REASON_INVALID_OFFERS" || !s.wasLaunched(f, l.Task) {
+				s.update(f, refusal)
+			}
 			continue
 		}
 		t := &Task{Launch: l, Number: s.number, State: "TASK_STAGING"}
@@ -158,6 +161,19 @@ func (s *State) launch(f *Framework, n *Note, answers []string) {
 	for agent, tasks := range byAgent { // one: an ACCEPT is of one agent
 		s.toAgent(agent, Event{Kind: "RUN", Tasks: tasks})
 	}
+}
+
+// wasLaunched reports whether a task exists or did: its ACCEPT came again, whose offers it used.
+func (s *State) wasLaunched(f *Framework, task string) bool {
+	if f.Tasks[task] != nil {
+		return true
+	}
+	for _, one := range s.Completed {
+		if one.Framework == f.ID && one.Task == task {
+			return true
+		}
+	}
+	return false
 }
 
 func (s *State) kill(f *Framework, task, agent string, graceMS int64) {

@@ -1,0 +1,339 @@
+// ACCEPT: offers become tasks, reservations, and refusals of what is left. Outside the proof.
+
+package server
+
+import (
+	"context"
+	"fmt"
+	"math"
+	"net/http"
+	"strings"
+	"time"
+
+	"gateway/internal/api"
+	"gateway/internal/mesos/codec"
+	"gateway/internal/mesos/resources"
+	"gateway/internal/registry/mesos"
+)
+
+const (
+	maxTasks       = 16     // of one accept, to the allocator
+	defaultRefusal = 5000.0 // milliseconds, Mesos' default
+)
+
+// part is what is left of one of the offers, and the allocator's tasks that it is accepted for.
+type part struct {
+	mesos.Offer
+	left  resources.Bundle
+	names []string
+	uses  map[string]resources.Bundle
+}
+
+// acceptance is an ACCEPT on its way to a message.
+type acceptance struct {
+	*framework
+	epoch   int
+	agent   string
+	role    string
+	parts   []*part
+	invalid string // why the offers cannot be accepted, or empty
+	known   map[string]bool
+	note    *mesos.Note
+	moves   []map[string]interface{} // reservations
+}
+
+func (s *Server) accept(ctx context.Context, f *framework, call codec.Message) error {
+	for _, op := range call.List("accept.operations") {
+		switch kind := op.Enum("type"); kind {
+		case "LAUNCH", "LAUNCH_GROUP", "RESERVE", "UNRESERVE":
+			if !op.Has(strings.ToLower(kind)) {
+				return invalid("Expecting '%s' to be present", strings.ToLower(kind))
+			}
+		default:
+			return api.Refuse(http.StatusNotImplemented, "ACCEPT: the operation %s is not supported; nothing of this call was done", kind)
+		}
+	}
+	var ids []string
+	for _, one := range call.List("accept.offer_ids") {
+		ids = append(ids, one.Text("value"))
+	}
+	if !s.knowOffers(f.id, ids) {
+		if err := s.catchUp(ctx); err != nil { // before it is said that one does not exist
+			return err
+		}
+	}
+	a := s.acceptance(f, ids)
+	for _, op := range call.List("accept.operations") {
+		if err := a.operation(op); err != nil {
+			return err
+		}
+	}
+	return s.putAccept(ctx, a, s.refusal(call.Sub("accept.filters")))
+}
+
+func (s *Server) knowOffers(framework string, ids []string) (known bool) {
+	known = true
+	s.state.Read(func() {
+		for _, id := range ids {
+			_, is := s.state.FindOffer(framework, id)
+			known = known && is
+		}
+	})
+	return known
+}
+
+// acceptance looks the offers up. The texts are Mesos'.
+func (s *Server) acceptance(f *framework, ids []string) *acceptance {
+	a := &acceptance{framework: f, known: map[string]bool{}, note: &mesos.Note{Kind: mesos.NoteAccept, Framework: f.id}}
+	if len(ids) == 0 {
+		a.invalid = "No offers specified"
+	}
+	seen := map[string]bool{}
+	s.state.Read(func() {
+		a.epoch = s.state.Epoch
+		for _, name := range namesOf(s.state.Frameworks[f.id]) {
+			a.known[name] = true
+		}
+		for _, id := range ids {
+			o, is := s.state.FindOffer(f.id, id)
+			switch {
+			case !is:
+				a.invalid = "Offer " + id + " is no longer valid"
+				continue
+			case seen[id]:
+				a.invalid = "Duplicate offer " + id + " in offer list"
+				continue
+			case a.agent != "" && a.agent != o.Agent:
+				a.invalid = "Aggregated offers must belong to one single agent"
+			case a.role != "" && a.role != o.Role:
+				a.invalid = "Aggregated offers must be allocated to the same role"
+			}
+			left, _ := resources.Parse(o.Resources) // which the allocator wrote
+			seen[id], a.agent, a.role = true, o.Agent, o.Role
+			a.parts = append(a.parts, &part{Offer: o, left: left, uses: map[string]resources.Bundle{}})
+		}
+	})
+	return a
+}
+
+// refusal returns for how many milliseconds what is left is refused. A time that is no number or negative is the default, as by Mesos.
+func (s *Server) refusal(filters codec.Message) int64 {
+	ms := defaultRefusal
+	if filters.Has("refuse_seconds") {
+		if ms = filters.Float("refuse_seconds") * 1000; math.IsNaN(ms) || ms < 0 {
+			ms = defaultRefusal
+		}
+	}
+	return int64(math.Min(ms, float64(s.config.MaxRefuse.Milliseconds())))
+}
+
+func (a *acceptance) operation(op codec.Message) error {
+	switch op.Enum("type") {
+	case "LAUNCH":
+		for _, task := range op.List("launch.task_infos") {
+			if state, reason, why := a.launch([]codec.Message{task}, nil, ""); why != "" {
+				a.refuse(task, state, reason, why)
+			}
+		}
+	case "LAUNCH_GROUP":
+		tasks := op.List("launch_group.task_group.tasks")
+		executor := op.Sub("launch_group.executor")
+		if state, reason, why := a.launch(tasks, &executor, fmt.Sprintf("group.%d.%d.%d", a.epoch, a.firstOffer(), len(a.note.Launches))); why != "" {
+			if reason == "REASON_TASK_INVALID" {
+				reason = "REASON_TASK_GROUP_INVALID"
+			}
+			for _, task := range tasks {
+				a.refuse(task, state, reason, why)
+			}
+		}
+	default:
+		return a.move(op)
+	}
+	return nil
+}
+
+func (a *acceptance) firstOffer() uint64 {
+	if len(a.parts) == 0 {
+		return 0
+	}
+	return a.parts[0].Offer.Offer
+}
+
+func (a *acceptance) refuse(task codec.Message, state, reason, why string) {
+	if state == "TASK_DROPPED" && !a.Has("PARTITION_AWARE") {
+		state = "TASK_LOST"
+	}
+	a.note.Refused = append(a.note.Refused, mesos.Status{Task: task.Text("task_id.value"), Agent: task.Text("agent_id.value"), State: state, Reason: reason, Message: why})
+}
+
+// launch adds a task, or the tasks of a group with their executor; or returns why not. The tasks of a group share what they hold.
+func (a *acceptance) launch(tasks []codec.Message, executor *codec.Message, group string) (state, reason, why string) {
+	switch {
+	case a.invalid != "":
+		return "TASK_DROPPED", "REASON_INVALID_OFFERS", "Task launched with invalid offers: " + a.invalid
+	case len(a.moves) > 0:
+		return "TASK_DROPPED", "REASON_INVALID_OFFERS", "Task launched with invalid offers: RESERVE and LAUNCH in one ACCEPT are not supported: the next offer has the reservation"
+	}
+	wanted := resources.Bundle{}
+	for _, task := range tasks {
+		use, err := a.validate(task, executor != nil)
+		if err != nil {
+			return "TASK_ERROR", "REASON_TASK_INVALID", err.Error()
+		}
+		wanted.Add(use)
+	}
+	if executor != nil {
+		use, err := a.validateExecutor(*executor)
+		if err != nil {
+			return "TASK_ERROR", "REASON_TASK_INVALID", err.Error()
+		}
+		wanted.Add(use)
+	}
+	trial := wanted.Copy()
+	for _, p := range a.parts {
+		p.left.Copy().Take(trial)
+	}
+	if len(trial) > 0 {
+		return "TASK_ERROR", "REASON_TASK_INVALID", fmt.Sprintf("Task uses more resources %s than available: %s are missing", wanted.Text(), trial.Text())
+	}
+	name := group
+	if group == "" {
+		name = tasks[0].Text("task_id.value")
+	}
+	holds := a.hold(name, wanted)
+	for _, task := range tasks {
+		for _, one := range task.List("resources") { // Mesos sets it where a framework does not
+			one.Set("allocation_info.role", a.role)
+		}
+		id := task.Text("task_id.value")
+		l := mesos.Launch{Task: id, Agent: a.agent, Executor: id, Info: task.Protobuf(), Role: a.role, Holds: holds}
+		if executor != nil {
+			l.Group, l.Executor = holds[0].Name, executor.Text("executor_id.value")
+		}
+		a.known[id] = true
+		a.note.Launches = append(a.note.Launches, l)
+	}
+	return "", "", ""
+}
+
+// hold takes resources out of the offers, for an allocator's task of each offer that has some of them. Where an offer has many tasks, the
+// last ones share one.
+func (a *acceptance) hold(name string, wanted resources.Bundle) (holds []mesos.Hold) {
+	for k, p := range a.parts {
+		taken := p.left.Take(wanted)
+		if len(taken) == 0 {
+			continue
+		}
+		hold := holdOf(name, a.epoch, p.Offer.Offer)
+		if len(p.names) >= maxTasks-1 {
+			hold = fmt.Sprintf("x.rest.%d.%d", a.epoch, p.Offer.Offer)
+		}
+		if p.uses[hold] == nil {
+			p.names, p.uses[hold] = append(p.names, hold), resources.Bundle{}
+		}
+		p.uses[hold].Add(taken)
+		holds = append(holds, mesos.Hold{Name: hold, Line: k})
+	}
+	return holds
+}
+
+// move adds the lines of a reservation: what the offers had is free before these.
+func (a *acceptance) move(op codec.Message) error {
+	event, list := "reserve", op.List("reserve.resources")
+	if op.Enum("type") == "UNRESERVE" {
+		event, list = "unreserve", op.List("unreserve.resources")
+	}
+	if a.invalid != "" {
+		return api.Refuse(http.StatusBadRequest, "%s: %s", op.Enum("type"), a.invalid)
+	}
+	if len(a.note.Launches) > 0 {
+		return api.Refuse(http.StatusNotImplemented, "ACCEPT: %s after LAUNCH is not supported; nothing of this call was done", op.Enum("type"))
+	}
+	bundle, err := resources.FromMessages(list)
+	if err != nil {
+		return api.Refuse(http.StatusBadRequest, "%s: %v", op.Enum("type"), err)
+	}
+	byRole := map[string]resources.Bundle{}
+	for _, key := range bundle.Keys() {
+		if key.Role == "*" || !contains(a.Roles, key.Role) || !a.by.Has("role", key.Role) {
+			return api.Refuse(http.StatusForbidden, "%s: the framework may not reserve for the role '%s'", op.Enum("type"), key.Role)
+		}
+		if byRole[key.Role] == nil {
+			byRole[key.Role] = resources.Bundle{}
+		}
+		byRole[key.Role].Add(resources.Bundle{resources.Key{Name: key.Name, Role: "*"}: bundle[key]})
+	}
+	for _, role := range a.Roles {
+		if some := byRole[role]; some != nil {
+			a.moves = append(a.moves, map[string]interface{}{"event": event, "agent": a.agent, "role": role, "resources": some.Text()})
+		}
+	}
+	return nil
+}
+
+// putAccept appends the message. A refusal of what is left that the allocator has no room for is repeated without a time.
+func (s *Server) putAccept(ctx context.Context, a *acceptance, refuseMS int64) error {
+	m := &message{note: a.note}
+	if a.invalid != "" || len(a.moves) > 0 {
+		refuseMS = 0
+	}
+	for _, p := range a.parts {
+		if len(p.names) == 0 {
+			m.add("decline", "framework", p.Framework, "offer", p.Offer.Offer, "refuse_ms", refuseMS)
+			continue
+		}
+		var tasks []map[string]string
+		for _, name := range p.names {
+			tasks = append(tasks, map[string]string{"task": name, "use": p.uses[name].Text()})
+		}
+		m.add("accept", "framework", p.Framework, "offer", p.Offer.Offer, "tasks", tasks, "refuse_ms", refuseMS)
+	}
+	m.lines = append(m.lines, a.moves...)
+	if len(m.lines) == 0 && len(a.note.Refused) == 0 {
+		return nil
+	}
+	answers, err := s.put(ctx, m)
+	if err != nil {
+		return err
+	}
+	again := &message{}
+	for k, answer := range answers {
+		if k < len(a.parts) && answer == "TooMany" {
+			again.add("decline", "framework", a.parts[k].Framework, "offer", a.parts[k].Offer.Offer, "refuse_ms", 0)
+		}
+		if k >= len(a.parts) && answer != "ok" {
+			err = api.Refuse(http.StatusConflict, "the allocator refused %s: %s", m.lines[k]["event"], answer)
+		}
+	}
+	if len(again.lines) > 0 {
+		if _, err := s.put(ctx, again); err != nil {
+			return err
+		}
+	}
+	return err
+}
+
+func (s *Server) decline(ctx context.Context, f *framework, call codec.Message) error {
+	var ids []string
+	for _, one := range call.List("decline.offer_ids") {
+		ids = append(ids, one.Text("value"))
+	}
+	if !s.knowOffers(f.id, ids) {
+		if err := s.catchUp(ctx); err != nil {
+			return err
+		}
+	}
+	a := s.acceptance(f, ids) // offers that are no longer valid are skipped, as by Mesos
+	a.invalid = ""
+	ctx, cancel := context.WithTimeout(ctx, patience+time.Second)
+	defer cancel()
+	return s.putAccept(ctx, a, s.refusal(call.Sub("decline.filters")))
+}
+
+// namesOf returns the names of a framework's tasks; of one that was just removed, none.
+func namesOf(f *mesos.Framework) []string {
+	if f == nil {
+		return nil
+	}
+	return f.TaskNames()
+}

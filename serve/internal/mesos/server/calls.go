@@ -1,0 +1,130 @@
+// The calls that are notes or few lines. Outside the proof.
+
+package server
+
+import (
+	"context"
+	"log"
+	"net/http"
+	"time"
+
+	"gateway/internal/api"
+	"gateway/internal/mesos/codec"
+	"gateway/internal/registry/mesos"
+)
+
+const defaultGrace = 3000 // milliseconds between SIGTERM and SIGKILL, Mesos' default
+
+func (s *Server) note(ctx context.Context, n *mesos.Note) error {
+	_, err := s.put(ctx, &message{note: n})
+	return err
+}
+
+func (s *Server) kill(ctx context.Context, f *framework, call codec.Message) error {
+	n := &mesos.Note{Kind: mesos.NoteKill, Framework: f.id, Task: call.Text("kill.task_id.value"), Agent: call.Text("kill.agent_id.value"), GraceMS: defaultGrace}
+	if call.Has("kill.kill_policy.grace_period") {
+		n.GraceMS = call.Int("kill.kill_policy.grace_period.nanoseconds") / 1_000_000
+	}
+	return s.note(ctx, n)
+}
+
+func (s *Server) shutdown(ctx context.Context, f *framework, call codec.Message) error {
+	return s.note(ctx, &mesos.Note{Kind: mesos.NoteShutdown, Framework: f.id, Agent: call.Text("shutdown.agent_id.value"), Executor: call.Text("shutdown.executor_id.value"), GraceMS: defaultGrace})
+}
+
+// message hands a message on; as by Mesos, nobody promises that it arrives.
+func (s *Server) message(ctx context.Context, f *framework, call codec.Message) error {
+	return s.note(ctx, &mesos.Note{Kind: mesos.NoteMessage, Framework: f.id, Agent: call.Text("message.agent_id.value"), Executor: call.Text("message.executor_id.value"), Data: call.Bytes("message.data")})
+}
+
+func (s *Server) reconcile(ctx context.Context, f *framework, call codec.Message) error {
+	n := &mesos.Note{Kind: mesos.NoteReconcile, Framework: f.id}
+	for _, one := range call.List("reconcile.tasks") {
+		n.Asked = append(n.Asked, mesos.Asked{Task: one.Text("task_id.value"), Agent: one.Text("agent_id.value")})
+	}
+	return s.note(ctx, n)
+}
+
+// acknowledge answers before the list has it: a status whose acknowledgement is lost is sent again.
+func (s *Server) acknowledge(ctx context.Context, f *framework, call codec.Message) error {
+	id := call.Bytes("acknowledge.uuid")
+	if len(id) != 16 {
+		return invalid("Not a valid UUID")
+	}
+	select {
+	case s.acks <- mesos.Ack{Framework: f.id, Task: call.Text("acknowledge.task_id.value"), UUID: id}:
+		return nil
+	case <-ctx.Done():
+		return api.Refuse(http.StatusServiceUnavailable, "the list does not answer")
+	}
+}
+
+// runAcks appends acknowledgements that came together in one message, until the context ends.
+func (s *Server) runAcks(ctx context.Context) {
+	for {
+		n := &mesos.Note{Kind: mesos.NoteAck}
+		select {
+		case one := <-s.acks:
+			n.Acks = append(n.Acks, one)
+		case <-ctx.Done():
+			return
+		}
+		select {
+		case <-time.After(5 * time.Millisecond):
+		case <-ctx.Done():
+		}
+		for len(s.acks) > 0 && len(n.Acks) < 1000 {
+			n.Acks = append(n.Acks, <-s.acks)
+		}
+		if err := s.note(ctx, n); err != nil && ctx.Err() == nil {
+			log.Printf("mesos: %d acknowledgements were not appended: %v", len(n.Acks), err)
+		}
+	}
+}
+
+func (s *Server) revive(ctx context.Context, f *framework, call codec.Message) error {
+	return s.ofRoles(ctx, f, "revive", call.Texts("revive.roles"))
+}
+
+func (s *Server) suppress(ctx context.Context, f *framework, call codec.Message) error {
+	return s.ofRoles(ctx, f, "suppress", call.Texts("suppress.roles"))
+}
+
+// ofRoles appends an event for some roles of a framework, or for all.
+func (s *Server) ofRoles(ctx context.Context, f *framework, event string, roles []string) error {
+	if len(roles) == 0 {
+		roles = f.Roles
+	}
+	m := &message{}
+	for _, role := range roles {
+		if !contains(f.Roles, role) {
+			return invalid("the framework is not subscribed to role '%s'", role)
+		}
+		m.add(event, "framework", f.Name, "role", role)
+	}
+	_, err := s.put(ctx, m)
+	return err
+}
+
+func (s *Server) teardown(ctx context.Context, f *framework, _ codec.Message) error {
+	return s.remove(ctx, f.id, "", "teardown")
+}
+
+// remove removes a framework; where a stream is named, only while that is its last and has ended.
+func (s *Server) remove(ctx context.Context, id, stream, why string) error {
+	_, err := s.putGuarded(ctx, guardOf("framework", id), func() (m *message, err error) {
+		s.state.Read(func() {
+			f := s.state.Frameworks[id]
+			if f == nil || stream != "" && (f.Stream != stream || f.IsConnected) {
+				return
+			}
+			m = &message{key: why + "/" + f.Stream, isInternal: true}
+			m.add("remove_framework", "framework", f.Name)
+		})
+		return m, nil
+	})
+	if isSettled(err) {
+		return nil
+	}
+	return err
+}

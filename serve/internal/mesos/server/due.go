@@ -1,0 +1,125 @@
+// What is due: for streams whose gateway ended, for who stays away, and for resources that nobody holds. Each gateway may append it. Outside
+// the proof.
+
+package server
+
+import (
+	"context"
+	"fmt"
+	"log"
+	"strings"
+	"time"
+)
+
+// holdFor is how long another gateway may seem not to run before its streams are ended.
+const holdFor = 3 * time.Second
+
+// Run does what is due until the context ends.
+func (s *Server) Run(ctx context.Context) {
+	go s.runAcks(ctx)
+	for ctx.Err() == nil {
+		if s.ready() == nil {
+			for _, do := range s.dueNow() {
+				if err := do(ctx); err != nil && !isSettled(err) && ctx.Err() == nil {
+					log.Printf("mesos: %v", err)
+				}
+			}
+		}
+		select {
+		case <-time.After(500 * time.Millisecond):
+		case <-ctx.Done():
+		}
+	}
+}
+
+// hasEnded reports whether the process that had a stream runs no more.
+func (s *Server) hasEnded(owner string, live map[string]bool) bool {
+	name, _, _ := strings.Cut(owner, "/")
+	switch {
+	case owner == s.session:
+		return false
+	case name == s.config.Name: // an earlier process of this gateway
+		return true
+	case live[name]:
+		delete(s.silent, owner)
+		return false
+	}
+	since, is := s.silent[owner]
+	if !is {
+		s.silent[owner], since = time.Now(), time.Now()
+	}
+	return time.Since(since) >= holdFor
+}
+
+type deed func(context.Context) error
+
+func (s *Server) dueNow() (deeds []deed) {
+	live, now := map[string]bool{}, s.log.Clock.Now().UnixMilli()
+	for _, name := range s.log.Clock.Live() {
+		live[name] = true
+	}
+	s.state.Read(func() {
+		for _, id := range s.state.FrameworkIDs() {
+			id, f := id, s.state.Frameworks[id]
+			stream, wait := f.Stream, f.FailoverMS
+			if grace := s.config.GatewayGrace.Milliseconds(); f.IsOurs && wait < grace {
+				wait = grace
+			}
+			switch {
+			case f.IsConnected && s.hasEnded(f.Gateway, live):
+				deeds = append(deeds, func(ctx context.Context) error { return s.leave(ctx, id, stream, true) })
+			case !f.IsConnected && now-f.Left >= wait:
+				deeds = append(deeds, func(ctx context.Context) error { return s.remove(ctx, id, stream, "failover") })
+			case !f.IsConnected:
+				deeds = append(deeds, s.rescinds(id)...)
+			}
+		}
+		for _, a := range s.state.Agents {
+			id, stream := a.ID, a.Stream
+			switch {
+			case a.IsConnected && s.hasEnded(a.Gateway, live):
+				deeds = append(deeds, func(ctx context.Context) error { return s.leaveAgent(ctx, id, stream) })
+			case !a.IsConnected && now-a.Left >= s.config.AgentGone.Milliseconds():
+				deeds = append(deeds, func(ctx context.Context) error { return s.removeAgent(ctx, id, stream) })
+			}
+		}
+		for key, since := range s.state.Unused {
+			name, hold, _ := strings.Cut(key, "/")
+			m := &message{key: fmt.Sprintf("finish/%s/%d", key, since), isInternal: true}
+			m.add("finish", "framework", name, "task", hold)
+			deeds = append(deeds, s.deed(m))
+		}
+	})
+	return deeds
+}
+
+// rescinds ends offers that were made while their framework left.
+func (s *Server) rescinds(framework string) (deeds []deed) {
+	for _, o := range s.state.OffersOf(framework) {
+		m := &message{key: fmt.Sprintf("rescind/%d/%d", s.state.Epoch, o.Offer), isInternal: true}
+		m.add("rescind", "offer", o.Offer)
+		deeds = append(deeds, s.deed(m))
+	}
+	return deeds
+}
+
+func (s *Server) deed(m *message) deed {
+	return func(ctx context.Context) error {
+		_, err := s.put(ctx, m)
+		return err
+	}
+}
+
+// removeAgent removes an agent that stays away. Its tasks are lost.
+func (s *Server) removeAgent(ctx context.Context, id, stream string) error {
+	_, err := s.putGuarded(ctx, guardOf("agent", id), func() (m *message, err error) {
+		s.state.Read(func() {
+			if a := s.state.Agents[id]; a != nil && !a.IsConnected && a.Stream == stream {
+				m = &message{key: "gone/" + stream, isInternal: true}
+				m.add("remove_agent", "agent", id)
+			}
+		})
+		return m, nil
+	})
+	return err
+}

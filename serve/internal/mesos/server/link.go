@@ -1,0 +1,172 @@
+// The link of agents: they register by a call that is answered with a stream, and send statuses by others. Outside the proof.
+
+package server
+
+import (
+	"context"
+	"log"
+	"net/http"
+	"strings"
+	"time"
+
+	"gateway/internal/api"
+	"gateway/internal/mesos/codec"
+	"gateway/internal/mesos/resources"
+	"gateway/internal/registry/mesos"
+)
+
+func (s *Server) link(c *api.Call) error {
+	call, err := read(c, "durzhanok.link.Call")
+	if err != nil {
+		return err
+	}
+	id := call.Text("agent_id.value")
+	if !isName.MatchString(id) || !c.By().Has("agent", id) {
+		return api.Refuse(http.StatusForbidden, "%s has no right to speak for the agent %q", c.By().Name, id)
+	}
+	if err := s.allocator.WaitReady(c.R.Context()); err != nil {
+		return err
+	}
+	switch call.Enum("type") {
+	case "REGISTER":
+		return s.register(c, id, call)
+	case "UPDATE":
+		err = s.update(c.R.Context(), id, call)
+	case "MESSAGE":
+		err = s.note(c.R.Context(), &mesos.Note{Kind: mesos.NoteReport, Framework: call.Text("message.framework_id.value"), Agent: id,
+			Executor: call.Text("message.executor_id.value"), Data: call.Bytes("message.data")})
+	default:
+		err = api.Refuse(http.StatusBadRequest, "the type %s: expected REGISTER, UPDATE or MESSAGE", call.Enum("type"))
+	}
+	if err == nil {
+		c.W.WriteHeader(http.StatusAccepted)
+	}
+	return err
+}
+
+// register answers with a stream.
+func (s *Server) register(c *api.Call, id string, call codec.Message) error {
+	form, err := codec.Accepts(c.R.Header.Get("Accept"), c.R.Header.Get("Message-Accept"))
+	if err != nil {
+		return api.Refuse(http.StatusNotAcceptable, "%v", err)
+	}
+	info := call.Sub("agent_info")
+	total, err := resources.FromMessages(info.List("resources"))
+	if err != nil || info.IsAbsent() {
+		return api.Refuse(http.StatusBadRequest, "agent_info: expected an AgentInfo with resources (%v)", err)
+	}
+	release, err := c.Stream()
+	if err != nil {
+		return err
+	}
+	defer release()
+	info.Set("id.value", id)
+	one := s.streams.add(uuid())
+	defer s.streams.remove(one)
+	n := &mesos.Note{Kind: mesos.NoteAgent, Agent: id, Stream: one.id, Gateway: s.session, Info: info.Protobuf()}
+	answers, err := s.putGuarded(c.R.Context(), guardOf("agent", id), func() (*message, error) {
+		m := &message{note: n}
+		m.add("add_agent", "agent", id, "total", total.Text())
+		m.add("set_agent", "agent", id, "total", total.Text()) // it changes nothing but for an agent that was there
+		m.add("activate_agent", "agent", id)
+		return m, nil
+	})
+	if err != nil {
+		return err
+	}
+	if one.isOver() && len(one.events) == 0 {
+		return api.Refuse(http.StatusConflict, "the allocator did not take the agent '%s': %s", id, strings.Join(answers, ", "))
+	}
+	setHeaders(c, form, "")
+	s.writeLink(c, form, one)
+	if one.isOver() {
+		return nil
+	}
+	ctx, cancel := context.WithTimeout(context.Background(), 2*time.Second)
+	defer cancel()
+	if err := s.leaveAgent(ctx, id, one.id); err != nil {
+		log.Printf("mesos: the end of the link of agent %s: %v", id, err)
+	}
+	return nil
+}
+
+// writeLink writes what an agent gets, until its link ends.
+func (s *Server) writeLink(c *api.Call, form codec.Form, one *stream) {
+	beat, lost := time.NewTicker(heartbeatSeconds*time.Second/3), s.log.Clock.Lost()
+	defer beat.Stop()
+	for {
+		var text []byte
+		select {
+		case e := <-one.events:
+			text = form.Record(renderLink(e))
+			for more := len(one.events); more > 0 && len(text) < 1<<20; more-- {
+				text = append(text, form.Record(renderLink(<-one.events))...)
+			}
+		case <-one.over:
+			reason := one.reason
+			c.Send(form.Record(codec.New("durzhanok.link.Event").Set("type", "ERROR").Set("error", reason)))
+			return
+		case <-beat.C:
+			text = form.Record(codec.New("durzhanok.link.Event").Set("type", "HEARTBEAT"))
+		case <-c.Replaced():
+			return
+		case <-lost:
+			return
+		case <-c.R.Context().Done():
+			return
+		}
+		if !c.Send(text) {
+			return
+		}
+	}
+}
+
+// leaveAgent ends an agent's link in the registry: its offers end, and it gets no more.
+func (s *Server) leaveAgent(ctx context.Context, id, stream string) error {
+	_, err := s.putGuarded(ctx, guardOf("agent", id), func() (m *message, err error) {
+		s.state.Read(func() {
+			if a := s.state.Agents[id]; a != nil && a.IsConnected && a.Stream == stream {
+				m = &message{key: "leave/" + stream, isInternal: true, note: &mesos.Note{Kind: mesos.NoteAgentLeave, Agent: id, Stream: stream}}
+				m.add("deactivate_agent", "agent", id)
+			}
+		})
+		return m, nil
+	})
+	if isSettled(err) {
+		return nil
+	}
+	return err
+}
+
+// update appends a status. From its answer on the service repeats it, and the agent need not. What the task alone holds is finished in the
+// same message; what is shared, or is not known here, by another one.
+func (s *Server) update(ctx context.Context, agent string, call codec.Message) error {
+	status := call.Sub("status")
+	task, state := status.Text("task_id.value"), status.Enum("state")
+	if len(status.Bytes("uuid")) != 16 || task == "" || !call.Has("framework_id") || !strings.HasPrefix(state, "TASK_") {
+		return api.Refuse(http.StatusBadRequest, "UPDATE: expected a framework_id, and a status with a task_id, a state, and a uuid of 16 bytes")
+	}
+	if !status.Has("source") {
+		status.Set("source", "SOURCE_AGENT")
+	}
+	status.Set("agent_id.value", agent)
+	m := &message{note: &mesos.Note{Kind: mesos.NoteStatus, Framework: call.Text("framework_id.value"), Task: task, Agent: agent, Launch: call.Int("launch"),
+		Status: &mesos.Status{State: state, UUID: status.Bytes("uuid"), Raw: status.Protobuf()}}}
+	s.state.Read(func() {
+		f := s.state.Frameworks[m.note.Framework]
+		if f == nil || f.Tasks[task] == nil || !mesos.IsTerminal(state) {
+			return
+		}
+		t := f.Tasks[task]
+		if t.Number != m.note.Launch || t.Agent != agent || mesos.IsTerminal(t.State) {
+			return
+		}
+		for _, h := range t.Holds {
+			if s.state.Users[mesos.HoldKey(f.Name, h.Name)] == 1 && !strings.HasPrefix(h.Name, "x.rest.") && t.Group == "" {
+				m.add("finish", "framework", f.Name, "task", h.Name)
+			}
+		}
+	})
+	_, err := s.put(ctx, m)
+	return err
+}

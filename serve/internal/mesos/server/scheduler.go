@@ -1,0 +1,125 @@
+// The scheduler API: who calls, and what for. Outside the proof.
+
+package server
+
+import (
+	"context"
+	"errors"
+	"net/http"
+	"time"
+
+	"gateway/internal/api"
+	"gateway/internal/auth"
+	"gateway/internal/mesos/codec"
+	"gateway/internal/registry/mesos"
+)
+
+const streamHeader = "Mesos-Stream-Id"
+
+// invalid is the error of a call that Mesos' validation refuses.
+func invalid(format string, values ...interface{}) error {
+	return api.Refuse(http.StatusBadRequest, "Failed to validate scheduler::Call: "+format, values...)
+}
+
+// read reads the message of a call.
+func read(c *api.Call, name string) (codec.Message, error) {
+	body, release, err := c.Body()
+	if err != nil {
+		return codec.Message{}, err
+	}
+	defer release()
+	m, err := codec.Read(name, c.R.Header.Get("Content-Type"), body)
+	if errors.Is(err, codec.ErrMediaType) {
+		return m, api.Refuse(http.StatusUnsupportedMediaType, "%v", err)
+	}
+	if err != nil {
+		return m, api.Refuse(http.StatusBadRequest, "%v", err)
+	}
+	return m, nil
+}
+
+// handler answers a call of a subscribed framework. The framework is a copy of what was known.
+type handler func(s *Server, ctx context.Context, f *framework, call codec.Message) error
+
+var handlers = map[string]handler{
+	"TEARDOWN": (*Server).teardown, "ACCEPT": (*Server).accept, "DECLINE": (*Server).decline, "REVIVE": (*Server).revive, "SUPPRESS": (*Server).suppress,
+	"KILL": (*Server).kill, "SHUTDOWN": (*Server).shutdown, "ACKNOWLEDGE": (*Server).acknowledge, "RECONCILE": (*Server).reconcile, "MESSAGE": (*Server).message,
+	"REQUEST": func(*Server, context.Context, *framework, codec.Message) error { return nil }, // Mesos' own allocator ignores it too
+}
+
+// bodies are the fields that calls need.
+var bodies = map[string]string{"SUBSCRIBE": "subscribe", "ACCEPT": "accept", "DECLINE": "decline", "KILL": "kill", "SHUTDOWN": "shutdown", "ACKNOWLEDGE": "acknowledge",
+	"RECONCILE": "reconcile", "MESSAGE": "message", "REQUEST": "request"}
+
+// framework is a framework that calls.
+type framework struct {
+	id string
+	mesos.Subscription
+	by *auth.Caller
+}
+
+// scheduler answers POST /api/v1/scheduler.
+func (s *Server) scheduler(c *api.Call) error {
+	call, err := read(c, "mesos.scheduler.Call")
+	if err != nil {
+		return err
+	}
+	kind := call.Enum("type")
+	if !call.Has("type") {
+		return invalid("Expecting 'type' to be present")
+	}
+	if body := bodies[kind]; body != "" && !call.Has(body) {
+		return invalid("Expecting '%s' to be present", body)
+	}
+	if err := s.allocator.WaitReady(c.R.Context()); err != nil {
+		return err
+	}
+	if kind == "SUBSCRIBE" {
+		return s.subscribe(c, call)
+	}
+	if call.Text("framework_id.value") == "" {
+		return invalid("Expecting 'framework_id' to be present")
+	}
+	answer := handlers[kind]
+	if answer == nil {
+		return api.Refuse(http.StatusNotImplemented, "%s is not supported", kind)
+	}
+	f, err := s.caller(c, call)
+	if err != nil && s.catchUp(c.R.Context()) == nil { // it may have subscribed at another gateway
+		f, err = s.caller(c, call)
+	}
+	if err != nil {
+		return err
+	}
+	ctx, cancel := context.WithTimeout(c.R.Context(), patience+5*time.Second)
+	defer cancel()
+	if err := answer(s, ctx, f, call); err != nil {
+		return err
+	}
+	c.W.WriteHeader(http.StatusAccepted)
+	return nil
+}
+
+// caller finds the framework of a call. The texts are Mesos'.
+func (s *Server) caller(c *api.Call, call codec.Message) (*framework, error) {
+	id, stream := call.Text("framework_id.value"), c.R.Header.Get(streamHeader)
+	found := mesos.Framework{}
+	s.state.Read(func() {
+		if f := s.state.Frameworks[id]; f != nil {
+			found = *f
+		}
+	})
+	switch {
+	case found.ID == "":
+		return nil, api.Refuse(http.StatusBadRequest, "Framework cannot be found")
+	case found.Principal != c.By().Name:
+		return nil, api.Refuse(http.StatusForbidden, "The framework '%s' is another principal's than '%s'", id, c.By().Name)
+	case !found.IsConnected:
+		return nil, api.Refuse(http.StatusForbidden, "Framework is not subscribed")
+	case stream == "":
+		return nil, api.Refuse(http.StatusBadRequest, "All non-subscribe calls should include the '%s' header", streamHeader)
+	case stream != found.Stream:
+		return nil, api.Refuse(http.StatusBadRequest, "The stream ID '%s' included in this request didn't match the stream ID currently associated with framework ID '%s'", stream, id)
+	}
+	return &framework{id, found.Subscription, c.By()}, nil
+}

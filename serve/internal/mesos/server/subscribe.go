@@ -1,0 +1,308 @@
+// SUBSCRIBE, and the life of a framework's stream. Outside the proof.
+
+package server
+
+import (
+	"context"
+	"log"
+	"net/http"
+	"sort"
+	"strings"
+	"time"
+
+	"gateway/internal/api"
+	"gateway/internal/mesos/codec"
+	"gateway/internal/mesos/resources"
+	"gateway/internal/registry/mesos"
+)
+
+const (
+	maxRoles    = 8                // that the allocator takes of a framework
+	repeatAfter = 10 * time.Second // a status that is not acknowledged
+)
+
+// subscription reads a SUBSCRIBE. The texts are Mesos' where it has one.
+func (s *Server) subscription(c *api.Call, call codec.Message) (id string, sub mesos.Subscription, suppressed map[string]bool, err error) {
+	info := call.Sub("subscribe.framework_info")
+	id = info.Text("id.value")
+	sub = mesos.Subscription{Name: nameOf(id), Principal: c.By().Name, User: info.Text("user"), FailoverMS: int64(info.Float("failover_timeout") * 1000)}
+	for _, one := range info.List("capabilities") {
+		sub.Capabilities = append(sub.Capabilities, one.Enum("type"))
+	}
+	if principal := info.Text("principal"); principal != "" && principal != c.By().Name {
+		return id, sub, nil, api.Refuse(http.StatusForbidden, "Authenticated principal '%s' does not match principal '%s' set in `FrameworkInfo`", c.By().Name, principal)
+	}
+	switch outer := call.Text("framework_id.value"); {
+	case outer != id:
+		return id, sub, nil, invalid("'framework_id' differs from 'subscribe.framework_info.id'")
+	case id != "" && !isID(id):
+		return id, sub, nil, invalid("the framework ID '%s' is not valid", id)
+	case !(sub.FailoverMS >= 0 && info.Float("failover_timeout") < 1e12):
+		return id, sub, nil, invalid("the 'failover_timeout' %v is not valid", info.Float("failover_timeout"))
+	}
+	if sub.Roles, err = rolesOf(info, sub.Has("MULTI_ROLE")); err != nil {
+		return id, sub, nil, err
+	}
+	for _, role := range sub.Roles {
+		if !c.By().Has("role", role) {
+			return id, sub, nil, api.Refuse(http.StatusForbidden, "Not authorized to use role '%s': the principal '%s' needs the right role:%s", role, c.By().Name, role)
+		}
+	}
+	suppressed = map[string]bool{}
+	for _, role := range call.Texts("subscribe.suppressed_roles") {
+		if suppressed[role] = true; !contains(sub.Roles, role) {
+			return id, sub, nil, invalid("Suppressed role '%s' is not contained in the list of roles", role)
+		}
+	}
+	sub.Info = info.Protobuf()
+	return id, sub, suppressed, nil
+}
+
+func contains(list []string, text string) bool {
+	for _, one := range list {
+		if one == text {
+			return true
+		}
+	}
+	return false
+}
+
+func rolesOf(info codec.Message, isMulti bool) ([]string, error) {
+	roles := append([]string(nil), info.Texts("roles")...)
+	switch {
+	case isMulti && info.Has("role"):
+		return nil, invalid("'FrameworkInfo.role' must not be set when the framework is MULTI_ROLE capable")
+	case !isMulti && len(roles) > 0:
+		return nil, invalid("'FrameworkInfo.roles' must not be set when the framework is not MULTI_ROLE capable")
+	case !isMulti:
+		roles = []string{info.Text("role")}
+	case len(roles) == 0:
+		return nil, invalid("'FrameworkInfo.roles' is empty: a framework without a role is not supported")
+	case len(roles) > maxRoles:
+		return nil, invalid("'FrameworkInfo.roles' has %d roles: at most %d are supported", len(roles), maxRoles)
+	}
+	sort.Strings(roles)
+	for k, role := range roles {
+		if k > 0 && roles[k-1] == role {
+			return nil, invalid("'FrameworkInfo.roles' contains duplicate items: %s", role)
+		}
+		if !resources.IsRole(role) {
+			return nil, invalid("the role '%s' is not valid: expected 1 to 8 parts of visible characters without ( ) : ;, at most 64 bytes", role)
+		}
+	}
+	return roles, nil
+}
+
+// subscribe answers with a stream.
+func (s *Server) subscribe(c *api.Call, call codec.Message) error {
+	form, err := codec.Accepts(c.R.Header.Get("Accept"), c.R.Header.Get("Message-Accept"))
+	if err != nil {
+		return api.Refuse(http.StatusNotAcceptable, "%v", err)
+	}
+	if c.R.Header.Get(streamHeader) != "" {
+		return api.Refuse(http.StatusBadRequest, "Subscribe calls should not include the '%s' header", streamHeader)
+	}
+	id, sub, suppressed, err := s.subscription(c, call)
+	if err != nil {
+		return err
+	}
+	release, err := c.Stream()
+	if err != nil {
+		return err
+	}
+	defer release()
+	if err := s.catchUp(c.R.Context()); err != nil {
+		return err
+	}
+	if err := s.nameCluster(c.R.Context()); err != nil {
+		return err
+	}
+	if id == "" {
+		id = s.ids.next()
+		sub.Name = nameOf(id)
+		info := codec.MustReadProtobuf("mesos.FrameworkInfo", sub.Info)
+		sub.Info = info.Set("id.value", id).Protobuf()
+	}
+	wasRemoved := false
+	s.state.Read(func() { wasRemoved = s.state.WasRemoved(id) && s.state.Frameworks[id] == nil })
+	if wasRemoved {
+		setHeaders(c, form, uuid())
+		c.Send(form.Record(errorEvent("Framework has been removed")))
+		return nil
+	}
+	one := s.streams.add(uuid())
+	defer s.streams.remove(one)
+	answers, err := s.putGuarded(c.R.Context(), guardOf("framework", id), func() (*message, error) {
+		return s.subscribeMessage(id, one.id, sub, suppressed)
+	})
+	if err != nil {
+		return err
+	}
+	if one.isOver() && len(one.events) == 0 {
+		return api.Refuse(http.StatusConflict, "the allocator did not take the framework '%s': %s", id, strings.Join(answers, ", "))
+	}
+	setHeaders(c, form, one.id)
+	s.run(c, form, one, id)
+	return nil
+}
+
+func setHeaders(c *api.Call, form codec.Form, stream string) {
+	contentType, messageType := form.ContentType()
+	c.W.Header().Set("Content-Type", contentType)
+	if messageType != "" {
+		c.W.Header().Set("Message-Content-Type", messageType)
+	}
+	if stream != "" {
+		c.W.Header().Set(streamHeader, stream)
+	}
+}
+
+// nameCluster gives the cluster an id, where it has none.
+func (s *Server) nameCluster(ctx context.Context) error {
+	hasName := false
+	s.state.Read(func() { hasName = s.state.Cluster != "" })
+	if hasName {
+		return nil
+	}
+	_, err := s.put(ctx, &message{note: &mesos.Note{Kind: mesos.NoteCluster, ID: uuid()}}) // the first one counts
+	return err
+}
+
+// subscribeMessage builds the message of a subscription.
+func (s *Server) subscribeMessage(id, stream string, sub mesos.Subscription, suppressed map[string]bool) (m *message, err error) {
+	m = &message{note: &mesos.Note{Kind: mesos.NoteSubscribe, Framework: id, Stream: stream, Gateway: s.session, Subscription: &sub}}
+	s.state.Read(func() {
+		f := s.state.Frameworks[id]
+		switch {
+		case f == nil:
+			m.add("add_framework", "framework", sub.Name, "roles", sub.Roles)
+		case f.Principal != sub.Principal:
+			err = api.Refuse(http.StatusForbidden, "The framework '%s' is another principal's than '%s'", id, sub.Principal)
+		case strings.Join(f.Roles, " ") != strings.Join(sub.Roles, " "):
+			err = invalid("the framework '%s' is subscribed with the roles [%s] and cannot change them to [%s]: this allocator does not have `set_framework` yet", id, strings.Join(f.Roles, " "), strings.Join(sub.Roles, " "))
+		}
+		for _, role := range sub.Roles {
+			if suppressed[role] {
+				m.add("suppress", "framework", sub.Name, "role", role)
+			} else if f != nil {
+				m.add("revive", "framework", sub.Name, "role", role)
+			}
+		}
+	})
+	return m, err
+}
+
+// run writes a framework's stream until it ends, and then lets the registry know.
+func (s *Server) run(c *api.Call, form codec.Form, one *stream, id string) {
+	hasLeft := s.write(c, form, one, id)
+	if one.isOver() { // the registry knows
+		return
+	}
+	ctx, cancel := context.WithTimeout(context.Background(), 2*time.Second)
+	defer cancel()
+	if err := s.leave(ctx, id, one.id, !hasLeft); err != nil {
+		log.Printf("mesos: the end of the stream of framework %s: %v", id, err)
+	}
+}
+
+// write writes what a stream gets, and reports whether its caller ended it.
+func (s *Server) write(c *api.Call, form codec.Form, one *stream, id string) (hasLeft bool) {
+	beat, repeat := time.NewTicker(heartbeatSeconds*time.Second), time.NewTicker(repeatAfter/4)
+	defer beat.Stop()
+	defer repeat.Stop()
+	lost, sent := s.log.Clock.Lost(), map[string]sentStatus{}
+	for {
+		var text []byte
+		select {
+		case e := <-one.events:
+			for more := len(one.events); ; more-- {
+				if e.Kind == "UPDATE" && len(e.Status.UUID) > 0 {
+					sent[e.Status.Task] = sentStatus{string(e.Status.UUID), time.Now()}
+				}
+				for _, m := range s.render(e) {
+					text = append(text, form.Record(m)...)
+				}
+				if more <= 0 || len(text) > 1<<20 {
+					break
+				}
+				e = <-one.events
+			}
+		case <-one.over:
+			for len(one.events) > 0 {
+				for _, m := range s.render(<-one.events) {
+					text = append(text, form.Record(m)...)
+				}
+			}
+			if one.reason != "" {
+				text = append(text, form.Record(errorEvent(one.reason))...)
+			}
+			c.Send(text)
+			return false
+		case <-beat.C:
+			text = form.Record(codec.New("mesos.scheduler.Event").Set("type", "HEARTBEAT"))
+		case <-repeat.C:
+			for _, status := range s.due(id, one.id, sent) {
+				text = append(text, form.Record(codec.New("mesos.scheduler.Event").Set("type", "UPDATE").Set("update.status", renderStatus(status)))...)
+			}
+		case <-c.Replaced():
+			return false
+		case <-lost:
+			return false
+		case <-c.R.Context().Done():
+			return true
+		}
+		if len(text) > 0 && !c.Send(text) {
+			return true
+		}
+	}
+}
+
+type sentStatus struct {
+	uuid string
+	at   time.Time
+}
+
+// due returns the statuses that were sent some time ago and are not acknowledged.
+func (s *Server) due(id, stream string, sent map[string]sentStatus) (list []mesos.Status) {
+	s.state.Read(func() {
+		f := s.state.Frameworks[id]
+		if f == nil || f.Stream != stream {
+			return
+		}
+		for name, last := range sent {
+			t := f.Tasks[name]
+			if t == nil || len(t.Unacked) == 0 {
+				delete(sent, name)
+				continue
+			}
+			if status := t.Unacked[0]; last.uuid == string(status.UUID) && time.Since(last.at) >= repeatAfter {
+				sent[name], list = sentStatus{last.uuid, time.Now()}, append(list, status)
+			}
+		}
+	})
+	return list
+}
+
+// leave ends a framework's stream in the registry: its offers end, and it gets no more.
+func (s *Server) leave(ctx context.Context, id, stream string, isOurs bool) error {
+	_, err := s.putGuarded(ctx, guardOf("framework", id), func() (m *message, err error) {
+		s.state.Read(func() {
+			f := s.state.Frameworks[id]
+			if f == nil || !f.IsConnected || f.Stream != stream {
+				return
+			}
+			m = &message{key: "leave/" + stream, isInternal: true, note: &mesos.Note{Kind: mesos.NoteLeave, Framework: id, Stream: stream, IsOurs: isOurs}}
+			for _, role := range f.Roles {
+				m.add("suppress", "framework", f.Name, "role", role)
+			}
+			for _, o := range s.state.OffersOf(id) {
+				m.add("rescind", "offer", o.Offer)
+			}
+		})
+		return m, nil
+	})
+	if isSettled(err) {
+		return nil
+	}
+	return err
+}

@@ -1,0 +1,79 @@
+// What a task must be. The texts are Mesos' where it has one; what this service does not support is named. Outside the proof.
+
+package server
+
+import (
+	"errors"
+	"fmt"
+
+	"gateway/internal/mesos/codec"
+	"gateway/internal/mesos/resources"
+)
+
+// validate returns what a task uses.
+func (a *acceptance) validate(task codec.Message, isGrouped bool) (resources.Bundle, error) {
+	id, agent := task.Text("task_id.value"), task.Text("agent_id.value")
+	use, err := resources.FromMessages(task.List("resources"))
+	switch {
+	case !isID(id):
+		return nil, fmt.Errorf("Task ID '%s' is not valid", id)
+	case a.known[id]:
+		return nil, fmt.Errorf("Task has duplicate ID: %s", id)
+	case agent != a.agent:
+		return nil, fmt.Errorf("Task uses invalid agent %s while agent %s is expected", agent, a.agent)
+	case err != nil:
+		return nil, fmt.Errorf("Task uses invalid resources: %w", err)
+	case len(use) == 0:
+		return nil, errors.New("Task uses no resources")
+	case !isGrouped && task.Has("command") == task.Has("executor"):
+		return nil, errors.New("Task should have at least one (but not both) of CommandInfo or ExecutorInfo present")
+	case isGrouped && task.Has("executor"):
+		return nil, errors.New("'TaskInfo.executor' must not be set")
+	case isGrouped && !task.Has("command"):
+		return nil, errors.New("a task of a group without 'TaskInfo.command' is not supported")
+	case task.Has("executor"):
+		return nil, errors.New("'TaskInfo.executor' is not supported yet: launch a command, or a group with a DEFAULT executor")
+	case task.Has("health_check") || task.Has("check"):
+		return nil, errors.New("'TaskInfo.health_check' and 'TaskInfo.check' are not supported yet")
+	case task.Has("command.user"):
+		return nil, errors.New("'CommandInfo.user' is not supported yet: tasks run as the agent's user")
+	case len(task.List("command.uris")) > 0:
+		return nil, errors.New("'CommandInfo.uris' is not supported yet")
+	}
+	for _, one := range task.List("resources") {
+		if role := one.Text("allocation_info.role"); one.Has("allocation_info") && role != a.role {
+			return nil, fmt.Errorf("Task uses resources allocated to role '%s' while the offers are allocated to role '%s'", role, a.role)
+		}
+	}
+	return use, validateContainer(task.Sub("container"))
+}
+
+func validateContainer(container codec.Message) error {
+	switch {
+	case container.IsAbsent():
+		return nil
+	case container.Enum("type") != "MESOS" || container.Has("mesos.image") || container.Has("docker"):
+		return errors.New("container images are not supported")
+	case len(container.List("volumes")) > 0:
+		return errors.New("volumes are not supported")
+	case len(container.List("network_infos")) > 0 || container.Has("linux_info") || container.Has("rlimit_info") || container.Has("tty_info"):
+		return errors.New("'ContainerInfo' with `network_infos`, `linux_info`, `rlimit_info` or `tty_info` is not supported")
+	}
+	return nil
+}
+
+// validateExecutor returns what the executor of a group uses.
+func (a *acceptance) validateExecutor(executor codec.Message) (resources.Bundle, error) {
+	use, err := resources.FromMessages(executor.List("resources"))
+	switch {
+	case err != nil:
+		return nil, fmt.Errorf("Executor uses invalid resources: %w", err)
+	case executor.Enum("type") != "DEFAULT":
+		return nil, fmt.Errorf("the executor type %s is not supported yet: expected DEFAULT", executor.Enum("type"))
+	case executor.Text("executor_id.value") == "":
+		return nil, errors.New("'ExecutorInfo.executor_id' is empty")
+	case executor.Has("framework_id") && executor.Text("framework_id.value") != a.id:
+		return nil, fmt.Errorf("ExecutorInfo has an invalid FrameworkID (Actual: %s vs Expected: %s)", executor.Text("framework_id.value"), a.id)
+	}
+	return use, validateContainer(executor.Sub("container"))
+}

@@ -1,0 +1,117 @@
+// Command durzhanok-agent runs tasks of Mesos' frameworks on a machine. Outside the proof.
+package main
+
+import (
+	"context"
+	"errors"
+	"flag"
+	"fmt"
+	"log"
+	"os"
+	"os/signal"
+	"runtime"
+	"strings"
+	"syscall"
+	"time"
+
+	"gateway/internal/mesos/agent"
+	"gateway/internal/mesos/codec"
+	"gateway/internal/mesos/resources"
+)
+
+func main() {
+	var err error
+	if len(os.Args) == 3 && os.Args[1] == "supervise" {
+		err = agent.Supervise(os.Args[2])
+	} else {
+		err = run(os.Args[1:])
+	}
+	if err != nil && !errors.Is(err, flag.ErrHelp) {
+		fmt.Fprintln(os.Stderr, "durzhanok-agent:", err)
+		os.Exit(1)
+	}
+}
+
+func run(arguments []string) error {
+	host, _ := os.Hostname()
+	flags := flag.NewFlagSet("durzhanok-agent", flag.ContinueOnError)
+	gateways := flags.String("gateways", "http://127.0.0.1:8450", "URLs of gateways, with commas")
+	folder := flags.String("work", "durzhanok-agent-data", "folder of the agent's id and of its tasks")
+	hostname := flags.String("hostname", host, "name of this machine, for frameworks")
+	name := flags.String("name", "", "what the agent's id begins with (HOSTNAME)")
+	given := flags.String("resources", "", "resources such as cpus:4;mem:8192;ports:[31000-32000] (those of the machine)")
+	attributes := flags.String("attributes", "", "attributes such as rack:r1;zone:a")
+	principal := flags.String("principal", "admin", "name of the token")
+	tokenFile := flags.String("token-file", "", "file of the token")
+	keep := flags.Duration("keep", 24*time.Hour, "how long sandboxes of ended tasks are kept")
+	if err := flags.Parse(arguments); err != nil {
+		return err
+	}
+	if flags.NArg() > 0 {
+		return fmt.Errorf("%q: arguments without a flag are not expected", flags.Arg(0))
+	}
+	token, err := os.ReadFile(*tokenFile)
+	if err != nil {
+		return fmt.Errorf("-token-file: %w", err)
+	}
+	if *given == "" {
+		*given = detect()
+	}
+	info, err := infoOf(*hostname, *given, *attributes)
+	if err != nil {
+		return err
+	}
+	if *name == "" {
+		*name = *hostname
+	}
+	self, err := os.Executable()
+	if err != nil {
+		return err
+	}
+	a, err := agent.New(agent.Config{Folder: *folder, Name: *name, Gateways: strings.Split(*gateways, ","), Principal: *principal, Token: strings.TrimSpace(string(token)),
+		Info: info, Keep: *keep, Program: []string{self, "supervise"}})
+	if err != nil {
+		return err
+	}
+	log.Printf("agent %s with %s", a.ID(), *given)
+	ctx, stop := signal.NotifyContext(context.Background(), os.Interrupt, syscall.SIGTERM)
+	defer stop()
+	a.Run(ctx)
+	return nil
+}
+
+// infoOf returns the agent's description.
+func infoOf(hostname, given, attributes string) (codec.Message, error) {
+	bundle, err := resources.Parse(given)
+	if err != nil {
+		return codec.Message{}, fmt.Errorf("-resources: %w", err)
+	}
+	info := codec.New("mesos.AgentInfo").Set("hostname", hostname)
+	for _, one := range bundle.Messages(resources.Style{}) {
+		info.Add("resources", one)
+	}
+	for _, one := range strings.Split(attributes, ";") {
+		if strings.TrimSpace(one) == "" {
+			continue
+		}
+		name, value, is := strings.Cut(one, ":")
+		if !is {
+			return info, fmt.Errorf("-attributes: %q: expected NAME:VALUE", one)
+		}
+		info.Add("attributes", codec.New("mesos.Attribute").Set("name", strings.TrimSpace(name)).Set("type", "TEXT").Set("text.value", strings.TrimSpace(value)))
+	}
+	return info, nil
+}
+
+// detect returns the processors and the memory of this machine, less 1 GiB or half of it for other uses, and ports as Mesos offers them.
+func detect() string {
+	memory := 1024
+	var about syscall.Sysinfo_t
+	if syscall.Sysinfo(&about) == nil {
+		all := int(uint64(about.Totalram) * uint64(about.Unit) >> 20)
+		if memory = all - 1024; memory < all/2 {
+			memory = all / 2
+		}
+	}
+	return fmt.Sprintf("cpus:%d;mem:%d;ports:[31000-32000]", runtime.NumCPU(), memory)
+}

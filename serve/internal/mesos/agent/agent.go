@@ -1,0 +1,253 @@
+// Package agent runs tasks on a machine: it registers at a gateway, starts the commands that it gets, and reports what becomes of them until
+// that is acknowledged. Outside the proof.
+package agent
+
+import (
+	"bufio"
+	"bytes"
+	"context"
+	"fmt"
+	"io"
+	"log"
+	"net/http"
+	"os"
+	"path/filepath"
+	"strings"
+	"sync"
+	"time"
+
+	"gateway/internal/disk"
+	"gateway/internal/mesos/codec"
+)
+
+// Config says what an agent is.
+type Config struct {
+	Folder    string   // of its id and its tasks
+	Name      string   // that its id begins with
+	Gateways  []string // URLs
+	Principal string
+	Token     string
+	Info      codec.Message // AgentInfo, without an id
+	Keep      time.Duration // for which sandboxes of ended tasks are kept
+	Program   []string      // that supervises a task, when the task's folder is appended
+}
+
+// Agent is a running agent.
+type Agent struct {
+	config Config
+	id     string
+	client *http.Client
+
+	mu      sync.Mutex
+	gateway int // the one in use
+	tasks   map[string]*task
+}
+
+// New opens an agent's folder, and takes up the tasks in it.
+func New(config Config) (*Agent, error) {
+	a := &Agent{config: config, tasks: map[string]*task{}, client: &http.Client{Transport: &http.Transport{ResponseHeaderTimeout: 25 * time.Second, MaxIdleConnsPerHost: 16}}}
+	if err := os.MkdirAll(filepath.Join(config.Folder, "tasks"), 0o700); err != nil {
+		return nil, err
+	}
+	if _, err := disk.TryLock(filepath.Join(config.Folder, "lock")); err != nil {
+		return nil, fmt.Errorf("%s: another agent uses it (%w)", config.Folder, err)
+	}
+	path := filepath.Join(config.Folder, "id")
+	text, err := os.ReadFile(path)
+	if os.IsNotExist(err) { // a lost folder is another agent
+		text = []byte(config.Name + "-" + randomHex(6))
+		err = disk.WriteFile(path, text)
+	}
+	if err != nil {
+		return nil, err
+	}
+	a.id = strings.TrimSpace(string(text))
+	folders, err := os.ReadDir(filepath.Join(config.Folder, "tasks"))
+	for _, folder := range folders {
+		if err := a.takeUp(filepath.Join(config.Folder, "tasks", folder.Name())); err != nil {
+			log.Printf("the task in %s is left alone: %v", folder.Name(), err)
+		}
+	}
+	return a, err
+}
+
+// ID returns the agent's id.
+func (a *Agent) ID() string { return a.id }
+
+// Run keeps a link to one of the gateways until the context ends. Tasks go on then.
+func (a *Agent) Run(ctx context.Context) {
+	a.mu.Lock()
+	for _, t := range a.tasks {
+		go a.watch(ctx, t)
+	}
+	a.mu.Unlock()
+	go a.collect(ctx)
+	for wait := 100 * time.Millisecond; ctx.Err() == nil; {
+		start := time.Now()
+		err := a.link(ctx)
+		if ctx.Err() != nil {
+			return
+		}
+		log.Printf("the link to %s ended: %v", a.url(), err)
+		a.next()
+		if wait *= 2; wait > 2*time.Second || time.Since(start) > 10*time.Second {
+			wait = 2 * time.Second
+		}
+		select {
+		case <-time.After(wait / 2):
+		case <-ctx.Done():
+		}
+	}
+}
+
+func (a *Agent) url() string {
+	a.mu.Lock()
+	defer a.mu.Unlock()
+	return a.config.Gateways[a.gateway%len(a.config.Gateways)]
+}
+
+// next changes to another gateway.
+func (a *Agent) next() {
+	a.mu.Lock()
+	defer a.mu.Unlock()
+	a.gateway++
+}
+
+func (a *Agent) call(kind string) codec.Message {
+	return codec.New("durzhanok.link.Call").Set("type", kind).Set("agent_id.value", a.id)
+}
+
+// post sends a call of the link.
+func (a *Agent) post(ctx context.Context, url string, call codec.Message) (*http.Response, error) {
+	request, err := http.NewRequestWithContext(ctx, http.MethodPost, strings.TrimSuffix(url, "/")+"/drf/v1/agent-link", bytes.NewReader(call.Protobuf()))
+	if err != nil {
+		return nil, err
+	}
+	request.Header.Set("Content-Type", codec.TypeProtobuf)
+	request.Header.Set("Accept", codec.TypeProtobuf)
+	request.SetBasicAuth(a.config.Principal, a.config.Token)
+	answer, err := a.client.Do(request)
+	if err != nil {
+		return nil, err
+	}
+	if answer.StatusCode != http.StatusOK && answer.StatusCode != http.StatusAccepted {
+		text, _ := io.ReadAll(io.LimitReader(answer.Body, 1000))
+		answer.Body.Close()
+		return nil, fmt.Errorf("%s: %s", answer.Status, bytes.TrimSpace(text))
+	}
+	return answer, nil
+}
+
+const (
+	maxRecord  = 256 << 20
+	silentTime = 20 * time.Second // without a heartbeat, of which there is one each 5 seconds
+)
+
+// link registers, and does what the gateway says, until the link ends.
+func (a *Agent) link(ctx context.Context) error {
+	ctx, cancel := context.WithCancel(ctx)
+	defer cancel()
+	answer, err := a.post(ctx, a.url(), a.call("REGISTER").Set("agent_info", a.config.Info))
+	if err != nil {
+		return err
+	}
+	defer answer.Body.Close()
+	silence := time.AfterFunc(silentTime, cancel)
+	in := bufio.NewReaderSize(answer.Body, 1<<16)
+	for {
+		text, err := codec.ReadRecord(in, maxRecord)
+		if err != nil {
+			return err
+		}
+		silence.Reset(silentTime)
+		e, err := codec.ReadProtobuf("durzhanok.link.Event", text)
+		if err != nil {
+			return err
+		}
+		if e.Enum("type") == "ERROR" {
+			return fmt.Errorf("the gateway ended it: %s", e.Text("error"))
+		}
+		a.do(e)
+	}
+}
+
+// do does what an event says.
+func (a *Agent) do(e codec.Message) {
+	switch e.Enum("type") {
+	case "REGISTERED":
+		log.Printf("registered as %s at %s", a.id, a.url())
+		expected := map[string]bool{}
+		for _, one := range e.List("tasks") {
+			expected[keyOf(one)] = true
+			a.expect(one)
+		}
+		a.endOthers(expected)
+	case "RUN":
+		for _, one := range e.List("tasks") {
+			a.start(one)
+		}
+	case "KILL":
+		a.kill(e.Sub("kill"))
+	}
+}
+
+// expect compares a task that the gateway knows with what this agent does.
+func (a *Agent) expect(one codec.Message) {
+	known := a.find(keyOf(one)) != nil
+	switch {
+	case one.Bool("killing"):
+		a.kill(one)
+	case known:
+	case one.Enum("state") == "TASK_STAGING":
+		a.start(one)
+	default:
+		a.reject(one, "TASK_LOST", "REASON_AGENT_RESTARTED", "the agent does not know the task: its folder was lost")
+	}
+}
+
+// endOthers kills what the gateway does not know: tasks of frameworks that were removed, or that were said to be lost.
+func (a *Agent) endOthers(expected map[string]bool) {
+	a.mu.Lock()
+	var others []*task
+	for key, t := range a.tasks {
+		if !expected[key] {
+			others = append(others, t)
+		}
+	}
+	a.mu.Unlock()
+	for _, t := range others {
+		log.Printf("task %s is not known to the gateway: it is killed", t.id)
+		t.kill(time.Second)
+	}
+}
+
+func (a *Agent) find(key string) *task {
+	a.mu.Lock()
+	defer a.mu.Unlock()
+	return a.tasks[key]
+}
+
+// report sends a status until a gateway acknowledges it; from then on the service repeats it.
+func (a *Agent) report(ctx context.Context, t *task, status codec.Message) bool {
+	call := a.call("UPDATE").Set("framework_id.value", t.framework).Set("launch", t.launch).Set("status", status)
+	for wait := 50 * time.Millisecond; ; {
+		one, cancel := context.WithTimeout(ctx, 25*time.Second)
+		answer, err := a.post(one, a.url(), call)
+		if err == nil {
+			io.Copy(io.Discard, answer.Body)
+			answer.Body.Close()
+		}
+		cancel()
+		if err == nil {
+			return true
+		}
+		if wait *= 2; wait > 2*time.Second {
+			wait = 2 * time.Second
+		}
+		select {
+		case <-time.After(wait):
+		case <-ctx.Done():
+			return false
+		}
+	}
+}

@@ -8,6 +8,7 @@ require (
 	go.etcd.io/etcd release-3.4 // the newest: before 3.4.21 one member alone might answer before it had synced. These releases have no name as modules
 	go.uber.org/zap v1.10.0
 	golang.org/x/sys v0.3.0
+	google.golang.org/protobuf v1.28.1
 )
 
 replace google.golang.org/grpc => google.golang.org/grpc v1.27.1 // the last that etcd 3.4 goes with

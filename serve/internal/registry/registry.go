@@ -133,7 +133,9 @@ func (r *Registry) Snapshot(number int64) (snapshot []byte, is bool) {
 	}
 	texts := map[string]json.RawMessage{}
 	for _, state := range r.states {
-		texts[state.Name()] = state.Snapshot()
+		if text := state.Snapshot(); len(text) > 0 { // one that is not used is left out, as by gateways that do not have it
+			texts[state.Name()] = text
+		}
 	}
 	snapshot, err := json.Marshal(texts) // in order of names
 	return snapshot, err == nil

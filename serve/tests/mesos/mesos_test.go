@@ -140,7 +140,10 @@ func TestAgentIsGone(t *testing.T) {
 	s := newService(t, 1, 1, "-mesos-agent-gone", "2s")
 	p := s.scheduler("one", 0, "-tasks", "3", "-command", "sleep 1000", "-within", "100s")
 	p.start()
-	for end := time.Now().Add(30 * time.Second); len(s.held(0)) < 3; time.Sleep(50 * time.Millisecond) {
+	for end := time.Now().Add(30 * time.Second); ; time.Sleep(50 * time.Millisecond) {
+		if running, _ := filepath.Glob(filepath.Join(s.folder, "a0", "tasks", "*", "pid")); len(running) == 3 {
+			break
+		}
 		if time.Now().After(end) {
 			t.Fatalf("the tasks do not run: %s", p.log())
 		}

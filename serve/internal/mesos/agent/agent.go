@@ -193,7 +193,7 @@ func (a *Agent) do(e codec.Message) {
 
 // expect compares a task that the gateway knows with what this agent does.
 func (a *Agent) expect(one codec.Message) {
-	known := a.find(keyOf(one)) != nil
+	known := a.find(keyOf(one)) != nil || a.repeat(one)
 	switch {
 	case one.Bool("killing"):
 		a.kill(one)

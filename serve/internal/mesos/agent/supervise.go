@@ -32,6 +32,7 @@ type exit struct {
 func Supervise(folder string) error {
 	signals := make(chan os.Signal, 8)
 	signal.Notify(signals, syscall.SIGTERM, syscall.SIGINT, syscall.SIGHUP)
+	syscall.CloseOnExec(3) // the lock: what a task leaves behind does not hold it
 	text, err := os.ReadFile(filepath.Join(folder, "task"))
 	if err != nil {
 		return err

@@ -73,6 +73,22 @@ func (a *Agent) takeUp(folder string) error {
 	return nil
 }
 
+// repeat reports the end of a task again which a gateway acknowledged and does not know, as after the restore of an old backup.
+func (a *Agent) repeat(one codec.Message) bool {
+	folder := filepath.Join(a.config.Folder, "tasks", keyOf(one))
+	t := newTask(folder, one)
+	if !t.exists("done") {
+		return false
+	}
+	a.mu.Lock()
+	defer a.mu.Unlock()
+	if a.tasks[t.key] == nil && os.Remove(filepath.Join(folder, "done")) == nil {
+		a.tasks[t.key] = t
+		go a.watch(context.Background(), t)
+	}
+	return true
+}
+
 // add creates the folder of a task, unless there is one.
 func (a *Agent) add(one codec.Message) (*task, error) {
 	a.mu.Lock()

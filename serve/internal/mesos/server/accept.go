@@ -4,6 +4,8 @@ package server
 
 import (
 	"context"
+	"crypto/sha256"
+	"encoding/hex"
 	"fmt"
 	"math"
 	"net/http"
@@ -63,6 +65,8 @@ func (s *Server) accept(ctx context.Context, f *framework, call codec.Message) e
 		}
 	}
 	a := s.acceptance(f, ids)
+	sum := sha256.Sum256([]byte(strings.Join(ids, " ")))
+	a.note.Call = hex.EncodeToString(sum[:12])
 	for _, op := range call.List("accept.operations") {
 		if err := a.operation(op); err != nil {
 			return err
@@ -100,6 +104,8 @@ func (s *Server) acceptance(f *framework, ids []string) *acceptance {
 			case !is:
 				a.invalid = "Offer " + id + " is no longer valid"
 				continue
+			case s.state.Agents[o.Agent] == nil:
+				a.invalid = "Offer " + id + " is of an agent without a link"
 			case seen[id]:
 				a.invalid = "Duplicate offer " + id + " in offer list"
 				continue

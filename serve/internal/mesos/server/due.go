@@ -32,12 +32,12 @@ func (s *Server) Run(ctx context.Context) {
 	}
 }
 
-// hasEnded reports whether the process that had a stream runs no more.
-func (s *Server) hasEnded(owner string, live map[string]bool) bool {
+// hasEnded reports whether the process that had a stream runs no more, or is this one and has not got it.
+func (s *Server) hasEnded(owner, stream string, live map[string]bool) bool {
 	name, _, _ := strings.Cut(owner, "/")
 	switch {
 	case owner == s.session:
-		return false
+		return !s.streams.has(stream)
 	case name == s.config.Name: // an earlier process of this gateway
 		return true
 	case live[name]:
@@ -66,7 +66,7 @@ func (s *Server) dueNow() (deeds []deed) {
 				wait = grace
 			}
 			switch {
-			case f.IsConnected && s.hasEnded(f.Gateway, live):
+			case f.IsConnected && s.hasEnded(f.Gateway, f.Stream, live):
 				deeds = append(deeds, func(ctx context.Context) error { return s.leave(ctx, id, stream, true) })
 			case !f.IsConnected && now-f.Left >= wait:
 				deeds = append(deeds, func(ctx context.Context) error { return s.remove(ctx, id, stream, "failover") })
@@ -77,11 +77,16 @@ func (s *Server) dueNow() (deeds []deed) {
 		for _, a := range s.state.Agents {
 			id, stream := a.ID, a.Stream
 			switch {
-			case a.IsConnected && s.hasEnded(a.Gateway, live):
+			case a.IsConnected && s.hasEnded(a.Gateway, a.Stream, live):
 				deeds = append(deeds, func(ctx context.Context) error { return s.leaveAgent(ctx, id, stream) })
 			case !a.IsConnected && now-a.Left >= s.config.AgentGone.Milliseconds():
 				deeds = append(deeds, func(ctx context.Context) error { return s.removeAgent(ctx, id, stream) })
 			}
+		}
+		for _, o := range s.state.UnlinkedOffers() {
+			m := &message{key: fmt.Sprintf("decline/%d/%d", s.state.Epoch, o.Offer), isInternal: true}
+			m.add("decline", "framework", o.Framework, "offer", o.Offer, "refuse_ms", s.config.MaxRefuse.Milliseconds())
+			deeds = append(deeds, s.deed(m))
 		}
 		for key, since := range s.state.Unused {
 			name, hold, _ := strings.Cut(key, "/")

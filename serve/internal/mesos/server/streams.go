@@ -41,6 +41,12 @@ func (s *Streams) remove(one *stream) {
 	delete(s.open, one.id)
 }
 
+func (s *Streams) has(id string) bool {
+	s.mu.Lock()
+	defer s.mu.Unlock()
+	return s.open[id] != nil
+}
+
 // end ends a stream. The lock is held.
 func (s *Streams) end(one *stream, reason string) {
 	one.reason = reason

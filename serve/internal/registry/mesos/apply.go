@@ -77,6 +77,9 @@ func (s *State) addOffers(reply []byte) {
 			continue
 		}
 		s.Offers[o.Offer] = o
+		if s.Agents[o.Agent] == nil { // it has no link, and runs no task of Mesos': a gateway declines the offer
+			continue
+		}
 		if byFramework[id] == nil {
 			order = append(order, id)
 		}
@@ -98,6 +101,10 @@ func (s *State) offerOf(o Offer) OfferOf {
 
 func (s *State) endOffers(is func(Offer) bool) {
 	for _, o := range s.offersWith(is) {
+		if s.Agents[o.Agent] == nil {
+			delete(s.Offers, o.Offer)
+			continue
+		}
 		s.toFramework(s.Frameworks[s.IDs[o.Framework]], Event{Kind: "RESCIND", Message: s.OfferID(o.Offer)})
 		delete(s.Offers, o.Offer)
 	}
@@ -161,7 +168,7 @@ func (s *State) removeFramework(name string) {
 // complete moves a terminal task to those that nobody waits for.
 func (s *State) complete(f *Framework, t *Task) {
 	delete(f.Tasks, t.Task)
-	if s.Completed = append(s.Completed, Completed{f.ID, t.Task, t.Agent, t.State, s.at}); len(s.Completed) > maxCompleted {
+	if s.Completed = append(s.Completed, Completed{f.ID, t.Task, t.Agent, t.State, t.Call, s.at}); len(s.Completed) > maxCompleted {
 		s.Completed = append([]Completed(nil), s.Completed[len(s.Completed)-maxCompleted:]...)
 	}
 }

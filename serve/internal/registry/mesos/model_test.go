@@ -3,7 +3,6 @@
 package mesos
 
 import (
-	"encoding/json"
 	"fmt"
 	"reflect"
 	"sort"
@@ -172,9 +171,13 @@ func TestFoldIsAsDefined(t *testing.T) {
 		s := New(c.publish)
 		seen := New(func(Event) {})
 		var messages []*registry.Message
+		known := 0 // of seen
 		for step := 0; step < steps; step++ {
 			if w.Intn(4) == 0 {
-				seen.Restore(s.Snapshot())
+				for _, m := range messages[known:] {
+					seen.Apply(m)
+				}
+				known = len(messages)
 			}
 			m := w.random(seen)
 			messages = append(messages, m)
@@ -249,7 +252,7 @@ func TestNotesOfOthersAreIgnored(t *testing.T) {
 	if err := s.Restore([]byte("x")); err == nil {
 		t.Error("a broken snapshot was restored")
 	}
-	if err := s.Restore(nil); err != nil || !json.Valid(s.Snapshot()) {
+	if err := s.Restore(nil); err != nil || s.Snapshot() != nil {
 		t.Error(err)
 	}
 }

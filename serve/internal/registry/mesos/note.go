@@ -36,6 +36,7 @@ type Note struct {
 	Subscription *Subscription `json:"subscription,omitempty"`
 	Info         []byte        `json:"info,omitempty"` // AgentInfo
 	IsOurs       bool          `json:"ours,omitempty"` // the gateway ended, not the framework
+	Call         string        `json:"call,omitempty"` // the offers of an ACCEPT: one with the same came again
 	Launches     []Launch      `json:"launches,omitempty"`
 	Refused      []Status      `json:"refused,omitempty"` // tasks that are not launched
 	GraceMS      int64         `json:"grace_ms,omitempty"`

@@ -75,7 +75,9 @@ func (s *State) subscribe(n *Note, answers []string) {
 	s.toFramework(f, Event{Kind: "SUBSCRIBED"})
 	var offers []OfferOf
 	for _, o := range s.OffersOf(f.ID) {
-		offers = append(offers, s.offerOf(o))
+		if s.Agents[o.Agent] != nil {
+			offers = append(offers, s.offerOf(o))
+		}
 	}
 	if len(offers) > 0 {
 		s.toFramework(f, Event{Kind: "OFFERS", Offers: offers})
@@ -124,7 +126,7 @@ func (s *State) launch(f *Framework, n *Note, answers []string) {
 		}
 	}
 	for _, status := range n.Refused {
-		if status.At = s.at; status.Reason != "REASON_INVALID_OFFERS" || !s.wasLaunched(f, status.Task) {
+		if status.At = s.at; status.Reason != "REASON_INVALID_OFFERS" || !s.wasLaunched(f, status.Task, n.Call) {
 			s.update(f, status)
 		}
 	}
@@ -145,12 +147,12 @@ func (s *State) launch(f *Framework, n *Note, answers []string) {
 					s.leaveHold(HoldKey(f.Name, h.Name))
 				}
 			}
-			if refusal.Reason != "REASON_INVALID_OFFERS" || !s.wasLaunched(f, l.Task) {
+			if refusal.Reason != "REASON_INVALID_OFFERS" || !s.wasLaunched(f, l.Task, n.Call) {
 				s.update(f, refusal)
 			}
 			continue
 		}
-		t := &Task{Launch: l, Number: s.number, State: "TASK_STAGING"}
+		t := &Task{Launch: l, Number: s.number, Call: n.Call, State: "TASK_STAGING"}
 		f.Tasks[l.Task] = t
 		started = append(started, taskOf(f, t))
 	}
@@ -163,13 +165,13 @@ func (s *State) launch(f *Framework, n *Note, answers []string) {
 	}
 }
 
-// wasLaunched reports whether a task exists or did: its ACCEPT came again, whose offers it used.
-func (s *State) wasLaunched(f *Framework, task string) bool {
-	if f.Tasks[task] != nil {
+// wasLaunched reports whether a task was launched by an ACCEPT of the same offers: that came again.
+func (s *State) wasLaunched(f *Framework, task, call string) bool {
+	if t := f.Tasks[task]; t != nil && t.Call == call {
 		return true
 	}
 	for _, one := range s.Completed {
-		if one.Framework == f.ID && one.Task == task {
+		if one.Framework == f.ID && one.Task == task && one.Call == call {
 			return true
 		}
 	}

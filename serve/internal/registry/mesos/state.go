@@ -33,6 +33,7 @@ type Framework struct {
 type Task struct {
 	Launch
 	Number    int64    `json:"number"` // the message that launched it
+	Call      string   `json:"call,omitempty"`
 	State     string   `json:"state"`
 	Last      *Status  `json:"last,omitempty"`
 	Unacked   []Status `json:"unacked,omitempty"` // the framework gets the first one until it acknowledges that
@@ -68,6 +69,7 @@ type Completed struct {
 	Task      string `json:"task"`
 	Agent     string `json:"agent"`
 	State     string `json:"state"`
+	Call      string `json:"call,omitempty"`
 	At        int64  `json:"at"`
 }
 
@@ -149,11 +151,14 @@ func (s *State) Read(read func()) {
 	read()
 }
 
-// Snapshot returns all rows. Equal states have equal snapshots.
+// Snapshot returns all rows, or nothing where there are none. Equal states have equal snapshots.
 func (s *State) Snapshot() []byte {
 	s.mu.Lock()
 	defer s.mu.Unlock()
 	text, _ := json.Marshal(s.rows) // maps in order of their keys
+	if string(text) == "{}" {
+		return nil
+	}
 	return text
 }
 
@@ -228,6 +233,11 @@ func (s *State) FindOffer(framework, id string) (Offer, bool) {
 // OffersOf returns the offers of a framework, in order.
 func (s *State) OffersOf(framework string) []Offer {
 	return s.offersWith(func(o Offer) bool { return s.IDs[o.Framework] == framework })
+}
+
+// UnlinkedOffers returns the offers on agents that have no link.
+func (s *State) UnlinkedOffers() []Offer {
+	return s.offersWith(func(o Offer) bool { return s.Agents[o.Agent] == nil })
 }
 
 func (s *State) offersWith(is func(Offer) bool) (offers []Offer) {

@@ -46,6 +46,11 @@ type Agent struct {
 // New opens an agent's folder, and takes up the tasks in it.
 func New(config Config) (*Agent, error) {
 	a := &Agent{config: config, tasks: map[string]*task{}, client: &http.Client{Transport: &http.Transport{ResponseHeaderTimeout: 25 * time.Second, MaxIdleConnsPerHost: 16}}}
+	folder, err := filepath.Abs(config.Folder) // tasks get to know it
+	if err != nil {
+		return nil, err
+	}
+	a.config.Folder, config.Folder = folder, folder
 	if err := os.MkdirAll(filepath.Join(config.Folder, "tasks"), 0o700); err != nil {
 		return nil, err
 	}

@@ -1,6 +1,7 @@
 """Outside the proof. Measures a run: what each role holds and uses over time, and how long its tasks wait.
 
 The figures of a role include those of the roles below it, as its share does in the allocator. The root, "", is the whole cluster."""
+from bisect import bisect_right
 from collections import defaultdict
 
 ROOT = ""
@@ -126,56 +127,62 @@ class Account:
         self.change_total(self.end, (), 1)
 
 
-def ranked(waits, numerator, denominator):
-    """Returns the waiting time of nearest rank, and whether it is only a lower bound.
-
-    `waits` is a sorted list of (milliseconds, is_over); a wait that is not over is known to last at least so long. The nearest rank is
-    the least wait that is not exceeded by numerator/denominator of all waits."""
-    place = -(-len(waits) * numerator // denominator) - 1
-    return waits[place][0], any(not is_over for _, is_over in waits[:place + 1])
+def place_of(count, percent):
+    """Returns the place of the nearest rank in a sorted list: of its first value that at least this percentage does not exceed."""
+    return -(-count * percent // 100) - 1
 
 
-def waiting(waits):
-    """Returns the median and the 95th percentile of (milliseconds, is_over), or None if there is none."""
-    if not waits:
+def waiting(waits, unfinished):
+    """Returns the median and the 95th percentile of waiting times, or None if there are none.
+
+    `waits` are over, and the `unfinished` ones will last longer than they are given. So from the first unfinished wait on, values are
+    lower bounds. Of an even number of waits the median is the mean of the two in the middle."""
+    count = len(waits) + len(unfinished)
+    if not count:
         return None
-    waits = sorted(waits, key=lambda it: (it[0], not it[1]))
-    low, low_bound = ranked(waits, 1, 2)
-    # Of an even number of waits the median is the mean of the two in the middle.
-    high, high_bound = (waits[len(waits) // 2][0], any(not it[1] for it in waits[:len(waits) // 2 + 1])) if len(waits) % 2 == 0 else (low, low_bound)
-    p95, p95_bound = ranked(waits, 95, 100)
-    middle = low + high
+    first = bisect_right(sorted(waits), min(unfinished)) if unfinished else count
+    both = sorted(waits + unfinished)
+    high, p95 = count // 2, place_of(count, 95)
+    middle = both[high] + both[place_of(count, 50)]
     return {
         "median": middle // 2 if middle % 2 == 0 else middle / 2,
-        "median_is_lower_bound": low_bound or high_bound,
-        "p95": p95,
-        "p95_is_lower_bound": p95_bound,
+        "median_is_lower_bound": high >= first,
+        "p95": both[p95],
+        "p95_is_lower_bound": p95 >= first,
     }
 
 
 class Outcome:
-    """What became of the tasks of a role: waits as (milliseconds, is_over), and counts."""
+    """What became of the tasks of a role: the waits of those that started and, until the end, of those that did not; and counts."""
 
-    __slots__ = ("waits", "started", "finished", "lost")
+    __slots__ = ("waits", "unfinished", "finished", "lost")
 
     def __init__(self):
-        self.waits = []
-        self.started = self.finished = self.lost = 0
+        self.waits, self.unfinished = [], []
+        self.finished = self.lost = 0
 
 
 def outcomes(tasks, results):
     """Returns the outcome of each role. `results` yields for each task (role, start or None, until when it waited if it did not start,
     whether it finished, whether it was lost)."""
-    found, above = {}, {}
+    own, found = {}, {}
     for task, (role, start, until, is_finished, is_lost) in zip(tasks, results, strict=True):
-        wait = (start - task.arrival, True) if start is not None else (max(until - task.arrival, 0), False)
-        if role not in above:
-            above[role] = [found.setdefault(it, Outcome()) for it in roles_above(role)]
-        for outcome in above[role]:
-            outcome.waits.append(wait)
-            outcome.started += start is not None
+        outcome = own.get(role)
+        if outcome is None:
+            outcome = own[role] = Outcome()
+        if start is None:
+            outcome.unfinished.append(max(until - task.arrival, 0))
+        else:
+            outcome.waits.append(start - task.arrival)
             outcome.finished += is_finished
             outcome.lost += is_lost
+    for role, outcome in own.items():
+        for path in roles_above(role):
+            there = found.setdefault(path, Outcome())
+            there.waits += outcome.waits
+            there.unfinished += outcome.unfinished
+            there.finished += outcome.finished
+            there.lost += outcome.lost
     return found
 
 
@@ -190,11 +197,11 @@ def figures(account, found):
             for name, amount in sorted(node.used_sums.items()) if amount
         }
         result[role] = {
-            "tasks": len(outcome.waits),
-            "started": outcome.started,
+            "tasks": len(outcome.waits) + len(outcome.unfinished),
+            "started": len(outcome.waits),
             "finished": outcome.finished,
             "lost": outcome.lost,
-            "waiting_ms": waiting(outcome.waits),
+            "waiting_ms": waiting(outcome.waits, outcome.unfinished),
             "finished_per_hour": outcome.finished * 3_600_000 / time if time else 0.0,
             "share": node.share / time if time else 0.0,
             "use": {"share": node.use / time if time else 0.0, "resources": use},

@@ -179,7 +179,10 @@ class Replay:
                 self.later(at + task.ran + 1, 0, FINISH, self.release, running)
         self.allocator.send(f'{{"event":"accept","framework":"{actor.framework}","offer":{held.number},"at":{at},"tasks":[{",".join(texts)}]'
                             f',"refuse_ms":{held.habit.accept}}}')
-        self.account.accept(actor.role, at, scalars_of(rest), scalars_of(used))
+        if bundle.is_plain:
+            self.account.accept(actor.role, at, rest.items(), used.items())
+        else:
+            self.account.accept(actor.role, at, scalars_of(rest), scalars_of(used))
 
     def finish(self, held):
         self.send_finish(held, "finished")

@@ -1,7 +1,7 @@
 """Outside the proof. Compares the runs of a replay, and writes the comparison as a table and as JSON."""
 import json
 
-from figures import ROOT, figures, outcomes, ranked
+from figures import ROOT, figures, outcomes, place_of
 
 ALL = "(all)"
 CASES = ("journal", "before", "after")
@@ -30,13 +30,12 @@ def agreement(tasks, starts, tolerance):
     """Returns how well replayed starts agree with the journal's: the number of tasks within the tolerance, and how far off they are."""
     off = sorted(abs(start - task.start) for task, start in zip(tasks, starts) if start is not None)
     within = sum(it <= tolerance for it in off)
-    waits = [(it, True) for it in off]
     return {
         "tasks": len(tasks),
         "within": within,
         "fraction": within / len(tasks) if tasks else 1.0,
         "not_started": len(tasks) - len(off),
-        "difference_ms": {"median": ranked(waits, 1, 2)[0], "p95": ranked(waits, 95, 100)[0], "greatest": off[-1]} if off else None,
+        "difference_ms": {"median": off[place_of(len(off), 50)], "p95": off[place_of(len(off), 95)], "greatest": off[-1]} if off else None,
     }
 
 

@@ -189,17 +189,19 @@ def test_reserved_resources(room):
 
 def test_percentiles(room):
     # Of 1..20: the two in the middle are 10 and 11; rank ceil(0.95 * 20) = 19.
-    found = waiting([(it, True) for it in range(20, 0, -1)])
+    found = waiting(list(range(20, 0, -1)), [])
     assert (found["median"], found["p95"]) == (10.5, 19), found
     # Of 1..21: rank 11; rank ceil(19.95) = 20.
-    found = waiting([(it, True) for it in range(1, 22)])
+    found = waiting(list(range(1, 22)), [])
     assert (found["median"], found["p95"]) == (11, 20), found
-    # A wait that is not over may be longer than it is shown, so everything from it on is a lower bound.
-    found = waiting([(1, True), (2, False), (3, True)])
-    assert found["median_is_lower_bound"] and found["p95_is_lower_bound"], found
-    found = waiting([(1, True), (2, True), (3, False)])
-    assert not found["median_is_lower_bound"] and found["p95_is_lower_bound"], found
-    assert waiting([]) is None
+    # A wait that is not over lasts longer than it is given, so everything from it on is a lower bound.
+    found = waiting([1, 3], [2])
+    assert (found["median"], found["p95"]) == (2, 3) and found["median_is_lower_bound"] and found["p95_is_lower_bound"], found
+    found = waiting([1, 2], [3])
+    assert (found["median"], found["p95"]) == (2, 3) and not found["median_is_lower_bound"] and found["p95_is_lower_bound"], found
+    # Of two equal ones the wait that is over is the shorter one. The median of 1, 2, 2, 9 is that of the two waits of 2.
+    assert not waiting([1, 2, 2], [9])["median_is_lower_bound"] and waiting([1, 2, 9], [2])["median_is_lower_bound"]
+    assert waiting([], []) is None
 
 
 def test_resource_texts(room):

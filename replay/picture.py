@@ -2,7 +2,7 @@
 import math
 from xml.sax.saxutils import escape
 
-from figures import PARTS, ROOT, series
+from figures import ROOT, series
 from report import ALL, duration, percent, roles_of, wait_text
 
 WIDTH, LEFT, MIDDLE, RIGHT = 860, 20, 470, 840

@@ -4,7 +4,10 @@ package mesos
 
 import (
 	"fmt"
+	"net/http"
+	"net/http/httptest"
 	"os"
+	"os/exec"
 	"path/filepath"
 	"strings"
 	"testing"
@@ -29,12 +32,23 @@ func TestCommands(t *testing.T) {
 	s := newService(t, 1, 1)
 	c := s.subscribe("admin", s.token, frameworkInfo)
 	out := filepath.Join(s.folder, "out")
+	files := http.FileServer(http.Dir(s.folder))
+	server := httptest.NewServer(files)
+	defer server.Close()
+	os.WriteFile(filepath.Join(s.folder, "tool"), []byte("#!/bin/sh\necho tool\n"), 0o644)
+	if text, err := exec.Command("tar", "-C", s.folder, "-czf", filepath.Join(s.folder, "packed.tgz"), "tool").CombinedOutput(); err != nil {
+		t.Fatal(string(text), err)
+	}
 	for k, one := range []struct{ command, state, message string }{
 		{`{"value":"echo $MESOS_TASK_ID $GREETING; pwd; echo $MESOS_SANDBOX; echo $MESOS_FRAMEWORK_ID; echo wrong >&2; cp stdout ` + out + `","environment":{"variables":[{"name":"GREETING","value":"hello"}]}}`, "TASK_FINISHED", "exited with status 0"},
 		{`{"value":"exit 3"}`, "TASK_FAILED", "exited with status 3"},
 		{`{"value":"kill -9 $$"}`, "TASK_FAILED", "terminated with signal killed"},
 		{`{"shell":false,"value":"sh","arguments":["sh","-c","exit $0","4"]}`, "TASK_FAILED", "exited with status 4"},
 		{`{"shell":false,"value":"no-such-program"}`, "TASK_FAILED", "the command did not start"},
+		{`{"value":"test $(./bin/run) = tool && test -f tool && test -f packed.tgz","uris":[{"value":"` + filepath.Join(s.folder, "tool") + `","executable":true,"output_file":"bin/run"},{"value":"` + server.URL + `/packed.tgz"}]}`, "TASK_FINISHED", "exited with status 0"},
+		{`{"value":"true","uris":[{"value":"` + server.URL + `/nothing"}]}`, "TASK_FAILED", "404 Not Found"},
+		{`{"value":"true","uris":[{"value":"file://` + s.folder + `/tool","output_file":"../../x"}]}`, "TASK_FAILED", "is not in the sandbox"},
+		{`{"value":"true","uris":[{"value":"hdfs://x/y"}]}`, "TASK_FAILED", "is not supported: expected file, http or https"},
 		{`{"value":"(sleep 1000 & echo $! > ` + out + `.pid)"}`, "TASK_FINISHED", "exited with status 0"},
 	} {
 		offer := c.next("OFFERS")

@@ -3,6 +3,7 @@
 package agent
 
 import (
+	"context"
 	"encoding/json"
 	"fmt"
 	"io"
@@ -50,6 +51,13 @@ func Supervise(folder string) error {
 }
 
 func run(folder string, task codec.Message, signals <-chan os.Signal) exit {
+	isKilled, err := fetchUnlessKilled(folder, task, signals)
+	if isKilled {
+		return exit{Problem: "killed before the command was started", IsKilled: true}
+	}
+	if err != nil {
+		return exit{Problem: err.Error()}
+	}
 	command, err := commandOf(folder, task)
 	if err == nil {
 		err = command.Start()
@@ -65,7 +73,7 @@ func run(folder string, task codec.Message, signals <-chan os.Signal) exit {
 		command.Wait()
 		close(done)
 	}()
-	isKilled, kill := false, (<-chan time.Time)(nil)
+	kill := (<-chan time.Time)(nil)
 	for {
 		select {
 		case signal := <-signals:
@@ -84,6 +92,25 @@ func run(folder string, task codec.Message, signals <-chan os.Signal) exit {
 				ended.Signal = status.Signal().String()
 			}
 			return ended
+		}
+	}
+}
+
+// fetchUnlessKilled fetches the URIs of a task, and reports whether it was killed meanwhile.
+func fetchUnlessKilled(folder string, task codec.Message, signals <-chan os.Signal) (isKilled bool, err error) {
+	ctx, cancel := context.WithCancel(context.Background())
+	defer cancel()
+	done := make(chan error, 1)
+	go func() { done <- fetch(ctx, filepath.Join(folder, "sandbox"), task.Sub("task_info.command")) }()
+	for {
+		select {
+		case err := <-done:
+			return isKilled, err
+		case signal := <-signals:
+			if signal == syscall.SIGTERM {
+				isKilled = true
+				cancel()
+			}
 		}
 	}
 }

@@ -274,6 +274,8 @@ func (t *task) ended(text []byte) codec.Message {
 		e.Problem = err.Error()
 	}
 	switch {
+	case e.Problem != "" && e.IsKilled:
+		return t.status("end", "TASK_KILLED").Set("message", e.Problem)
 	case e.Problem != "":
 		return t.status("end", "TASK_FAILED").Set("reason", "REASON_CONTAINER_LAUNCH_FAILED").Set("message", e.Problem)
 	case e.IsKilled:

@@ -37,8 +37,6 @@ func (a *acceptance) validate(task codec.Message, isGrouped bool) (resources.Bun
 		return nil, errors.New("'TaskInfo.health_check' and 'TaskInfo.check' are not supported yet")
 	case task.Has("command.user"):
 		return nil, errors.New("'CommandInfo.user' is not supported yet: tasks run as the agent's user")
-	case len(task.List("command.uris")) > 0:
-		return nil, errors.New("'CommandInfo.uris' is not supported yet")
 	}
 	for _, one := range task.List("resources") {
 		if role := one.Text("allocation_info.role"); one.Has("allocation_info") && role != a.role {

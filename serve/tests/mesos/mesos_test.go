@@ -3,6 +3,7 @@
 package mesos
 
 import (
+	"encoding/json"
 	"fmt"
 	"os"
 	"path/filepath"
@@ -133,6 +134,21 @@ func TestThreeGateways(t *testing.T) {
 	s.checkOnce(file, 60)
 	s.waitFree(2)
 	s.checkJournal(2)
+}
+
+// Numbers of offers begin again with each epoch. Tasks that were launched before one end after it.
+func TestEpochs(t *testing.T) {
+	s := newService(t, 1, 2, "-epoch-every", "60", "-save-every", "40", "-save-apart", "1s")
+	file := filepath.Join(s.folder, "starts")
+	p := s.scheduler("one", 0, "-tasks", "120", "-command", s.command(file, "sleep 0.5"), "-within", "200s")
+	p.start()
+	p.wait()
+	s.checkOnce(file, 120)
+	s.waitFree(0)
+	var status struct{ Epoch int }
+	if json.Unmarshal(s.get(0, "/drf/v1/status"), &status); status.Epoch < 2 {
+		t.Errorf("only %d epochs", status.Epoch)
+	}
 }
 
 // An agent that stays away is removed: its tasks are lost, and what they held is free.

@@ -65,6 +65,7 @@ func (s *Server) accept(ctx context.Context, f *framework, call codec.Message) e
 		}
 	}
 	a := s.acceptance(f, ids)
+	s.findTasks(a, call.List("accept.operations"))
 	sum := sha256.Sum256([]byte(strings.Join(ids, " ")))
 	a.note.Call = hex.EncodeToString(sum[:12])
 	for _, op := range call.List("accept.operations") {
@@ -95,9 +96,6 @@ func (s *Server) acceptance(f *framework, ids []string) *acceptance {
 	seen := map[string]bool{}
 	s.state.Read(func() {
 		a.epoch = s.state.Epoch
-		for _, name := range namesOf(s.state.Frameworks[f.id]) {
-			a.known[name] = true
-		}
 		for _, id := range ids {
 			o, is := s.state.FindOffer(f.id, id)
 			switch {
@@ -336,10 +334,18 @@ func (s *Server) decline(ctx context.Context, f *framework, call codec.Message) 
 	return s.putAccept(ctx, a, s.refusal(call.Sub("decline.filters")))
 }
 
-// namesOf returns the names of a framework's tasks; of one that was just removed, none.
-func namesOf(f *mesos.Framework) []string {
-	if f == nil {
-		return nil
-	}
-	return f.TaskNames()
+// findTasks notes which tasks of a call exist already.
+func (s *Server) findTasks(a *acceptance, operations []codec.Message) {
+	s.state.Read(func() {
+		f := s.state.Frameworks[a.id]
+		if f == nil {
+			return
+		}
+		for _, op := range operations {
+			for _, task := range append(op.List("launch.task_infos"), op.List("launch_group.task_group.tasks")...) {
+				id := task.Text("task_id.value")
+				a.known[id] = a.known[id] || f.Tasks[id] != nil
+			}
+		}
+	})
 }

@@ -48,8 +48,9 @@ func (s *State) follow(kind string, line, reply []byte, isOK bool) {
 	case kind == "accept", kind == "decline":
 		delete(s.Offers, numberOf(line))
 	case kind == "rescind":
-		number := numberOf(line)
-		s.endOffers(func(o Offer) bool { return o.Offer == number })
+		if o, is := s.Offers[numberOf(line)]; is {
+			s.endOffer(o)
+		}
 	case kind == "deactivate_agent":
 		name := registry.Text(registry.Fields(line), "agent")
 		s.endOffers(func(o Offer) bool { return o.Agent == name })
@@ -101,13 +102,15 @@ func (s *State) offerOf(o Offer) OfferOf {
 
 func (s *State) endOffers(is func(Offer) bool) {
 	for _, o := range s.offersWith(is) {
-		if s.Agents[o.Agent] == nil {
-			delete(s.Offers, o.Offer)
-			continue
-		}
-		s.toFramework(s.Frameworks[s.IDs[o.Framework]], Event{Kind: "RESCIND", Message: s.OfferID(o.Offer)})
-		delete(s.Offers, o.Offer)
+		s.endOffer(o)
 	}
+}
+
+func (s *State) endOffer(o Offer) {
+	if s.Agents[o.Agent] != nil { // or its framework does not know it
+		s.toFramework(s.Frameworks[s.IDs[o.Framework]], Event{Kind: "RESCIND", Message: s.OfferID(o.Offer)})
+	}
+	delete(s.Offers, o.Offer)
 }
 
 func (s *State) toFramework(f *Framework, e Event) {

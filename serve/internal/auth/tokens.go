@@ -32,7 +32,7 @@ type Callers struct {
 }
 
 // internalOwners own the keys of messages that gateways append for themselves.
-var internalOwners = map[string]bool{"cycle": true, "mesos": true, "rescind": true, "silent": true, "state": true}
+var internalOwners = map[string]bool{"cycle": true, "rescind": true, "silent": true, "state": true}
 
 const rightsText = "admin, operate, clock, read, framework:NAME, role:ROLE, agent:NAME or agent:PREFIX*"
 

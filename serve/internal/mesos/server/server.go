@@ -102,8 +102,8 @@ func (m *message) add(event string, fields ...interface{}) {
 	m.lines = append(m.lines, one)
 }
 
-// put appends a message under its key, or a random one. With a blank in it no key is kept when its message is pruned: the registry ignores
-// what comes again. It returns the answers to the lines, names of refusals or ok, or nil where they are no longer kept.
+// put appends a message under its key, or a random one. With a blank in it, it is no caller's key, and is not kept when its message is
+// pruned: the registry ignores what comes again. It returns the answers to the lines, names of refusals or ok, or nil where they are no longer kept.
 func (s *Server) put(ctx context.Context, m *message, conditions ...oplog.Condition) ([]string, error) {
 	ctx, cancel := context.WithTimeout(ctx, patience)
 	defer cancel()

@@ -9,6 +9,8 @@ import (
 	"log"
 	"strings"
 	"time"
+
+	"gateway/internal/registry/mesos"
 )
 
 // holdFor is how long another gateway may seem not to run before its streams are ended.
@@ -84,9 +86,7 @@ func (s *Server) dueNow() (deeds []deed) {
 			}
 		}
 		for _, o := range s.state.UnlinkedOffers() {
-			m := &message{key: fmt.Sprintf("decline/%d/%d", s.state.Epoch, o.Offer), isInternal: true}
-			m.add("decline", "framework", o.Framework, "offer", o.Offer, "refuse_ms", s.config.MaxRefuse.Milliseconds())
-			deeds = append(deeds, s.deed(m))
+			deeds = append(deeds, s.declineUnlinked(o, fmt.Sprintf("decline/%d/%d", s.state.Epoch, o.Offer)))
 		}
 		for key, since := range s.state.Unused {
 			name, hold, _ := strings.Cut(key, "/")
@@ -106,6 +106,20 @@ func (s *Server) rescinds(framework string) (deeds []deed) {
 		deeds = append(deeds, s.deed(m))
 	}
 	return deeds
+}
+
+// declineUnlinked declines an offer on an agent without a link, so that others get it.
+func (s *Server) declineUnlinked(o mesos.Offer, key string) deed {
+	return func(ctx context.Context) error {
+		for _, refuseMS := range []int64{s.config.MaxRefuse.Milliseconds(), 0} {
+			m := &message{key: fmt.Sprintf("%s/%d", key, refuseMS), isInternal: true}
+			m.add("decline", "framework", o.Framework, "offer", o.Offer, "refuse_ms", refuseMS)
+			if answers, err := s.put(ctx, m); err != nil || len(answers) == 0 || answers[0] != "TooMany" { // which is that there is no room for a filter
+				return err
+			}
+		}
+		return nil
+	}
 }
 
 func (s *Server) deed(m *message) deed {

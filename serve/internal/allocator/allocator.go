@@ -65,7 +65,9 @@ func (a *Allocator) Run(ctx context.Context) error {
 			err = a.generation(ctx, from, revision)
 		}
 		for next := (epochError{}); errors.As(err, &next); {
-			err = a.generation(ctx, next.from, next.from.Revision.Main)
+			if _, revision, err = a.log.Snapshots(ctx); err == nil { // the marker's own revision may be compacted
+				err = a.generation(ctx, next.from, revision)
+			}
 		}
 		a.positions.setFault(err.Error())
 		a.mu.Lock()

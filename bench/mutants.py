@@ -20,7 +20,7 @@ import tempfile
 HERE = os.path.dirname(os.path.realpath(__file__))
 sys.path.append(f"{HERE}/tools")
 from common import ROOT, released_program
-from unproved import KIT, TARGET, make_kit
+from unproved import KIT, TARGET, make_kit, without_added
 
 # Seconds of processor time that a program may take.
 LIMIT = 120
@@ -68,14 +68,17 @@ def apply(changes, crate):
 
 
 def build(crate, out):
-    """Builds a program without proofs and without optimisation: it runs once, and the checks that `rt try` adds stay in it."""
+    """Builds a program without proofs and without optimisation. What a proof excludes ends the program, so a mutant cannot do just anything."""
     with tempfile.TemporaryDirectory(prefix="mutants-") as room:
         make_kit(room)
         tried = subprocess.run([f"{room}/kit/bin/rt", "try"], cwd=crate, stdin=subprocess.DEVNULL, capture_output=True, text=True)
         if not os.path.exists(f"{room}/module.bc"):
             raise Failure(f"{os.path.basename(crate)} does not compile:\n{tried.stderr}")
-        clang = [f"{KIT}/toolchain/bin/clang", *TARGET, "-fPIE", "-O0", "-c", "-x", "ir"]
-        subprocess.run([*clang, f"{room}/module.bc", "-o", f"{room}/program.o"], check=True)
+        clang = [f"{KIT}/toolchain/bin/clang", "-x", "ir"]
+        subprocess.run([*clang, "-S", "-emit-llvm", "-Xclang", "-disable-llvm-passes", f"{room}/module.bc", "-o", f"{room}/tried.ll"], check=True)
+        with open(f"{room}/tried.ll") as given, open(f"{room}/plain.ll", "w") as plain:
+            plain.writelines(without_added(given, is_checked=True))
+        subprocess.run([*clang, *TARGET, "-fPIE", "-O0", "-c", f"{room}/plain.ll", "-o", f"{room}/program.o"], check=True)
         libraries = [f"{KIT}/c/libos_c.a", f"{KIT}/c/liblibc_c.a", "-lpthread", "-lm"]
         subprocess.run(["cc", "-pie", "-Wl,--gc-sections", "-o", out, f"{room}/program.o", *libraries], check=True)
 

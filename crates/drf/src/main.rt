@@ -8,8 +8,13 @@ use std::env::Env;
 use std::process::ExitCode;
 use std::{env, io};
 
+/// Returns the arguments of the program. The first is `drf`, which messages call it, whatever its file is called.
 fn words<R: Env + AllocGlobal>(rt: &R) -> io::Result<Vec<String>> {
-    Ok(env::args(rt)?.collect::<Vec<String>>(rt.alloc())?)
+    let mut words = env::args(rt)?.collect::<Vec<String>>(rt.alloc())?;
+    if let Some(name) = words.first_mut() {
+        *name = String::from_str(rt.alloc(), "drf")?;
+    }
+    Ok(words)
 }
 
 fn main(rt: HostRuntime) -> ExitCode {

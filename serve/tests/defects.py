@@ -172,9 +172,15 @@ def test_removed_member(programs):
         time.sleep(6)  # etcd changes its members only when they were connected for five seconds
 
         def etcdctl(*words):
-            done = subprocess.run(["etcdctl", "--endpoints", "unix://" + os.path.join(one.folder, "etcd.sock"), *words], capture_output=True, text=True, check=False, env={**os.environ, "ETCDCTL_API": "3"})
-            assert done.returncode == 0, done
-            return done.stdout
+            # A call that meets an election of the leader times out, and is tried again: it may have been applied.
+            for _ in range(5):
+                done = subprocess.run(["etcdctl", "--endpoints", "unix://" + os.path.join(one.folder, "etcd.sock"), *words], capture_output=True, text=True, check=False, env={**os.environ, "ETCDCTL_API": "3"})
+                if done.returncode == 0 or "already exist" in done.stderr:
+                    return done.stdout
+                if "timed out" not in done.stderr:
+                    break
+                time.sleep(1)
+            raise AssertionError(done)
 
         member = next(line.split(",")[0] for line in etcdctl("member", "list").splitlines() if ", g2," in line)
         etcdctl("member", "remove", member)

@@ -6,6 +6,7 @@ import (
 	"errors"
 	"flag"
 	"fmt"
+	"os"
 	"path/filepath"
 	"strconv"
 	"strings"
@@ -19,6 +20,7 @@ import (
 
 type options struct {
 	data, drf, listen, tokens, cert, key, prefix string
+	passwordFile                                 string
 	etcd                                         etcd.Config
 	bound, window                                time.Duration
 	cycle, offerTimeout                          time.Duration
@@ -63,6 +65,8 @@ func readOptions(arguments []string) (*options, error) {
 	flags.StringVar(&o.etcd.Members, "members", "", "embedded etcd of several gateways: NAME=URL of each, with commas")
 	flags.BoolVar(&o.etcd.Joins, "join", false, "this member is new in an existing cluster")
 	flags.StringVar(&o.etcd.URLs, "etcd", "", "use this etcd and embed none: URLs, with commas")
+	flags.StringVar(&o.etcd.User, "etcd-user", "", "with -etcd: the user to connect as")
+	flags.StringVar(&o.passwordFile, "etcd-password-file", "", "with -etcd-user: file of the user's password")
 	flags.StringVar(&o.etcd.PeerCert, "peer-cert", "", "file of certificates, for etcd's members and clients")
 	flags.StringVar(&o.etcd.PeerKey, "peer-key", "", "file of its key")
 	flags.StringVar(&o.etcd.PeerCA, "peer-ca", "", "file of the authorities that etcd's members must be certified by")
@@ -98,6 +102,8 @@ func readOptions(arguments []string) (*options, error) {
 		{flags.NArg() > 0, fmt.Sprintf("%q: arguments without a flag are not expected", flags.Arg(0))},
 		{(o.cert == "") != (o.key == ""), "-cert and -key: give both or none"},
 		{o.etcd.URLs != "" && o.etcd.Members != "", "-etcd and -members: give one of them"},
+		{o.etcd.User != "" && o.etcd.URLs == "", "-etcd-user: give -etcd too"},
+		{(o.etcd.User == "") != (o.passwordFile == ""), "-etcd-user and -etcd-password-file: give both or none"},
 		{o.bound < 2*time.Second, fmt.Sprintf("-clock-bound %v: expected at least 2s", o.bound)},
 		{o.cycle != 0 && o.cycle < 10*time.Millisecond, fmt.Sprintf("-cycle %v: expected 0 or at least 10ms", o.cycle)},
 		{o.window < 0, fmt.Sprintf("-window %v: expected at least 0s", o.window)},
@@ -119,4 +125,17 @@ func readOptions(arguments []string) (*options, error) {
 	}
 	o.etcd.Folder, o.allocator.Folder, o.allocator.Program = o.data, o.data, o.drf
 	return o, nil
+}
+
+// readPassword reads a file that has a password in its one line.
+func readPassword(path string) (string, error) {
+	text, err := os.ReadFile(path)
+	if err != nil {
+		return "", err
+	}
+	password := strings.TrimSuffix(strings.TrimSuffix(string(text), "\n"), "\r")
+	if password == "" || strings.Contains(password, "\n") {
+		return "", fmt.Errorf("%s: expected one line, the password", path)
+	}
+	return password, nil
 }

@@ -83,6 +83,11 @@ func (o *options) serve(ctx context.Context) error {
 	if err != nil {
 		return err
 	}
+	if o.passwordFile != "" {
+		if o.etcd.Password, err = readPassword(o.passwordFile); err != nil {
+			return fmt.Errorf("-etcd-password-file: %w", err)
+		}
+	}
 	journal, err := allocator.OpenJournal(o.data)
 	if err != nil {
 		return err

@@ -4,18 +4,14 @@ package etcd
 import (
 	"context"
 	"crypto/sha256"
-	"crypto/tls"
-	"fmt"
 	"io"
 	"log"
-	"strings"
 	"sync"
 	"time"
 
 	"go.etcd.io/etcd/clientv3"
 	"go.etcd.io/etcd/embed"
 	"go.etcd.io/etcd/pkg/transport"
-	"go.uber.org/zap"
 )
 
 // Config says which etcd to use.
@@ -25,6 +21,7 @@ type Config struct {
 	Members                   string // NAME=URL of each embedded member, with commas; empty for one alone
 	Joins                     bool   // this member is new in an existing cluster
 	URLs                      string // of an external etcd, with commas; empty for an embedded member
+	User, Password            string // of an external etcd, or empty
 	PeerCert, PeerKey, PeerCA string
 	Quota                     int64 // bytes of the embedded member's store
 }
@@ -67,29 +64,6 @@ func Open(ctx context.Context, config Config) (*Cluster, error) {
 	return c, nil
 }
 
-func (c *Cluster) dial(ctx context.Context, config Config) error {
-	var security *tls.Config
-	if config.PeerCert != "" || config.PeerCA != "" {
-		var err error
-		if security, err = config.security().ClientConfig(); err != nil {
-			return fmt.Errorf("etcd's certificates: %w", err)
-		}
-	}
-	quiet := zap.NewProductionConfig()
-	quiet.Level = zap.NewAtomicLevelAt(zap.ErrorLevel)
-	for _, url := range strings.Split(config.URLs, ",") {
-		client, err := clientv3.New(clientv3.Config{Endpoints: []string{url}, TLS: security, LogConfig: &quiet, DialTimeout: 2 * time.Second, MaxCallSendMsgSize: 64 << 20})
-		if err != nil {
-			c.closeClients()
-			return fmt.Errorf("etcd at %s: %w", url, err)
-		}
-		c.clients = append(c.clients, client)
-	}
-	go c.watch(ctx)
-	close(c.closed)
-	return nil
-}
-
 // Client returns the client of the member to ask.
 func (c *Cluster) Client() *clientv3.Client {
 	c.mu.Lock()
@@ -103,11 +77,17 @@ func (c *Cluster) Size(ctx context.Context) (used, file int64, err error) {
 		backend := c.member.Server.Backend()
 		return backend.SizeInUse(), backend.Size(), nil
 	}
-	answer, err := c.Client().Status(ctx, c.Endpoint())
+	answer, err := statusOf(ctx, c.Client())
 	if err != nil {
 		return 0, 0, err
 	}
 	return answer.DbSizeInUse, answer.DbSize, nil
+}
+
+// statusOf asks a member for its status over the client's connection: the client's own call would connect again, and say again who it is.
+func statusOf(ctx context.Context, client *clientv3.Client) (*clientv3.StatusResponse, error) {
+	maintenance := clientv3.NewMaintenanceFromMaintenanceClient(clientv3.RetryMaintenanceClient(client, client.ActiveConnection()), client)
+	return maintenance.Status(ctx, client.Endpoints()[0])
 }
 
 // Endpoint returns the address of the member to ask, or an empty text for an embedded one.
@@ -156,11 +136,11 @@ func (c *Cluster) Ask(ctx context.Context, patience time.Duration) (*clientv3.Cl
 	return client, ctx, cancel
 }
 
-// Leave moves on to the next member.
-func (c *Cluster) Leave(reason error) {
+// Leave moves on to the next member, unless that was done since the client was asked: what ends then must not leave the next one too.
+func (c *Cluster) Leave(client *clientv3.Client, reason error) {
 	c.mu.Lock()
 	defer c.mu.Unlock()
-	if len(c.clients) > 1 {
+	if len(c.clients) > 1 && c.clients[0] == client {
 		log.Printf("leaving the etcd member %v: %v", c.clients[0].Endpoints(), reason)
 		c.clients = append(c.clients[1:], c.clients[0])
 		close(c.left)
@@ -173,7 +153,7 @@ func (c *Cluster) watch(ctx context.Context) {
 	for ctx.Err() == nil {
 		client, asked, cancel := c.Ask(ctx, 500*time.Millisecond)
 		if _, err := client.Get(asked, "/", clientv3.WithSerializable()); err != nil && ctx.Err() == nil {
-			c.Leave(err)
+			c.Leave(client, err)
 		}
 		cancel()
 		time.Sleep(100 * time.Millisecond)

@@ -76,23 +76,29 @@ func TestMembersAreChecked(t *testing.T) {
 
 // Requests under way end when their member is left.
 func TestLeave(t *testing.T) {
-	c, err := Open(context.Background(), Config{URLs: "http://127.0.0.1:1,http://127.0.0.1:2"})
+	config := Config{URLs: "http://127.0.0.1:1,http://127.0.0.1:2"}
+	c := &Cluster{left: make(chan struct{})} // which nothing watches
+	connect, err := connector(config)
+	if err == nil {
+		_, err = c.connectAll(connect, strings.Split(config.URLs, ","), config)
+	}
 	if err != nil {
 		t.Fatal(err)
 	}
-	defer c.Close()
-	c.mu.Lock()
+	defer c.closeClients()
 	one, other := c.clients[0], c.clients[1]
-	c.mu.Unlock()
 	client, ctx, cancel := c.Ask(context.Background(), time.Minute)
 	defer cancel()
-	if client != one && client != other {
-		t.Error("no member is asked")
+	if client != one {
+		t.Error("the first member is not asked")
 	}
-	c.Leave(errors.New("it hangs"))
+	c.Leave(client, errors.New("it hangs"))
 	select {
 	case <-ctx.Done():
 	case <-time.After(10 * time.Second):
 		t.Error("a request to a member that was left continues")
+	}
+	if c.Leave(client, ctx.Err()); c.Client() != other {
+		t.Error("the next member was left for an error of the one before")
 	}
 }

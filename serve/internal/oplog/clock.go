@@ -179,7 +179,7 @@ func (c *Clock) renew(ctx context.Context) error {
 	answer, err := client.Txn(ctx).Then(clientv3.OpPut(c.prefix+"at/"+c.name, stamp(at)), clientv3.OpGet(c.prefix+"at/", clientv3.WithPrefix()), clientv3.OpGet(c.key())).Commit()
 	if err != nil {
 		if c.IsCutOff() { // this member is perhaps cut off from the others
-			c.cluster.Leave(err)
+			c.cluster.Leave(client, err)
 		}
 		return fmt.Errorf("etcd does not answer: %w", err)
 	}

@@ -11,8 +11,6 @@ import (
 	"os/signal"
 	"runtime/debug"
 	"syscall"
-
-	"gateway/internal/auth"
 )
 
 func main() {
@@ -27,7 +25,7 @@ func main() {
 
 func run(arguments []string) error {
 	if len(arguments) > 0 && arguments[0] == "token" {
-		return addToken(arguments[1:])
+		return tokenCommand(arguments[1:], os.Stdout, os.Stderr)
 	}
 	o, err := readOptions(arguments)
 	if err != nil {
@@ -36,16 +34,4 @@ func run(arguments []string) error {
 	ctx, stop := signal.NotifyContext(context.Background(), os.Interrupt, syscall.SIGTERM)
 	defer stop()
 	return o.serve(ctx)
-}
-
-// addToken creates a token and prints it.
-func addToken(arguments []string) error {
-	if len(arguments) < 3 {
-		return errors.New("usage: gateway token FILE NAME RIGHT..: rights are admin, operate, clock, read, framework:NAME, role:ROLE, agent:NAME, agent:PREFIX*")
-	}
-	token, err := auth.AddCaller(arguments[0], arguments[1], arguments[2:])
-	if err == nil {
-		fmt.Println(token)
-	}
-	return err
 }

@@ -55,7 +55,7 @@ func (o *options) openData() error {
 	if _, err := os.Stat(o.tokens); !errors.Is(err, os.ErrNotExist) || filepath.Dir(o.tokens) != filepath.Clean(o.data) {
 		return err
 	}
-	token, err := auth.AddCaller(o.tokens, "admin", []string{"admin"})
+	token, err := auth.AddCaller(o.tokens, "admin", []string{"admin"}, time.Time{})
 	if err != nil {
 		return err
 	}

@@ -46,16 +46,13 @@ func (s *Server) mounted(w http.ResponseWriter, r *http.Request) error {
 	if isBasic {
 		token, hasToken = password, true
 	}
-	by := (*auth.Caller)(nil)
-	if hasToken {
-		by = callers.Find(token)
+	by, err := find(callers, token, hasToken)
+	if err == nil && isBasic && by.Name != user {
+		err = auth.ErrUnknownToken
 	}
-	if by != nil && isBasic && by.Name != user {
-		by = nil
-	}
-	if by == nil {
+	if err != nil {
 		w.Header().Set("WWW-Authenticate", `Basic realm="mesos-master"`)
-		return refusal(http.StatusUnauthorized, "no known principal: send HTTP Basic with a token's name and the token, or `Authorization: Bearer TOKEN`")
+		return unauthorized(err, "no known principal: send HTTP Basic with a token's name and the token, or `Authorization: Bearer TOKEN`")
 	}
 	if r.Method != http.MethodPost {
 		w.Header().Set("Allow", http.MethodPost)
@@ -72,5 +69,7 @@ func (s *Server) mounted(w http.ResponseWriter, r *http.Request) error {
 	if answer == nil {
 		return refusal(http.StatusNotFound, "this gateway does not have %s", r.URL.Path)
 	}
+	r, cancel := endWithToken(r, by)
+	defer cancel()
 	return answer(&Call{w, r, &request{service, s, w, r, by, callers, ""}})
 }

@@ -184,15 +184,13 @@ func route(path string) (c call, name string, is bool) {
 func (s *Server) dispatch(w http.ResponseWriter, r *http.Request) error {
 	callers := s.callers.Load().(*auth.Callers)
 	token, hasToken := auth.BearerToken(r.Header.Get("Authorization"))
-	by := (*auth.Caller)(nil)
-	if hasToken {
-		by = callers.Find(token)
+	by, err := find(callers, token, hasToken)
+	if err != nil {
+		w.Header().Set("WWW-Authenticate", "Bearer")
+		return unauthorized(err, "no known token: send `Authorization: Bearer TOKEN`")
 	}
 	c, name, is := route(r.URL.Path)
 	switch {
-	case by == nil:
-		w.Header().Set("WWW-Authenticate", "Bearer")
-		return refusal(http.StatusUnauthorized, "no known token: send `Authorization: Bearer TOKEN`")
 	case !is:
 		return refusal(http.StatusNotFound, "there is no such call: calls are below %s", Prefix)
 	case r.Method != c.method:
@@ -208,6 +206,8 @@ func (s *Server) dispatch(w http.ResponseWriter, r *http.Request) error {
 	if err != nil {
 		return err
 	}
+	r, cancel := endWithToken(r, by)
+	defer cancel()
 	return c.answer(&request{service, s, w, r, by, callers, name})
 }
 

@@ -5,7 +5,9 @@ package api
 import (
 	"net/http/httptest"
 	"path/filepath"
+	"strings"
 	"testing"
+	"time"
 
 	"gateway/internal/auth"
 )
@@ -13,7 +15,7 @@ import (
 // A gateway that stops ends its streams, and still knows its callers: they go to another gateway after a 503, and not after a 401.
 func TestStoppingGatewayKnowsItsCallers(t *testing.T) {
 	path := filepath.Join(t.TempDir(), "tokens.json")
-	token, err := auth.AddCaller(path, "one", []string{"read"})
+	token, err := auth.AddCaller(path, "one", []string{"read"}, time.Time{})
 	if err != nil {
 		t.Fatal(err)
 	}
@@ -34,5 +36,36 @@ func TestStoppingGatewayKnowsItsCallers(t *testing.T) {
 	s.ServeHTTP(w, r)
 	if w.Code != 503 {
 		t.Error(w.Code, w.Body)
+	}
+}
+
+// An expired token is refused with a text that says so, by both ways to send one; another token is unknown.
+func TestExpiredTokenIsRefused(t *testing.T) {
+	path := filepath.Join(t.TempDir(), "tokens.json")
+	token, err := auth.AddCaller(path, "web", []string{"admin"}, time.Date(2020, 1, 2, 3, 4, 5, 0, time.UTC))
+	if err != nil {
+		t.Fatal(err)
+	}
+	callers, err := auth.ReadCallers(path)
+	if err != nil {
+		t.Fatal(err)
+	}
+	s := newServer()
+	s.SetCallers(callers)
+	for _, c := range []struct{ method, path, token, want string }{
+		{"GET", "/drf/v1/status", token, `the token "web" expired at 2020-01-02T03:04:05Z: ask for a new one`},
+		{"POST", "/drf/v1/events", token, `the token "web" expired at 2020-01-02T03:04:05Z: ask for a new one; nothing was applied`},
+		{"POST", "/api/v1/scheduler", token, `the token "web" expired at 2020-01-02T03:04:05Z: ask for a new one`},
+		{"GET", "/drf/v1/status", token + "0", "no known token: send `Authorization: Bearer TOKEN`"},
+		{"POST", "/api/v1/scheduler", token + "0", "no known principal"},
+	} {
+		r, w := httptest.NewRequest(c.method, c.path, nil), httptest.NewRecorder()
+		if r.Header.Set("Authorization", "Bearer "+c.token); c.method == "POST" && c.path != "/drf/v1/events" {
+			r.SetBasicAuth("web", c.token)
+		}
+		s.ServeHTTP(w, r)
+		if w.Code != 401 || !strings.HasPrefix(w.Body.String(), c.want) || w.Header().Get("WWW-Authenticate") == "" {
+			t.Errorf("%s %s: %d %s", c.method, c.path, w.Code, w.Body)
+		}
 	}
 }

@@ -3,10 +3,12 @@
 package auth
 
 import (
+	"errors"
 	"path/filepath"
 	"strings"
 	"sync"
 	"testing"
+	"time"
 )
 
 func TestJudge(t *testing.T) {
@@ -67,16 +69,24 @@ func TestMaySend(t *testing.T) {
 
 func TestTokens(t *testing.T) {
 	path := filepath.Join(t.TempDir(), "tokens.json")
-	token, err := AddCaller(path, "one", []string{"read", "agent:a*"})
+	token, err := AddCaller(path, "one", []string{"read", "agent:a*"}, time.Time{})
 	if err != nil {
 		t.Fatal(err)
 	}
 	callers, err := ReadCallers(path)
-	if err != nil || callers.Find(token) == nil || callers.Find(token).Name != "one" || callers.Find(token+"0") != nil || callers.Find("") != nil {
-		t.Fatal(callers, err)
+	if err != nil {
+		t.Fatal(err)
+	}
+	if one, err := callers.Find(token, time.Now().AddDate(200, 0, 0)); err != nil || one.Name != "one" {
+		t.Error(one, err)
+	}
+	for _, bad := range []string{"", token + "0", token[1:], "one"} {
+		if one, err := callers.Find(bad, time.Now()); !errors.Is(err, ErrUnknownToken) || one != nil {
+			t.Errorf("%q: %v %v", bad, one, err)
+		}
 	}
 	for _, bad := range [][]string{{"one", "read"}, {"a/b", "read"}, {"two", "write"}, {"cycle", "read"}, {"two", "role:"}} {
-		if _, err := AddCaller(path, bad[0], bad[1:]); err == nil {
+		if _, err := AddCaller(path, bad[0], bad[1:], time.Time{}); err == nil {
 			t.Errorf("%v was accepted", bad)
 		}
 	}
@@ -86,7 +96,7 @@ func TestTokens(t *testing.T) {
 }
 
 func TestUnknownRightIsNamed(t *testing.T) {
-	_, err := AddCaller(filepath.Join(t.TempDir(), "tokens.json"), "web", []string{"y"})
+	_, err := AddCaller(filepath.Join(t.TempDir(), "tokens.json"), "web", []string{"y"}, time.Time{})
 	if err == nil || !strings.Contains(err.Error(), `token "web": unknown right "y"; expected admin, operate`) {
 		t.Error(err)
 	}
@@ -102,7 +112,7 @@ func TestTokensAtOnce(t *testing.T) {
 		go func(k int) {
 			defer group.Done()
 			var err error
-			if tokens[k], err = AddCaller(path, "caller"+string(rune('a'+k)), []string{"read"}); err != nil {
+			if tokens[k], err = AddCaller(path, "caller"+string(rune('a'+k)), []string{"read"}, time.Time{}); err != nil {
 				t.Error(err)
 			}
 		}(k)
@@ -113,8 +123,72 @@ func TestTokensAtOnce(t *testing.T) {
 		t.Fatal(err)
 	}
 	for k, token := range tokens {
-		if callers.Find(token) == nil {
-			t.Errorf("token %d is lost", k)
+		if _, err := callers.Find(token, time.Now()); err != nil {
+			t.Errorf("token %d: %v", k, err)
+		}
+	}
+}
+
+func TestExpiredToken(t *testing.T) {
+	path, at := filepath.Join(t.TempDir(), "tokens.json"), time.Date(2027, 1, 31, 12, 0, 0, 999, time.UTC)
+	token, err := AddCaller(path, "web", []string{"read"}, at)
+	if err != nil {
+		t.Fatal(err)
+	}
+	callers, err := ReadCallers(path)
+	if err != nil {
+		t.Fatal(err)
+	}
+	if one, err := callers.Find(token, at.Add(-time.Second)); err != nil || one.Name != "web" {
+		t.Error("before it:", one, err)
+	}
+	for _, now := range []time.Time{at.Truncate(time.Second), at.AddDate(10, 0, 0)} {
+		expired := (*ExpiredError)(nil)
+		if _, err := callers.Find(token, now); !errors.As(err, &expired) || expired.Name != "web" || !strings.Contains(err.Error(), `"web" expired at 2027-01-31T12:00:00Z`) {
+			t.Errorf("at %v: %v", now, err)
+		}
+	}
+	if _, err := callers.Find(token+"0", at.AddDate(1, 0, 0)); !errors.Is(err, ErrUnknownToken) {
+		t.Error("another token:", err)
+	}
+}
+
+func TestRevokeCaller(t *testing.T) {
+	path := filepath.Join(t.TempDir(), "tokens.json")
+	tokens := map[string]string{}
+	for _, name := range []string{"a", "b", "c"} {
+		var err error
+		if tokens[name], err = AddCaller(path, name, []string{"read"}, time.Time{}); err != nil {
+			t.Fatal(err)
+		}
+	}
+	if err := RevokeCaller(path, "b"); err != nil {
+		t.Fatal(err)
+	}
+	if err := RevokeCaller(path, "b"); !errors.Is(err, ErrNoCaller) || !strings.Contains(err.Error(), `"b"`) {
+		t.Error("again:", err)
+	}
+	callers, err := ReadCallers(path)
+	if err != nil {
+		t.Fatal(err)
+	}
+	for name, want := range map[string]error{"a": nil, "b": ErrUnknownToken, "c": nil} {
+		if _, err := callers.Find(tokens[name], time.Now()); !errors.Is(err, want) {
+			t.Errorf("%s: %v", name, err)
+		}
+	}
+}
+
+func TestParseExpiry(t *testing.T) {
+	now := time.Date(2026, 12, 1, 4, 30, 0, 0, time.UTC)
+	for text, want := range map[string]string{ // or empty, where it is refused
+		"30d": "2026-12-31T04:30:00Z", "1d": "2026-12-02T04:30:00Z", "12h": "2026-12-01T16:30:00Z", "2026-12-01": "2026-12-02T00:00:00Z", "2027-02-28": "2027-03-01T00:00:00Z",
+		"2027-01-31T12:00:00+02:00": "2027-01-31T10:00:00Z", "36500d": "2126-11-07T04:30:00Z",
+		"2026-11-30": "", "2026-12-01T04:30:00Z": "", "0d": "", "36501d": "", "2000000000d": "", "2000000000h": "", "-1d": "", "1.5d": "", "d": "", "30": "", "": "", "30 d": "", "2027-02-30": "", "1w": "", "3000-01-01": "",
+	} {
+		at, err := ParseExpiry(text, now)
+		if (err == nil) != (want != "") || err == nil && at.UTC().Format(time.RFC3339) != want {
+			t.Errorf("%q: %v %v", text, at, err)
 		}
 	}
 }

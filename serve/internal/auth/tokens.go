@@ -14,15 +14,36 @@ import (
 	"os"
 	"regexp"
 	"strings"
+	"time"
 
 	"gateway/internal/disk"
 )
 
 // Caller is who has a token. Its rights are admin, operate, clock, read, framework:NAME, role:ROLE, agent:NAME or agent:PREFIX*.
 type Caller struct {
-	Name   string   `json:"name"`
-	Sha256 string   `json:"sha256"`
-	Rights []string `json:"rights"`
+	Name    string     `json:"name"`
+	Sha256  string     `json:"sha256"`
+	Rights  []string   `json:"rights"`
+	Expires *time.Time `json:"expires,omitempty"` // or nil: never
+}
+
+// HasExpired reports whether a caller's token is no longer valid.
+func (c *Caller) HasExpired(now time.Time) bool { return c.Expires != nil && !now.Before(*c.Expires) }
+
+// Errors of tokens files and of tokens.
+var (
+	ErrUnknownToken = errors.New("no known token")
+	ErrNoCaller     = errors.New("there is no token of this name")
+)
+
+// ExpiredError reports that a token was valid once.
+type ExpiredError struct {
+	Name string
+	At   time.Time
+}
+
+func (e *ExpiredError) Error() string {
+	return fmt.Sprintf("the token %q expired at %s: ask for a new one", e.Name, e.At.UTC().Format(time.RFC3339))
 }
 
 // Callers is the content of a tokens file.
@@ -86,11 +107,11 @@ func parse(path string, text []byte) (*Callers, error) {
 	return callers, nil
 }
 
-// AddCaller creates a token, adds its digest to a file, and returns it. Two processes may do that at once.
-func AddCaller(path, name string, rights []string) (string, error) {
+// change rewrites a tokens file. Two processes may do that at once. A file that would be wrong is not written.
+func change(path string, edit func([]*Caller) ([]*Caller, error)) error {
 	unlock, err := disk.Lock(path + ".lock")
 	if err != nil {
-		return "", err
+		return err
 	}
 	defer unlock()
 	callers, err := ReadCallers(path)
@@ -98,14 +119,12 @@ func AddCaller(path, name string, rights []string) (string, error) {
 		callers, err = &Callers{}, nil
 	}
 	if err != nil {
-		return "", err
+		return err
 	}
-	secret := make([]byte, 24)
-	if _, err := rand.Read(secret); err != nil {
-		return "", fmt.Errorf("creating a token: %w", err)
+	list, err := edit(callers.list)
+	if err != nil {
+		return err
 	}
-	token := hex.EncodeToString(secret)
-	list := append(callers.list, &Caller{Name: name, Sha256: disk.Digest([]byte(token)), Rights: rights})
 	text, err := json.MarshalIndent(list, "", "  ")
 	if err == nil {
 		_, err = parse(path, text)
@@ -113,8 +132,42 @@ func AddCaller(path, name string, rights []string) (string, error) {
 	if err == nil {
 		err = disk.WriteFile(path, append(text, '\n'))
 	}
-	return token, err
+	return err
 }
+
+// AddCaller creates a token, adds its digest to a file, and returns it. It is valid until a time, or always where that is zero.
+func AddCaller(path, name string, rights []string, expires time.Time) (string, error) {
+	secret := make([]byte, 24)
+	if _, err := rand.Read(secret); err != nil {
+		return "", fmt.Errorf("creating a token: %w", err)
+	}
+	token := hex.EncodeToString(secret)
+	caller := &Caller{Name: name, Sha256: disk.Digest([]byte(token)), Rights: rights}
+	if !expires.IsZero() {
+		expires = expires.UTC().Truncate(time.Second)
+		caller.Expires = &expires
+	}
+	err := change(path, func(list []*Caller) ([]*Caller, error) { return append(list, caller), nil })
+	if err != nil {
+		return "", err
+	}
+	return token, nil
+}
+
+// RevokeCaller removes a token from a file. It returns ErrNoCaller when the file has none of the name.
+func RevokeCaller(path, name string) error {
+	return change(path, func(list []*Caller) ([]*Caller, error) {
+		for k, c := range list {
+			if c.Name == name {
+				return append(list[:k:k], list[k+1:]...), nil
+			}
+		}
+		return nil, fmt.Errorf("%s: token %q: %w", path, name, ErrNoCaller)
+	})
+}
+
+// List returns the callers in the order of the file.
+func (c *Callers) List() []*Caller { return c.list }
 
 // Renewed returns the same callers, whose streams end separately from those that are open.
 func (c *Callers) Renewed() *Callers { return &Callers{list: c.list, replaced: make(chan struct{})} }
@@ -128,15 +181,23 @@ func (c *Callers) Replace() { close(c.replaced) }
 // Replaced returns a channel that is closed when the file is read again.
 func (c *Callers) Replaced() <-chan struct{} { return c.replaced }
 
-// Find returns the caller with a token, or nil. It looks at every token, so that the time it takes does not depend on which it is.
-func (c *Callers) Find(token string) (found *Caller) {
+// Find returns the caller with a token. It looks at every token, so that the time it takes does not depend on which it is. Errors:
+// ErrUnknownToken, *ExpiredError.
+func (c *Callers) Find(token string, now time.Time) (*Caller, error) {
+	found := (*Caller)(nil)
 	sum := []byte(disk.Digest([]byte(token)))
 	for _, one := range c.list {
 		if subtle.ConstantTimeCompare(sum, []byte(strings.ToLower(one.Sha256))) == 1 {
 			found = one
 		}
 	}
-	return found
+	switch {
+	case found == nil:
+		return nil, ErrUnknownToken
+	case found.HasExpired(now):
+		return nil, &ExpiredError{found.Name, *found.Expires}
+	}
+	return found, nil
 }
 
 // BearerToken returns the token of an Authorization header. The scheme may be in any case.

@@ -1,0 +1,38 @@
+// Who calls, and for how long a token lets them. Outside the proof.
+
+package api
+
+import (
+	"context"
+	"errors"
+	"net/http"
+	"time"
+
+	"gateway/internal/auth"
+)
+
+// find returns the caller that a request names by a token, if it has one.
+func find(callers *auth.Callers, token string, hasToken bool) (*auth.Caller, error) {
+	if !hasToken {
+		return nil, auth.ErrUnknownToken
+	}
+	return callers.Find(token, time.Now())
+}
+
+// unauthorized is the answer to a request without a token that is valid: why an expired one is not, or what to send.
+func unauthorized(err error, what string) error {
+	expired := (*auth.ExpiredError)(nil)
+	if errors.As(err, &expired) {
+		what = err.Error()
+	}
+	return refusal(http.StatusUnauthorized, "%s", what)
+}
+
+// endWithToken returns a request that ends when its caller's token expires, so that no stream outlives it.
+func endWithToken(r *http.Request, by *auth.Caller) (*http.Request, context.CancelFunc) {
+	if by.Expires == nil {
+		return r, func() {}
+	}
+	ctx, cancel := context.WithTimeout(r.Context(), time.Until(*by.Expires))
+	return r.WithContext(ctx), cancel
+}

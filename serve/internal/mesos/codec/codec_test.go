@@ -144,6 +144,16 @@ func TestAccessors(t *testing.T) {
 	m.Text("nothing")
 }
 
+// The name of a call that the type does not have is known, so that it can be refused by its name.
+func TestNames(t *testing.T) {
+	for text, want := range map[string]string{`{"type":"REVIVE"}`: "REVIVE", `{"type":"UPDATE_FRAMEWORK"}`: "UPDATE_FRAMEWORK", `{"type":17}`: "17", `{"type":0}`: "UNKNOWN", `{}`: "", `{"type":""}`: "", `{"type":null}`: ""} {
+		m, err := ReadJSON(call, []byte(text))
+		if name, is := m.Name("type"); err != nil || is != (want != "") || is && name != want {
+			t.Errorf("%s: %q %v %v", text, name, is, err)
+		}
+	}
+}
+
 func TestMediaTypes(t *testing.T) {
 	for _, c := range []struct {
 		accept, message string
@@ -160,10 +170,13 @@ func TestMediaTypes(t *testing.T) {
 			t.Errorf("%q %q: %+v %v", c.accept, c.message, form, err)
 		}
 	}
-	for kind, want := range map[string]string{"": "to be present", "text/plain": "Expecting 'Content-Type' of", "application/json": "convert JSON", "Application/JSON; charset=utf-8": "convert JSON", "application/x-protobuf": "parse body"} {
+	for kind, want := range map[string]string{"": "to be present", "text/plain": "Expecting 'Content-Type' of", "application/json": "Failed to parse body into JSON", "Application/JSON; charset=utf-8": "Failed to parse body into JSON", "application/x-protobuf": "Failed to parse body into Call protobuf"} {
 		if _, err := Read(call, kind, []byte("\xff")); err == nil || !strings.Contains(err.Error(), want) {
 			t.Errorf("%s: %v", kind, err)
 		}
+	}
+	if _, err := Read(call, TypeJSON, []byte(`{"type":{}}`)); err == nil || !strings.Contains(err.Error(), "Failed to convert JSON into Call protobuf") {
+		t.Error(err)
 	}
 }
 

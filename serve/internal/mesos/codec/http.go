@@ -4,6 +4,7 @@ package codec
 
 import (
 	"bufio"
+	"encoding/json"
 	"errors"
 	"fmt"
 	"io"
@@ -37,6 +38,10 @@ func Read(name, contentType string, body []byte) (Message, error) {
 		}
 		return m, nil
 	case TypeJSON:
+		if !json.Valid(body) {
+			var value interface{}
+			return Message{}, fmt.Errorf("Failed to parse body into JSON: %w", json.Unmarshal(body, &value))
+		}
 		m, err := ReadJSON(name, body)
 		if err != nil {
 			return m, fmt.Errorf("Failed to convert JSON into Call protobuf: %w", err)

@@ -3,6 +3,7 @@ package codec
 
 import (
 	_ "embed"
+	"encoding/json"
 	"fmt"
 	"strings"
 
@@ -160,6 +161,17 @@ func enumName(field protoreflect.FieldDescriptor, number protoreflect.EnumNumber
 		return string(value.Name())
 	}
 	return fmt.Sprint(number)
+}
+
+// Name returns the name of an enum's value, also one that came in JSON and that the type does not have, and whether the field is set.
+func (m Message) Name(path string) (name string, is bool) {
+	in, field := m.find(path)
+	if in.m == nil || in.m.Has(field) {
+		return m.Enum(path), in.m != nil
+	}
+	raw, _ := splitUnknown(in.m)
+	is = json.Unmarshal(raw[string(field.Name())], &name) == nil && name != ""
+	return name, is
 }
 
 // List returns the messages of a repeated field.

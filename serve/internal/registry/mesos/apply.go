@@ -4,9 +4,7 @@ package mesos
 
 import (
 	"bytes"
-	"crypto/sha256"
 	"encoding/json"
-	"fmt"
 
 	"gateway/internal/registry"
 )
@@ -187,8 +185,7 @@ func (s *State) removeAgent(id string) {
 		f := s.Frameworks[framework]
 		for _, name := range f.TaskNames() {
 			if t := f.Tasks[name]; t.Agent == id && !IsTerminal(t.State) {
-				sum := sha256.Sum256([]byte(fmt.Sprintf("%d %s %s", s.number, f.ID, name)))
-				s.add(f, t, Status{Task: name, Agent: id, State: s.lost(f, "TASK_GONE"), Reason: "REASON_AGENT_REMOVED", Message: "Agent " + id + " was removed", UUID: sum[:16], At: s.at})
+				s.add(f, t, Status{Task: name, Agent: id, State: s.lost(f, "TASK_GONE"), Reason: "REASON_AGENT_REMOVED", Message: "Agent " + id + " was removed", UUID: s.uuid(f, name), At: s.at})
 			}
 			if t := f.Tasks[name]; t != nil && t.Agent == id {
 				for _, h := range t.Holds {

@@ -3,6 +3,7 @@
 package mesos
 
 import (
+	"crypto/sha256"
 	"fmt"
 	"reflect"
 	"sort"
@@ -15,16 +16,23 @@ import (
 // slowTask is a task as the definition has it.
 type slowTask struct {
 	framework, task, agent string
+	executor, state        string
 	number                 int64
 	statuses               []string // uuids, in order
 	acked                  int
 	isDone                 bool // no status is taken any more
 }
 
+// uuidOf is the uuid of a status of the service's own: the first half of a digest of the message and the task.
+func uuidOf(m *registry.Message, t *slowTask) string {
+	sum := sha256.Sum256([]byte(fmt.Sprint(m.Number) + " " + t.framework + " " + t.task))
+	return string(sum[:16])
+}
+
 // define looks at all messages, for each task that was ever launched, what became of it.
 func define(messages []*registry.Message) (rows []string) {
 	var tasks []*slowTask
-	isFramework, ofName := map[string]bool{}, map[string]string{}
+	isFramework, ofName, knowsKilling := map[string]bool{}, map[string]string{}, map[string]bool{}
 	for _, m := range messages {
 		n, _ := decode(m.Note)
 		for k, line := range m.Lines {
@@ -46,7 +54,7 @@ func define(messages []*registry.Message) (rows []string) {
 			case "remove_agent":
 				for _, t := range tasks {
 					if t.agent == registry.Text(fields, "agent") && !t.isDone {
-						t.isDone, t.statuses = true, append(t.statuses, "gone")
+						t.isDone, t.statuses = true, append(t.statuses, uuidOf(m, t))
 					}
 				}
 			}
@@ -54,7 +62,7 @@ func define(messages []*registry.Message) (rows []string) {
 		switch n.Kind {
 		case NoteSubscribe:
 			if isFramework[n.Framework] || registry.AnswerOf(m.Replies[0]) == "ok" {
-				isFramework[n.Framework], ofName[n.Subscription.Name] = true, n.Framework
+				isFramework[n.Framework], ofName[n.Subscription.Name], knowsKilling[n.Framework] = true, n.Framework, n.Subscription.Has("TASK_KILLING_STATE")
 			}
 		case NoteAccept:
 			for _, l := range n.Launches {
@@ -66,21 +74,32 @@ func define(messages []*registry.Message) (rows []string) {
 					does = does && (t.framework != n.Framework || t.task != l.Task)
 				}
 				if does {
-					tasks = append(tasks, &slowTask{framework: n.Framework, task: l.Task, agent: l.Agent, number: m.Number})
+					tasks = append(tasks, &slowTask{framework: n.Framework, task: l.Task, agent: l.Agent, executor: l.Executor, number: m.Number})
+				}
+			}
+		case NoteKill, NoteShutdown:
+			for _, t := range tasks {
+				isMeant := t.task == n.Task && (n.Agent == "" || n.Agent == t.agent)
+				if n.Kind == NoteShutdown {
+					isMeant = t.executor == n.Executor && t.agent == n.Agent
+				}
+				if t.framework == n.Framework && isMeant && t.state == "TASK_RUNNING" && !t.isDone && knowsKilling[n.Framework] {
+					t.statuses, t.state = append(t.statuses, uuidOf(m, t)), "TASK_KILLING"
 				}
 			}
 		case NoteStatus:
 			for _, t := range tasks {
 				isNew := len(t.statuses) == 0 || t.statuses[len(t.statuses)-1] != string(n.Status.UUID)
-				if t.framework == n.Framework && t.task == n.Task && t.number == n.Launch && !t.isDone && isNew {
-					t.statuses, t.isDone = append(t.statuses, string(n.Status.UUID)), IsTerminal(n.Status.State)
+				isLate := t.state == "TASK_KILLING" && !IsTerminal(n.Status.State) || n.Status.State == "TASK_KILLING" && !knowsKilling[n.Framework]
+				if t.framework == n.Framework && t.task == n.Task && t.number == n.Launch && !t.isDone && isNew && !isLate {
+					t.statuses, t.state, t.isDone = append(t.statuses, string(n.Status.UUID)), n.Status.State, IsTerminal(n.Status.State)
 				}
 			}
 		case NoteAck:
 			kept := tasks[:0:0]
 			for _, t := range tasks {
 				for _, ack := range n.Acks {
-					if ack.Framework == t.framework && ack.Task == t.task && t.acked < len(t.statuses) && (t.statuses[t.acked] == string(ack.UUID) || t.statuses[t.acked] == "gone" && len(ack.UUID) == 16) {
+					if ack.Framework == t.framework && ack.Task == t.task && t.acked < len(t.statuses) && t.statuses[t.acked] == string(ack.UUID) {
 						t.acked++
 					}
 				}

@@ -2,7 +2,11 @@
 
 package mesos
 
-import "bytes"
+import (
+	"bytes"
+	"crypto/sha256"
+	"fmt"
+)
 
 // apply is the effect of a note. Answers are the names of refusals of the message's lines, or ok.
 func (s *State) apply(n *Note, answers []string) {
@@ -183,10 +187,20 @@ func (s *State) kill(f *Framework, task, agent string, graceMS int64) {
 	switch {
 	case t == nil:
 		s.update(f, s.unknown(f, task, agent))
+	case agent != "" && agent != t.Agent: // as by Mesos, it is ignored
 	case !IsTerminal(t.State):
 		t.IsKilling, t.GraceMS = true, graceMS
 		s.toAgent(t.Agent, Event{Kind: "KILL", Tasks: []TaskOf{taskOf(f, t)}})
+		if t.State == "TASK_RUNNING" && f.Has("TASK_KILLING_STATE") {
+			s.add(f, t, Status{Task: task, Agent: t.Agent, State: "TASK_KILLING", UUID: s.uuid(f, task), At: s.at})
+		}
 	}
+}
+
+// uuid returns the uuid of a status that no agent sent.
+func (s *State) uuid(f *Framework, task string) []byte {
+	sum := sha256.Sum256([]byte(fmt.Sprintf("%d %s %s", s.number, f.ID, task)))
+	return sum[:16]
 }
 
 // unknown is the status of a task that is not known. As messages are applied in order, nothing is missed that came before.
@@ -212,7 +226,9 @@ func (s *State) reconcile(f *Framework, asked []Asked) {
 			continue
 		}
 		status := Status{Task: t.Task, Agent: t.Agent, State: t.State, Reason: "REASON_RECONCILIATION", Message: "Reconciliation: Latest task state", At: s.at}
-		if t.Last != nil {
+		if len(t.Unacked) > 0 { // the state that the framework has, or gets next: it never goes back to an earlier one
+			status.State, status.Raw = t.Unacked[0].State, t.Unacked[0].Raw
+		} else if t.Last != nil {
 			status.Raw = t.Last.Raw
 		}
 		s.update(f, status)
@@ -224,6 +240,9 @@ func (s *State) status(f *Framework, n *Note) {
 	t := f.Tasks[n.Task]
 	if t == nil || n.Status == nil || t.Number != n.Launch || t.Agent != n.Agent || IsTerminal(t.State) || t.Last != nil && bytes.Equal(t.Last.UUID, n.Status.UUID) {
 		return
+	}
+	if t.State == "TASK_KILLING" && !IsTerminal(n.Status.State) || n.Status.State == "TASK_KILLING" && !f.Has("TASK_KILLING_STATE") {
+		return // it was sent before the kill, or is a state that the framework does not know
 	}
 	status := *n.Status
 	status.Task, status.Agent, status.At = t.Task, t.Agent, s.at

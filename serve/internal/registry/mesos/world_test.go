@@ -163,6 +163,9 @@ func (w *world) random(seen *State) *registry.Message {
 		if w.Intn(2) == 0 {
 			sub.Capabilities = []string{"PARTITION_AWARE"}
 		}
+		if w.Intn(2) == 0 {
+			sub.Capabilities = append(sub.Capabilities, "TASK_KILLING_STATE")
+		}
 		n := &Note{Kind: NoteSubscribe, Framework: framework, Stream: stream, Gateway: "g", Subscription: sub}
 		if !w.frameworks[sub.Name] { // which the guard ensures
 			return w.message(n, line("add_framework", "framework", sub.Name, "roles", sub.Roles))
@@ -210,7 +213,10 @@ func (w *world) random(seen *State) *registry.Message {
 			return w.message(nil, line("finish", "framework", of, "task", hold))
 		}
 	case 13:
-		kind := []string{NoteKill, NoteReconcile, NoteShutdown}[w.Intn(3)]
+		kind := []string{NoteKill, NoteKill, NoteReconcile, NoteShutdown}[w.Intn(4)]
+		if kind == NoteKill && w.Intn(2) == 0 {
+			agent = ""
+		}
 		return w.message(&Note{Kind: kind, Framework: framework, Task: fmt.Sprintf("t%d", w.Intn(9)), Agent: agent, Executor: "e1"})
 	}
 	return w.message(nil)
@@ -270,7 +276,7 @@ func (w *world) status(f *Framework) *registry.Message {
 	if t.Last != nil && w.Intn(5) == 0 {
 		uuid = t.Last.UUID
 	}
-	state := []string{"TASK_STARTING", "TASK_RUNNING", "TASK_FINISHED", "TASK_FAILED"}[w.Intn(4)]
+	state := []string{"TASK_STARTING", "TASK_RUNNING", "TASK_RUNNING", "TASK_KILLING", "TASK_FINISHED", "TASK_FAILED"}[w.Intn(6)]
 	n := &Note{Kind: NoteStatus, Framework: f.ID, Task: t.Task, Agent: t.Agent, Launch: t.Number, Status: &Status{State: state, UUID: uuid, Raw: []byte("raw")}}
 	var lines []string
 	if IsTerminal(state) && !IsTerminal(t.State) && string(uuid) != "" && (t.Last == nil || string(t.Last.UUID) != string(uuid)) {

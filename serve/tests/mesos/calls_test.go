@@ -6,14 +6,9 @@ import (
 	"fmt"
 	"io"
 	"net/http"
-	"os/exec"
-	"path/filepath"
 	"strings"
-	"syscall"
 	"testing"
 	"time"
-
-	"gateway/internal/mesos/codec"
 )
 
 func TestRefusals(t *testing.T) {
@@ -32,17 +27,27 @@ func TestRefusals(t *testing.T) {
 		{`{"type":"REVIVE","framework_id":{"value":"` + c.id + `"}}`, nil, 400, "All non-subscribe calls should include the 'Mesos-Stream-Id' header"},
 		{`{"type":"REVIVE","framework_id":{"value":"` + c.id + `"}}`, []string{"Mesos-Stream-Id", "x"}, 400, "The stream ID 'x' included in this request didn't match the stream ID currently associated with framework ID"},
 		{`{"type":"DECLINE","framework_id":{"value":"x"}}`, nil, 400, "Expecting 'decline' to be present"},
-		{`{"type":"UPDATE_FRAMEWORK","framework_id":{"value":"` + c.id + `"}}`, []string{"Mesos-Stream-Id", stream}, 501, "UPDATE_FRAMEWORK is not supported"},
-		{`{"type":"ACCEPT_INVERSE_OFFERS","framework_id":{"value":"` + c.id + `"}}`, []string{"Mesos-Stream-Id", stream}, 501, "ACCEPT_INVERSE_OFFERS is not supported"},
+		{`{"type":"ACCEPT","framework_id":{"value":"x"}}`, nil, 400, "Expecting 'accept' to be present"},
+		{`{"type":"KILL","framework_id":{"value":"x"}}`, nil, 400, "Expecting 'kill' to be present"},
+		{`{"type":"SHUTDOWN","framework_id":{"value":"x"}}`, nil, 400, "Expecting 'shutdown' to be present"},
+		{`{"type":"ACKNOWLEDGE","framework_id":{"value":"x"}}`, nil, 400, "Expecting 'acknowledge' to be present"},
+		{`{"type":"ACKNOWLEDGE","framework_id":{"value":"x"},"acknowledge":{"agent_id":{"value":"a"},"task_id":{"value":"t"},"uuid":"AA=="}}`, nil, 400, "Failed to validate scheduler::Call: Not a valid UUID"},
+		{`{"type":"RECONCILE","framework_id":{"value":"x"}}`, nil, 400, "Expecting 'reconcile' to be present"},
+		{`{"type":"MESSAGE","framework_id":{"value":"x"}}`, nil, 400, "Expecting 'message' to be present"},
+		{`{"type":"REQUEST","framework_id":{"value":"x"}}`, nil, 400, "Expecting 'request' to be present"},
+		{`{"type":"ACCEPT_INVERSE_OFFERS","framework_id":{"value":"x"}}`, nil, 400, "Expecting 'accept_inverse_offers' to be present"},
+		{`{"type":"UPDATE_FRAMEWORK","framework_id":{"value":"` + c.id + `"}}`, []string{"Mesos-Stream-Id", stream}, 501, "the call type UPDATE_FRAMEWORK is not supported"},
+		{`{"type":"RECONCILE_OPERATIONS","framework_id":{"value":"` + c.id + `"}}`, []string{"Mesos-Stream-Id", stream}, 501, "the call type RECONCILE_OPERATIONS is not supported"},
+		{`{"type":17,"framework_id":{"value":"` + c.id + `"}}`, []string{"Mesos-Stream-Id", stream}, 501, "the call type 17 is not supported"},
+		{`{"type":"ACCEPT_INVERSE_OFFERS","framework_id":{"value":"` + c.id + `"},"accept_inverse_offers":{"inverse_offer_ids":[]}}`, []string{"Mesos-Stream-Id", stream}, 501, "the call type ACCEPT_INVERSE_OFFERS is not supported"},
+		{`{"type":"DECLINE_INVERSE_OFFERS","framework_id":{"value":"` + c.id + `"},"decline_inverse_offers":{"inverse_offer_ids":[]}}`, []string{"Mesos-Stream-Id", stream}, 501, "the call type DECLINE_INVERSE_OFFERS is not supported"},
 		{`{"type":"SUBSCRIBE"}`, nil, 400, "Expecting 'subscribe' to be present"},
 		{`{"type":"SUBSCRIBE","subscribe":{"framework_info":` + frameworkInfo + `}}`, []string{"Mesos-Stream-Id", "x"}, 400, "Subscribe calls should not include the 'Mesos-Stream-Id' header"},
 		{`{"type":"SUBSCRIBE","subscribe":{"framework_info":` + frameworkInfo + `}}`, []string{"Accept", "text/html"}, 406, "Expecting 'Accept' to allow"},
-		{`{"type":"SUBSCRIBE","subscribe":{"framework_info":{"user":"u","name":"n","roles":["a"]}}}`, nil, 400, "must not be set when the framework is not MULTI_ROLE"},
-		{`{"type":"SUBSCRIBE","subscribe":{"framework_info":{"user":"u","name":"n","role":"-a"}}}`, nil, 400, "the role '-a' is not valid"},
-		{`{"type":"SUBSCRIBE","subscribe":{"framework_info":{"user":"u","name":"n","principal":"other"}}}`, nil, 403, "does not match principal"},
-		{`{"type":"SUBSCRIBE","subscribe":{"framework_info":{"user":"u","name":"n"},"suppressed_roles":["x"]}}`, nil, 400, "Suppressed role 'x'"},
-		{`{"type":"SUBSCRIBE","framework_id":{"value":"` + c.id + `"},"subscribe":{"framework_info":{"id":{"value":"` + c.id + `"},"user":"u","name":"n","role":"other"}}}`, nil, 400, "`set_framework`"},
-		{`{`, nil, 400, "Failed to convert JSON"}, {`{"type":"REVIVE"}`, []string{"Content-Type", "text/plain"}, 415, "Expecting 'Content-Type' of"}, {`{"type":"REVIVE"}`, []string{"Content-Type", ""}, 400, "Expecting 'Content-Type' to be present"},
+		{`{"type":"SUBSCRIBE","framework_id":{"value":"a"},"subscribe":{"framework_info":{"user":"u","name":"n"}}}`, nil, 400, "Failed to validate scheduler::Call: 'framework_id' differs from 'subscribe.framework_info.id'"},
+		{`{"type":"SUBSCRIBE","subscribe":{"framework_info":{"user":"u","name":"n","principal":"other"}}}`, nil, 400, "Failed to validate scheduler::Call: Authenticated principal 'admin' does not match principal 'other' set in `FrameworkInfo`"},
+		{`{"type":"SUBSCRIBE","subscribe":{"framework_info":{"name":"n"}}}`, nil, 400, "Failed to convert JSON into Call protobuf"},
+		{`{`, nil, 400, "Failed to parse body into JSON"}, {`{"type":"REVIVE"}`, []string{"Content-Type", "text/plain"}, 415, "Expecting 'Content-Type' of"}, {`{"type":"REVIVE"}`, []string{"Content-Type", ""}, 400, "Expecting 'Content-Type' to be present"},
 		{`{"type":"REVIVE"}`, []string{"Authorization", "Basic eDp5"}, 401, "no known principal"},
 	} {
 		answer := s.request("/api/v1/scheduler", "admin", s.token, one.text, one.headers...)
@@ -50,6 +55,26 @@ func TestRefusals(t *testing.T) {
 		answer.Body.Close()
 		if answer.StatusCode != one.status || !strings.Contains(string(body), one.want) {
 			t.Errorf("%s %v: %s %s", one.text, one.headers, answer.Status, body)
+		}
+	}
+	for _, one := range []struct{ info, more, want string }{
+		{`{"user":"u","name":"n","roles":["a"]}`, ``, "'FrameworkInfo.roles' must not be set when the framework is not MULTI_ROLE capable"},
+		{`{"user":"u","name":"n","role":"a","roles":["a"],"capabilities":[{"type":"MULTI_ROLE"}]}`, ``, "'FrameworkInfo.role' must not be set when the framework is MULTI_ROLE capable"},
+		{`{"user":"u","name":"n","roles":["a","a"],"capabilities":[{"type":"MULTI_ROLE"}]}`, ``, "'FrameworkInfo.roles' contains duplicate items: a"},
+		{`{"user":"u","name":"n","capabilities":[{"type":"MULTI_ROLE"}]}`, ``, "a framework without a role is not supported"},
+		{`{"user":"u","name":"n","role":"-a"}`, ``, "Role '-a' is invalid"},
+		{`{"user":"u","name":"n","failover_timeout":-1}`, ``, "The specified failover_timeout '-1' is invalid"},
+		{`{"user":"u","name":"n"}`, `,"suppressed_roles":["x"]`, "Suppressed role 'x' is not contained in the list of roles"},
+		{`{"user":"u","name":"n","id":{"value":"a/b"}}`, ``, "Framework ID 'a/b' is invalid"},
+		{`{"user":"u","name":"n","role":"other","id":{"value":"` + c.id + `"}}`, ``, "`set_framework`"},
+	} {
+		id := jsonOf(at(parse(one.info), "id"))
+		refused := s.listen("/api/v1/scheduler", "admin", s.token, `{"type":"SUBSCRIBE","framework_id":`+id+`,"subscribe":{"framework_info":`+one.info+one.more+`}}`)
+		if e := refused.next("ERROR"); !strings.Contains(at(e, "error", "message").(string), one.want) {
+			t.Errorf("%s: %v", one.info, e)
+		}
+		if _, isOpen := <-refused.events; isOpen {
+			t.Errorf("%s: the stream goes on", one.info)
 		}
 	}
 	if answer, err := http.Get(s.urls[0] + "/api/v1/scheduler"); err != nil || answer.StatusCode != http.StatusUnauthorized || !strings.HasPrefix(answer.Header.Get("WWW-Authenticate"), "Basic") {
@@ -262,22 +287,7 @@ func TestFailover(t *testing.T) {
 	if status := at(again.next("UPDATE"), "update", "status"); at(status, "state") != "TASK_RUNNING" {
 		t.Errorf("what was not acknowledged did not come again: %v", status)
 	}
-	c.call(400, `{"type":"REVIVE"}`) // by the old stream
-	token := s.addToken("other", "role:other")
-	for text, want := range map[string]int{`{"id":{"value":"` + c.id + `"},"user":"u","name":"n","role":"other"}`: 403, `{"user":"u","name":"n","role":"web"}`: 403} {
-		id := jsonOf(object{"value": at(parse(text), "id", "value")})
-		if at(parse(text), "id") == nil {
-			id = "null"
-		}
-		answer := s.request("/api/v1/scheduler", "other", token, `{"type":"SUBSCRIBE","framework_id":`+id+`,"subscribe":{"framework_info":`+text+`}}`)
-		if answer.Body.Close(); answer.StatusCode != want {
-			t.Errorf("%s: %s", text, answer.Status)
-		}
-	}
-	answer := s.request("/drf/v1/agent-link", "other", token, `{"type":"REGISTER","agent_id":{"value":"n1"}}`)
-	if answer.Body.Close(); answer.StatusCode != http.StatusForbidden {
-		t.Error(answer.Status)
-	}
+	c.call(400, `{"type":"REVIVE"}`)                                               // by the old stream
 	short := s.subscribe("admin", s.token, `{"user":"u","name":"n","role":"web"}`) // its failover_timeout is 0
 	short.body.Close()
 	for end := time.Now().Add(15 * time.Second); ; time.Sleep(100 * time.Millisecond) {
@@ -288,22 +298,4 @@ func TestFailover(t *testing.T) {
 			t.Fatal("a framework without a failover_timeout stays")
 		}
 	}
-}
-
-// addToken adds a token, and lets the gateway read it.
-func (s *service) addToken(name string, rights ...string) string {
-	s.t.Helper()
-	token, err := exec.Command(filepath.Join(s.programs, "gateway"), append([]string{"token", filepath.Join(s.folder, "g0", "tokens.json"), name}, rights...)...).Output()
-	if err != nil {
-		s.t.Fatal(err)
-	}
-	s.gateways[0].running.Process.Signal(syscall.SIGHUP)
-	for end := time.Now().Add(10 * time.Second); time.Now().Before(end); time.Sleep(20 * time.Millisecond) {
-		answer := s.request("/api/v1/scheduler", name, strings.TrimSpace(string(token)), `{}`, "Content-Type", codec.TypeJSON)
-		if answer.Body.Close(); answer.StatusCode != http.StatusUnauthorized {
-			return strings.TrimSpace(string(token))
-		}
-	}
-	s.t.Fatal("the token is not known")
-	return ""
 }

@@ -27,12 +27,6 @@ func (s *service) send(lines ...string) string {
 func TestNeighbours(t *testing.T) {
 	s := newService(t, 1, 0)
 	s.send(`{"event":"add_framework","framework":"site","roles":["web"]}`, `{"event":"suppress","framework":"site","role":"web"}`, `{"event":"add_agent","agent":"m1","total":"cpus:3"}`)
-	info := strings.Replace(frameworkInfo, "{", `{"id":{"value":"site"},`, 1)
-	answer := s.request("/api/v1/scheduler", "admin", s.token, `{"type":"SUBSCRIBE","framework_id":{"value":"site"},"subscribe":{"framework_info":`+info+`}}`)
-	body, _ := io.ReadAll(answer.Body)
-	if answer.Body.Close(); answer.StatusCode != http.StatusConflict || !strings.Contains(string(body), "KnownFramework") {
-		t.Errorf("%s %s", answer.Status, body)
-	}
 	c := s.subscribe("admin", s.token, frameworkInfo)
 	c.none("OFFERS", 1500*time.Millisecond) // on a machine without a link
 	if !strings.Contains(string(s.get(0, "/drf/v1/state")), `"row":"filter"`) {

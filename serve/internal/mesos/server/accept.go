@@ -46,7 +46,7 @@ type acceptance struct {
 
 func (s *Server) accept(ctx context.Context, f *framework, call codec.Message) error {
 	for _, op := range call.List("accept.operations") {
-		switch kind := op.Enum("type"); kind {
+		switch kind, _ := op.Name("type"); kind {
 		case "LAUNCH", "LAUNCH_GROUP", "RESERVE", "UNRESERVE":
 			if !op.Has(strings.ToLower(kind)) {
 				return invalid("Expecting '%s' to be present", strings.ToLower(kind))
@@ -193,12 +193,8 @@ func (a *acceptance) launch(tasks []codec.Message, executor *codec.Message, grou
 		}
 		wanted.Add(use)
 	}
-	trial := wanted.Copy()
-	for _, p := range a.parts {
-		p.left.Copy().Take(trial)
-	}
-	if len(trial) > 0 {
-		return "TASK_ERROR", "REASON_TASK_INVALID", fmt.Sprintf("Task uses more resources %s than available: %s are missing", wanted.Text(), trial.Text())
+	if missing := a.missing(wanted); len(missing) > 0 {
+		return "TASK_ERROR", "REASON_TASK_INVALID", fmt.Sprintf("Task uses more resources %s than available %s: %s are missing", wanted.Text(), a.left().Text(), missing.Text())
 	}
 	name := group
 	if group == "" {
@@ -220,6 +216,24 @@ func (a *acceptance) launch(tasks []codec.Message, executor *codec.Message, grou
 	return "", "", ""
 }
 
+// left returns what is left of all offers.
+func (a *acceptance) left() resources.Bundle {
+	all := resources.Bundle{}
+	for _, p := range a.parts {
+		all.Add(p.left)
+	}
+	return all
+}
+
+// missing returns what the offers do not have of what is wanted.
+func (a *acceptance) missing(wanted resources.Bundle) resources.Bundle {
+	trial := wanted.Copy()
+	for _, p := range a.parts {
+		p.left.Copy().Take(trial)
+	}
+	return trial
+}
+
 // hold takes resources out of the offers, for an allocator's task of each offer that has some of them. Where an offer has many tasks, the
 // last ones share one.
 func (a *acceptance) hold(name string, wanted resources.Bundle) (holds []mesos.Hold) {
@@ -239,40 +253,6 @@ func (a *acceptance) hold(name string, wanted resources.Bundle) (holds []mesos.H
 		holds = append(holds, mesos.Hold{Name: hold, Line: k})
 	}
 	return holds
-}
-
-// move adds the lines of a reservation: what the offers had is free before these.
-func (a *acceptance) move(op codec.Message) error {
-	event, list := "reserve", op.List("reserve.resources")
-	if op.Enum("type") == "UNRESERVE" {
-		event, list = "unreserve", op.List("unreserve.resources")
-	}
-	if a.invalid != "" {
-		return api.Refuse(http.StatusBadRequest, "%s: %s", op.Enum("type"), a.invalid)
-	}
-	if len(a.note.Launches) > 0 {
-		return api.Refuse(http.StatusNotImplemented, "ACCEPT: %s after LAUNCH is not supported; nothing of this call was done", op.Enum("type"))
-	}
-	bundle, err := resources.FromMessages(list)
-	if err != nil {
-		return api.Refuse(http.StatusBadRequest, "%s: %v", op.Enum("type"), err)
-	}
-	byRole := map[string]resources.Bundle{}
-	for _, key := range bundle.Keys() {
-		if key.Role == "*" || !contains(a.Roles, key.Role) || !a.by.Has("role", key.Role) {
-			return api.Refuse(http.StatusForbidden, "%s: the framework may not reserve for the role '%s'", op.Enum("type"), key.Role)
-		}
-		if byRole[key.Role] == nil {
-			byRole[key.Role] = resources.Bundle{}
-		}
-		byRole[key.Role].Add(resources.Bundle{resources.Key{Name: key.Name, Role: "*"}: bundle[key]})
-	}
-	for _, role := range a.Roles {
-		if some := byRole[role]; some != nil {
-			a.moves = append(a.moves, map[string]interface{}{"event": event, "agent": a.agent, "role": role, "resources": some.Text()})
-		}
-	}
-	return nil
 }
 
 // putAccept appends the message. A refusal of what is left that the allocator has no room for is repeated without a time.

@@ -21,11 +21,28 @@ func (s *Server) note(ctx context.Context, n *mesos.Note) error {
 }
 
 func (s *Server) kill(ctx context.Context, f *framework, call codec.Message) error {
-	n := &mesos.Note{Kind: mesos.NoteKill, Framework: f.id, Task: call.Text("kill.task_id.value"), Agent: call.Text("kill.agent_id.value"), GraceMS: defaultGrace}
-	if call.Has("kill.kill_policy.grace_period") {
-		n.GraceMS = call.Int("kill.kill_policy.grace_period.nanoseconds") / 1_000_000
+	n := &mesos.Note{Kind: mesos.NoteKill, Framework: f.id, Task: call.Text("kill.task_id.value"), Agent: call.Text("kill.agent_id.value")}
+	policy := call.Sub("kill.kill_policy")
+	if !policy.Has("grace_period") { // then the task's own
+		s.state.Read(func() {
+			if t := s.state.Frameworks[f.id]; t != nil && t.Tasks[n.Task] != nil {
+				policy = codec.MustReadProtobuf("mesos.TaskInfo", t.Tasks[n.Task].Info).Sub("kill_policy")
+			}
+		})
 	}
+	n.GraceMS = graceOf(policy)
 	return s.note(ctx, n)
+}
+
+// graceOf returns the time between SIGTERM and SIGKILL in milliseconds. A negative one is none.
+func graceOf(policy codec.Message) int64 {
+	if !policy.Has("grace_period") {
+		return defaultGrace
+	}
+	if ms := policy.Int("grace_period.nanoseconds") / 1_000_000; ms > 0 {
+		return ms
+	}
+	return 0
 }
 
 func (s *Server) shutdown(ctx context.Context, f *framework, call codec.Message) error {
@@ -47,12 +64,8 @@ func (s *Server) reconcile(ctx context.Context, f *framework, call codec.Message
 
 // acknowledge answers before the list has it: a status whose acknowledgement is lost is sent again.
 func (s *Server) acknowledge(ctx context.Context, f *framework, call codec.Message) error {
-	id := call.Bytes("acknowledge.uuid")
-	if len(id) != 16 {
-		return invalid("Not a valid UUID")
-	}
 	select {
-	case s.acks <- mesos.Ack{Framework: f.id, Task: call.Text("acknowledge.task_id.value"), UUID: id}:
+	case s.acks <- mesos.Ack{Framework: f.id, Task: call.Text("acknowledge.task_id.value"), UUID: call.Bytes("acknowledge.uuid")}:
 		return nil
 	case <-ctx.Done():
 		return api.Refuse(http.StatusServiceUnavailable, "the list does not answer")
@@ -98,7 +111,7 @@ func (s *Server) ofRoles(ctx context.Context, f *framework, event string, roles 
 	m := &message{}
 	for _, role := range roles {
 		if !contains(f.Roles, role) {
-			return invalid("the framework is not subscribed to role '%s'", role)
+			return api.Refuse(http.StatusBadRequest, "%s: the role '%s' is not one of the subscribed roles; nothing of this call was done", event, role)
 		}
 		m.add(event, "framework", f.Name, "role", role)
 	}

@@ -33,6 +33,13 @@ func nameOf(id string) string {
 	return "x." + hex.EncodeToString(sum[:])[:48]
 }
 
+// ownName returns the allocator's name for a framework whose id the framework brought. It depends on the principal: whatever id a principal
+// brings, it does not get a name that another principal's framework, or one of the event API, has or may come to have.
+func ownName(principal, id string) string {
+	sum := sha256.Sum256([]byte(principal + "\x00" + id))
+	return "x." + hex.EncodeToString(sum[:])[:48]
+}
+
 // holdOf returns the allocator's name for a task on an offer. A task whose id is used again gets another one.
 func holdOf(task string, epoch int, offer uint64) string {
 	return nameOf(fmt.Sprintf("%s.%d.%d", task, epoch, offer))

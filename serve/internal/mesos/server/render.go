@@ -23,6 +23,7 @@ func (s *Server) render(e mesos.Event) (list []codec.Message) {
 	switch e.Kind {
 	case "SUBSCRIBED":
 		m.Set("subscribed.framework_id.value", e.Framework).Set("subscribed.heartbeat_interval_seconds", float64(heartbeatSeconds)).Set("subscribed.master_info", s.masterInfo())
+		return []codec.Message{m, codec.New("mesos.scheduler.Event").Set("type", "HEARTBEAT")} // the first one at once, as by Mesos
 	case "OFFERS":
 		offers := codec.New("mesos.scheduler.Event.Offers")
 		for k, o := range e.Offers {

@@ -49,7 +49,33 @@ var handlers = map[string]handler{
 
 // bodies are the fields that calls need.
 var bodies = map[string]string{"SUBSCRIBE": "subscribe", "ACCEPT": "accept", "DECLINE": "decline", "KILL": "kill", "SHUTDOWN": "shutdown", "ACKNOWLEDGE": "acknowledge",
-	"RECONCILE": "reconcile", "MESSAGE": "message", "REQUEST": "request"}
+	"RECONCILE": "reconcile", "MESSAGE": "message", "REQUEST": "request", "ACCEPT_INVERSE_OFFERS": "accept_inverse_offers", "DECLINE_INVERSE_OFFERS": "decline_inverse_offers"}
+
+// validate returns the kind of a call, after the checks that Mesos makes before it looks for the framework.
+func validate(call codec.Message, principal string) (kind string, err error) {
+	kind, is := call.Name("type")
+	body := bodies[kind]
+	switch {
+	case !is:
+		return "", invalid("Expecting 'type' to be present")
+	case kind != "SUBSCRIBE" && call.Text("framework_id.value") == "":
+		return "", invalid("Expecting 'framework_id' to be present")
+	case body != "" && !call.Has(body):
+		return "", invalid("Expecting '%s' to be present", body)
+	case kind == "ACKNOWLEDGE" && len(call.Bytes("acknowledge.uuid")) != 16:
+		return "", invalid("Not a valid UUID")
+	case kind != "SUBSCRIBE":
+		return kind, nil
+	}
+	info := call.Sub("subscribe.framework_info")
+	switch set := info.Text("principal"); {
+	case call.Text("framework_id.value") != info.Text("id.value"):
+		return "", invalid("'framework_id' differs from 'subscribe.framework_info.id'")
+	case info.Has("principal") && set != principal:
+		return "", invalid("Authenticated principal '%s' does not match principal '%s' set in `FrameworkInfo`", principal, set)
+	}
+	return kind, nil
+}
 
 // framework is a framework that calls.
 type framework struct {
@@ -64,12 +90,9 @@ func (s *Server) scheduler(c *api.Call) error {
 	if err != nil {
 		return err
 	}
-	kind := call.Enum("type")
-	if !call.Has("type") {
-		return invalid("Expecting 'type' to be present")
-	}
-	if body := bodies[kind]; body != "" && !call.Has(body) {
-		return invalid("Expecting '%s' to be present", body)
+	kind, err := validate(call, c.By().Name)
+	if err != nil {
+		return err
 	}
 	if err := s.allocator.WaitReady(c.R.Context()); err != nil {
 		return err
@@ -77,12 +100,9 @@ func (s *Server) scheduler(c *api.Call) error {
 	if kind == "SUBSCRIBE" {
 		return s.subscribe(c, call)
 	}
-	if call.Text("framework_id.value") == "" {
-		return invalid("Expecting 'framework_id' to be present")
-	}
 	answer := handlers[kind]
 	if answer == nil {
-		return api.Refuse(http.StatusNotImplemented, "%s is not supported", kind)
+		return api.Refuse(http.StatusNotImplemented, "the call type %s is not supported", kind)
 	}
 	f, err := s.caller(c, call)
 	if err != nil && s.catchUp(c.R.Context()) == nil { // it may have subscribed at another gateway
@@ -113,7 +133,7 @@ func (s *Server) caller(c *api.Call, call codec.Message) (*framework, error) {
 	case found.ID == "":
 		return nil, api.Refuse(http.StatusBadRequest, "Framework cannot be found")
 	case found.Principal != c.By().Name:
-		return nil, api.Refuse(http.StatusForbidden, "The framework '%s' is another principal's than '%s'", id, c.By().Name)
+		return nil, api.Refuse(http.StatusBadRequest, "Authenticated principal '%s' does not match the principal that subscribed the framework", c.By().Name)
 	case !found.IsConnected:
 		return nil, api.Refuse(http.StatusForbidden, "Framework is not subscribed")
 	case stream == "":

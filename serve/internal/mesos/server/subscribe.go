@@ -4,6 +4,8 @@ package server
 
 import (
 	"context"
+	"errors"
+	"fmt"
 	"log"
 	"net/http"
 	"sort"
@@ -21,40 +23,44 @@ const (
 	repeatAfter = 10 * time.Second // a status that is not acknowledged
 )
 
+// refusedSubscription is why a SUBSCRIBE is refused. As by Mesos, its stream has an ERROR event alone: an error status would be tried again.
+type refusedSubscription struct{ reason string }
+
+func (r *refusedSubscription) Error() string { return r.reason }
+
+func refuseSubscription(format string, values ...interface{}) error {
+	return &refusedSubscription{fmt.Sprintf(format, values...)}
+}
+
 // subscription reads a SUBSCRIBE. The texts are Mesos' where it has one.
 func (s *Server) subscription(c *api.Call, call codec.Message) (id string, sub mesos.Subscription, suppressed map[string]bool, err error) {
 	info := call.Sub("subscribe.framework_info")
 	id = info.Text("id.value")
-	sub = mesos.Subscription{Name: nameOf(id), Principal: c.By().Name, User: info.Text("user"), FailoverMS: int64(info.Float("failover_timeout") * 1000)}
+	failover := info.Float("failover_timeout")
+	sub = mesos.Subscription{Principal: c.By().Name, User: info.Text("user"), FailoverMS: int64(failover * 1000)}
 	for _, one := range info.List("capabilities") {
 		sub.Capabilities = append(sub.Capabilities, one.Enum("type"))
 	}
-	if principal := info.Text("principal"); principal != "" && principal != c.By().Name {
-		return id, sub, nil, api.Refuse(http.StatusForbidden, "Authenticated principal '%s' does not match principal '%s' set in `FrameworkInfo`", c.By().Name, principal)
-	}
-	switch outer := call.Text("framework_id.value"); {
-	case outer != id:
-		return id, sub, nil, invalid("'framework_id' differs from 'subscribe.framework_info.id'")
+	switch {
 	case id != "" && !isID(id):
-		return id, sub, nil, invalid("the framework ID '%s' is not valid", id)
-	case !(sub.FailoverMS >= 0 && info.Float("failover_timeout") < 1e12):
-		return id, sub, nil, invalid("the 'failover_timeout' %v is not valid", info.Float("failover_timeout"))
+		return id, sub, nil, refuseSubscription("Framework ID '%s' is invalid", id)
+	case !(failover >= 0 && failover < 1e12):
+		return id, sub, nil, refuseSubscription("The specified failover_timeout '%v' is invalid", failover)
 	}
 	if sub.Roles, err = rolesOf(info, sub.Has("MULTI_ROLE")); err != nil {
 		return id, sub, nil, err
 	}
 	for _, role := range sub.Roles {
 		if !c.By().Has("role", role) {
-			return id, sub, nil, api.Refuse(http.StatusForbidden, "Not authorized to use role '%s': the principal '%s' needs the right role:%s", role, c.By().Name, role)
+			return id, sub, nil, refuseSubscription("Not authorized to use role '%s': the principal '%s' needs the right role:%s", role, c.By().Name, role)
 		}
 	}
 	suppressed = map[string]bool{}
 	for _, role := range call.Texts("subscribe.suppressed_roles") {
 		if suppressed[role] = true; !contains(sub.Roles, role) {
-			return id, sub, nil, invalid("Suppressed role '%s' is not contained in the list of roles", role)
+			return id, sub, nil, refuseSubscription("Suppressed role '%s' is not contained in the list of roles", role)
 		}
 	}
-	sub.Info = info.Protobuf()
 	return id, sub, suppressed, nil
 }
 
@@ -71,23 +77,23 @@ func rolesOf(info codec.Message, isMulti bool) ([]string, error) {
 	roles := append([]string(nil), info.Texts("roles")...)
 	switch {
 	case isMulti && info.Has("role"):
-		return nil, invalid("'FrameworkInfo.role' must not be set when the framework is MULTI_ROLE capable")
+		return nil, refuseSubscription("'FrameworkInfo.role' must not be set when the framework is MULTI_ROLE capable")
 	case !isMulti && len(roles) > 0:
-		return nil, invalid("'FrameworkInfo.roles' must not be set when the framework is not MULTI_ROLE capable")
+		return nil, refuseSubscription("'FrameworkInfo.roles' must not be set when the framework is not MULTI_ROLE capable")
 	case !isMulti:
 		roles = []string{info.Text("role")}
 	case len(roles) == 0:
-		return nil, invalid("'FrameworkInfo.roles' is empty: a framework without a role is not supported")
+		return nil, refuseSubscription("'FrameworkInfo.roles' is empty: a framework without a role is not supported")
 	case len(roles) > maxRoles:
-		return nil, invalid("'FrameworkInfo.roles' has %d roles: at most %d are supported", len(roles), maxRoles)
+		return nil, refuseSubscription("'FrameworkInfo.roles' has %d roles: at most %d are supported", len(roles), maxRoles)
 	}
 	sort.Strings(roles)
 	for k, role := range roles {
 		if k > 0 && roles[k-1] == role {
-			return nil, invalid("'FrameworkInfo.roles' contains duplicate items: %s", role)
+			return nil, refuseSubscription("'FrameworkInfo.roles' contains duplicate items: %s", role)
 		}
 		if !resources.IsRole(role) {
-			return nil, invalid("the role '%s' is not valid: expected 1 to 8 parts of visible characters without ( ) : ;, at most 64 bytes", role)
+			return nil, refuseSubscription("Role '%s' is invalid: expected 1 to 8 parts of visible characters without ( ) : ;, at most 64 bytes", role)
 		}
 	}
 	return roles, nil
@@ -102,33 +108,42 @@ func (s *Server) subscribe(c *api.Call, call codec.Message) error {
 	if c.R.Header.Get(streamHeader) != "" {
 		return api.Refuse(http.StatusBadRequest, "Subscribe calls should not include the '%s' header", streamHeader)
 	}
-	id, sub, suppressed, err := s.subscription(c, call)
-	if err != nil {
-		return err
-	}
 	release, err := c.Stream()
 	if err != nil {
 		return err
 	}
 	defer release()
+	err = s.stream(c, form, call)
+	if refused := (*refusedSubscription)(nil); errors.As(err, &refused) {
+		setHeaders(c, form, uuid())
+		c.Send(form.Record(errorEvent(refused.reason)))
+		return nil
+	}
+	return err
+}
+
+// stream subscribes a framework, and writes its stream until that ends.
+func (s *Server) stream(c *api.Call, form codec.Form, call codec.Message) error {
+	id, sub, suppressed, err := s.subscription(c, call)
+	if err != nil {
+		return err
+	}
 	if err := s.catchUp(c.R.Context()); err != nil {
 		return err
 	}
 	if err := s.nameCluster(c.R.Context()); err != nil {
 		return err
 	}
-	if id == "" {
+	if sub.Name = ownName(sub.Principal, id); id == "" {
 		id = s.ids.next()
 		sub.Name = nameOf(id)
-		info := codec.MustReadProtobuf("mesos.FrameworkInfo", sub.Info)
-		sub.Info = info.Set("id.value", id).Protobuf()
 	}
+	info := call.Sub("subscribe.framework_info")
+	sub.Info = info.Set("id.value", id).Set("principal", sub.Principal).Protobuf()
 	wasRemoved := false
 	s.state.Read(func() { wasRemoved = s.state.WasRemoved(id) && s.state.Frameworks[id] == nil })
 	if wasRemoved {
-		setHeaders(c, form, uuid())
-		c.Send(form.Record(errorEvent("Framework has been removed")))
-		return nil
+		return refuseSubscription("Framework has been removed")
 	}
 	one := s.streams.add(uuid())
 	defer s.streams.remove(one)
@@ -139,7 +154,7 @@ func (s *Server) subscribe(c *api.Call, call codec.Message) error {
 		return err
 	}
 	if one.isOver() && len(one.events) == 0 {
-		return api.Refuse(http.StatusConflict, "the allocator did not take the framework '%s': %s", id, strings.Join(answers, ", "))
+		return refuseSubscription("the allocator did not take the framework '%s': %s", id, strings.Join(answers, ", "))
 	}
 	setHeaders(c, form, one.id)
 	s.run(c, form, one, id)
@@ -168,7 +183,8 @@ func (s *Server) nameCluster(ctx context.Context) error {
 	return err
 }
 
-// subscribeMessage builds the message of a subscription.
+// subscribeMessage builds the message of a subscription. A framework that comes again keeps its name, and as by Mesos its user and whether it
+// checkpoints.
 func (s *Server) subscribeMessage(id, stream string, sub mesos.Subscription, suppressed map[string]bool) (m *message, err error) {
 	m = &message{note: &mesos.Note{Kind: mesos.NoteSubscribe, Framework: id, Stream: stream, Gateway: s.session, Subscription: &sub}}
 	s.state.Read(func() {
@@ -177,9 +193,16 @@ func (s *Server) subscribeMessage(id, stream string, sub mesos.Subscription, sup
 		case f == nil:
 			m.add("add_framework", "framework", sub.Name, "roles", sub.Roles)
 		case f.Principal != sub.Principal:
-			err = api.Refuse(http.StatusForbidden, "The framework '%s' is another principal's than '%s'", id, sub.Principal)
+			err = refuseSubscription("Framework '%s' is another principal's than '%s'", id, sub.Principal)
 		case strings.Join(f.Roles, " ") != strings.Join(sub.Roles, " "):
-			err = invalid("the framework '%s' is subscribed with the roles [%s] and cannot change them to [%s]: this allocator does not have `set_framework` yet", id, strings.Join(f.Roles, " "), strings.Join(sub.Roles, " "))
+			err = refuseSubscription("Framework '%s' is subscribed with the roles [%s] and cannot change them to [%s]: this allocator does not have `set_framework` yet", id, strings.Join(f.Roles, " "), strings.Join(sub.Roles, " "))
+		}
+		if f != nil {
+			old, info := codec.MustReadProtobuf("mesos.FrameworkInfo", f.Info), codec.MustReadProtobuf("mesos.FrameworkInfo", sub.Info)
+			if info.Clear("checkpoint"); old.Has("checkpoint") {
+				info.Set("checkpoint", old.Bool("checkpoint"))
+			}
+			sub.Name, sub.User, sub.Info = f.Name, f.User, info.Set("user", f.User).Protobuf()
 		}
 		for _, role := range sub.Roles {
 			if suppressed[role] {

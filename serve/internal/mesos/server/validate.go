@@ -31,6 +31,8 @@ func (a *acceptance) validate(task codec.Message, isGrouped bool) (resources.Bun
 		return nil, errors.New("'TaskInfo.executor' must not be set")
 	case isGrouped && !task.Has("command"):
 		return nil, errors.New("a task of a group without 'TaskInfo.command' is not supported")
+	case task.Int("kill_policy.grace_period.nanoseconds") < 0:
+		return nil, errors.New("Task's 'kill_policy.grace_period' must be non-negative")
 	case task.Has("executor"):
 		return nil, errors.New("'TaskInfo.executor' is not supported yet: launch a command, or a group with a DEFAULT executor")
 	case task.Has("health_check") || task.Has("check"):

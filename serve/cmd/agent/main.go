@@ -14,9 +14,13 @@ import (
 	"syscall"
 	"time"
 
+	"github.com/coreos/go-systemd/daemon"
+
 	"gateway/internal/mesos/agent"
 	"gateway/internal/mesos/codec"
 	"gateway/internal/mesos/resources"
+	"gateway/internal/usage"
+	"gateway/internal/version"
 )
 
 func main() {
@@ -44,8 +48,13 @@ func run(arguments []string) error {
 	principal := flags.String("principal", "admin", "name of the token")
 	tokenFile := flags.String("token-file", "", "file of the token")
 	keep := flags.Duration("keep", 24*time.Hour, "how long sandboxes of ended tasks are kept")
-	if err := flags.Parse(arguments); err != nil {
+	isVersion := flags.Bool("version", false, "print the version, and end")
+	if err := usage.Parse(flags, arguments, "[FLAG..]"); err != nil {
 		return err
+	}
+	if *isVersion {
+		fmt.Println("durzhanok-agent", version.Number)
+		return nil
 	}
 	if flags.NArg() > 0 {
 		return fmt.Errorf("%q: arguments without a flag are not expected", flags.Arg(0))
@@ -76,6 +85,7 @@ func run(arguments []string) error {
 	log.Printf("agent %s with %s", a.ID(), *given)
 	ctx, stop := signal.NotifyContext(context.Background(), os.Interrupt, syscall.SIGTERM)
 	defer stop()
+	daemon.SdNotify(true, daemon.SdNotifyReady) // the flags and files are right; no task gets to know systemd's socket
 	a.Run(ctx)
 	return nil
 }

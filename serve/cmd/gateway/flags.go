@@ -16,6 +16,7 @@ import (
 	"gateway/internal/etcd"
 	"gateway/internal/limit"
 	mesosserver "gateway/internal/mesos/server"
+	"gateway/internal/usage"
 )
 
 type options struct {
@@ -30,6 +31,7 @@ type options struct {
 	allocator                                    allocator.Config
 	limits                                       limit.Rates
 	mesos                                        mesosserver.Config
+	version                                      bool
 }
 
 // size is a flag in bytes, such as 256MiB.
@@ -53,7 +55,7 @@ func (s *size) Set(text string) error {
 }
 
 func readOptions(arguments []string) (*options, error) {
-	o, flags := &options{mesos: mesosserver.DefaultConfig()}, flag.NewFlagSet("gateway", flag.ContinueOnError)
+	o, flags := &options{mesos: mesosserver.DefaultConfig()}, flag.NewFlagSet("durzhanok-gateway", flag.ContinueOnError)
 	o.etcd.Quota = 8 << 30
 	flags.StringVar(&o.data, "data", "durzhanok-data", "folder of the journal, the snapshots and the embedded etcd")
 	flags.StringVar(&o.drf, "drf", "drf", "program of the allocator")
@@ -92,7 +94,8 @@ func readOptions(arguments []string) (*options, error) {
 	flags.DurationVar(&o.mesos.AgentGone, "mesos-agent-gone", o.mesos.AgentGone, "how long an agent of Mesos' may be away until it is removed and its tasks are lost")
 	flags.DurationVar(&o.mesos.GatewayGrace, "mesos-gateway-grace", o.mesos.GatewayGrace, "how long a framework of Mesos' may take to come again when its gateway ended, if its failover_timeout is less")
 	flags.DurationVar(&o.mesos.MaxRefuse, "mesos-max-refuse", o.mesos.MaxRefuse, "greatest refuse_seconds of frameworks of Mesos'")
-	if err := flags.Parse(arguments); err != nil {
+	flags.BoolVar(&o.version, "version", false, "print the version, and end")
+	if err := usage.Parse(flags, arguments, "[FLAG..]", "token FILE NAME RIGHT.."); err != nil {
 		return nil, err
 	}
 	for _, check := range []struct {

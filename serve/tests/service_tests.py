@@ -372,5 +372,5 @@ def the_unit_names_flags_that_there_are(browser, room):
     room.service()
     with open(os.path.join(SERVE, "durzhanok.service"), encoding="utf-8") as file:
         flags = set(re.findall(r"\s-([a-z-]+)", re.search(r"^ExecStart=(?:.*\\\n)*.*", file.read(), flags=re.M)[0]))
-    known = set(re.findall(r"^  -([a-z-]+)", subprocess.run([room.programs.gateway, "-help"], capture_output=True, text=True, check=False).stderr, flags=re.M))
+    known = set(re.findall(r"^  -([a-z-]+)", subprocess.run([room.programs.gateway, "-help"], capture_output=True, text=True, check=False).stdout, flags=re.M))
     equal("unknown", flags - known, set())

@@ -11,6 +11,8 @@ import (
 	"os/signal"
 	"runtime/debug"
 	"syscall"
+
+	"gateway/internal/version"
 )
 
 func main() {
@@ -18,7 +20,7 @@ func main() {
 		debug.SetGCPercent(50) // most of the memory is garbage of requests, and memory is worth more than a few percent of a processor
 	}
 	if err := run(os.Args[1:]); err != nil && !errors.Is(err, flag.ErrHelp) {
-		fmt.Fprintln(os.Stderr, "gateway:", err)
+		fmt.Fprintln(os.Stderr, "durzhanok-gateway:", err)
 		os.Exit(1)
 	}
 }
@@ -30,6 +32,10 @@ func run(arguments []string) error {
 	o, err := readOptions(arguments)
 	if err != nil {
 		return err
+	}
+	if o.version {
+		fmt.Println("durzhanok-gateway", version.Number)
+		return nil
 	}
 	ctx, stop := signal.NotifyContext(context.Background(), os.Interrupt, syscall.SIGTERM)
 	defer stop()

@@ -17,6 +17,8 @@ import (
 	"syscall"
 	"time"
 
+	"github.com/coreos/go-systemd/daemon"
+
 	"gateway/internal/allocator"
 	"gateway/internal/api"
 	"gateway/internal/auth"
@@ -40,6 +42,9 @@ const (
 
 // openData creates the data folder, keeps a second gateway out of it, and creates a token that may do everything where there is none yet.
 func (o *options) openData() error {
+	if err := disk.CheckOwner(o.data); err != nil {
+		return fmt.Errorf("the data folder: %w", err)
+	}
 	wasOpen, err := disk.PrivateFolder(o.data)
 	if err != nil {
 		return fmt.Errorf("the data folder: %w", err)
@@ -106,6 +111,7 @@ func (o *options) serve(ctx context.Context) error {
 		g.runParts(parts, journal)
 	}()
 	go g.reload(parts)
+	daemon.SdNotify(true, daemon.SdNotifyReady) // it listens, and its files and tokens are right: systemctl start returns
 	select {
 	case err = <-g.ends:
 	case <-ctx.Done():

@@ -8,17 +8,19 @@ import (
 	"fmt"
 	"io"
 	"os"
+	"path/filepath"
 	"strings"
 	"text/tabwriter"
 	"time"
 
 	"gateway/internal/auth"
+	"gateway/internal/disk"
 )
 
 const tokenUsage = `usage:
-  gateway token add [-expires WHEN] FILE NAME RIGHT..
-  gateway token list FILE
-  gateway token revoke FILE NAME
+  durzhanok-gateway token add [-expires WHEN] FILE NAME RIGHT..
+  durzhanok-gateway token list FILE
+  durzhanok-gateway token revoke FILE NAME
 rights are admin, operate, clock, read, framework:NAME, role:ROLE, agent:NAME, agent:PREFIX*
 WHEN is 30d, 12h, 2027-01-31 (the end of that day in UTC) or 2027-01-31T12:00:00Z`
 
@@ -38,7 +40,7 @@ func tokenCommand(arguments []string, out, notes io.Writer) error {
 	return addToken(arguments, out, time.Now())
 }
 
-// addToken creates a token and prints it.
+// addToken creates a token and prints it. Root does it as the owner of the file's folder, so that the gateway can read the file.
 func addToken(arguments []string, out io.Writer, now time.Time) error {
 	flags := flag.NewFlagSet("gateway token add", flag.ContinueOnError)
 	flags.SetOutput(io.Discard)
@@ -55,6 +57,9 @@ func addToken(arguments []string, out io.Writer, now time.Time) error {
 		if expires, err = auth.ParseExpiry(*when, now); err != nil {
 			return fmt.Errorf("-expires %w", err)
 		}
+	}
+	if err := disk.BecomeOwner(filepath.Dir(flags.Arg(0))); err != nil {
+		return err
 	}
 	token, err := auth.AddCaller(flags.Arg(0), flags.Arg(1), flags.Args()[2:], expires)
 	if err == nil {
@@ -91,6 +96,9 @@ func listTokens(arguments []string, out io.Writer, now time.Time) error {
 func revokeToken(arguments []string, notes io.Writer) error {
 	if len(arguments) != 2 {
 		return errors.New(tokenUsage)
+	}
+	if err := disk.BecomeOwner(filepath.Dir(arguments[0])); err != nil {
+		return err
 	}
 	if err := auth.RevokeCaller(arguments[0], arguments[1]); err != nil {
 		return err

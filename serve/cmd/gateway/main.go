@@ -29,6 +29,9 @@ func run(arguments []string) error {
 	if len(arguments) > 0 && arguments[0] == "token" {
 		return tokenCommand(arguments[1:], os.Stdout, os.Stderr)
 	}
+	if len(arguments) > 0 && arguments[0] == "credentials" {
+		return credentialsCommand(arguments[1:], os.Stderr)
+	}
 	o, err := readOptions(arguments)
 	if err != nil {
 		return err

@@ -4,6 +4,7 @@ package api
 
 import (
 	"net/http"
+	"time"
 
 	"gateway/internal/auth"
 )
@@ -42,13 +43,9 @@ func (c *Call) Send(text []byte) bool { return c.send(text) }
 func (s *Server) mounted(w http.ResponseWriter, r *http.Request) error {
 	callers := s.callers.Load().(*auth.Callers)
 	token, hasToken := auth.BearerToken(r.Header.Get("Authorization"))
-	user, password, isBasic := r.BasicAuth()
-	if isBasic {
-		token, hasToken = password, true
-	}
 	by, err := find(callers, token, hasToken)
-	if err == nil && isBasic && by.Name != user {
-		err = auth.ErrUnknownToken
+	if user, password, isBasic := r.BasicAuth(); isBasic {
+		by, err = callers.FindPrincipal(user, password, time.Now())
 	}
 	if err != nil {
 		w.Header().Set("WWW-Authenticate", `Basic realm="mesos-master"`)

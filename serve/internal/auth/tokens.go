@@ -23,6 +23,7 @@ import (
 type Caller struct {
 	Name    string     `json:"name"`
 	Sha256  string     `json:"sha256"`
+	Salt    string     `json:"salt,omitempty"` // of a secret that is used with the name alone, by HTTP Basic, or empty: of a token
 	Rights  []string   `json:"rights"`
 	Expires *time.Time `json:"expires,omitempty"` // or nil: never
 }
@@ -96,6 +97,9 @@ func parse(path string, text []byte) (*Callers, error) {
 			return nil, fmt.Errorf("%s: token %q: this name is reserved for the gateways", path, c.Name)
 		case names[c.Name]:
 			return nil, fmt.Errorf("%s: token %q: there are two of this name", path, c.Name)
+		}
+		if salt, err := hex.DecodeString(c.Salt); err != nil || len(salt) != 0 && len(salt) != saltSize {
+			return nil, fmt.Errorf("%s: token %q: the salt is not %d bytes in hexadecimal", path, c.Name, saltSize)
 		}
 		names[c.Name] = true
 		for _, right := range c.Rights {
@@ -187,7 +191,7 @@ func (c *Callers) Find(token string, now time.Time) (*Caller, error) {
 	found := (*Caller)(nil)
 	sum := []byte(disk.Digest([]byte(token)))
 	for _, one := range c.list {
-		if subtle.ConstantTimeCompare(sum, []byte(strings.ToLower(one.Sha256))) == 1 {
+		if subtle.ConstantTimeCompare(sum, []byte(strings.ToLower(one.Sha256))) == 1 && one.Salt == "" {
 			found = one
 		}
 	}

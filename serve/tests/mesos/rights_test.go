@@ -5,6 +5,7 @@ package mesos
 import (
 	"io"
 	"net/http"
+	"os"
 	"os/exec"
 	"path/filepath"
 	"strings"
@@ -114,6 +115,44 @@ func TestNamesAreBound(t *testing.T) {
 	again.call(202, `{"type":"RECONCILE","reconcile":{}}`)
 	if status := at(again.next("UPDATE"), "update", "status"); at(status, "task_id", "value") != "t" {
 		t.Errorf("%v", status)
+	}
+}
+
+// Principals of a credentials file are known by HTTP Basic with their names, and by nothing else.
+func TestCredentials(t *testing.T) {
+	s := newService(t, 1, 1)
+	file := filepath.Join(s.folder, "credentials")
+	if err := os.WriteFile(file, []byte("marathon s3cret\nchronos s3cret\n"), 0o600); err != nil {
+		t.Fatal(err)
+	}
+	importer := exec.Command(filepath.Join(s.programs, "gateway"), "credentials", "-tokens", filepath.Join(s.folder, "g0", "tokens.json"), file, "role:web")
+	if text, err := importer.CombinedOutput(); err != nil || !strings.Contains(string(text), "2 principals are in") || strings.Contains(string(text), "s3cret") {
+		t.Fatalf("%v %s", err, text)
+	}
+	s.addToken("other", "read") // which lets the gateway read the file
+	for _, one := range []struct {
+		header string
+		status int
+	}{
+		{"Basic bWFyYXRob246czNjcmV0", 400}, {"Basic Y2hyb25vczpzM2NyZXQ=", 400}, // marathon:s3cret, chronos:s3cret; the body is empty
+		{"Basic b3RoZXI6czNjcmV0", 401}, {"Basic bWFyYXRob246", 401}, {"Bearer s3cret", 401}, // other:s3cret, marathon:
+	} {
+		answer := s.request("/api/v1/scheduler", "", "", "{}", "Authorization", one.header)
+		if answer.Body.Close(); answer.StatusCode != one.status {
+			t.Errorf("%s: %s", one.header, answer.Status)
+		}
+	}
+	if err := os.WriteFile(file, []byte("s3cret"), 0o600); err != nil {
+		t.Fatal(err)
+	}
+	p := s.scheduler("one", 0, "-principal", "marathon", "-token-file", file, "-tasks", "3", "-within", "100s")
+	p.start()
+	p.wait()
+	if c := s.subscribe("marathon", "s3cret", frameworkInfo); c.id == "" {
+		t.Error("there is no framework")
+	}
+	if why := s.refused("chronos", "s3cret", `{"user":"u","name":"n","role":"ops"}`); !strings.Contains(why, "Not authorized to use role 'ops'") {
+		t.Error(why)
 	}
 }
 

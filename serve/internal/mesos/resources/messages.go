@@ -54,7 +54,7 @@ func fromMessage(m codec.Message) (key Key, v Value, err error) {
 		return key, v, fmt.Errorf("the type %s is not SCALAR, RANGES or SET", m.Enum("type"))
 	}
 	if err == nil {
-		err = check(key, v)
+		err = Check(key, v)
 	}
 	return key, v, err
 }

@@ -25,6 +25,12 @@ type Value struct {
 
 func (v Value) isEmpty() bool { return v.Scalar == 0 && len(v.Ranges) == 0 && len(v.Items) == 0 }
 
+// AddRange adds the numbers from the first to the last.
+func (v *Value) AddRange(first, last uint64) { v.Ranges = joinRanges(v.Ranges, []Range{{first, last}}) }
+
+// AddItem adds an item.
+func (v *Value) AddItem(item string) { v.Items = joinItems(v.Items, []string{item}) }
+
 // Bundle is resources. An empty value is not in it.
 type Bundle map[Key]Value
 
@@ -196,13 +202,14 @@ func (b Bundle) Text() string {
 		case len(v.Items) > 0:
 			pieces = append(pieces, name+":{"+strings.Join(v.Items, ",")+"}")
 		default:
-			pieces = append(pieces, name+":"+amountText(v.Scalar))
+			pieces = append(pieces, name+":"+AmountText(v.Scalar))
 		}
 	}
 	return strings.Join(pieces, ";")
 }
 
-func amountText(thousandths uint64) string {
+// AmountText returns an amount of thousandths as the allocator writes it.
+func AmountText(thousandths uint64) string {
 	text := fmt.Sprintf("%d.%03d", thousandths/1000, thousandths%1000)
 	return strings.TrimSuffix(strings.TrimRight(text, "0"), ".")
 }
@@ -226,7 +233,7 @@ func Parse(text string) (Bundle, error) {
 		}
 		v, err := parseValue(body)
 		if err == nil {
-			err = check(key, v)
+			err = Check(key, v)
 		}
 		if err != nil {
 			return nil, fmt.Errorf("resources %q: %w", piece, err)
@@ -298,7 +305,8 @@ func IsRole(role string) bool {
 	return true
 }
 
-func check(key Key, v Value) error {
+// Check reports a name, a role or an item that the allocator does not take.
+func Check(key Key, v Value) error {
 	if !isLabel.MatchString(key.Name) {
 		return fmt.Errorf("the name %q: expected 1 to 64 letters, digits, and _ - . /", key.Name)
 	}

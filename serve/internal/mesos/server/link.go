@@ -21,7 +21,7 @@ func (s *Server) link(c *api.Call) error {
 		return err
 	}
 	id := call.Text("agent_id.value")
-	if !isName.MatchString(id) || !c.By().Has("agent", id) {
+	if !resources.IsName(id) || !c.By().Has("agent", id) {
 		return api.Refuse(http.StatusForbidden, "%s has no right to speak for the agent %q", c.By().Name, id)
 	}
 	if err := s.allocator.WaitReady(c.R.Context()); err != nil {

@@ -3,12 +3,10 @@
 package server
 
 import (
-	"crypto/sha256"
-	"encoding/hex"
 	"fmt"
-	"regexp"
-	"strings"
 	"sync/atomic"
+
+	"gateway/internal/mesos/resources"
 )
 
 // ids makes ids of frameworks.
@@ -21,23 +19,13 @@ func (i *ids) next() string {
 	return fmt.Sprintf("%s-%04d", i.prefix, atomic.AddInt64(&i.count, 1)-1)
 }
 
-var isName = regexp.MustCompile(`^[A-Za-z0-9_.-]{1,64}$`)
-
-// nameOf returns the allocator's name for an id: the id, or a digest where it is too long or has other characters. No id gets the name of
-// another, as one that begins with `x.` gets a digest too.
-func nameOf(id string) string {
-	if isName.MatchString(id) && !strings.HasPrefix(id, "x.") {
-		return id
-	}
-	sum := sha256.Sum256([]byte(id))
-	return "x." + hex.EncodeToString(sum[:])[:48]
-}
+// nameOf returns the allocator's name for an id.
+func nameOf(id string) string { return resources.NameOf(id) }
 
 // ownName returns the allocator's name for a framework whose id the framework brought. It depends on the principal: whatever id a principal
 // brings, it does not get a name that another principal's framework, or one of the event API, has or may come to have.
 func ownName(principal, id string) string {
-	sum := sha256.Sum256([]byte(principal + "\x00" + id))
-	return "x." + hex.EncodeToString(sum[:])[:48]
+	return resources.Digest(principal + "\x00" + id)
 }
 
 // holdOf returns the allocator's name for a task on an offer. A task whose id is used again gets another one.

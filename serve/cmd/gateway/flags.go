@@ -95,7 +95,7 @@ func readOptions(arguments []string) (*options, error) {
 	flags.DurationVar(&o.mesos.GatewayGrace, "mesos-gateway-grace", o.mesos.GatewayGrace, "how long a framework of Mesos' may take to come again when its gateway ended, if its failover_timeout is less")
 	flags.DurationVar(&o.mesos.MaxRefuse, "mesos-max-refuse", o.mesos.MaxRefuse, "greatest refuse_seconds of frameworks of Mesos'")
 	flags.BoolVar(&o.version, "version", false, "print the version, and end")
-	if err := usage.Parse(flags, arguments, "[FLAG..]", "token add|list|revoke .."); err != nil {
+	if err := usage.Parse(flags, arguments, "[FLAG..]", "token add|list|revoke ..", "import [FLAG..] FILE"); err != nil {
 		return nil, err
 	}
 	for _, check := range []struct {

@@ -21,16 +21,33 @@ func main() {
 	}
 	if err := run(os.Args[1:]); err != nil && !errors.Is(err, flag.ErrHelp) {
 		fmt.Fprintln(os.Stderr, "durzhanok-gateway:", err)
-		os.Exit(1)
+		status := 1
+		if s := (*statusError)(nil); errors.As(err, &s) {
+			status = s.status
+		}
+		os.Exit(status)
 	}
 }
 
+// statusError is an error that ends the process with a status of its own.
+type statusError struct {
+	status int
+	err    error
+}
+
+func (s *statusError) Error() string { return s.err.Error() }
+func (s *statusError) Unwrap() error { return s.err }
+
 func run(arguments []string) error {
-	if len(arguments) > 0 && arguments[0] == "token" {
-		return tokenCommand(arguments[1:], os.Stdout, os.Stderr)
-	}
-	if len(arguments) > 0 && arguments[0] == "credentials" {
-		return credentialsCommand(arguments[1:], os.Stderr)
+	if len(arguments) > 0 {
+		switch arguments[0] {
+		case "token":
+			return tokenCommand(arguments[1:], os.Stdout, os.Stderr)
+		case "import":
+			return importCluster(arguments[1:], os.Stdin, os.Stdout, os.Stderr)
+		case "credentials":
+			return credentialsCommand(arguments[1:], os.Stderr)
+		}
 	}
 	o, err := readOptions(arguments)
 	if err != nil {

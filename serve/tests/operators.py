@@ -1,7 +1,9 @@
 # What operators do and see: tokens that expire, an etcd with users. Each test is handed the programs. Outside the proof.
 import datetime
+import hashlib
 import os
 import shutil
+import signal
 import subprocess
 import threading
 import time
@@ -84,6 +86,61 @@ def test_etcd_with_users(programs):
         fleet.__exit__(AssertionError, None, None)
         raise
     fleet.__exit__(None, None, None)
+
+
+def members(gateway, kind):
+    """What a gateway says of all gateways or members of etcd, by name."""
+    return {one["name"]: one for one in gateway.status()["members"][kind]}
+
+
+def test_members(programs):
+    """Each gateway says of each gateway and etcd member how far it is, and which of them is silent; while it is cut off too."""
+    with Fleet("three", programs.gateway, programs.drf, "-cycle", "0", "-etcd-quota", "128MiB") as fleet:
+        one, other, third = fleet.gateways
+        one.send(AGENT)
+        fleet.agreed()
+        assert wait(lambda: all(len(members(g, "gateways")) == 3 and all(m["live"] and m["messages"] == 1 for m in members(g, "gateways").values()) for g in fleet.gateways), 15), one.status()
+        version, drf = subprocess.run([programs.gateway, "-version"], capture_output=True, text=True, check=True).stdout.split()[-1], open(programs.drf, "rb").read()
+        for g in fleet.gateways:
+            gateways, etcd = members(g, "gateways"), members(g, "etcd")
+            for m in gateways.values():
+                assert m["ready"] and m["version"] == version and m["drf"] == hashlib.sha256(drf).hexdigest() and abs(m["clock_offset_ms"]) < 5000 and m["lag"] == 0, m
+            assert len(etcd) == 3 and [m["leader"] for m in etcd.values()].count(True) == 1 and all(m["reachable"] and m["quota"] == 128 << 20 and 0 < m["used"] <= m["size"] for m in etcd.values()), etcd
+        # an allocator that hangs: its gateway is behind, and the others say so
+        os.kill(third.status()["allocator"]["pid"], signal.SIGSTOP)
+        for n in range(5):
+            one.send({**AGENT, "agent": f"m{n}"})
+        assert wait(lambda: third.status()["lag"] == 5 and members(one, "gateways")["g2"]["lag"] == 5 and members(other, "gateways")["g2"]["lag"] == 5, 20), one.status()
+        assert figure(third, "drf_lag_messages") == 5 and figure(one, "drf_lag_messages") == 0
+        os.kill(third.status()["allocator"]["pid"], signal.SIGCONT)
+        assert wait(lambda: members(one, "gateways")["g2"]["lag"] == 0, 20), one.status()
+        # two are gone: the third still says what it knows
+        one.kill()
+        other.kill()
+        assert wait(lambda: not third.status()["ready"] and "cut off" in third.status()["fault"] and not any(members(third, "gateways")[name]["live"] for name in ("g0", "g1")), 30), third.status()
+        assert figure(third, "drf_connected") == 0 and figure(third, "drf_ready") == 0 and figure(third, "drf_etcd_members_unreachable") == 2
+        assert third.ask("/drf/v1/report")[0] == 503
+        assert not members(third, "etcd")["g0"]["reachable"], members(third, "etcd")
+
+
+def figure(gateway, name):
+    """A figure of /metrics that has no label."""
+    status, text, _ = gateway.ask("/metrics")
+    assert status == 200, text
+    return next((float(line.split()[1]) for line in text.splitlines() if line.startswith(name + " ")), None)
+
+
+def test_members_of_an_outer_etcd(programs):
+    """Of an etcd of other processes each member is asked, and one that is dead is named."""
+    with Fleet("outer", programs.gateway, programs.drf, "-cycle", "0") as fleet:
+        one = fleet.gateways[0]
+        assert wait(lambda: [m["reachable"] for m in members(one, "etcd").values()] == [True] * 3, 15), one.status()
+        leader = f"e{fleet.leader()}"
+        assert [m["name"] for m in members(one, "etcd").values() if m["leader"]] == [leader] and "etcd" not in members(one, "gateways")["g0"], one.status()
+        victim = next(n for n in range(3) if f"e{n}" != leader)
+        fleet.kill_server(victim)
+        assert wait(lambda: not members(one, "etcd")[f"e{victim}"]["reachable"] and figure(one, "drf_etcd_members_unreachable") == 1, 20), one.status()
+        assert sum(m["reachable"] for m in members(one, "etcd").values()) == 2
 
 
 TESTS = [test for name, test in list(globals().items()) if name.startswith("test_")]

@@ -11,6 +11,7 @@ import (
 	"net"
 	"net/http"
 	"os"
+	"os/exec"
 	"os/signal"
 	"path/filepath"
 	"sync"
@@ -25,6 +26,7 @@ import (
 	"gateway/internal/disk"
 	"gateway/internal/etcd"
 	"gateway/internal/limit"
+	"gateway/internal/members"
 	mesosserver "gateway/internal/mesos/server"
 	"gateway/internal/metrics"
 	"gateway/internal/oplog"
@@ -32,6 +34,7 @@ import (
 	"gateway/internal/registry"
 	"gateway/internal/registry/mesos"
 	"gateway/internal/session"
+	"gateway/internal/version"
 )
 
 const (
@@ -100,6 +103,7 @@ func (o *options) serve(ctx context.Context) error {
 	m := metrics.New()
 	g := &gateway{options: o, metrics: m, ends: make(chan error, 8), server: api.New(m, limit.New(o.limits), limit.NewSlots(largeBodies, 10*time.Second))}
 	g.server.SetCallers(callers)
+	g.addEarlyGauges()
 	closeServer, err := g.listen()
 	if err != nil {
 		return err
@@ -273,14 +277,15 @@ func (g *gateway) build(list *oplog.Log, journal *allocator.Journal) (*api.Servi
 	sessions := session.New(session.Config{Rate: g.removalRate, Burst: 10, Alone: g.etcd.IsAlone(), Timeouts: map[string]time.Duration{
 		registry.Agents: g.agentTimeout, session.Removals: g.agentRemoval, registry.Frameworks: g.frameworkTimeout}}, list, state, mayAppend)
 	runner := periodic.New(periodic.Config{Cycle: g.cycle, OfferTimeout: g.offerTimeout, Window: g.window}, list, a, state, mayAppend)
-	service := &api.Service{Name: g.etcd.Name, Folder: g.data, Window: g.window, Log: list, Journal: journal, Allocator: a, Questions: questions, Registry: state, Sessions: sessions}
+	service := &api.Service{Name: g.etcd.Name, Version: version.Number, Drf: digestOf(g.drf), Started: time.Now(), Folder: g.data, Window: g.window, Log: list, Journal: journal, Allocator: a, Questions: questions, Registry: state, Sessions: sessions}
+	service.Members = members.New(list.Cluster(), list.Path("members/"), g.etcd.Name, service.Report, list.Clock.Live)
 	mesosConfig := g.mesos
 	mesosConfig.Name, mesosConfig.Folder, mesosConfig.Address, mesosConfig.Alone = g.etcd.Name, g.data, g.options.listen, g.etcd.IsAlone()
 	mesosCalls := mesosserver.New(mesosConfig, list, a, state, mesosState, streams, mayAppend)
 	service.Mounts = mesosCalls.Mounts()
 	g.addGauges(service)
 	return service, func(ctx context.Context) {
-		runs := []func(context.Context){list.Clock.Run, list.Space.Run, sessions.Run, runner.Run, questions.Run, mesosCalls.Run,
+		runs := []func(context.Context){list.Clock.Run, list.Space.Run, sessions.Run, runner.Run, questions.Run, mesosCalls.Run, service.Members.Run,
 			func(ctx context.Context) { markEachSecond(ctx, journal) },
 			func(ctx context.Context) {
 				if err := a.Run(ctx); err != nil {
@@ -305,22 +310,6 @@ func (g *gateway) build(list *oplog.Log, journal *allocator.Journal) (*api.Servi
 	}
 }
 
-func (g *gateway) addGauges(service *api.Service) {
-	add := func(name, help string, read func(s api.Status) float64) {
-		g.metrics.Gauge(name, help, func() float64 { return read(service.Status()) })
-	}
-	isTrue := map[bool]float64{true: 1}
-	add("drf_ready", "Whether this gateway is up to date.", func(s api.Status) float64 { return isTrue[s.Ready] })
-	add("drf_clock_agrees", "Whether this gateway's clock is near the service's.", func(s api.Status) float64 { return isTrue[s.ClockFault == ""] })
-	add("drf_messages", "Messages in the list so far.", func(s api.Status) float64 { return float64(s.Messages) })
-	add("drf_journal_bytes", "Bytes of the journal so far.", func(s api.Status) float64 { return float64(s.Bytes) })
-	add("drf_offers_standing", "Offers that exist.", func(s api.Status) float64 { return float64(s.Offers) })
-	add("drf_allocator_restarts", "How often the allocator was restarted.", func(s api.Status) float64 { return float64(s.Allocator.Restarts) })
-	add("drf_time_seconds", "The allocator's time.", func(s api.Status) float64 { return float64(s.At) / 1000 })
-	add("drf_kept_keys", "Idempotency keys of pruned messages that are kept.", func(s api.Status) float64 { return float64(s.KeptKeys) })
-	add("drf_etcd_used_bytes", "Used bytes of etcd's store.", func(s api.Status) float64 { return float64(s.Etcd.Used) })
-}
-
 // markEachSecond makes durable how much of the journal was answered.
 func markEachSecond(ctx context.Context, journal *allocator.Journal) {
 	for {
@@ -333,4 +322,17 @@ func markEachSecond(ctx context.Context, journal *allocator.Journal) {
 			log.Print(err)
 		}
 	}
+}
+
+// digestOf returns the SHA-256 of a program, or an empty text where it cannot be read.
+func digestOf(program string) string {
+	path, err := exec.LookPath(program)
+	if err != nil {
+		return ""
+	}
+	text, err := os.ReadFile(path)
+	if err != nil {
+		return ""
+	}
+	return disk.Digest(text)
 }

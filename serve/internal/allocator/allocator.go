@@ -8,6 +8,7 @@ import (
 	"fmt"
 	"log"
 	"sync"
+	"sync/atomic"
 	"time"
 
 	"gateway/internal/oplog"
@@ -34,6 +35,7 @@ type Allocator struct {
 	snapshots *snapshots
 	positions *positions
 	fail      func(error)
+	waiting   atomic.Int64 // messages that the child was fed, and whose replies are not applied
 
 	mu       sync.Mutex
 	pid      int
@@ -94,12 +96,13 @@ type Status struct {
 	Snapshot int // the newest that was made here
 	Pid      int
 	Restarts int
+	Lag      int64 // messages that came, and whose replies are not applied
 }
 
 // Status returns how far the allocator is.
 func (a *Allocator) Status() Status {
 	a.mu.Lock()
-	s := Status{Pid: a.pid, Restarts: a.restarts}
+	s := Status{Pid: a.pid, Restarts: a.restarts, Lag: a.waiting.Load()}
 	a.mu.Unlock()
 	s.Position, s.Fault, s.Snapshot = a.positions.last(), a.positions.getFault(), a.snapshots.newest().Number
 	return s

@@ -83,6 +83,7 @@ func (a *Allocator) generation(ctx context.Context, from oplog.Snapshot, revisio
 	a.mu.Lock()
 	a.pid = c.pid
 	a.mu.Unlock()
+	a.waiting.Store(0)
 	pipeline, ends := make(chan *inFlight, maxInFlight), make(chan error, 3)
 	go func() { ends <- a.feed(ctx, from.Revision, revision, c.in, pipeline) }()
 	go func() { ends <- a.collect(ctx, c.out, pipeline) }()
@@ -106,6 +107,7 @@ func (a *Allocator) feed(ctx context.Context, after oplog.Revision, revision int
 	hand := func(messages []oplog.Message) error {
 		for _, m := range messages {
 			f := &inFlight{Message: m, fed: time.Now(), lines: m.Lines()}
+			a.waiting.Add(1)
 			select {
 			case pipeline <- f:
 			case <-ctx.Done():
@@ -203,5 +205,6 @@ func (a *Allocator) deliver(block []byte, done []*inFlight) error {
 		}
 	}
 	a.positions.add(new, isWhole)
+	a.waiting.Add(-int64(len(new)))
 	return nil
 }

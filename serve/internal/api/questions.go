@@ -57,6 +57,10 @@ func (q *request) explain() error {
 // readMetrics writes the figures. Those that the allocator must be asked for stay as they were when it does not answer.
 func (q *request) readMetrics() error {
 	m := q.server.metrics
+	if q.Service == nil {
+		m.ServeHTTP(q.w, q.r)
+		return nil
+	}
 	if answer, err := q.ask("report", "", 8*time.Second); err == nil {
 		m.SetShares(answer.Text)
 	}

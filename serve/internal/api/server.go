@@ -14,6 +14,7 @@ import (
 	"gateway/internal/allocator"
 	"gateway/internal/auth"
 	"gateway/internal/limit"
+	"gateway/internal/members"
 	"gateway/internal/metrics"
 	"gateway/internal/oplog"
 	"gateway/internal/registry"
@@ -29,6 +30,9 @@ const patience = 25 * time.Second
 // Service is what a server answers from.
 type Service struct {
 	Name      string
+	Version   string
+	Drf       string // SHA-256 of the allocator's program
+	Started   time.Time
 	Folder    string        // whose disk must have space
 	Window    time.Duration // for which keys are kept
 	Log       *oplog.Log
@@ -37,6 +41,7 @@ type Service struct {
 	Questions *allocator.Questions
 	Registry  *registry.Registry
 	Sessions  *session.Manager
+	Members   *members.Table
 	Mounts    map[string]func(*Call) error // by path, calls of other APIs
 }
 
@@ -95,20 +100,30 @@ type request struct {
 type call struct {
 	method, right string
 	answer        func(*request) error
+	when          when
 }
 
+// when says which calls are answered by a gateway that is not ready: those that say why it is not.
+type when int
+
+const (
+	whenReady  when = iota
+	whenCutOff      // too
+	always          // even before there is a service
+)
+
 var calls = map[string]call{
-	Prefix + "events":                 {http.MethodPost, "", (*request).events},
-	Prefix + "report":                 {http.MethodGet, "read", (*request).report},
-	Prefix + "state":                  {http.MethodGet, "read", (*request).state},
-	Prefix + "explain":                {http.MethodGet, "read", (*request).explain},
-	Prefix + "journal":                {http.MethodGet, "read", (*request).readJournal},
-	Prefix + "replies":                {http.MethodGet, "read", (*request).replies},
-	Prefix + "status":                 {http.MethodGet, "read", (*request).status},
-	Prefix + "frameworks/NAME/offers": {http.MethodGet, "", (*request).offers},
-	Prefix + "frameworks/NAME/alive":  {http.MethodPost, "", (*request).frameworkAlive},
-	Prefix + "agents/NAME/alive":      {http.MethodPost, "", (*request).agentAlive},
-	"/metrics":                        {http.MethodGet, "read", (*request).readMetrics},
+	Prefix + "events":                 {http.MethodPost, "", (*request).events, whenReady},
+	Prefix + "report":                 {http.MethodGet, "read", (*request).report, whenReady},
+	Prefix + "state":                  {http.MethodGet, "read", (*request).state, whenReady},
+	Prefix + "explain":                {http.MethodGet, "read", (*request).explain, whenReady},
+	Prefix + "journal":                {http.MethodGet, "read", (*request).readJournal, whenReady},
+	Prefix + "replies":                {http.MethodGet, "read", (*request).replies, whenReady},
+	Prefix + "status":                 {http.MethodGet, "read", (*request).status, whenCutOff},
+	Prefix + "frameworks/NAME/offers": {http.MethodGet, "", (*request).offers, whenReady},
+	Prefix + "frameworks/NAME/alive":  {http.MethodPost, "", (*request).frameworkAlive, whenReady},
+	Prefix + "agents/NAME/alive":      {http.MethodPost, "", (*request).agentAlive, whenReady},
+	"/metrics":                        {http.MethodGet, "read", (*request).readMetrics, always},
 }
 
 // ServeHTTP answers a request.
@@ -153,19 +168,33 @@ func (s *Server) Healthy() error {
 	return nil
 }
 
-// ready returns the service, unless there is none or it is cut off from the other gateways.
+// ready returns the service, and an error when there is none or it is cut off from the other gateways.
 func (s *Server) ready() (*Service, error) {
 	service, _ := s.service.Load().(*Service)
 	if service == nil {
 		return nil, &allocator.NotReadyError{Reason: s.waiting.Load().(string)}
 	}
-	if problem := service.Log.Cluster().Problem(); problem != "" {
-		return nil, &allocator.NotReadyError{Reason: problem}
-	}
-	if service.Log.Clock.IsCutOff() {
-		return nil, &allocator.NotReadyError{Reason: "it is cut off: etcd's majority does not answer"}
+	if problem := service.cutOff(); problem != "" {
+		return service, &allocator.NotReadyError{Reason: problem}
 	}
 	return service, nil
+}
+
+// cutOff says why etcd's majority is not reached, or is empty.
+func (service *Service) cutOff() string {
+	if problem := service.Log.Cluster().Problem(); problem != "" {
+		return problem
+	}
+	if service.Log.Clock.IsCutOff() {
+		return "it is cut off: etcd's majority does not answer"
+	}
+	return ""
+}
+
+// IsConnected reports whether there is a service that reaches etcd's majority.
+func (s *Server) IsConnected() bool {
+	_, err := s.ready()
+	return err == nil
 }
 
 // route finds the call of a path, and the NAME in it.
@@ -203,7 +232,7 @@ func (s *Server) dispatch(w http.ResponseWriter, r *http.Request) error {
 		return err
 	}
 	service, err := s.ready()
-	if err != nil {
+	if err != nil && (c.when == whenReady || c.when == whenCutOff && service == nil) {
 		return err
 	}
 	r, cancel := endWithToken(r, by)

@@ -5,16 +5,21 @@ package api
 import (
 	"encoding/json"
 
+	"gateway/internal/members"
 	"gateway/internal/oplog"
 )
 
 // Status is the answer to /status.
 type Status struct {
-	Name         string `json:"name"`
-	Ready        bool   `json:"ready"`
-	Fault        string `json:"fault"`
-	ClockFault   string `json:"clock_fault"`
-	ClockWarning string `json:"clock_warning"`
+	Name          string `json:"name"`
+	Version       string `json:"version"`
+	Started       int64  `json:"started"` // in milliseconds
+	Ready         bool   `json:"ready"`
+	Fault         string `json:"fault"`
+	ClockFault    string `json:"clock_fault"`
+	ClockWarning  string `json:"clock_warning"`
+	ClockOffsetMS int64  `json:"clock_offset_ms"`
+	Lag           int64  `json:"lag"`
 	oplog.Position
 	At       int64 `json:"at"`
 	Epoch    int   `json:"epoch"`
@@ -27,9 +32,10 @@ type Status struct {
 		Sha256 string `json:"sha256"`
 	} `json:"journal"`
 	Allocator struct {
-		Pid       int `json:"pid"`
-		Restarts  int `json:"restarts"`
-		Questions int `json:"questions_pid"`
+		Sha256    string `json:"sha256"` // of its program
+		Pid       int    `json:"pid"`
+		Restarts  int    `json:"restarts"`
+		Questions int    `json:"questions_pid"`
 	} `json:"allocator"`
 	Etcd struct {
 		Used  int64 `json:"used"`
@@ -41,7 +47,13 @@ type Status struct {
 func (service *Service) Status() (s Status) {
 	a, info := service.Allocator.Status(), service.Registry.Info()
 	s.Name, s.ClockFault, s.ClockWarning = service.Name, service.Log.Clock.Fault(), service.Log.Clock.Warning()
-	s.Position, s.Fault, s.Ready, s.Snapshot = a.Position, a.Fault, a.Fault == "", a.Snapshot
+	s.Version, s.Started, s.Allocator.Sha256, s.Lag = service.Version, service.Started.UnixMilli(), service.Drf, a.Lag
+	s.ClockOffsetMS = service.Log.Clock.Ahead().Milliseconds()
+	s.Position, s.Fault, s.Snapshot = a.Position, a.Fault, a.Snapshot
+	if s.Fault == "" {
+		s.Fault = service.cutOff()
+	}
+	s.Ready = s.Fault == ""
 	s.Allocator.Pid, s.Allocator.Restarts, s.Allocator.Questions = a.Pid, a.Restarts, service.Questions.Pid()
 	s.Journal.From, s.Journal.End, s.Journal.Sha256 = service.Journal.Bounds()
 	s.At, s.Epoch, s.Offers = info.Now, info.Epoch, info.Offers
@@ -50,7 +62,17 @@ func (service *Service) Status() (s Status) {
 	return s
 }
 
+// Report returns what this gateway reports to the others.
+func (service *Service) Report() members.Gateway {
+	s := service.Status()
+	return members.Gateway{Name: s.Name, Version: s.Version, Drf: s.Allocator.Sha256, Started: s.Started, Ready: s.Ready, Fault: s.Fault,
+		ClockFault: s.ClockFault, ClockOffsetMS: s.ClockOffsetMS, Messages: s.Messages, Lag: s.Lag}
+}
+
 func (q *request) status() error {
 	q.w.Header().Set("Content-Type", "application/json")
-	return json.NewEncoder(q.w).Encode(q.Service.Status())
+	return json.NewEncoder(q.w).Encode(struct {
+		Status
+		Members members.All `json:"members"`
+	}{q.Service.Status(), q.Members.List()})
 }

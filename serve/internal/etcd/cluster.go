@@ -38,6 +38,7 @@ func (c Config) security() transport.TLSInfo {
 type Cluster struct {
 	stop       context.CancelFunc
 	isEmbedded bool
+	quota      int64
 	member     *embed.Etcd   // or nil
 	closed     chan struct{} // closed when an embedded member has stopped, or has had its time to
 
@@ -50,7 +51,7 @@ type Cluster struct {
 // Open connects to etcd. An embedded member may need other members before it works: Problem says whether it does.
 func Open(ctx context.Context, config Config) (*Cluster, error) {
 	ctx, stop := context.WithCancel(ctx)
-	c := &Cluster{stop: stop, closed: make(chan struct{}), left: make(chan struct{})}
+	c := &Cluster{stop: stop, quota: config.Quota, closed: make(chan struct{}), left: make(chan struct{})}
 	var err error
 	if c.isEmbedded = config.URLs == ""; c.isEmbedded {
 		err = c.embed(ctx, config)

@@ -42,6 +42,7 @@ type Clock struct {
 	warning string        // what is odd about its clock
 	reached time.Duration // when etcd last answered
 	live    []string      // the other gateways that run
+	ahead   time.Duration // of the median of the gateways that run
 	lost    chan struct{} // closed while etcd has not answered for a lease
 }
 
@@ -234,6 +235,7 @@ func (c *Clock) judge(at, shared int64) (median int64, err error) {
 			}
 		}
 	}
+	c.setAhead(away)
 	leapt, ahead := c.apart()-c.offset, time.Duration(at-shared)*time.Millisecond
 	hasLeapt := leapt > c.bound || leapt < -c.bound
 	switch {
@@ -288,6 +290,23 @@ func (c *Clock) advance(ctx context.Context, client *clientv3.Client, revision, 
 		c.shared, c.sharing = answer.Header.Revision, c.running()
 	}
 	return nil
+}
+
+// Ahead returns how far this machine's clock is ahead of the median of the gateways that run, this one included.
+func (c *Clock) Ahead() time.Duration {
+	c.mu.Lock()
+	defer c.mu.Unlock()
+	return c.ahead
+}
+
+// setAhead keeps how far this clock is ahead of the median of all, whose distances from this one are given in milliseconds.
+func (c *Clock) setAhead(away []int64) {
+	sorted := append([]int64(nil), away...)
+	sort.Slice(sorted, func(i, j int) bool { return sorted[i] < sorted[j] })
+	twice := sorted[(len(sorted)-1)/2] + sorted[len(sorted)/2]
+	c.mu.Lock()
+	defer c.mu.Unlock()
+	c.ahead = -time.Duration(twice) * time.Millisecond / 2
 }
 
 // Live returns the names of the other gateways that run, in order.

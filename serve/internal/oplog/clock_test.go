@@ -68,6 +68,9 @@ func TestTwoClocks(t *testing.T) {
 	expectRenew(t, "another agrees", b, "")
 	theirs.pass(8*time.Second, 0)
 	expectRenew(t, "a small difference is borne", b, "")
+	if b.Ahead() != 4*time.Second { // of the median of two, which is between them
+		t.Error("it is ahead by", b.Ahead())
+	}
 	theirs.pass(20*time.Second, 0)
 	expectRenew(t, "a step ahead", b, "moved")
 	theirs.pass(-60*time.Second, 0)

@@ -19,11 +19,12 @@ def main():
     import conversion
     import defects
     import faults
+    import mesos_chaos
     import operators
     import scale
     programs = find_programs()
     passed = failed = 0
-    for test in calls.TESTS + conversion.TESTS + defects.TESTS + operators.TESTS + faults.tests(options.long) + (scale.TESTS if options.long else []):
+    for test in calls.TESTS + conversion.TESTS + defects.TESTS + operators.TESTS + faults.tests(options.long) + mesos_chaos.tests(options.long) + (scale.TESTS if options.long else []):
         name = getattr(test, "name", test.__name__.removeprefix("test_"))
         if not any(part in name for part in options.only.split(",")):
             continue

@@ -60,6 +60,9 @@ func (s *Server) register(c *api.Call, id string, call codec.Message) error {
 		return err
 	}
 	defer release()
+	if err := c.EndWhenSilent(s.config.Silence); err != nil {
+		return err
+	}
 	info.Set("id.value", id)
 	one := s.streams.add(uuid())
 	defer s.streams.remove(one)

@@ -31,11 +31,12 @@ type Config struct {
 	GatewayGrace time.Duration // in which a framework may come again whose gateway ended, whatever its failover_timeout
 	AgentGone    time.Duration // after which an agent without a link is removed
 	MaxRefuse    time.Duration // for which an offer may be refused
+	Silence      time.Duration // after which a stream ends whose caller's machine acknowledges nothing
 }
 
 // DefaultConfig returns the usual times.
 func DefaultConfig() Config {
-	return Config{GatewayGrace: time.Minute, AgentGone: 75 * time.Second, MaxRefuse: time.Minute}
+	return Config{GatewayGrace: time.Minute, AgentGone: 75 * time.Second, MaxRefuse: time.Minute, Silence: 20 * time.Second}
 }
 
 // Server answers calls from what the registry has.

@@ -113,6 +113,9 @@ func (s *Server) subscribe(c *api.Call, call codec.Message) error {
 		return err
 	}
 	defer release()
+	if err := c.EndWhenSilent(s.config.Silence); err != nil {
+		return err
+	}
 	err = s.stream(c, form, call)
 	if refused := (*refusedSubscription)(nil); errors.As(err, &refused) {
 		setHeaders(c, form, uuid())

@@ -7,6 +7,7 @@ import (
 	"flag"
 	"fmt"
 	"log"
+	"net/http"
 	"os"
 	"strings"
 	"time"
@@ -27,7 +28,9 @@ import (
 )
 
 var (
-	url      = flag.String("url", "http://127.0.0.1:8450/api/v1/scheduler", "the gateway's scheduler API")
+	url      = flag.String("url", "http://127.0.0.1:8450/api/v1/scheduler", "the scheduler API of a gateway")
+	others   = flag.String("gateways", "", "HOST:PORT of all gateways, with commas: who does not answer is left for another")
+	history  = flag.String("record", "", "file of all launches and statuses, so that a restart goes on with them")
 	user     = flag.String("principal", "admin", "name of the token")
 	secret   = flag.String("token-file", "", "file of the token")
 	encoding = flag.String("codec", "protobuf", "protobuf or json")
@@ -43,6 +46,8 @@ var (
 // framework counts its tasks. Events come one after another, so nothing is locked.
 type framework struct {
 	caller   calls.Caller
+	record   *record
+	agents   map[string]string // of tasks that an earlier process launched
 	launched int
 	running  map[string]bool
 	finished map[string]bool
@@ -59,13 +64,20 @@ func main() {
 	if *encoding == "json" {
 		codec = codecs.ByMediaType[codecs.MediaTypeJSON]
 	}
-	client := httpcli.New(httpcli.Endpoint(*url), httpcli.Codec(codec),
-		httpcli.Do(httpcli.With(httpcli.BasicAuth(*user, strings.TrimSpace(string(token))), httpcli.Timeout(20*time.Second))))
+	options := []httpcli.ConfigOpt{httpcli.BasicAuth(*user, strings.TrimSpace(string(token))), httpcli.Timeout(20 * time.Second)}
+	if *others != "" {
+		options = append(options, httpcli.WrapRoundTripper(func(next http.RoundTripper) http.RoundTripper {
+			return &gateways{next: next, hosts: strings.Split(*others, ",")}
+		}))
+	}
+	client := httpcli.New(httpcli.Endpoint(*url), httpcli.Codec(codec), httpcli.Do(httpcli.With(options...)))
 	id := store.NewInMemorySingleton()
 	if text, err := os.ReadFile(*idFile); err == nil {
 		id.Set(strings.TrimSpace(string(text)))
 	}
-	f := &framework{running: map[string]bool{}, finished: map[string]bool{}}
+	f := &framework{running: map[string]bool{}, finished: map[string]bool{}, agents: map[string]string{}}
+	f.takeUp(*history)
+	f.record = openRecord(*history)
 	f.caller = callrules.New(callrules.WithFrameworkID(store.GetIgnoreErrors(id))).Caller(httpsched.NewCaller(client, httpsched.AllowReconnection(true)))
 	failover := time.Hour.Seconds()
 	info := &mesos.FrameworkInfo{User: "root", Name: "test", FailoverTimeout: &failover, Roles: []string{*role},
@@ -80,8 +92,9 @@ func main() {
 	ctx := context.Background()
 	handler := eventrules.New(controller.LiftErrors()).Handle(events.Handlers{
 		scheduler.Event_SUBSCRIBED: eventrules.New(controller.TrackSubscription(id, time.Hour)).HandleF(f.subscribed),
+		scheduler.Event_HEARTBEAT:  events.HandlerFunc(f.reconcile),
 		scheduler.Event_OFFERS:     events.HandlerFunc(f.offers),
-		scheduler.Event_UPDATE:     eventrules.New(controller.AckStatusUpdates(f.caller)).HandleF(f.update),
+		scheduler.Event_UPDATE:     eventrules.New(f.record.statuses, controller.AckStatusUpdates(f.caller)).HandleF(f.update),
 	}.Otherwise(func(_ context.Context, e *scheduler.Event) error {
 		log.Printf("event %s", e.GetType())
 		return nil
@@ -99,7 +112,36 @@ func (f *framework) subscribed(ctx context.Context, e *scheduler.Event) error {
 			log.Fatal(err)
 		}
 	}
+	f.finish(ctx)
+	if err := f.reconcile(ctx, e); err != nil {
+		return err
+	}
 	return calls.CallNoData(ctx, f.caller, calls.Reconcile())
+}
+
+// reconcile asks for the states of the tasks that are not known to have ended. It is done with each heartbeat too, as an answer may be lost.
+func (f *framework) reconcile(ctx context.Context, _ *scheduler.Event) error {
+	known := map[string]string{}
+	for id := range f.running {
+		known[id] = f.agents[id]
+	}
+	if len(known) == 0 || *history == "" {
+		return nil
+	}
+	return calls.CallNoData(ctx, f.caller, calls.Reconcile(calls.ReconcileTasks(known)))
+}
+
+// finish ends the framework when it has what it wanted, and nothing else runs.
+func (f *framework) finish(ctx context.Context) {
+	if len(f.finished) < *wanted || *history != "" && len(f.running) > 0 {
+		return
+	}
+	log.Printf("DONE: %d finished", len(f.finished))
+	go func() {
+		time.Sleep(300 * time.Millisecond) // the last acknowledgement is sent when this returns
+		calls.CallNoData(ctx, f.caller, &scheduler.Call{Type: scheduler.Call_TEARDOWN})
+		os.Exit(0)
+	}()
 }
 
 func (f *framework) offers(ctx context.Context, e *scheduler.Event) error {
@@ -118,7 +160,8 @@ func (f *framework) offers(ctx context.Context, e *scheduler.Event) error {
 			tasks = append(tasks, mesos.TaskInfo{Name: id, TaskID: mesos.TaskID{Value: id}, AgentID: o.AgentID, Resources: found, Command: &mesos.CommandInfo{Value: command}})
 		}
 		for _, t := range tasks {
-			f.running[t.TaskID.Value] = true
+			f.running[t.TaskID.Value], f.agents[t.TaskID.Value] = true, o.AgentID.Value
+			f.record.write("launch %s %s", t.TaskID.Value, o.AgentID.Value)
 		}
 		accept := calls.Accept(calls.OfferOperations{calls.OpLaunch(tasks...)}.WithOffers(o.ID)).With(calls.RefuseSeconds(200 * time.Millisecond))
 		if err := calls.CallNoData(ctx, f.caller, accept); err != nil {
@@ -154,13 +197,7 @@ func (f *framework) update(ctx context.Context, e *scheduler.Event) error {
 		}
 		log.Printf("%s: %s (%s) %s", id, state, status.GetReason(), status.GetMessage())
 	}
-	if delete(f.running, id); len(f.finished) >= *wanted {
-		log.Printf("DONE: %d finished", len(f.finished))
-		go func() {
-			time.Sleep(300 * time.Millisecond) // the last acknowledgement is sent when this returns
-			calls.CallNoData(ctx, f.caller, &scheduler.Call{Type: scheduler.Call_TEARDOWN})
-			os.Exit(0)
-		}()
-	}
+	delete(f.running, id)
+	f.finish(ctx)
 	return nil
 }

@@ -48,6 +48,9 @@ func run(arguments []string) error {
 	principal := flags.String("principal", "admin", "name of the token")
 	tokenFile := flags.String("token-file", "", "file of the token")
 	keep := flags.Duration("keep", 24*time.Hour, "how long sandboxes of ended tasks are kept")
+	grace := flags.Duration("executor-shutdown-grace-period", 5*time.Second, "time from SHUTDOWN to the end of an executor whose ExecutorInfo has none")
+	registration := flags.Duration("executor-registration-timeout", time.Minute, "time in which an executor must subscribe, after its start and after the agent's")
+	recovery := flags.Duration("recovery-timeout", 15*time.Minute, "time in which executors try to subscribe again")
 	isVersion := flags.Bool("version", false, "print the version, and end")
 	if err := usage.Parse(flags, arguments, "[FLAG..]"); err != nil {
 		return err
@@ -78,7 +81,7 @@ func run(arguments []string) error {
 		return err
 	}
 	a, err := agent.New(agent.Config{Folder: *folder, Name: *name, Gateways: strings.Split(*gateways, ","), Principal: *principal, Token: strings.TrimSpace(string(token)),
-		Info: info, Keep: *keep, Program: []string{self, "supervise"}})
+		Info: info, Keep: *keep, Program: []string{self, "supervise"}, ShutdownGrace: *grace, RegistrationTimeout: *registration, RecoveryTimeout: *recovery})
 	if err != nil {
 		return err
 	}

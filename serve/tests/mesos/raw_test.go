@@ -42,6 +42,7 @@ type listener struct {
 	events chan object
 	header http.Header
 	body   io.Closer
+	missed []interface{} // offers that came while something else was waited for
 }
 
 func (s *service) request(path, principal, token, text string, headers ...string) *http.Response {
@@ -66,12 +67,23 @@ func (s *service) request(path, principal, token, text string, headers ...string
 
 func (s *service) listen(path, principal, token, text string) *listener {
 	s.t.Helper()
-	answer := s.request(path, principal, token, text)
+	return s.follow(path, s.request(path, principal, token, text))
+}
+
+// listenAs listens with a header of its own.
+func (s *service) listenAs(path, text, authorization string) *listener {
+	s.t.Helper()
+	return s.follow(path, s.request(path, "", "", text, "Authorization", authorization))
+}
+
+// follow reads the events of an answer.
+func (s *service) follow(path string, answer *http.Response) *listener {
+	s.t.Helper()
 	if answer.StatusCode != http.StatusOK {
 		text, _ := io.ReadAll(answer.Body)
 		s.t.Fatalf("%s: %s", answer.Status, text)
 	}
-	l := &listener{s.t, make(chan object, 1000), answer.Header, answer.Body}
+	l := &listener{t: s.t, events: make(chan object, 1000), header: answer.Header, body: answer.Body}
 	s.t.Cleanup(func() { answer.Body.Close() })
 	go func() {
 		defer close(l.events)
@@ -99,13 +111,29 @@ func (l *listener) next(kind string) object {
 				l.t.Fatalf("the stream ended before %s", kind)
 			case e["type"] == kind:
 				return e
-			case e["type"] != "HEARTBEAT" && e["type"] != "OFFERS" && e["type"] != "RESCIND":
+			case e["type"] == "OFFERS":
+				some, _ := at(e, "offers", "offers").([]interface{})
+				l.missed = append(l.missed, some...)
+			case e["type"] == "RESCIND":
+				l.forget(at(e, "rescind", "offer_id", "value"))
+			case e["type"] != "HEARTBEAT":
 				l.t.Fatalf("%v came before %s", e, kind)
 			}
 		case <-timeout:
 			l.t.Fatalf("%s did not come", kind)
 		}
 	}
+}
+
+// forget forgets an offer that was rescinded.
+func (l *listener) forget(id interface{}) {
+	kept := l.missed[:0:0]
+	for _, one := range l.missed {
+		if at(one, "id", "value") != id {
+			kept = append(kept, one)
+		}
+	}
+	l.missed = kept
 }
 
 // none checks that no event of a type comes for a while.
@@ -128,10 +156,10 @@ type client struct {
 	*listener
 	s                *service
 	principal, token string
-	id               string
+	id, url          string
 }
 
-const frameworkInfo = `{"user":"u","name":"n","roles":["web"],"failover_timeout":100,"capabilities":[{"type":"MULTI_ROLE"},{"type":"NEWER_THAN_THIS"}],"offer_filters":{"web":{}}}`
+const frameworkInfo = `{"user":"root","name":"n","roles":["web"],"failover_timeout":100,"capabilities":[{"type":"MULTI_ROLE"},{"type":"NEWER_THAN_THIS"}],"offer_filters":{"web":{}}}`
 
 func (s *service) subscribe(principal, token, info string) *client {
 	s.t.Helper()
@@ -139,7 +167,7 @@ func (s *service) subscribe(principal, token, info string) *client {
 	if at(parse(info), "id") != nil {
 		call = `{"type":"SUBSCRIBE","framework_id":` + jsonOf(at(parse(info), "id")) + `,"subscribe":{"framework_info":` + info + `}}`
 	}
-	c := &client{s.listen("/api/v1/scheduler", principal, token, call), s, principal, token, ""}
+	c := &client{s.listen("/api/v1/scheduler", principal, token, call), s, principal, token, "", s.urls[0]}
 	c.id, _ = at(c.next("SUBSCRIBED"), "subscribed", "framework_id", "value").(string)
 	return c
 }

@@ -30,7 +30,7 @@ func TestMain(m *testing.M) {
 	os.Exit(code)
 }
 
-// build builds the three programs once.
+// build builds the programs once.
 func build(t *testing.T) string {
 	t.Helper()
 	if os.Getenv("DRF") == "" {
@@ -40,7 +40,7 @@ func build(t *testing.T) string {
 		if programs.folder, programs.err = os.MkdirTemp("", "mesos"); programs.err != nil {
 			return
 		}
-		for name, source := range map[string]string{"gateway": "gateway/cmd/gateway", "agent": "gateway/cmd/agent", "scheduler": "gateway/tests/mesos/scheduler"} {
+		for name, source := range map[string]string{"gateway": "gateway/cmd/gateway", "agent": "gateway/cmd/agent", "scheduler": "gateway/tests/mesos/scheduler", "executor": "gateway/tests/mesos/executor"} {
 			if text, err := exec.Command("go", "build", "-o", filepath.Join(programs.folder, name), source).CombinedOutput(); err != nil {
 				programs.err = fmt.Errorf("%s: %v: %s", name, err, text)
 			}
@@ -154,6 +154,7 @@ func newService(t *testing.T, gateways, agents int, flags ...string) *service {
 			for _, p := range append(append([]*process(nil), s.gateways...), s.agents...) {
 				t.Logf("%s: %s", p.name, tail(p.log()))
 			}
+			t.Logf("executors: %s", tail(s.executorLog()))
 		}
 	})
 	return s

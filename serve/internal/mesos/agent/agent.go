@@ -9,6 +9,7 @@ import (
 	"fmt"
 	"io"
 	"log"
+	"net"
 	"net/http"
 	"os"
 	"path/filepath"
@@ -30,6 +31,10 @@ type Config struct {
 	Info      codec.Message // AgentInfo, without an id
 	Keep      time.Duration // for which sandboxes of ended tasks are kept
 	Program   []string      // that supervises a task, when the task's folder is appended
+
+	ShutdownGrace       time.Duration // from SHUTDOWN to the end of an executor that does not say otherwise
+	RegistrationTimeout time.Duration // in which an executor must subscribe, after its start and after the agent's
+	RecoveryTimeout     time.Duration // in which executors try to subscribe again
 }
 
 // Agent is a running agent.
@@ -38,21 +43,27 @@ type Agent struct {
 	id     string
 	client *http.Client
 
-	mu      sync.Mutex
-	gateway int // the one in use
-	tasks   map[string]*task
+	listener net.Listener // for executors
+	endpoint string       // its address
+
+	mu        sync.Mutex
+	gateway   int // the one in use
+	tasks     map[string]*task
+	executors map[string]*executor
 }
 
 // New opens an agent's folder, and takes up the tasks in it.
 func New(config Config) (*Agent, error) {
-	a := &Agent{config: config, tasks: map[string]*task{}, client: &http.Client{Transport: &http.Transport{ResponseHeaderTimeout: 25 * time.Second, MaxIdleConnsPerHost: 16}}}
+	a := &Agent{config: config, tasks: map[string]*task{}, executors: map[string]*executor{}, client: &http.Client{Transport: &http.Transport{ResponseHeaderTimeout: 25 * time.Second, MaxIdleConnsPerHost: 16}}}
 	folder, err := filepath.Abs(config.Folder) // tasks get to know it
 	if err != nil {
 		return nil, err
 	}
 	a.config.Folder, config.Folder = folder, folder
-	if err := os.MkdirAll(filepath.Join(config.Folder, "tasks"), 0o700); err != nil {
-		return nil, err
+	for _, kind := range []string{"tasks", "executors"} {
+		if err := os.MkdirAll(filepath.Join(config.Folder, kind), 0o700); err != nil {
+			return nil, err
+		}
 	}
 	if _, err := disk.TryLock(filepath.Join(config.Folder, "lock")); err != nil {
 		return nil, fmt.Errorf("%s: another agent uses it (%w)", config.Folder, err)
@@ -67,12 +78,19 @@ func New(config Config) (*Agent, error) {
 		return nil, err
 	}
 	a.id = strings.TrimSpace(string(text))
-	folders, err := os.ReadDir(filepath.Join(config.Folder, "tasks"))
-	for _, folder := range folders {
-		if err := a.takeUp(filepath.Join(config.Folder, "tasks", folder.Name())); err != nil {
-			log.Printf("the task in %s is left alone: %v", folder.Name(), err)
+	for kind, takeUp := range map[string]func(string) error{"tasks": a.takeUp, "executors": a.takeUpExecutor} {
+		folders, err := os.ReadDir(filepath.Join(config.Folder, kind))
+		if err != nil {
+			return nil, err
+		}
+		for _, folder := range folders {
+			if err := takeUp(filepath.Join(config.Folder, kind, folder.Name())); err != nil {
+				log.Printf("the folder %s/%s is left alone: %v", kind, folder.Name(), err)
+			}
 		}
 	}
+	a.adopt()
+	a.listener, err = a.listen()
 	return a, err
 }
 
@@ -85,7 +103,11 @@ func (a *Agent) Run(ctx context.Context) {
 	for _, t := range a.tasks {
 		go a.watch(ctx, t)
 	}
+	for _, e := range a.executors {
+		go a.tend(ctx, e)
+	}
 	a.mu.Unlock()
+	go a.serve(ctx, a.listener)
 	go a.collect(ctx)
 	for wait := 100 * time.Millisecond; ctx.Err() == nil; {
 		start := time.Now()
@@ -182,32 +204,50 @@ func (a *Agent) do(e codec.Message) {
 	case "REGISTERED":
 		log.Printf("registered as %s at %s", a.id, a.url())
 		expected := map[string]bool{}
+		for _, one := range e.List("executors") {
+			expected[filepath.Base(executorFolder(a, one))] = true
+		}
+		a.endOtherExecutors(expected)
+		expected = map[string]bool{}
+		var missing []codec.Message
 		for _, one := range e.List("tasks") {
-			expected[keyOf(one)] = true
-			a.expect(one)
+			if expected[keyOf(one)] = true; a.expect(one) {
+				missing = append(missing, one)
+			}
 		}
 		a.endOthers(expected)
-	case "RUN":
-		for _, one := range e.List("tasks") {
-			a.start(one)
+		a.startAll(missing)
+		for _, one := range e.List("executors") {
+			a.expectExecutor(one)
 		}
+	case "RUN":
+		a.startAll(e.List("tasks"))
 	case "KILL":
 		a.kill(e.Sub("kill"))
+	case "SHUTDOWN":
+		for _, one := range e.List("executors") {
+			a.expectExecutor(one)
+		}
+	case "MESSAGE":
+		if to := a.findExecutor(e.Text("message.framework_id.value"), e.Text("message.executor_id.value")); to != nil {
+			to.tell(e.Bytes("message.data"))
+		}
 	}
 }
 
-// expect compares a task that the gateway knows with what this agent does.
-func (a *Agent) expect(one codec.Message) {
+// expect compares a task that the gateway knows with what this agent does, and reports whether it is to be started.
+func (a *Agent) expect(one codec.Message) bool {
 	known := a.find(keyOf(one)) != nil || a.repeat(one)
 	switch {
 	case one.Bool("killing"):
 		a.kill(one)
 	case known:
 	case one.Enum("state") == "TASK_STAGING":
-		a.start(one)
+		return true
 	default:
 		a.reject(one, "TASK_LOST", "REASON_AGENT_RESTARTED", "the agent does not know the task: its folder was lost")
 	}
+	return false
 }
 
 // endOthers kills what the gateway does not know: tasks of frameworks that were removed, or that were said to be lost.
@@ -222,6 +262,10 @@ func (a *Agent) endOthers(expected map[string]bool) {
 	a.mu.Unlock()
 	for _, t := range others {
 		log.Printf("task %s is not known to the gateway: it is killed", t.id)
+		if t.isRunBy {
+			a.killByExecutor(t, codec.New("durzhanok.link.Task"))
+			continue
+		}
 		t.kill(time.Second)
 	}
 }
@@ -234,7 +278,11 @@ func (a *Agent) find(key string) *task {
 
 // report sends a status until a gateway acknowledges it; from then on the service repeats it.
 func (a *Agent) report(ctx context.Context, t *task, status codec.Message) bool {
-	call := a.call("UPDATE").Set("framework_id.value", t.framework).Set("launch", t.launch).Set("status", status)
+	return a.send(ctx, a.call("UPDATE").Set("framework_id.value", t.framework).Set("launch", t.launch).Set("status", status))
+}
+
+// send sends a call until a gateway takes it, and reports whether one did.
+func (a *Agent) send(ctx context.Context, call codec.Message) bool {
 	for wait := 50 * time.Millisecond; ; {
 		one, cancel := context.WithTimeout(ctx, 25*time.Second)
 		answer, err := a.post(one, a.url(), call)

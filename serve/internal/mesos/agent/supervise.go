@@ -1,4 +1,5 @@
-// The supervisor of a task: a process of its own, so that a task outlives the agent's program, and its exit is not lost. Outside the proof.
+// The supervisor of a process: a process of its own, so that what it runs outlives the agent's program, and its exit is not lost. Outside
+// the proof.
 
 package agent
 
@@ -6,68 +7,85 @@ import (
 	"context"
 	"encoding/json"
 	"fmt"
-	"io"
 	"os"
 	"os/exec"
 	"os/signal"
 	"path/filepath"
+	"runtime"
 	"strconv"
 	"strings"
+	"sync"
 	"syscall"
 	"time"
+
+	"golang.org/x/sys/unix"
 
 	"gateway/internal/disk"
 	"gateway/internal/mesos/codec"
 )
 
-// exit is how a task's process ended.
-type exit struct {
-	Code     int    `json:"code"`
-	Signal   string `json:"signal,omitempty"`
-	IsKilled bool   `json:"killed,omitempty"` // it was asked to end
-	Problem  string `json:"problem,omitempty"`
+// supervisor runs a process, and all that this starts: what loses its parent becomes the supervisor's child, so it is found in the end.
+type supervisor struct {
+	supervised
+	process *process
+	signals chan os.Signal
+
+	mu  sync.Mutex
+	own map[int]bool // children that a call of Wait waits for
 }
 
-// Supervise runs the task in a folder, and writes how it ended. SIGTERM ends the task: first gently, and after its time of grace for good.
-// The folder's lock, which the agent took, is inherited: whoever finds it free knows that the task does not run.
+// Supervise runs the process of a folder, and writes how it ended. SIGTERM ends the process: first gently, and after its time of grace for
+// good. The folder's lock, which the agent took, is inherited: whoever finds it free knows that the process does not run.
 func Supervise(folder string) error {
-	signals := make(chan os.Signal, 8)
-	signal.Notify(signals, syscall.SIGTERM, syscall.SIGINT, syscall.SIGHUP)
-	syscall.CloseOnExec(3) // the lock: what a task leaves behind does not hold it
-	text, err := os.ReadFile(filepath.Join(folder, "task"))
+	s := &supervisor{supervised: supervised{folder}, process: &process{}, signals: make(chan os.Signal, 64), own: map[int]bool{}}
+	signal.Notify(s.signals, syscall.SIGTERM, syscall.SIGINT, syscall.SIGHUP, syscall.SIGCHLD)
+	syscall.CloseOnExec(3) // the lock: what a process leaves behind does not hold it
+	if err := unix.Prctl(unix.PR_SET_CHILD_SUBREAPER, 1, 0, 0, 0); err != nil {
+		return err
+	}
+	text, err := os.ReadFile(s.path("process"))
+	if err == nil {
+		err = json.Unmarshal(text, s.process)
+	}
 	if err != nil {
 		return err
 	}
-	if err := disk.WriteFile(filepath.Join(folder, "supervisor"), []byte(strconv.Itoa(os.Getpid()))); err != nil {
+	if err := disk.WriteFile(s.path("supervisor"), []byte(strconv.Itoa(os.Getpid()))); err != nil {
 		return err
 	}
-	task, err := codec.ReadProtobuf("durzhanok.link.Task", text)
-	if err != nil {
-		return err
-	}
-	ended := run(folder, task, signals)
+	runtime.LockOSThread() // the command ends with the thread that started it
+	ended := s.run()
 	line, _ := json.Marshal(ended)
-	return disk.WriteFile(filepath.Join(folder, "exit"), line)
+	return disk.WriteFile(s.path("exit"), line)
 }
 
-func run(folder string, task codec.Message, signals <-chan os.Signal) exit {
-	isKilled, err := fetchUnlessKilled(folder, task, signals)
+func (s *supervisor) sandbox() string { return s.path("sandbox") }
+
+func (s *supervisor) run() exit {
+	isKilled, err := s.fetchUnlessKilled()
 	if isKilled {
 		return exit{Problem: "killed before the command was started", IsKilled: true}
 	}
 	if err != nil {
 		return exit{Problem: err.Error()}
 	}
-	command, err := commandOf(folder, task)
+	command, err := s.process.command(s.sandbox())
 	if err == nil {
-		err = command.Start()
+		err = s.startOwn(command)
 	}
 	if err != nil {
 		return exit{Problem: fmt.Sprintf("the command did not start: %v", err)}
 	}
-	if err := disk.WriteFile(filepath.Join(folder, "pid"), []byte(strconv.Itoa(command.Process.Pid))); err != nil {
+	if err := disk.WriteFile(s.path("pid"), []byte(strconv.Itoa(command.Process.Pid))); err != nil {
 		command.Process.Kill()
 	}
+	ended := s.wait(command)
+	s.killDescendants()
+	return ended
+}
+
+// wait waits until a command has ended, which signals may ask for.
+func (s *supervisor) wait(command *exec.Cmd) (ended exit) {
 	group, done := -command.Process.Pid, make(chan struct{})
 	go func() {
 		command.Wait()
@@ -76,19 +94,24 @@ func run(folder string, task codec.Message, signals <-chan os.Signal) exit {
 	kill := (<-chan time.Time)(nil)
 	for {
 		select {
-		case signal := <-signals:
-			if signal != syscall.SIGTERM || isKilled {
-				continue
+		case signal := <-s.signals:
+			switch {
+			case signal == syscall.SIGCHLD:
+				s.reap()
+			case signal == syscall.SIGTERM && !ended.IsKilled:
+				ended.IsKilled = true
+				grace := s.grace()
+				if grace > 0 {
+					syscall.Kill(group, syscall.SIGTERM)
+				}
+				kill = time.After(grace)
 			}
-			isKilled = true
-			syscall.Kill(group, syscall.SIGTERM)
-			kill = time.After(graceOf(folder))
 		case <-kill:
 			syscall.Kill(group, syscall.SIGKILL)
 		case <-done:
-			syscall.Kill(group, syscall.SIGKILL) // what it left
-			ended := exit{Code: command.ProcessState.ExitCode(), IsKilled: isKilled}
-			if status := command.ProcessState.Sys().(syscall.WaitStatus); status.Signaled() {
+			status := command.ProcessState.Sys().(syscall.WaitStatus)
+			ended.Code, ended.Status = command.ProcessState.ExitCode(), int(status)
+			if status.Signaled() {
 				ended.Signal = status.Signal().String()
 			}
 			return ended
@@ -96,17 +119,63 @@ func run(folder string, task codec.Message, signals <-chan os.Signal) exit {
 	}
 }
 
-// fetchUnlessKilled fetches the URIs of a task, and reports whether it was killed meanwhile.
-func fetchUnlessKilled(folder string, task codec.Message, signals <-chan os.Signal) (isKilled bool, err error) {
+// startOwn starts a command whose Wait will be called.
+func (s *supervisor) startOwn(command *exec.Cmd) error {
+	s.mu.Lock()
+	defer s.mu.Unlock()
+	err := command.Start()
+	if err == nil {
+		s.own[command.Process.Pid] = true
+	}
+	return err
+}
+
+// reap takes the exits of processes that lost their parents.
+func (s *supervisor) reap() {
+	s.mu.Lock()
+	defer s.mu.Unlock()
+	paths, _ := filepath.Glob("/proc/self/task/*/children")
+	for _, path := range paths {
+		text, _ := os.ReadFile(path)
+		for _, word := range strings.Fields(string(text)) {
+			if pid, err := strconv.Atoi(word); err == nil && !s.own[pid] {
+				syscall.Wait4(pid, nil, syscall.WNOHANG, nil)
+			}
+		}
+	}
+}
+
+// killDescendants kills what the command left behind, until nothing is left.
+func (s *supervisor) killDescendants() {
+	for end := time.Now().Add(10 * time.Second); time.Now().Before(end); time.Sleep(5 * time.Millisecond) {
+		left := descendants(os.Getpid())
+		if len(left) == 0 {
+			return
+		}
+		for _, pid := range left {
+			syscall.Kill(pid, syscall.SIGKILL)
+		}
+		for {
+			if pid, err := syscall.Wait4(-1, nil, syscall.WNOHANG, nil); pid <= 0 || err != nil {
+				break
+			}
+		}
+	}
+}
+
+// fetchUnlessKilled fetches the URIs of a command, and reports whether it was killed meanwhile.
+func (s *supervisor) fetchUnlessKilled() (isKilled bool, err error) {
 	ctx, cancel := context.WithCancel(context.Background())
 	defer cancel()
 	done := make(chan error, 1)
-	go func() { done <- fetch(ctx, filepath.Join(folder, "sandbox"), task.Sub("task_info.command")) }()
+	go func() {
+		done <- fetch(ctx, s.sandbox(), codec.MustReadProtobuf("mesos.CommandInfo", s.process.Command))
+	}()
 	for {
 		select {
 		case err := <-done:
 			return isKilled, err
-		case signal := <-signals:
+		case signal := <-s.signals:
 			if signal == syscall.SIGTERM {
 				isKilled = true
 				cancel()
@@ -115,47 +184,12 @@ func fetchUnlessKilled(folder string, task codec.Message, signals <-chan os.Sign
 	}
 }
 
-// graceOf returns the time between SIGTERM and SIGKILL, which the agent wrote.
-func graceOf(folder string) time.Duration {
-	text, _ := os.ReadFile(filepath.Join(folder, "grace"))
+// grace returns the time between SIGTERM and SIGKILL: what the agent wrote, or else the process's own.
+func (s *supervisor) grace() time.Duration {
+	text, _ := os.ReadFile(s.path("grace"))
 	ms, err := strconv.ParseInt(strings.TrimSpace(string(text)), 10, 64)
 	if err != nil || ms < 0 {
-		ms = 3000
+		ms = s.process.GraceMS
 	}
 	return time.Duration(ms) * time.Millisecond
-}
-
-// commandOf returns the command of a task with its sandbox and the environment that Mesos sets.
-func commandOf(folder string, task codec.Message) (*exec.Cmd, error) {
-	info, sandbox := task.Sub("task_info"), filepath.Join(folder, "sandbox")
-	c := info.Sub("command")
-	var command *exec.Cmd
-	if c.Bool("shell") { // the default
-		command = exec.Command("/bin/sh", "-c", c.Text("value"))
-	} else {
-		path, err := exec.LookPath(c.Text("value"))
-		if err != nil {
-			return nil, err
-		}
-		command = &exec.Cmd{Path: path, Args: c.Texts("arguments")}
-		if len(command.Args) == 0 {
-			command.Args = []string{path}
-		}
-	}
-	command.Dir = sandbox
-	command.SysProcAttr = &syscall.SysProcAttr{Setpgid: true}
-	command.Env = []string{"PATH=" + os.Getenv("PATH"), "MESOS_SANDBOX=" + sandbox, "MESOS_DIRECTORY=" + sandbox, "MESOS_TASK_ID=" + info.Text("task_id.value"),
-		"MESOS_FRAMEWORK_ID=" + task.Text("framework_id.value"), "MESOS_AGENT_ID=" + info.Text("agent_id.value"), "MESOS_SLAVE_ID=" + info.Text("agent_id.value"),
-		"MESOS_EXECUTOR_ID=" + info.Text("task_id.value"), "LIBPROCESS_PORT=0"}
-	for _, one := range c.List("environment.variables") {
-		command.Env = append(command.Env, one.Text("name")+"="+one.Text("value"))
-	}
-	for name, to := range map[string]*io.Writer{"stdout": &command.Stdout, "stderr": &command.Stderr} {
-		file, err := os.OpenFile(filepath.Join(sandbox, name), os.O_CREATE|os.O_APPEND|os.O_WRONLY, 0o644)
-		if err != nil {
-			return nil, err
-		}
-		*to = file
-	}
-	return command, nil
 }

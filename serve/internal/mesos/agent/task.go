@@ -7,17 +7,11 @@ import (
 	"crypto/rand"
 	"crypto/sha256"
 	"encoding/hex"
-	"encoding/json"
-	"errors"
 	"fmt"
 	"log"
 	"os"
-	"os/exec"
 	"path/filepath"
-	"strconv"
-	"strings"
 	"sync"
-	"syscall"
 	"time"
 
 	"gateway/internal/disk"
@@ -26,13 +20,22 @@ import (
 
 // task is a task whose end is not yet acknowledged.
 type task struct {
-	key, folder   string
+	supervised
+	key           string
 	id, framework string
 	group         string
 	launch        int64
+	executor      string // the id of its executor, which for a command is the task's
+	capabilities  []string
+	info          codec.Message
+	isRunBy       bool   // a custom executor
+	runner        string // the key of that
+	wake          chan struct{}
+	kills         codec.Message // the KILL that its executor got; guarded by the executor's lock
 
 	mu       sync.Mutex
-	rejected codec.Message // the status of a task that was never started
+	rejected codec.Message // the status of a command that was never started
+	updates  updates       // of a task that a custom executor runs
 }
 
 func randomHex(size int) string {
@@ -43,18 +46,33 @@ func randomHex(size int) string {
 
 // keyOf names a launch of a task.
 func keyOf(one codec.Message) string {
-	sum := sha256.Sum256([]byte(one.Text("framework_id.value") + "/" + one.Text("task_info.task_id.value")))
-	return fmt.Sprintf("%d-%x", one.Int("launch"), sum[:6])
+	return launchKey(one.Int("launch"), one.Text("framework_id.value"), one.Text("task_info.task_id.value"))
+}
+
+func launchKey(launch int64, framework, id string) string {
+	sum := sha256.Sum256([]byte(framework + "/" + id))
+	return fmt.Sprintf("%d-%x", launch, sum[:6])
 }
 
 func newTask(folder string, one codec.Message) *task {
-	return &task{key: keyOf(one), folder: folder, id: one.Text("task_info.task_id.value"), framework: one.Text("framework_id.value"), group: one.Text("group"), launch: one.Int("launch")}
+	t := &task{supervised: supervised{folder}, key: keyOf(one), id: one.Text("task_info.task_id.value"), framework: one.Text("framework_id.value"),
+		group: one.Text("group"), launch: one.Int("launch"), capabilities: one.Texts("capabilities"), info: one.Sub("task_info"), wake: make(chan struct{}, 1)}
+	if t.executor = t.id; one.Has("executor") {
+		t.executor, t.isRunBy = one.Text("executor.executor_info.executor_id.value"), true
+		t.runner = launchKey(one.Int("executor.launch"), t.framework, t.executor)
+	}
+	t.updates.known = map[string]bool{}
+	return t
 }
 
-// exists reports whether a task's folder has a file.
-func (t *task) exists(name string) bool {
-	_, err := os.Stat(filepath.Join(t.folder, name))
-	return err == nil
+// has reports whether the framework has a capability.
+func (t *task) has(capability string) bool {
+	for _, one := range t.capabilities {
+		if one == capability {
+			return true
+		}
+	}
+	return false
 }
 
 // takeUp adds the task of a folder, unless its end is acknowledged.
@@ -67,9 +85,16 @@ func (a *Agent) takeUp(folder string) error {
 	if err != nil {
 		return err
 	}
-	if t := newTask(folder, one); !t.exists("done") {
-		a.tasks[t.key] = t
+	t := newTask(folder, one)
+	if t.exists("done") {
+		return nil
 	}
+	if t.isRunBy {
+		if err := t.loadUpdates(); err != nil {
+			return err
+		}
+	}
+	a.tasks[t.key] = t
 	return nil
 }
 
@@ -82,7 +107,16 @@ func (a *Agent) repeat(one codec.Message) bool {
 	}
 	a.mu.Lock()
 	defer a.mu.Unlock()
-	if a.tasks[t.key] == nil && os.Remove(filepath.Join(folder, "done")) == nil {
+	if a.tasks[t.key] != nil {
+		return true
+	}
+	if t.isRunBy {
+		if err := t.loadUpdates(); err != nil || !t.updates.isOver {
+			return false
+		}
+		t.updates.reported = len(t.updates.list) - 1
+	}
+	if os.Remove(t.path("done")) == nil {
 		a.tasks[t.key] = t
 		go a.watch(context.Background(), t)
 	}
@@ -98,24 +132,46 @@ func (a *Agent) add(one codec.Message) (*task, error) {
 	if a.tasks[t.key] != nil || t.exists("task") {
 		return nil, nil
 	}
-	if err := os.MkdirAll(filepath.Join(folder, "sandbox"), 0o755); err != nil {
+	if err := os.MkdirAll(t.path("sandbox"), 0o755); err != nil {
 		return nil, err
 	}
-	if err := disk.WriteFile(filepath.Join(folder, "task"), one.Protobuf()); err != nil {
+	if err := disk.WriteFile(t.path("task"), one.Protobuf()); err != nil {
 		return nil, err
 	}
 	a.tasks[t.key] = t
 	return t, nil
 }
 
-// start starts a task, unless it was started before.
+// startAll starts tasks, unless they were started before. Those of a group come to their executor together.
+func (a *Agent) startAll(list []codec.Message) {
+	groups, order := map[string][]codec.Message{}, []string{}
+	for k, one := range list {
+		key := fmt.Sprint(k)
+		if one.Has("executor") && one.Text("group") != "" {
+			key = one.Text("framework_id.value") + "/" + one.Text("group")
+		}
+		if groups[key] == nil {
+			order = append(order, key)
+		}
+		groups[key] = append(groups[key], one)
+	}
+	for _, key := range order {
+		if groups[key][0].Has("executor") {
+			a.startByExecutor(groups[key])
+			continue
+		}
+		a.start(groups[key][0])
+	}
+}
+
+// start starts a command, unless it was started before.
 func (a *Agent) start(one codec.Message) {
 	t, err := a.add(one)
 	if err == nil && t == nil {
 		return
 	}
 	if err == nil {
-		err = t.start(a.config.Program)
+		err = t.start(a.config.Program, processOf(one, t.path("sandbox")))
 	}
 	if err != nil {
 		a.reject(one, "TASK_FAILED", "REASON_CONTAINER_LAUNCH_FAILED", "the task was not started: "+err.Error())
@@ -124,58 +180,17 @@ func (a *Agent) start(one codec.Message) {
 	go a.watch(context.Background(), t)
 }
 
-// start starts the supervisor. The lock is taken before and inherited, so it is free only when no supervisor runs.
-func (t *task) start(program []string) error {
-	lock, err := os.OpenFile(filepath.Join(t.folder, "lock"), os.O_CREATE|os.O_RDWR, 0o600)
-	if err != nil {
-		return err
-	}
-	defer lock.Close()
-	if err := syscall.Flock(int(lock.Fd()), syscall.LOCK_EX|syscall.LOCK_NB); err != nil {
-		return err
-	}
-	if err := disk.WriteFile(filepath.Join(t.folder, "started"), nil); err != nil {
-		return err
-	}
-	command := exec.Command(program[0], append(append([]string(nil), program[1:]...), t.folder)...)
-	command.ExtraFiles = []*os.File{lock}
-	command.SysProcAttr = &syscall.SysProcAttr{Setsid: true}
-	if err := command.Start(); err != nil {
-		return err
-	}
-	go command.Wait()
-	return nil
-}
-
-// runs reports whether the task's supervisor runs.
-func (t *task) runs() bool {
-	lock, err := os.OpenFile(filepath.Join(t.folder, "lock"), os.O_RDWR, 0)
-	if err != nil {
-		return false
-	}
-	defer lock.Close()
-	return errors.Is(syscall.Flock(int(lock.Fd()), syscall.LOCK_SH|syscall.LOCK_NB), syscall.EWOULDBLOCK)
-}
-
-// kill asks the supervisor to end the task.
-func (t *task) kill(grace time.Duration) {
-	disk.WriteFile(filepath.Join(t.folder, "grace"), []byte(strconv.FormatInt(grace.Milliseconds(), 10)))
-	for end := time.Now().Add(10 * time.Second); t.runs() && time.Now().Before(end); time.Sleep(20 * time.Millisecond) {
-		text, err := os.ReadFile(filepath.Join(t.folder, "supervisor"))
-		if pid, bad := strconv.Atoi(strings.TrimSpace(string(text))); err == nil && bad == nil {
-			syscall.Kill(pid, syscall.SIGTERM)
-			return
-		}
-	}
-}
-
 // kill ends a task. One that never arrived is killed before it starts.
 func (a *Agent) kill(one codec.Message) {
-	if t := a.find(keyOf(one)); t != nil {
-		go t.kill(time.Duration(one.Int("grace_ms")) * time.Millisecond)
-		return
+	t := a.find(keyOf(one))
+	switch {
+	case t == nil:
+		a.reject(one, "TASK_KILLED", "REASON_TASK_KILLED_DURING_LAUNCH", "the task was killed before it was started")
+	case t.isRunBy:
+		a.killByExecutor(t, one)
+	default:
+		go t.kill(graceOf(one))
 	}
-	a.reject(one, "TASK_KILLED", "REASON_TASK_KILLED_DURING_LAUNCH", "the task was killed before it was started")
 }
 
 // reject reports the end of a task that does not run. It keeps its folder, so it is not started later.
@@ -184,10 +199,20 @@ func (a *Agent) reject(one codec.Message, state, reason, message string) {
 	if err != nil {
 		log.Printf("task %s: %v", one.Text("task_info.task_id.value"), err)
 	}
+	isNew := t != nil
 	if t == nil {
 		if t = a.find(keyOf(one)); t == nil {
 			return
 		}
+	}
+	if t.isRunBy {
+		if err := t.fail(state, reason, message); err != nil {
+			log.Printf("task %s: %v", t.id, err)
+		}
+		if isNew {
+			go a.watch(context.Background(), t)
+		}
+		return
 	}
 	t.mu.Lock()
 	t.rejected = t.status("end", state).Set("reason", reason).Set("message", message)
@@ -202,59 +227,24 @@ func (t *task) status(step, state string) codec.Message {
 		Set("executor_id.value", t.id).Set("timestamp", float64(time.Now().UnixMilli())/1000)
 }
 
-// watch reports that a task runs, waits for its end, and reports that.
+// watch reports what becomes of a task, until its end is taken.
 func (a *Agent) watch(ctx context.Context, t *task) {
-	t.mu.Lock()
-	status := t.rejected
-	t.mu.Unlock()
-	if status.IsAbsent() {
-		if t.waitStarted(ctx) && !a.report(ctx, t, t.status("running", "TASK_RUNNING")) {
-			return
-		}
-		if status = t.wait(ctx); status.IsAbsent() {
-			return
-		}
-	}
-	if !a.report(ctx, t, status) {
+	if t.isRunBy {
+		a.watchUpdates(ctx, t)
 		return
 	}
-	if err := disk.WriteFile(filepath.Join(t.folder, "done"), nil); err != nil {
-		log.Printf("task %s: %v", t.id, err) // its end is reported again after a restart, and ignored
-	}
-	a.mu.Lock()
-	delete(a.tasks, t.key)
-	var others []*task
-	for _, other := range a.tasks {
-		if t.group != "" && other.group == t.group && other.framework == t.framework && status.Enum("state") != "TASK_FINISHED" {
-			others = append(others, other)
-		}
-	}
-	a.mu.Unlock()
-	for _, other := range others { // a group ends together
-		go other.kill(3 * time.Second)
-	}
-}
-
-// waitStarted waits until a task's command runs or ran, and reports whether it did.
-func (t *task) waitStarted(ctx context.Context) bool {
-	for ctx.Err() == nil && !t.exists("pid") {
-		if !t.runs() {
-			return t.exists("pid")
-		}
-		time.Sleep(5 * time.Millisecond)
-	}
-	return ctx.Err() == nil
-}
-
-// wait waits until a task does not run, and returns its last status.
-func (t *task) wait(ctx context.Context) codec.Message {
-	for wait := 5 * time.Millisecond; ; {
-		isRunning := t.runs() // before its exit is looked for
-		if text, err := os.ReadFile(filepath.Join(t.folder, "exit")); err == nil {
-			return t.ended(text)
-		}
-		if !isRunning {
-			return t.status("end", "TASK_FAILED").Set("reason", "REASON_AGENT_RESTARTED").Set("message", "the task's process ended with the machine or was killed with its supervisor")
+	for reported, wait := "", 5*time.Millisecond; ctx.Err() == nil; {
+		step, status := t.current(reported)
+		if step != reported {
+			if !a.report(ctx, t, status) {
+				return
+			}
+			if step == "end" {
+				a.finish(t, status)
+				return
+			}
+			reported, wait = step, 5*time.Millisecond
+			continue
 		}
 		if wait *= 2; wait > 100*time.Millisecond {
 			wait = 100 * time.Millisecond
@@ -262,17 +252,51 @@ func (t *task) wait(ctx context.Context) codec.Message {
 		select {
 		case <-time.After(wait):
 		case <-ctx.Done():
-			return codec.Message{}
 		}
 	}
 }
 
-// ended returns the status of a task that ended by itself or was killed.
-func (t *task) ended(text []byte) codec.Message {
-	e := exit{}
-	if err := json.Unmarshal(text, &e); err != nil {
-		e.Problem = err.Error()
+// current returns the step that a command is in, with its status, when that is not the one that was reported.
+func (t *task) current(reported string) (step string, status codec.Message) {
+	t.mu.Lock()
+	rejected := t.rejected
+	t.mu.Unlock()
+	if !rejected.IsAbsent() {
+		return "end", rejected
 	}
+	e, hasEnded, isLost := t.ended()
+	switch {
+	case reported == "" && t.exists("pid"):
+		return "running", t.status("running", "TASK_RUNNING")
+	case isLost:
+		return "end", t.status("end", "TASK_FAILED").Set("reason", "REASON_AGENT_RESTARTED").Set("message", "the task's process ended with the machine or was killed with its supervisor")
+	case hasEnded:
+		return "end", t.endStatus(e)
+	}
+	return reported, codec.Message{}
+}
+
+// finish forgets a task whose end is taken.
+func (a *Agent) finish(t *task, status codec.Message) {
+	if err := disk.WriteFile(t.path("done"), nil); err != nil {
+		log.Printf("task %s: %v", t.id, err) // its end is reported again after a restart, and ignored
+	}
+	a.mu.Lock()
+	delete(a.tasks, t.key)
+	var others []*task
+	for _, other := range a.tasks {
+		if t.group != "" && !t.isRunBy && other.group == t.group && other.framework == t.framework && status.Enum("state") != "TASK_FINISHED" {
+			others = append(others, other)
+		}
+	}
+	a.mu.Unlock()
+	for _, other := range others { // a group ends together
+		go other.kill(defaultGrace)
+	}
+}
+
+// endStatus returns the status of a command that ended by itself or was killed.
+func (t *task) endStatus(e exit) codec.Message {
 	switch {
 	case e.Problem != "" && e.IsKilled:
 		return t.status("end", "TASK_KILLED").Set("message", e.Problem)
@@ -286,17 +310,10 @@ func (t *task) ended(text []byte) codec.Message {
 	return t.status("end", "TASK_FAILED").Set("reason", "REASON_COMMAND_EXECUTOR_FAILED").Set("message", "Command "+e.text())
 }
 
-func (e exit) text() string {
-	if e.Signal != "" {
-		return "terminated with signal " + e.Signal
-	}
-	return fmt.Sprintf("exited with status %d", e.Code)
-}
-
-// collect removes folders of tasks that ended some time ago.
+// collect removes folders of tasks and of executors that ended some time ago.
 func (a *Agent) collect(ctx context.Context) {
 	for ctx.Err() == nil {
-		paths, _ := filepath.Glob(filepath.Join(a.config.Folder, "tasks", "*", "done"))
+		paths, _ := filepath.Glob(filepath.Join(a.config.Folder, "*", "*", "done"))
 		for _, path := range paths {
 			if about, err := os.Stat(path); err == nil && time.Since(about.ModTime()) > a.config.Keep {
 				os.RemoveAll(filepath.Dir(path))

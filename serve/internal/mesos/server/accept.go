@@ -40,8 +40,11 @@ type acceptance struct {
 	parts   []*part
 	invalid string // why the offers cannot be accepted, or empty
 	known   map[string]bool
-	note    *mesos.Note
-	moves   []map[string]interface{} // reservations
+
+	executors map[string]bool    // custom ones that run on the agent, as far as this gateway knows
+	runners   map[string]*runner // custom executors of this call
+	note      *mesos.Note
+	moves     []map[string]interface{} // reservations
 }
 
 func (s *Server) accept(ctx context.Context, f *framework, call codec.Message) error {
@@ -89,7 +92,7 @@ func (s *Server) knowOffers(framework string, ids []string) (known bool) {
 
 // acceptance looks the offers up. The texts are Mesos'.
 func (s *Server) acceptance(f *framework, ids []string) *acceptance {
-	a := &acceptance{framework: f, known: map[string]bool{}, note: &mesos.Note{Kind: mesos.NoteAccept, Framework: f.id}}
+	a := &acceptance{framework: f, known: map[string]bool{}, executors: map[string]bool{}, runners: map[string]*runner{}, note: &mesos.Note{Kind: mesos.NoteAccept, Framework: f.id}}
 	if len(ids) == 0 {
 		a.invalid = "No offers specified"
 	}
@@ -135,14 +138,14 @@ func (a *acceptance) operation(op codec.Message) error {
 	switch op.Enum("type") {
 	case "LAUNCH":
 		for _, task := range op.List("launch.task_infos") {
-			if state, reason, why := a.launch([]codec.Message{task}, nil, ""); why != "" {
+			if state, reason, why := a.launch([]codec.Message{task}, task.Sub("executor"), ""); why != "" {
 				a.refuse(task, state, reason, why)
 			}
 		}
 	case "LAUNCH_GROUP":
 		tasks := op.List("launch_group.task_group.tasks")
 		executor := op.Sub("launch_group.executor")
-		if state, reason, why := a.launch(tasks, &executor, fmt.Sprintf("group.%d.%d.%d", a.epoch, a.firstOffer(), len(a.note.Launches))); why != "" {
+		if state, reason, why := a.launch(tasks, executor, fmt.Sprintf("group.%d.%d.%d", a.epoch, a.firstOffer(), len(a.note.Launches))); why != "" {
 			if reason == "REASON_TASK_INVALID" {
 				reason = "REASON_TASK_GROUP_INVALID"
 			}
@@ -170,31 +173,43 @@ func (a *acceptance) refuse(task codec.Message, state, reason, why string) {
 	a.note.Refused = append(a.note.Refused, mesos.Status{Task: task.Text("task_id.value"), Agent: task.Text("agent_id.value"), State: state, Reason: reason, Message: why})
 }
 
-// launch adds a task, or the tasks of a group with their executor; or returns why not. The tasks of a group share what they hold.
-func (a *acceptance) launch(tasks []codec.Message, executor *codec.Message, group string) (state, reason, why string) {
+// launch adds a task, or the tasks of a group with their executor; or returns why not. The tasks of a group share what they hold, with a
+// DEFAULT executor. A custom executor has its own.
+func (a *acceptance) launch(tasks []codec.Message, executor codec.Message, group string) (state, reason, why string) {
 	switch {
 	case a.invalid != "":
 		return "TASK_DROPPED", "REASON_INVALID_OFFERS", "Task launched with invalid offers: " + a.invalid
 	case len(a.moves) > 0:
 		return "TASK_DROPPED", "REASON_INVALID_OFFERS", "Task launched with invalid offers: RESERVE and LAUNCH in one ACCEPT are not supported: the next offer has the reservation"
 	}
-	wanted := resources.Bundle{}
+	isCustom, own, wanted := false, resources.Bundle{}, resources.Bundle{} // its own is a custom executor's
+	if group != "" || !executor.IsAbsent() {
+		use, err := a.validateExecutor(executor)
+		isCustom = executor.Enum("type") == "CUSTOM"
+		switch id := executor.Text("executor_id.value"); {
+		case err != nil:
+			return "TASK_ERROR", "REASON_TASK_INVALID", err.Error()
+		case group == "" && !isCustom:
+			return "TASK_ERROR", "REASON_TASK_INVALID", "'ExecutorInfo.type' must be 'CUSTOM' for a task that is not in a group"
+		case !isCustom:
+			wanted.Add(use)
+		case a.runners[id] == nil && !a.isLaunched(id):
+			own = use
+		}
+	}
 	for _, task := range tasks {
-		use, err := a.validate(task, executor != nil)
+		use, err := a.validate(task, group != "", isCustom)
 		if err != nil {
 			return "TASK_ERROR", "REASON_TASK_INVALID", err.Error()
 		}
 		wanted.Add(use)
 	}
-	if executor != nil {
-		use, err := a.validateExecutor(*executor)
-		if err != nil {
-			return "TASK_ERROR", "REASON_TASK_INVALID", err.Error()
-		}
-		wanted.Add(use)
-	}
-	if missing := a.missing(wanted); len(missing) > 0 {
+	if missing := a.missing(wanted, own); len(missing) > 0 {
 		return "TASK_ERROR", "REASON_TASK_INVALID", fmt.Sprintf("Task uses more resources %s than available %s: %s are missing", wanted.Text(), a.left().Text(), missing.Text())
+	}
+	by := &runner{}
+	if isCustom {
+		by = a.runBy(executor, own)
 	}
 	name := group
 	if group == "" {
@@ -206,9 +221,16 @@ func (a *acceptance) launch(tasks []codec.Message, executor *codec.Message, grou
 			one.Set("allocation_info.role", a.role)
 		}
 		id := task.Text("task_id.value")
+		if isCustom {
+			task.Set("executor", executor)
+		}
 		l := mesos.Launch{Task: id, Agent: a.agent, Executor: id, Info: task.Protobuf(), Role: a.role, Holds: holds}
-		if executor != nil {
-			l.Group, l.Executor = holds[0].Name, executor.Text("executor_id.value")
+		if !executor.IsAbsent() {
+			l.Executor = executor.Text("executor_id.value")
+			l.ExecutorInfo, l.ExecutorHolds, l.StartsExecutor = by.info, by.holds, isCustom && !a.isLaunched(l.Executor)
+		}
+		if group != "" {
+			l.Group = holds[0].Name
 		}
 		a.known[id] = true
 		a.note.Launches = append(a.note.Launches, l)
@@ -226,8 +248,11 @@ func (a *acceptance) left() resources.Bundle {
 }
 
 // missing returns what the offers do not have of what is wanted.
-func (a *acceptance) missing(wanted resources.Bundle) resources.Bundle {
-	trial := wanted.Copy()
+func (a *acceptance) missing(wanted ...resources.Bundle) resources.Bundle {
+	trial := resources.Bundle{}
+	for _, some := range wanted {
+		trial.Add(some)
+	}
 	for _, p := range a.parts {
 		p.left.Copy().Take(trial)
 	}
@@ -326,6 +351,9 @@ func (s *Server) findTasks(a *acceptance, operations []codec.Message) {
 				id := task.Text("task_id.value")
 				a.known[id] = a.known[id] || f.Tasks[id] != nil
 			}
+		}
+		for _, e := range f.Executors {
+			a.executors[e.ID] = a.executors[e.ID] || e.Agent == a.agent
 		}
 	})
 }

@@ -22,15 +22,18 @@ func (s *Server) note(ctx context.Context, n *mesos.Note) error {
 
 func (s *Server) kill(ctx context.Context, f *framework, call codec.Message) error {
 	n := &mesos.Note{Kind: mesos.NoteKill, Framework: f.id, Task: call.Text("kill.task_id.value"), Agent: call.Text("kill.agent_id.value")}
-	policy := call.Sub("kill.kill_policy")
+	policy, isRunBy := call.Sub("kill.kill_policy"), false
 	if !policy.Has("grace_period") { // then the task's own
 		s.state.Read(func() {
-			if t := s.state.Frameworks[f.id]; t != nil && t.Tasks[n.Task] != nil {
-				policy = codec.MustReadProtobuf("mesos.TaskInfo", t.Tasks[n.Task].Info).Sub("kill_policy")
+			if known := s.state.Frameworks[f.id]; known != nil && known.Tasks[n.Task] != nil {
+				t := known.Tasks[n.Task]
+				policy, isRunBy = codec.MustReadProtobuf("mesos.TaskInfo", t.Info).Sub("kill_policy"), t.RunBy != 0
 			}
 		})
 	}
-	n.GraceMS = graceOf(policy)
+	if n.GraceMS = graceOf(policy); isRunBy { // a custom executor has the task's policy, or its own
+		n.GraceMS = -1
+	}
 	return s.note(ctx, n)
 }
 

@@ -35,8 +35,11 @@ func (s *Server) link(c *api.Call) error {
 	case "MESSAGE":
 		err = s.note(c.R.Context(), &mesos.Note{Kind: mesos.NoteReport, Framework: call.Text("message.framework_id.value"), Agent: id,
 			Executor: call.Text("message.executor_id.value"), Data: call.Bytes("message.data")})
+	case "EXECUTOR_ENDED":
+		err = s.note(c.R.Context(), &mesos.Note{Kind: mesos.NoteEnded, Framework: call.Text("ended.framework_id.value"), Agent: id,
+			Executor: call.Text("ended.executor_id.value"), Launch: call.Int("ended.launch"), Code: call.Int("ended.status")})
 	default:
-		err = api.Refuse(http.StatusBadRequest, "the type %s: expected REGISTER, UPDATE or MESSAGE", call.Enum("type"))
+		err = api.Refuse(http.StatusBadRequest, "the type %s: expected REGISTER, UPDATE, MESSAGE or EXECUTOR_ENDED", call.Enum("type"))
 	}
 	if err == nil {
 		c.W.WriteHeader(http.StatusAccepted)

@@ -41,6 +41,9 @@ func (s *Server) render(e mesos.Event) (list []codec.Message) {
 		m.Set("message.agent_id.value", e.Agent).Set("message.executor_id.value", e.Executor).Set("message.data", e.Data)
 	case "FAILURE":
 		m.Set("failure.agent_id.value", e.Agent)
+		if e.Executor != "" {
+			m.Set("failure.executor_id.value", e.Executor).Set("failure.status", e.Code)
+		}
 	}
 	return append(list, m)
 }
@@ -116,6 +119,9 @@ func renderStatus(status mesos.Status) codec.Message {
 // renderLink writes an event for an agent.
 func renderLink(e mesos.Event) codec.Message {
 	m := codec.New("durzhanok.link.Event").Set("type", e.Kind)
+	for _, one := range e.Executors {
+		m.Add("executors", renderExecutor(one))
+	}
 	switch e.Kind {
 	case "REGISTERED", "RUN":
 		for _, t := range e.Tasks {
@@ -134,9 +140,23 @@ func renderLink(e mesos.Event) codec.Message {
 
 func renderTask(t mesos.TaskOf) codec.Message {
 	m := codec.New("durzhanok.link.Task").Set("framework_id.value", t.Framework).Set("user", t.User).Set("launch", t.Number).Set("state", t.State)
-	m.Set("task_info", codec.MustReadProtobuf("mesos.TaskInfo", t.Info)).Set("killing", t.IsKilling).Set("grace_ms", t.GraceMS)
+	m.Set("task_info", codec.MustReadProtobuf("mesos.TaskInfo", t.Info)).Set("killing", t.IsKilling)
+	if t.GraceMS >= 0 {
+		m.Set("grace_ms", t.GraceMS)
+	}
+	if t.Executor != nil {
+		m.Set("executor", renderExecutor(t.Executor))
+	}
+	for _, one := range t.Capabilities {
+		m.Add("capabilities", one)
+	}
 	if t.Group != "" {
 		m.Set("group", t.Group)
 	}
 	return m
+}
+
+func renderExecutor(e *mesos.ExecutorOf) codec.Message {
+	m := codec.New("durzhanok.link.Executor").Set("framework_id.value", e.Framework).Set("launch", e.Number).Set("user", e.User).Set("ending", e.IsEnding)
+	return m.Set("executor_info", codec.MustReadProtobuf("mesos.ExecutorInfo", e.Info)).Set("framework_info", codec.MustReadProtobuf("mesos.FrameworkInfo", e.FrameworkInfo))
 }

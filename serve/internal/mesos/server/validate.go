@@ -10,8 +10,8 @@ import (
 	"gateway/internal/mesos/resources"
 )
 
-// validate returns what a task uses.
-func (a *acceptance) validate(task codec.Message, isGrouped bool) (resources.Bundle, error) {
+// validate returns what a task uses. The tasks of a group for a custom executor need no command.
+func (a *acceptance) validate(task codec.Message, isGrouped, isCustom bool) (resources.Bundle, error) {
 	id, agent := task.Text("task_id.value"), task.Text("agent_id.value")
 	use, err := resources.FromMessages(task.List("resources"))
 	switch {
@@ -29,12 +29,10 @@ func (a *acceptance) validate(task codec.Message, isGrouped bool) (resources.Bun
 		return nil, errors.New("Task should have at least one (but not both) of CommandInfo or ExecutorInfo present")
 	case isGrouped && task.Has("executor"):
 		return nil, errors.New("'TaskInfo.executor' must not be set")
-	case isGrouped && !task.Has("command"):
-		return nil, errors.New("a task of a group without 'TaskInfo.command' is not supported")
+	case isGrouped && !isCustom && !task.Has("command"):
+		return nil, errors.New("a task of a group with a DEFAULT executor without 'TaskInfo.command' is not supported")
 	case task.Int("kill_policy.grace_period.nanoseconds") < 0:
 		return nil, errors.New("Task's 'kill_policy.grace_period' must be non-negative")
-	case task.Has("executor"):
-		return nil, errors.New("'TaskInfo.executor' is not supported yet: launch a command, or a group with a DEFAULT executor")
 	case task.Has("health_check") || task.Has("check"):
 		return nil, errors.New("'TaskInfo.health_check' and 'TaskInfo.check' are not supported yet")
 	case task.Has("command.user"):
@@ -60,20 +58,4 @@ func validateContainer(container codec.Message) error {
 		return errors.New("'ContainerInfo' with `network_infos`, `linux_info`, `rlimit_info` or `tty_info` is not supported")
 	}
 	return nil
-}
-
-// validateExecutor returns what the executor of a group uses.
-func (a *acceptance) validateExecutor(executor codec.Message) (resources.Bundle, error) {
-	use, err := resources.FromMessages(executor.List("resources"))
-	switch {
-	case err != nil:
-		return nil, fmt.Errorf("Executor uses invalid resources: %w", err)
-	case executor.Enum("type") != "DEFAULT":
-		return nil, fmt.Errorf("the executor type %s is not supported yet: expected DEFAULT", executor.Enum("type"))
-	case executor.Text("executor_id.value") == "":
-		return nil, errors.New("'ExecutorInfo.executor_id' is empty")
-	case executor.Has("framework_id") && executor.Text("framework_id.value") != a.id:
-		return nil, fmt.Errorf("ExecutorInfo has an invalid FrameworkID (Actual: %s vs Expected: %s)", executor.Text("framework_id.value"), a.id)
-	}
-	return use, validateContainer(executor.Sub("container"))
 }

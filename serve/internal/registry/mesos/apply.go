@@ -139,6 +139,9 @@ func (s *State) removeFramework(name string) {
 	for _, o := range s.OffersOf(id) {
 		delete(s.Offers, o.Offer)
 	}
+	for _, key := range f.ExecutorKeys() {
+		s.shutDown(f, f.Executors[key])
+	}
 	for _, task := range f.TaskNames() {
 		t := f.Tasks[task]
 		if !IsTerminal(t.State) {
@@ -151,6 +154,7 @@ func (s *State) removeFramework(name string) {
 		}
 		s.complete(f, t)
 	}
+	s.dropExecutors(f, "")
 	for key := range s.Unused { // holds that no task has any more
 		if framework, _, _ := bytes.Cut([]byte(key), []byte("/")); string(framework) == name {
 			delete(s.Unused, key)
@@ -194,6 +198,7 @@ func (s *State) removeAgent(id string) {
 				}
 			}
 		}
+		s.dropExecutors(f, id)
 		if a != nil {
 			s.toFramework(f, Event{Kind: "FAILURE", Agent: id})
 		}
@@ -215,9 +220,7 @@ func (s *State) add(f *Framework, t *Task, status Status) {
 		s.update(f, status)
 	}
 	if IsTerminal(t.State) {
-		for _, h := range t.Holds {
-			s.leaveHold(HoldKey(f.Name, h.Name))
-		}
+		s.leaveHolds(f, t.Holds)
 	}
 }
 
@@ -236,5 +239,9 @@ func (s *State) leaveHold(key string) {
 }
 
 func taskOf(f *Framework, t *Task) TaskOf {
-	return TaskOf{Framework: f.ID, User: f.User, Task: t.Task, Group: t.Group, State: t.State, Info: t.Info, Number: t.Number, GraceMS: t.GraceMS, IsKilling: t.IsKilling}
+	one := TaskOf{Framework: f.ID, User: t.User, Task: t.Task, Group: t.Group, State: t.State, Info: t.Info, Number: t.Number, GraceMS: t.GraceMS, IsKilling: t.IsKilling, Capabilities: f.Capabilities}
+	if t.RunBy != 0 { // its executor may have ended: the agent knows
+		one.Executor = executorOf(f, &Executor{ID: t.Executor, Agent: t.Agent, Number: t.RunBy, Info: t.ExecutorInfo, User: t.User})
+	}
+	return one
 }

@@ -21,6 +21,7 @@ type slowTask struct {
 	statuses               []string // uuids, in order
 	acked                  int
 	isDone                 bool // no status is taken any more
+	isRunBy                bool // a custom executor
 }
 
 // uuidOf is the uuid of a status of the service's own: the first half of a digest of the message and the task.
@@ -29,9 +30,34 @@ func uuidOf(m *registry.Message, t *slowTask) string {
 	return string(sum[:16])
 }
 
+// slowExecutor is a custom executor as the definition has it.
+type slowExecutor struct {
+	framework, agent, id, info string
+	number                     int64
+	isEnding                   bool
+}
+
 // define looks at all messages, for each task that was ever launched, what became of it.
 func define(messages []*registry.Message) (rows []string) {
 	var tasks []*slowTask
+	var executors []*slowExecutor
+	find := func(framework, agent, id string) *slowExecutor {
+		for _, e := range executors {
+			if e.framework == framework && e.agent == agent && e.id == id {
+				return e
+			}
+		}
+		return nil
+	}
+	dropExecutors := func(is func(e *slowExecutor) bool) {
+		kept := executors[:0:0]
+		for _, e := range executors {
+			if !is(e) {
+				kept = append(kept, e)
+			}
+		}
+		executors = kept
+	}
 	isFramework, ofName, knowsKilling := map[string]bool{}, map[string]string{}, map[string]bool{}
 	for _, m := range messages {
 		n, _ := decode(m.Note)
@@ -51,7 +77,9 @@ func define(messages []*registry.Message) (rows []string) {
 					}
 				}
 				tasks = kept
+				dropExecutors(func(e *slowExecutor) bool { return e.framework == id })
 			case "remove_agent":
+				dropExecutors(func(e *slowExecutor) bool { return e.agent == registry.Text(fields, "agent") })
 				for _, t := range tasks {
 					if t.agent == registry.Text(fields, "agent") && !t.isDone {
 						t.isDone, t.statuses = true, append(t.statuses, uuidOf(m, t))
@@ -67,26 +95,41 @@ func define(messages []*registry.Message) (rows []string) {
 		case NoteAccept:
 			for _, l := range n.Launches {
 				does := isFramework[n.Framework]
-				for _, h := range l.Holds {
+				for _, h := range append(append([]Hold(nil), l.Holds...), l.ExecutorHolds...) {
 					does = does && registry.AnswerOf(m.Replies[h.Line]) == "ok"
 				}
 				for _, t := range tasks {
 					does = does && (t.framework != n.Framework || t.task != l.Task)
 				}
+				e := find(n.Framework, l.Agent, l.Executor)
+				if len(l.ExecutorInfo) > 0 {
+					does = does && (e != nil || l.StartsExecutor) && (e == nil || !e.isEnding && e.info == string(l.ExecutorInfo))
+				}
+				if does && len(l.ExecutorInfo) > 0 && e == nil {
+					executors = append(executors, &slowExecutor{framework: n.Framework, agent: l.Agent, id: l.Executor, info: string(l.ExecutorInfo), number: m.Number})
+				}
 				if does {
-					tasks = append(tasks, &slowTask{framework: n.Framework, task: l.Task, agent: l.Agent, executor: l.Executor, number: m.Number})
+					tasks = append(tasks, &slowTask{framework: n.Framework, task: l.Task, agent: l.Agent, executor: l.Executor, number: m.Number, isRunBy: len(l.ExecutorInfo) > 0})
 				}
 			}
 		case NoteKill, NoteShutdown:
+			if e := find(n.Framework, n.Agent, n.Executor); e != nil && n.Kind == NoteShutdown {
+				e.isEnding = true
+				continue
+			}
 			for _, t := range tasks {
 				isMeant := t.task == n.Task && (n.Agent == "" || n.Agent == t.agent)
 				if n.Kind == NoteShutdown {
 					isMeant = t.executor == n.Executor && t.agent == n.Agent
 				}
-				if t.framework == n.Framework && isMeant && t.state == "TASK_RUNNING" && !t.isDone && knowsKilling[n.Framework] {
+				if t.framework == n.Framework && isMeant && t.state == "TASK_RUNNING" && !t.isDone && !t.isRunBy && knowsKilling[n.Framework] {
 					t.statuses, t.state = append(t.statuses, uuidOf(m, t)), "TASK_KILLING"
 				}
 			}
+		case NoteEnded:
+			dropExecutors(func(e *slowExecutor) bool {
+				return e.framework == n.Framework && e.agent == n.Agent && e.id == n.Executor && e.number == n.Launch
+			})
 		case NoteStatus:
 			for _, t := range tasks {
 				isNew := len(t.statuses) == 0 || t.statuses[len(t.statuses)-1] != string(n.Status.UUID)
@@ -112,6 +155,9 @@ func define(messages []*registry.Message) (rows []string) {
 	}
 	for _, t := range tasks {
 		rows = append(rows, fmt.Sprintf("%s %s %d: %d of %d, done %v", t.framework, t.task, t.number, t.acked, len(t.statuses), t.isDone))
+	}
+	for _, e := range executors {
+		rows = append(rows, fmt.Sprintf("executor %s %s %s %s %d: ending %v", e.framework, e.agent, e.id, e.info, e.number, e.isEnding))
 	}
 	sort.Strings(rows)
 	return rows
@@ -140,6 +186,13 @@ func (w *world) check(s *State) error {
 		}
 	}
 	for _, f := range s.Frameworks {
+		for _, e := range f.Executors {
+			for _, h := range e.Holds {
+				if key := HoldKey(f.Name, h.Name); s.Users[key] == 0 {
+					return fmt.Errorf("executor %s runs without its hold %s", e.ID, key)
+				}
+			}
+		}
 		for _, t := range f.Tasks {
 			for _, h := range t.Holds {
 				if key := HoldKey(f.Name, h.Name); !IsTerminal(t.State) && s.Users[key] == 0 {
@@ -184,7 +237,7 @@ func (c *streams) publish(e Event) {
 // Random messages of gateways whose knowledge may be old, with restarts from snapshots on the way.
 func TestFoldIsAsDefined(t *testing.T) {
 	const seeds, steps = 200, 500
-	launched, ended := 0, 0
+	launched, ended, executors := 0, 0, 0
 	for seed := int64(1); seed <= seeds; seed++ {
 		w, c := newWorld(seed), &streams{first: map[string]bool{}, ended: map[string]bool{}}
 		s := New(c.publish)
@@ -218,14 +271,18 @@ func TestFoldIsAsDefined(t *testing.T) {
 			}
 		}
 		for _, m := range messages {
-			if n, is := decode(m.Note); is && n.Kind == NoteAccept {
+			n, is := decode(m.Note)
+			if is && n.Kind == NoteAccept {
 				launched += len(n.Launches)
+			}
+			if is && n.Kind == NoteEnded {
+				executors++
 			}
 		}
 		ended += len(s.Completed)
 	}
-	if launched < 10000 || ended < 1000 {
-		t.Errorf("only %d launches and %d ends", launched, ended)
+	if launched < 10000 || ended < 1000 || executors < 1000 {
+		t.Errorf("only %d launches, %d ends and %d ends of executors", launched, ended, executors)
 	}
 }
 
@@ -233,6 +290,9 @@ func rowsOf(s *State) (rows []string) {
 	for _, f := range s.Frameworks {
 		for _, t := range f.Tasks {
 			rows = append(rows, fmt.Sprintf("%s %s %d: %s, done %v", f.ID, t.Task, t.Number, progressOf(t), IsTerminal(t.State)))
+		}
+		for _, e := range f.Executors {
+			rows = append(rows, fmt.Sprintf("executor %s %s %s %s %d: ending %v", f.ID, e.Agent, e.ID, e.Info, e.Number, e.IsEnding))
 		}
 	}
 	sort.Strings(rows)

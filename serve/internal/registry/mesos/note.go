@@ -12,7 +12,7 @@ const (
 	NoteLeave      = "leave"       // a framework's stream ended
 	NoteAccept     = "accept"      // offers were accepted
 	NoteKill       = "kill"        // a task is to be killed
-	NoteShutdown   = "shutdown"    // all tasks of an executor are to be killed
+	NoteShutdown   = "shutdown"    // an executor is to be shut down, or all tasks of it are to be killed
 	NoteReconcile  = "reconcile"   // a framework asks for the states of tasks
 	NoteAck        = "acknowledge" // frameworks have statuses
 	NoteMessage    = "message"     // of a framework to an executor
@@ -20,6 +20,7 @@ const (
 	NoteAgent      = "agent"       // an agent registers
 	NoteAgentLeave = "agent_leave" // an agent's link ended
 	NoteStatus     = "status"      // an agent has a status of a task
+	NoteEnded      = "ended"       // an executor ended
 )
 
 // Note is what a message says beside its lines.
@@ -38,9 +39,10 @@ type Note struct {
 	IsOurs       bool          `json:"ours,omitempty"` // the gateway ended, not the framework
 	Call         string        `json:"call,omitempty"` // the offers of an ACCEPT: one with the same came again
 	Launches     []Launch      `json:"launches,omitempty"`
-	Refused      []Status      `json:"refused,omitempty"` // tasks that are not launched
-	GraceMS      int64         `json:"grace_ms,omitempty"`
+	Refused      []Status      `json:"refused,omitempty"`  // tasks that are not launched
+	GraceMS      int64         `json:"grace_ms,omitempty"` // negative where the task's own policy counts
 	Launch       int64         `json:"launch,omitempty"`
+	Code         int64         `json:"code,omitempty"` // with which an executor ended
 	Status       *Status       `json:"status,omitempty"`
 	Acks         []Ack         `json:"acks,omitempty"`
 	Asked        []Asked       `json:"asked,omitempty"`
@@ -76,7 +78,12 @@ type Launch struct {
 	Info     []byte `json:"info"` // TaskInfo
 	Group    string `json:"group,omitempty"`
 	Role     string `json:"role"`
+	User     string `json:"user,omitempty"` // that the framework's principal may run it as
 	Holds    []Hold `json:"holds"`
+
+	ExecutorInfo   []byte `json:"executor_info,omitempty"`   // of a custom executor, which runs the task
+	ExecutorHolds  []Hold `json:"executor_holds,omitempty"`  // for the executor, where the task is its first one
+	StartsExecutor bool   `json:"starts_executor,omitempty"` // what the executor uses was taken, if it uses anything
 }
 
 // Hold is one of the allocator's tasks, which has resources for one or more of Mesos' tasks.

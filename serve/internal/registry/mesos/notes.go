@@ -46,11 +46,17 @@ func (s *State) apply(n *Note, answers []string) {
 	case NoteKill:
 		s.kill(f, n.Task, n.Agent, n.GraceMS)
 	case NoteShutdown:
+		if e := f.Executors[ExecutorKey(n.Agent, n.Executor)]; e != nil {
+			s.shutDown(f, e)
+			return
+		}
 		for _, name := range f.TaskNames() {
 			if t := f.Tasks[name]; t.Agent == n.Agent && t.Executor == n.Executor && !IsTerminal(t.State) {
 				s.kill(f, name, "", n.GraceMS)
 			}
 		}
+	case NoteEnded:
+		s.endExecutor(f, n)
 	case NoteReconcile:
 		s.reconcile(f, n.Asked)
 	case NoteReport:
@@ -116,14 +122,14 @@ func (s *State) register(n *Note, answers []string) {
 			}
 		}
 	}
-	s.toAgent(a.ID, Event{Kind: "REGISTERED", Tasks: tasks})
+	s.toAgent(a.ID, Event{Kind: "REGISTERED", Tasks: tasks, Executors: s.executorsOn(a.ID)})
 }
 
 // launch adds the tasks of an ACCEPT whose lines were answered `ok`.
 func (s *State) launch(f *Framework, n *Note, answers []string) {
 	isOK := func(h Hold) bool { return h.Line < len(answers) && answers[h.Line] == "ok" }
 	for _, l := range n.Launches {
-		for _, h := range l.Holds {
+		for _, h := range l.allHolds() {
 			if key := HoldKey(f.Name, h.Name); isOK(h) {
 				s.Users[key]++ // which is taken back where the task does not exist
 			}
@@ -137,7 +143,7 @@ func (s *State) launch(f *Framework, n *Note, answers []string) {
 	var started []TaskOf
 	for _, l := range n.Launches {
 		refusal := Status{Task: l.Task, Agent: l.Agent, At: s.at}
-		for _, h := range l.Holds {
+		for _, h := range l.allHolds() {
 			if !isOK(h) {
 				refusal.State, refusal.Reason, refusal.Message = s.lost(f, "TASK_DROPPED"), "REASON_INVALID_OFFERS", "Task launched with invalid offers: "+answers[h.Line]
 			}
@@ -145,8 +151,11 @@ func (s *State) launch(f *Framework, n *Note, answers []string) {
 		if f.Tasks[l.Task] != nil && refusal.State == "" {
 			refusal.State, refusal.Reason, refusal.Message = "TASK_ERROR", "REASON_TASK_INVALID", "Task has duplicate ID: "+l.Task
 		}
+		if refusal.State == "" {
+			refusal.State, refusal.Reason, refusal.Message = s.checkExecutor(f, &l)
+		}
 		if refusal.State != "" {
-			for _, h := range l.Holds {
+			for _, h := range l.allHolds() {
 				if isOK(h) {
 					s.leaveHold(HoldKey(f.Name, h.Name))
 				}
@@ -156,7 +165,8 @@ func (s *State) launch(f *Framework, n *Note, answers []string) {
 			}
 			continue
 		}
-		t := &Task{Launch: l, Number: s.number, Call: n.Call, State: "TASK_STAGING"}
+		t := &Task{Launch: l, Number: s.number, Call: n.Call, State: "TASK_STAGING", GraceMS: -1, RunBy: s.useExecutor(f, &l)}
+		t.ExecutorHolds, t.StartsExecutor = nil, false // which the executor has
 		f.Tasks[l.Task] = t
 		started = append(started, taskOf(f, t))
 	}
@@ -191,7 +201,7 @@ func (s *State) kill(f *Framework, task, agent string, graceMS int64) {
 	case !IsTerminal(t.State):
 		t.IsKilling, t.GraceMS = true, graceMS
 		s.toAgent(t.Agent, Event{Kind: "KILL", Tasks: []TaskOf{taskOf(f, t)}})
-		if t.State == "TASK_RUNNING" && f.Has("TASK_KILLING_STATE") {
+		if t.State == "TASK_RUNNING" && t.RunBy == 0 && f.Has("TASK_KILLING_STATE") { // a custom executor sends it itself
 			s.add(f, t, Status{Task: task, Agent: t.Agent, State: "TASK_KILLING", UUID: s.uuid(f, task), At: s.at})
 		}
 	}

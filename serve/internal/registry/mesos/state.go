@@ -27,6 +27,8 @@ type Framework struct {
 	Registered   int64            `json:"registered"`
 	Reregistered int64            `json:"reregistered,omitempty"`
 	Tasks        map[string]*Task `json:"tasks,omitempty"`
+
+	Executors map[string]*Executor `json:"executors,omitempty"` // custom ones, by ExecutorKey
 }
 
 // Task is a task that runs, or whose last status is not acknowledged.
@@ -40,6 +42,7 @@ type Task struct {
 	Taken     int      `json:"taken,omitempty"`   // statuses so far
 	IsKilling bool     `json:"killing,omitempty"`
 	GraceMS   int64    `json:"grace_ms,omitempty"`
+	RunBy     int64    `json:"run_by,omitempty"` // the number of its custom executor
 }
 
 // Agent is an agent that registered and was not removed.
@@ -196,6 +199,8 @@ type Event struct {
 	Offers    []OfferOf
 	Status    *Status
 	Tasks     []TaskOf
+	Executors []*ExecutorOf
+	Code      int64 // with which an executor ended
 }
 
 // OfferOf is an offer with what a framework gets to know of its agent.
@@ -212,6 +217,8 @@ type TaskOf struct {
 	Info                                []byte
 	Number, GraceMS                     int64
 	IsKilling                           bool
+	Executor                            *ExecutorOf // a custom one that runs it, or nil
+	Capabilities                        []string    // of the framework
 }
 
 // OfferID returns the id of an offer, which no other offer ever had.

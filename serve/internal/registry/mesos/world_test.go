@@ -213,6 +213,11 @@ func (w *world) random(seen *State) *registry.Message {
 			return w.message(nil, line("finish", "framework", of, "task", hold))
 		}
 	case 13:
+		if f != nil && len(f.Executors) > 0 && w.Intn(2) == 0 {
+			keys := f.ExecutorKeys()
+			e := f.Executors[keys[w.Intn(len(keys))]]
+			return w.message(&Note{Kind: NoteEnded, Framework: framework, Agent: e.Agent, Executor: e.ID, Launch: e.Number})
+		}
 		kind := []string{NoteKill, NoteKill, NoteReconcile, NoteShutdown}[w.Intn(4)]
 		if kind == NoteKill && w.Intn(2) == 0 {
 			agent = ""
@@ -234,7 +239,7 @@ func (w *world) accept(seen *State, f *Framework) *registry.Message {
 			chosen = append(chosen, o)
 		}
 	}
-	n := &Note{Kind: NoteAccept, Framework: f.ID}
+	n, isAccounted := &Note{Kind: NoteAccept, Framework: f.ID}, map[string]bool{}
 	used := make([]map[string]bool, len(chosen))
 	for k := range used {
 		used[k] = map[string]bool{}
@@ -249,6 +254,14 @@ func (w *world) accept(seen *State, f *Framework) *registry.Message {
 				}
 				used[at][name] = true
 				l.Holds = append(l.Holds, Hold{name, at})
+			}
+		}
+		if e := f.Executors[ExecutorKey(l.Agent, l.Executor)]; w.Intn(2) == 0 { // a custom executor, of one or another description
+			l.ExecutorInfo = []byte(fmt.Sprintf("info%d", w.Intn(8)/7))
+			if l.StartsExecutor = e == nil; l.StartsExecutor && (w.Intn(3) > 0 || isAccounted[l.Executor]) {
+				name := fmt.Sprintf("executor.%s.%d", l.Executor, chosen[0].Offer)
+				used[0][name], isAccounted[l.Executor] = true, true
+				l.ExecutorHolds = []Hold{{name, 0}}
 			}
 		}
 		n.Launches = append(n.Launches, l)

@@ -44,16 +44,19 @@ func (l *Log) Path(name string) string { return l.prefix + name }
 func (l *Log) messages(key string) string { return l.prefix + "m/" + key }
 
 // Condition is what must hold for a batch to be appended.
-type Condition struct{ compare clientv3.Cmp }
+type Condition struct {
+	compare clientv3.Cmp
+	touched string // the name that no message may touch, or empty
+}
 
 // Unchanged holds while a key of Path was last written at a revision.
 func (l *Log) Unchanged(key string, revision int64) Condition {
-	return Condition{clientv3.Compare(clientv3.ModRevision(key), "=", revision)}
+	return Condition{compare: clientv3.Compare(clientv3.ModRevision(key), "=", revision)}
 }
 
 // Untouched holds while no message after a revision touches a name.
 func (l *Log) Untouched(name string, revision int64) Condition {
-	return Condition{clientv3.Compare(clientv3.ModRevision(l.touched(name)), "<", revision+1)}
+	return Condition{clientv3.Compare(clientv3.ModRevision(l.touched(name)), "<", revision+1), name}
 }
 
 func (l *Log) touched(name string) string { return l.prefix + "touched/" + name }
@@ -111,13 +114,17 @@ func (l *Log) Run(ctx context.Context) {
 	}
 }
 
-// gather takes what waits, as far as it fits into one transaction, which has each key once; and returns the first batch that does not.
+// gather takes what waits, as far as it fits into one transaction, which has each key once; and returns the first batch that does not. etcd
+// judges all conditions of a transaction before it writes, so a batch does not fit after one that touches what it is conditional on.
 func (l *Log) gather(first *pending) (group []*pending, next *pending) {
-	keys, size := map[string]bool{}, 0
+	keys, touched, size := map[string]bool{}, map[string]bool{}, 0
 	for next = first; ; {
 		size += next.Size()
-		if len(group) > 0 && (keys[next.Key] || len(group) == maxGroup || size > maxGroupBytes) {
+		if len(group) > 0 && (keys[next.Key] || len(group) == maxGroup || size > maxGroupBytes || next.dependsOn(touched)) {
 			return group, next
+		}
+		for _, name := range next.Touches {
+			touched[name] = true
 		}
 		keys[next.Key], group = true, append(group, next)
 		select {
@@ -126,6 +133,15 @@ func (l *Log) gather(first *pending) (group []*pending, next *pending) {
 			return group, nil
 		}
 	}
+}
+
+func (b *Batch) dependsOn(touched map[string]bool) bool {
+	for _, condition := range b.Conditions {
+		if touched[condition.touched] {
+			return true
+		}
+	}
+	return false
 }
 
 // commit tries a group until it is committed: a member may die with a transaction, and the keys make it safe to send it again. A transaction

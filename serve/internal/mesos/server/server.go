@@ -166,11 +166,14 @@ func registers(event interface{}) string {
 	return ""
 }
 
+// guards is how many names there are for messages that touch. Each is a key in etcd; where many agents come at once, few share one.
+const guards = 4096
+
 // guardOf returns the name that messages touch which change who has a stream. Several frameworks or agents share one.
 func guardOf(kind, id string) string {
 	sum := fnv.New32a()
 	sum.Write([]byte(kind + "/" + id))
-	return fmt.Sprintf("mesos/%d", sum.Sum32()%16)
+	return fmt.Sprintf("mesos/%d", sum.Sum32()%guards)
 }
 
 // putGuarded builds a message from what is known and appends it, when nothing came between; else it builds it again. Build returns nil where

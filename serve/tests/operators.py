@@ -1,6 +1,7 @@
 # What operators do and see: tokens that expire, an etcd with users. Each test is handed the programs. Outside the proof.
 import datetime
 import hashlib
+import json
 import os
 import shutil
 import signal
@@ -141,6 +142,50 @@ def test_members_of_an_outer_etcd(programs):
         fleet.kill_server(victim)
         assert wait(lambda: not members(one, "etcd")[f"e{victim}"]["reachable"] and figure(one, "drf_etcd_members_unreachable") == 1, 20), one.status()
         assert sum(m["reachable"] for m in members(one, "etcd").values()) == 2
+
+
+def audit(gateway, words, name="eye"):
+    status, text, _ = gateway.ask("/drf/v1/audit?" + words, name=name)
+    assert status == 200, text
+    return json.loads(text)
+
+
+def test_audit(programs):
+    """Who sent what, from each gateway alike, after a restart too; and who may ask."""
+    with Fleet("outer", programs.gateway, programs.drf, "-cycle", "0") as fleet:
+        one, other = fleet.gateways
+        assert wait(lambda: all(len(members(g, "gateways")) == 2 for g in fleet.gateways)), one.status()  # before that, senders are not kept
+        begun = time.time()
+        one.send(AGENT, name="rack")
+        one.send({"event": "set_limit", "role": "web", "limit": "cpus:1"}, {"event": "set_limit", "role": "web/search", "limit": "cpus:1"}, {"event": "set_weight", "role": "web", "weight": "x"}, name="ops")
+        status, _, headers = other.ask("/drf/v1/events", '{"event":"set_limit","role":"web","limit":"cpus:2"}\n', name="ops", Idempotency_Key="k1")
+        assert status == 200
+        other.send({"event": "set_limit", "role": "web", "limit": "cpus:2"}, key="k1", name="ops")  # sent again: the same message
+        other.send({"event": "cycle"})
+        fleet.agreed()
+        pages = [audit(g, "event=set_limit&role=web") for g in fleet.gateways]
+        assert pages[0] == pages[1] and "next" not in pages[0], pages
+        newest, oldest = pages[0]["records"]
+        assert (newest["name"], newest["address"], newest["key"], newest["message"], newest["lines"], newest["events"]) == ("ops", "127.0.0.1", "k1", int(headers["Drf-Message"]), 1, {"set_limit": 1}), newest
+        assert abs(newest["at"] / 1000 - begun) < 30 and newest["matches"] == [{"line": 5, "text": '{"event":"set_limit","limit":"cpus:2","role":"web"}', "reply": {"ok": True}}], newest
+        assert (oldest["lines"], oldest["events"], oldest["refused"], [m["line"] for m in oldest["matches"]]) == (3, {"set_limit": 2, "set_weight": 1}, 1, [2]), oldest
+        journal = one.ask("/drf/v1/journal")[1].encode()
+        assert journal[newest["byte"]:newest["byte"] + newest["bytes"]].decode() == newest["matches"][0]["text"] + '\n{"ok":true}\n'
+        assert [r["name"] for r in audit(one, "")["records"]] == ["admin", "ops", "ops", "rack"]
+        first = audit(one, "limit=3")
+        assert [r["message"] for r in first["records"]] == [4, 3, 2] and [r["message"] for r in audit(one, f"limit=3&before={first['next']}")["records"]] == [1]
+        assert audit(one, f"to={int(begun * 1000) - 60000}")["records"] == [] and len(audit(one, f"from={int(begun * 1000) - 60000}&name=rack")["records"]) == 1
+        assert [r["name"] for r in audit(one, "answer=refused")["records"]] == ["ops"] and audit(one, "cause=cycle")["records"] == []
+        for secret in fleet.tokens.values():
+            assert secret not in json.dumps(audit(one, "limit=1000"))
+        for words, name, want, problem in (("", "site", 403, "no right to read"), ("", None, 401, "token"), ("from=x", "eye", 400, "from="), ("limit=0", "eye", 400, "limit="), ("before=x", "eye", 400, "before="),
+                                           ("nmae=x", "eye", 400, '"nmae"'), ("answer=ok", "eye", 400, "answer=")):
+            status, text, _ = one.ask("/drf/v1/audit?" + words, name=name)
+            assert status == want and problem in text, (words, status, text)
+        one.kill()
+        one.start()
+        one.until_ready()
+        assert audit(one, "event=set_limit&role=web") == pages[0]
 
 
 TESTS = [test for name, test in list(globals().items()) if name.startswith("test_")]

@@ -279,6 +279,7 @@ func (g *gateway) build(list *oplog.Log, journal *allocator.Journal) (*api.Servi
 	runner := periodic.New(periodic.Config{Cycle: g.cycle, OfferTimeout: g.offerTimeout, Window: g.window}, list, a, state, mayAppend)
 	service := &api.Service{Name: g.etcd.Name, Version: version.Number, Drf: digestOf(g.drf), Started: time.Now(), Folder: g.data, Window: g.window, Log: list, Journal: journal, Allocator: a, Questions: questions, Registry: state, Sessions: sessions}
 	service.Members = members.New(list.Cluster(), list.Path("members/"), g.etcd.Name, service.Report, list.Clock.Live)
+	list.KeepSenders = service.Members.AllReport
 	mesosConfig := g.mesos
 	mesosConfig.Name, mesosConfig.Folder, mesosConfig.Address, mesosConfig.Alone = g.etcd.Name, g.data, g.options.listen, g.etcd.IsAlone()
 	mesosCalls := mesosserver.New(mesosConfig, list, a, state, mesosState, streams, mayAppend)

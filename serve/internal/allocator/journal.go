@@ -15,6 +15,7 @@ import (
 	"path/filepath"
 	"sync"
 
+	"gateway/internal/audit"
 	"gateway/internal/disk"
 	"gateway/internal/oplog"
 
@@ -24,6 +25,8 @@ import (
 // Journal is made from the list alone: each child of the allocator writes it again, from a snapshot on. Bytes are counted from the first that
 // ever was. What was answered must come again, after a restart too: the file `answered`, which is durable, has its length and digest.
 type Journal struct {
+	Audit *audit.Log // who sent the messages
+
 	folder   string
 	mu       sync.RWMutex
 	file     *os.File
@@ -42,7 +45,7 @@ type answered struct {
 
 // OpenJournal returns the journal of a data folder. It has no content before an allocator runs.
 func OpenJournal(folder string) (*Journal, error) {
-	j := &Journal{folder: folder, sum: sha256.New()}
+	j := &Journal{Audit: audit.NewLog(folder), folder: folder, sum: sha256.New()}
 	text, err := os.ReadFile(filepath.Join(folder, "answered"))
 	if err == nil {
 		err = json.Unmarshal(text, &j.answered)
@@ -55,6 +58,9 @@ func OpenJournal(folder string) (*Journal, error) {
 
 // begin starts a new file at a snapshot. Readers of the old file get an error.
 func (j *Journal) begin(from oplog.Snapshot) error {
+	if err := j.Audit.Begin(); err != nil {
+		return err
+	}
 	j.mu.Lock()
 	defer j.mu.Unlock()
 	if j.file != nil {
@@ -163,7 +169,7 @@ func (j *Journal) ReadAt(text []byte, at int64) (int, error) {
 	j.mu.RLock()
 	defer j.mu.RUnlock()
 	if at < j.kept || j.file == nil {
-		return 0, fmt.Errorf("byte %d of the journal is no longer kept", at)
+		return 0, fmt.Errorf("byte %d of the journal is %w", at, audit.ErrNotKept)
 	}
 	n, err := j.file.ReadAt(text, at-j.base)
 	if err == io.EOF {

@@ -11,6 +11,7 @@ import (
 	"os/exec"
 	"time"
 
+	"gateway/internal/audit"
 	"gateway/internal/oplog"
 	"gateway/internal/registry"
 )
@@ -186,18 +187,24 @@ func (a *Allocator) deliver(block []byte, done []*inFlight) error {
 	}
 	now, isWhole := a.positions.last(), false
 	var new []oplog.Position
+	var records []audit.Record
 	for _, f := range done {
 		if f.Key == "" {
 			isWhole = true
 			continue
 		}
+		before := now
 		now.Revision, now.Messages, now.Lines = f.Revision, now.Messages+1, now.Lines+int64(len(f.lines))
 		for k, line := range f.lines {
 			now.Bytes += int64(len(line) + 1 + len(f.replies[k]))
 		}
 		new = append(new, now)
+		records = append(records, audit.NewRecord(&f.Message, now.Messages, before.Lines+1, before.Bytes, now.Bytes-before.Bytes, f.lines, f.replies))
 		a.registry.Apply(&registry.Message{Number: now.Messages, Revision: f.Revision.Main, Last: f.Last, At: f.At, Key: f.Key, Note: f.Note,
 			Lines: f.lines, Replies: f.replies, Took: time.Since(f.fed)})
+	}
+	if err := a.journal.Audit.Write(records); err != nil {
+		return err
 	}
 	if isWhole {
 		if err := a.journal.checkWhole(); err != nil {

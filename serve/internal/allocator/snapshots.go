@@ -258,6 +258,9 @@ func (s *snapshots) make(ctx context.Context, marked oplog.Snapshot, registry []
 	if fault := a.journal.prune(last.Bytes); fault != nil {
 		log.Printf("the journal keeps its space on the disk: %v", fault)
 	}
+	if fault := a.journal.Audit.Prune(last.Messages); fault != nil {
+		log.Printf("the audit keeps its space on the disk: %v", fault)
+	}
 	s.removeBelow(last.Number)
 	return marked, err
 }

@@ -14,6 +14,7 @@ import (
 	"time"
 
 	"gateway/internal/allocator"
+	"gateway/internal/audit"
 	"gateway/internal/disk"
 	"gateway/internal/limit"
 	"gateway/internal/metrics"
@@ -70,6 +71,7 @@ func TestAnswersToErrors(t *testing.T) {
 		{&session.UnknownError{}, 404, "no", false},
 		{session.ErrNotWatched, 501, "no", false},
 		{allocator.ErrDue, 504, "yes", false},
+		{audit.ErrNotKept, 503, "no", true},
 		{allocator.ErrForgotten, 410, "yes", false},
 		{refusal(403, "x"), 403, "no", false},
 		{errors.New("something else"), 500, "unknown", false},

@@ -9,6 +9,7 @@ import (
 	"time"
 
 	"gateway/internal/auth"
+	"gateway/internal/oplog"
 )
 
 // find returns the caller that a request names by a token, if it has one.
@@ -28,11 +29,11 @@ func unauthorized(err error, what string) error {
 	return refusal(http.StatusUnauthorized, "%s", what)
 }
 
-// endWithToken returns a request that ends when its caller's token expires, so that no stream outlives it.
-func endWithToken(r *http.Request, by *auth.Caller) (*http.Request, context.CancelFunc) {
-	if by.Expires == nil {
-		return r, func() {}
+// named returns a request whose context names its caller, and ends when the caller's token expires, so that no stream outlives it.
+func named(r *http.Request, by *auth.Caller) (*http.Request, context.CancelFunc) {
+	ctx, cancel := oplog.WithSender(r.Context(), oplog.NewSender(by.Name, r.RemoteAddr)), context.CancelFunc(func() {})
+	if by.Expires != nil {
+		ctx, cancel = context.WithTimeout(ctx, time.Until(*by.Expires))
 	}
-	ctx, cancel := context.WithTimeout(r.Context(), time.Until(*by.Expires))
 	return r.WithContext(ctx), cancel
 }

@@ -13,6 +13,7 @@ import (
 	"time"
 
 	"gateway/internal/allocator"
+	"gateway/internal/audit"
 	"gateway/internal/disk"
 	"gateway/internal/limit"
 	"gateway/internal/oplog"
@@ -91,6 +92,8 @@ func answerTo(err error) *answerError {
 		return &answerError{http.StatusGatewayTimeout, err.Error(), appliedYes, 0, 0}
 	case errors.Is(err, allocator.ErrForgotten):
 		return &answerError{http.StatusGone, err.Error(), appliedYes, 0, 0}
+	case errors.Is(err, audit.ErrNotKept): // the allocator was restarted meanwhile, or records were pruned
+		return &answerError{http.StatusServiceUnavailable, err.Error() + ": ask again", appliedNo, 0, time.Second}
 	case errors.Is(err, allocator.ErrNoAnswer):
 		return &answerError{http.StatusServiceUnavailable, err.Error() + ": ask again", appliedNo, 0, time.Second}
 	}

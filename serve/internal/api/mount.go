@@ -66,7 +66,7 @@ func (s *Server) mounted(w http.ResponseWriter, r *http.Request) error {
 	if answer == nil {
 		return refusal(http.StatusNotFound, "this gateway does not have %s", r.URL.Path)
 	}
-	r, cancel := endWithToken(r, by)
+	r, cancel := named(r, by)
 	defer cancel()
 	return answer(&Call{w, r, &request{service, s, w, r, by, callers, ""}})
 }

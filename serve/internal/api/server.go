@@ -117,6 +117,7 @@ var calls = map[string]call{
 	Prefix + "report":                 {http.MethodGet, "read", (*request).report, whenReady},
 	Prefix + "state":                  {http.MethodGet, "read", (*request).state, whenReady},
 	Prefix + "explain":                {http.MethodGet, "read", (*request).explain, whenReady},
+	Prefix + "audit":                  {http.MethodGet, "read", (*request).audit, whenReady},
 	Prefix + "journal":                {http.MethodGet, "read", (*request).readJournal, whenReady},
 	Prefix + "replies":                {http.MethodGet, "read", (*request).replies, whenReady},
 	Prefix + "status":                 {http.MethodGet, "read", (*request).status, whenCutOff},
@@ -235,7 +236,7 @@ func (s *Server) dispatch(w http.ResponseWriter, r *http.Request) error {
 	if err != nil && (c.when == whenReady || c.when == whenCutOff && service == nil) {
 		return err
 	}
-	r, cancel := endWithToken(r, by)
+	r, cancel := named(r, by)
 	defer cancel()
 	return c.answer(&request{service, s, w, r, by, callers, name})
 }

@@ -50,6 +50,7 @@ type Batch struct {
 	Note       []byte      // for the registry; the allocator does not see it
 	Conditions []Condition // the batch is appended only while all of these hold
 	Touches    []string    // names that the transaction writes, for the conditions of others: see Untouched
+	Sender     Sender      // who sent it, or empty: a gateway
 	Internal   bool        // it may use the space that is reserved for pruning
 
 	text   []byte // each line after a line feed
@@ -120,13 +121,15 @@ type header struct {
 	Index  int    `json:"index"`
 	Marker string `json:"mark,omitempty"`
 	Note   int    `json:"note,omitempty"` // its length
+	By     string `json:"by,omitempty"`   // the sender's name
+	From   string `json:"from,omitempty"` // and address
 	Sum    uint32 `json:"sum"`
 }
 
-// value encodes a batch as the message at an index of a transaction.
-func (b *Batch) value(at int64, index int) string {
+// value encodes a batch as the message at an index of a transaction, from a sender.
+func (b *Batch) value(at int64, index int, by Sender) string {
 	body := b.bodyAt(at)
-	first, _ := json.Marshal(header{at, index, b.Marker, len(b.Note), crc32.ChecksumIEEE(body)})
+	first, _ := json.Marshal(header{at, index, b.Marker, len(b.Note), by.Name, by.Address, crc32.ChecksumIEEE(body)})
 	return string(append(first, body...))
 }
 
@@ -139,6 +142,7 @@ type Message struct {
 	Note     []byte
 	Text     []byte // each line after a line feed
 	Last     bool   // it is the last message of its transaction
+	Sender   Sender // who sent it, as far as the gateway that appended it kept that
 }
 
 // Lines returns the event lines.
@@ -160,7 +164,7 @@ func (l *Log) decode(kv *mvccpb.KeyValue) (Message, error) {
 	if err != nil || head.Sum != crc32.ChecksumIEEE(rest) {
 		return m, &FatalError{fmt.Errorf("the message %s at revision %d is damaged (%v)", kv.Key, kv.ModRevision, err)}
 	}
-	m.Revision, m.At, m.Marker = Revision{kv.ModRevision, head.Index}, head.At, head.Marker
+	m.Revision, m.At, m.Marker, m.Sender = Revision{kv.ModRevision, head.Index}, head.At, head.Marker, Sender{head.By, head.From}
 	m.Note, m.Text = rest[:head.Note:head.Note], rest[head.Note:]
 	return m, nil
 }

@@ -3,6 +3,7 @@
 package oplog
 
 import (
+	"context"
 	"fmt"
 	"strings"
 	"testing"
@@ -51,10 +52,11 @@ func TestMessagesAreReadAsWritten(t *testing.T) {
 		batchOf("a/1", "one", "", "three"),
 		{Key: "state/1", Marker: MarkerSnapshot},
 		{Key: "a/2", Note: []byte("a}\n{note")},
+		{Key: "a/3", Note: []byte("a}\n{note"), Sender: Sender{"web-1", "2001:db8::7"}},
 	} {
-		value := b.value(1700000000000, 7)
+		value := b.value(1700000000000, 7, b.Sender)
 		m, err := l.decode(&mvccpb.KeyValue{Key: []byte("drf/m/" + b.Key), Value: []byte(value), ModRevision: 9})
-		if err != nil || m.Key != b.Key || m.At != 1700000000000 || m.Revision != (Revision{9, 7}) || m.Marker != b.Marker || string(m.Note) != string(b.Note) || string(m.Text) != string(b.text) {
+		if err != nil || m.Key != b.Key || m.At != 1700000000000 || m.Revision != (Revision{9, 7}) || m.Marker != b.Marker || m.Sender != b.Sender || string(m.Note) != string(b.Note) || string(m.Text) != string(b.text) {
 			t.Errorf("%+v became %+v: %v", b, m, err)
 		}
 		for at := range value {
@@ -72,7 +74,19 @@ func TestMessagesAreReadAsWritten(t *testing.T) {
 
 // Values are those of the gateways before this one, which had no notes.
 func TestValuesOfOlderGateways(t *testing.T) {
-	if value := batchOf("a/1", "x").value(5, 0); value != `{"at":5,"index":0,"sum":3857187707}`+"\nx" {
+	if value := batchOf("a/1", "x").value(5, 0, Sender{}); value != `{"at":5,"index":0,"sum":3857187707}`+"\nx" {
 		t.Error(value)
+	}
+}
+
+func TestSenders(t *testing.T) {
+	for remote, want := range map[string]string{"10.0.0.7:4711": "10.0.0.7", "[2001:db8::7]:80": "2001:db8::7", "[fe80::1%eth0]:80": "fe80::1", "": "", "@": "", "x:1": "", "{}:1": "", "10.0.0.7": ""} {
+		if s := NewSender("web", remote); s != (Sender{"web", want}) {
+			t.Errorf("%q: %+v", remote, s)
+		}
+	}
+	ctx := WithSender(context.Background(), Sender{"web", "10.0.0.7"})
+	if SenderOf(ctx) != (Sender{"web", "10.0.0.7"}) || SenderOf(context.Background()) != (Sender{}) {
+		t.Error(SenderOf(ctx))
 	}
 }

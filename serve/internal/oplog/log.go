@@ -23,6 +23,10 @@ type Log struct {
 	Kept  *Kept // the keys of pruned messages
 	Space *Space
 
+	// KeepSenders reports whether messages are to say who sent them, or nil: they do. A gateway that does not know senders takes a batch that
+	// comes again for another one.
+	KeepSenders func() bool
+
 	cluster *etcd.Cluster
 	prefix  string
 	queue   chan *pending
@@ -181,7 +185,7 @@ func (l *Log) tryCommit(ctx context.Context, group []*pending, patience time.Dur
 	}
 	client, ctx, cancel := l.cluster.Ask(ctx, patience)
 	defer cancel()
-	at := l.Clock.now().UnixMilli()
+	at, keepsSenders := l.Clock.now().UnixMilli(), l.KeepSenders == nil || l.KeepSenders()
 	ops := make([]clientv3.Op, 0, len(group)+2)
 	for index, p := range group {
 		ours := l.messages(p.Key)
@@ -190,11 +194,15 @@ func (l *Log) tryCommit(ctx context.Context, group []*pending, patience time.Dur
 			ops = append(ops, clientv3.OpTxn(nil, get, nil))
 			continue
 		}
+		by := p.Sender
+		if !keepsSenders {
+			by = Sender{}
+		}
 		when := []clientv3.Cmp{clientv3.Compare(clientv3.CreateRevision(ours), "=", 0)}
 		for _, condition := range p.Conditions {
 			when = append(when, condition.compare)
 		}
-		ops = append(ops, clientv3.OpTxn(when, []clientv3.Op{clientv3.OpPut(ours, p.value(at, index))}, get))
+		ops = append(ops, clientv3.OpTxn(when, []clientv3.Op{clientv3.OpPut(ours, p.value(at, index, by))}, get))
 	}
 	for _, name := range touchedBy(group) {
 		ops = append(ops, clientv3.OpPut(l.touched(name), ""))
@@ -245,10 +253,10 @@ func (l *Log) settle(p *pending, kept *keptSet, at Revision, wasPut bool, found 
 	}
 }
 
-// again compares a batch with the message that has its key.
+// again compares a batch with the message that has its key. It may come from another address.
 func (l *Log) again(b *Batch, kv *mvccpb.KeyValue) (Revision, error) {
 	m, err := l.decode(kv)
-	if err == nil && b.value(m.At, m.Revision.Sub) != string(kv.Value) {
+	if err == nil && b.value(m.At, m.Revision.Sub, m.Sender) != string(kv.Value) {
 		err = &ConflictError{}
 	}
 	return m.Revision, err

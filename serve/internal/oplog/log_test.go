@@ -365,3 +365,34 @@ func TestLoadOfLargeMessages(t *testing.T) {
 		}
 	}
 }
+
+// Who sent a message is kept, unless a gateway runs that does not know senders; a batch that comes again from elsewhere is the same batch.
+func TestSendersAreKept(t *testing.T) {
+	t.Parallel()
+	ctx, l := context.Background(), withList(t, &machine{})
+	knows := true
+	l.KeepSenders = func() bool { return knows }
+	send := func(key, address string) Revision {
+		t.Helper()
+		b := batchOf(key, "x")
+		b.Sender = Sender{"web", address}
+		at, err := l.Append(ctx, b)
+		if err != nil {
+			t.Fatal(err)
+		}
+		return at
+	}
+	first := send("web/1", "10.0.0.7")
+	if again := send("web/1", "10.0.0.8"); again != first {
+		t.Error("sent again from another address:", again, first)
+	}
+	knows = false
+	if again := send("web/1", "10.0.0.8"); again != first {
+		t.Error("sent again while an older gateway runs:", again, first)
+	}
+	send("web/2", "10.0.0.9")
+	messages, err := l.all(ctx, Revision{})
+	if err != nil || len(messages) != 2 || messages[0].Sender != (Sender{"web", "10.0.0.7"}) || messages[1].Sender != (Sender{}) {
+		t.Errorf("%+v %v", messages, err)
+	}
+}

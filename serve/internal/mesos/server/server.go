@@ -117,7 +117,7 @@ func (s *Server) put(ctx context.Context, m *message, conditions ...oplog.Condit
 	if m.key == "" {
 		m.key = random(16)
 	}
-	b := &oplog.Batch{Key: "mesos/ " + m.key, Conditions: conditions, Internal: m.isInternal}
+	b := &oplog.Batch{Key: "mesos/ " + m.key, Conditions: conditions, Internal: m.isInternal, Sender: oplog.SenderOf(ctx)}
 	if m.note != nil {
 		b.Note = m.note.Encode()
 	}

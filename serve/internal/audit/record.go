@@ -1,0 +1,81 @@
+// Package audit, outside the proof, keeps who sent each message: the token's name and address, the time, and how many events of which kind.
+// Records are made from the list alone, so every gateway has the same, and no reply depends on them.
+package audit
+
+import (
+	"bytes"
+	"encoding/json"
+	"strings"
+
+	"gateway/internal/auth"
+	"gateway/internal/oplog"
+	"gateway/internal/registry"
+)
+
+// Record says who sent a message. It has a name, or the cause for which gateways appended the message by themselves.
+type Record struct {
+	Message int64          `json:"message"`
+	At      int64          `json:"at"`                // its timestamp in milliseconds
+	Name    string         `json:"name,omitempty"`    // of the token or Mesos principal
+	Address string         `json:"address,omitempty"` // that the request came from
+	Cause   string         `json:"cause,omitempty"`   // cycle, rescind, silent, state or mesos
+	Key     string         `json:"key,omitempty"`     // the caller's Idempotency-Key
+	Call    string         `json:"call,omitempty"`    // of Mesos' API or an agent's link, such as kill
+	Line    int64          `json:"line"`              // the number of its first event line
+	Lines   int            `json:"lines"`             // how many there are
+	Byte    int64          `json:"byte"`              // of the journal, at which they begin
+	Bytes   int64          `json:"bytes"`             // of the journal, with the replies
+	Events  map[string]int `json:"events"`            // how many of each kind; what is no event counts as other
+	Refused int            `json:"refused"`           // how many were refused
+}
+
+// causes are the owners of keys under which gateways append messages for themselves. No token has these names.
+var causes = map[string]bool{"cycle": true, "rescind": true, "silent": true, "state": true}
+
+// NewRecord returns the record of a message with a number, whose lines and replies begin at a line and a byte of the journal.
+func NewRecord(m *oplog.Message, number, line, at, bytes int64, lines, replies [][]byte) Record {
+	r := Record{Message: number, At: m.At, Name: m.Sender.Name, Address: m.Sender.Address, Call: callOf(m.Note), Line: line, Lines: len(lines), Byte: at, Bytes: bytes,
+		Events: map[string]int{}}
+	owner, key, _ := strings.Cut(m.Key, "/")
+	switch isOwn := strings.HasPrefix(key, " "); {
+	case causes[owner]:
+		r.Name, r.Cause = "", owner
+	case owner == "mesos" && isOwn && r.Name == "":
+		r.Cause = owner
+	case !isOwn:
+		r.Key = key
+	}
+	if r.Name == "" && r.Cause == "" { // while gateways run that do not keep senders
+		r.Name = owner
+	}
+	for k, line := range lines {
+		kind := registry.Kind(line)
+		if !auth.IsEvent(kind) {
+			kind = "other"
+		}
+		r.Events[kind]++
+		if registry.AnswerOf(replies[k]) != "ok" {
+			r.Refused++
+		}
+	}
+	return r
+}
+
+// callOf returns the kind of Mesos' note beside a message.
+func callOf(note []byte) string {
+	rest := bytes.TrimPrefix(note, []byte(`{"mesos":"`))
+	if len(rest) == len(note) {
+		return ""
+	}
+	kind, _, _ := bytes.Cut(rest, []byte(`"`))
+	return string(kind)
+}
+
+// encode appends records as lines.
+func encode(text []byte, records []Record) []byte {
+	for _, r := range records {
+		line, _ := json.Marshal(r) // it has texts and numbers alone
+		text = append(append(text, line...), '\n')
+	}
+	return text
+}

@@ -39,12 +39,16 @@ func (s *statusError) Error() string { return s.err.Error() }
 func (s *statusError) Unwrap() error { return s.err }
 
 func run(arguments []string) error {
+	ctx, stop := signal.NotifyContext(context.Background(), os.Interrupt, syscall.SIGTERM)
+	defer stop()
 	if len(arguments) > 0 {
 		switch arguments[0] {
 		case "token":
 			return tokenCommand(arguments[1:], os.Stdout, os.Stderr)
 		case "import":
 			return importCluster(arguments[1:], os.Stdin, os.Stdout, os.Stderr)
+		case "shadow":
+			return shadowCommand(ctx, arguments[1:], os.Stdout, os.Stderr)
 		case "credentials":
 			return credentialsCommand(arguments[1:], os.Stderr)
 		}
@@ -57,7 +61,5 @@ func run(arguments []string) error {
 		fmt.Println("durzhanok-gateway", version.Number)
 		return nil
 	}
-	ctx, stop := signal.NotifyContext(context.Background(), os.Interrupt, syscall.SIGTERM)
-	defer stop()
 	return o.serve(ctx)
 }

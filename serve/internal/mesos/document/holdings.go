@@ -7,7 +7,6 @@ import (
 	"encoding/hex"
 	"fmt"
 	"sort"
-	"strings"
 
 	"gateway/internal/mesos/resources"
 )
@@ -116,41 +115,9 @@ type pools struct {
 	free   resources.Bundle            // everything else
 }
 
-// take moves what a role wants out of the pools, and returns it. What remains in wanted is not there. Reservations for the role come first,
-// then those for the roles above it, then what is unreserved: so nothing is taken that another role needs more.
+// take moves what a role wants out of the pools, and returns it. What remains in wanted is not there.
 func (p *pools) take(role string, wanted resources.Bundle) resources.Bundle {
-	taken := resources.Bundle{}
-	for _, pool := range []resources.Bundle{p.byRole[role], p.free} {
-		for _, reservation := range reservationsFor(role) {
-			if pool == nil || len(wanted) == 0 {
-				continue
-			}
-			ask := resources.Bundle{}
-			for key, v := range wanted {
-				ask[resources.Key{Name: key.Name, Role: reservation}] = v
-			}
-			got := pool.Take(ask)
-			for key := range wanted.Copy() {
-				delete(wanted, key)
-			}
-			for key, v := range ask {
-				wanted[resources.Key{Name: key.Name, Role: "*"}] = v
-			}
-			taken.Add(got)
-		}
-	}
+	taken := p.byRole[role].TakeFor(role, wanted)
+	taken.Add(p.free.TakeFor(role, wanted))
 	return taken
-}
-
-// reservationsFor returns the roles whose reservations a role may use, the deepest first, and `*`.
-func reservationsFor(role string) (roles []string) {
-	for role != "" && role != "*" {
-		roles = append(roles, role)
-		cut := strings.LastIndexByte(role, '/')
-		if cut < 0 {
-			break
-		}
-		role = role[:cut]
-	}
-	return append(roles, "*")
 }

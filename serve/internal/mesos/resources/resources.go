@@ -92,6 +92,40 @@ func (b Bundle) Take(wanted Bundle) Bundle {
 	return taken
 }
 
+// TakeFor moves out of b what a role wants, which is without reservations, and returns it. What b lacks remains in wanted. Reservations for the
+// role come first, then those for the roles above it, then what is unreserved: so nothing is taken that fewer roles could have spared.
+func (b Bundle) TakeFor(role string, wanted Bundle) Bundle {
+	taken := Bundle{}
+	for _, reservation := range reservationsFor(role) {
+		if len(b) == 0 || len(wanted) == 0 {
+			break
+		}
+		ask := make(Bundle, len(wanted))
+		for key, v := range wanted {
+			ask[Key{key.Name, reservation}] = v
+			delete(wanted, key)
+		}
+		taken.Add(b.Take(ask))
+		for key, v := range ask {
+			wanted[Key{key.Name, "*"}] = v
+		}
+	}
+	return taken
+}
+
+// reservationsFor returns the roles whose reservations a role may use, the deepest first, and `*`.
+func reservationsFor(role string) (roles []string) {
+	for role != "" && role != "*" {
+		roles = append(roles, role)
+		cut := strings.LastIndexByte(role, '/')
+		if cut < 0 {
+			break
+		}
+		role = role[:cut]
+	}
+	return append(roles, "*")
+}
+
 func (v Value) without(other Value) Value {
 	return Value{v.Scalar - other.Scalar, withoutRanges(v.Ranges, other.Ranges), withoutItems(v.Items, other.Items)}
 }

@@ -30,16 +30,17 @@ def run(words, source):
         raise Failed(f"{program()}: {error.strerror}") from None
 
 
-def check(name, source, state):
-    """Checks a journal with `drf check`, and returns the number of its events. Raises BadInput at the first line that is not right."""
+def check(pieces, source, state):
+    """Checks the journal of these pieces with `drf check`, and returns the number of its events. Raises BadInput at the first line that is not right."""
     done = run(["check", *(["--from", state] if state else [])], source)
     verdict = done.stdout.decode().split()
     if done.returncode == 0 and verdict[:1] == ["good"]:
         return int(verdict[1])
     if verdict[:2] == ["bad", "line"]:
         number = int(verdict[2])
-        raise BadInput(f"{name} line {number}: the reply is missing, cut or wrong; lines 1 to {number - 2} are a good journal, replay those"
-                       if number > 2 else f"{name} line 2: the reply is missing, cut or wrong; is this a journal of `drf run --echo`"
+        good = "the lines before its event" if pieces.paths else f"lines 1 to {number - 2}"
+        raise BadInput(f"{pieces.place(number)}: the reply is missing, cut or wrong; {good} are a good journal, replay those"
+                       if number > 2 else f"{pieces.place(2)}: the reply is missing, cut or wrong; is this a journal of `drf run --echo`"
                        + (" that continues the state?" if state else " from an empty cluster, or do you need --from STATE?"))
     if done.returncode == 3:
         raise BadInput(message_of(done))

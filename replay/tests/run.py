@@ -1,4 +1,5 @@
 """Outside the proof. Runs the tests of drf-replay. Expected values are worked out by hand, or come from a simulation that knows the demand."""
+import gzip
 import json
 import os
 import re
@@ -339,6 +340,57 @@ def test_damaged_journals(room):
     assert "line 2: " in said and "drf run --echo" in said, said
     said = room.replay(room.write("bytes", bytes(range(256))), status=3)
     assert "bytes line 2: " in said, said
+
+
+def test_pieces(room):
+    # The pieces begin anywhere, also within a line.
+    journal = busy_day()
+    whole = room.report(room.write("day.journal", journal), "--set-weight", "web=4")
+    folder = f"{room.path}/pieces"
+    os.mkdir(folder)
+    cuts = [0, 100, 70_001, 70_002, 200_000, len(journal)]
+    for number, (begin, end) in enumerate(zip(cuts, cuts[1:]), 8):
+        piece = journal[begin:end]
+        if number % 2:
+            room.write(f"pieces/journal-2026-{number}.gz", gzip.compress(piece))
+        else:
+            room.write(f"pieces/journal-2026-{number}", piece)
+    room.write("pieces/.hidden", b"x")
+    for path in (folder, room.write("day.journal.gz", gzip.compress(journal))):
+        again = room.report(path, "--set-weight", "web=4")
+        again["journal"]["name"] = whole["journal"]["name"]
+        assert again == whole
+
+
+def test_bad_pieces(room):
+    journal = hand()
+    lines = journal.splitlines(keepends=True)
+    folder = f"{room.path}/pieces"
+    os.mkdir(folder)
+    assert room.replay("pieces", status=3) == "drf-replay: pieces: no pieces of a journal"
+    room.write("pieces/j.1", b"".join(lines[:6]))
+    room.write("pieces/j.3", b"".join(lines[16:]))
+    assert room.replay("pieces", status=3) == "drf-replay: pieces/j.3: piece 2 is missing; the one before is pieces/j.1"
+    packed = gzip.compress(b"".join(lines[6:16]))
+    room.write("pieces/j.2.gz", packed)
+    assert role_in(room.report("pieces"), "a")["before"]["tasks"] == 3
+    for end in range(0, len(packed) - 1, 17):
+        room.write("pieces/j.2.gz", packed[:end])
+        said = room.replay("pieces", status=3)
+        # An empty file is an empty piece: then the replies are not those to the events before.
+        assert said.startswith("drf-replay: pieces/j.2.gz: damaged: " if end else "drf-replay: pieces/j.3 line 2: the reply is missing, cut or wrong; the lines before"), said
+    room.write("pieces/j.2.gz", packed[:20] + bytes([packed[20] ^ 255]) + packed[21:])
+    assert room.replay("pieces", status=3).startswith("drf-replay: pieces/j.2.gz: damaged: ")
+    room.write("pieces/j.2.gz", packed)
+    room.write("pieces/j.02", b"")
+    assert room.replay("pieces", status=3) == "drf-replay: pieces/j.2.gz: has the same number as pieces/j.02"
+    os.remove(f"{folder}/j.02")
+    room.write("pieces/notes", b"")
+    assert room.replay("pieces", status=3).startswith("drf-replay: pieces/notes: not a piece of a journal; expected files with a number")
+    os.remove(f"{folder}/notes")
+    room.write("pieces/j.2.gz", gzip.compress(b"".join(lines[6:15]) + b'{"ok":false}\n'))
+    said = room.replay("pieces", status=3)
+    assert said == "drf-replay: pieces/j.2.gz line 10: the reply is missing, cut or wrong; the lines before its event are a good journal, replay those", said
 
 
 def test_journals_without_cycles(room):

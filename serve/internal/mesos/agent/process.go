@@ -18,6 +18,8 @@ type process struct {
 	Command     []byte   `json:"command"`     // CommandInfo
 	Environment []string `json:"environment"` // which the command's own variables replace
 	GraceMS     int64    `json:"grace_ms"`    // between SIGTERM and SIGKILL, where the agent does not say otherwise
+	HealthCheck []byte   `json:"health_check,omitempty"`
+	Check       []byte   `json:"check,omitempty"` // CheckInfo
 }
 
 // defaultGrace is the time between SIGTERM and SIGKILL of a command, Mesos' default.
@@ -39,6 +41,7 @@ func processOf(one codec.Message, sandbox string) *process {
 	info := one.Sub("task_info")
 	task := info.Text("task_id.value")
 	return &process{Command: info.Sub("command").Protobuf(), GraceMS: graceOf(one).Milliseconds(),
+		HealthCheck: info.Sub("health_check").Protobuf(), Check: info.Sub("check").Protobuf(),
 		Environment: append(environment(sandbox, one.Text("framework_id.value"), info.Text("agent_id.value"), task), "MESOS_TASK_ID="+task)}
 }
 
@@ -48,9 +51,24 @@ func environment(sandbox, framework, agent, executor string) []string {
 		"MESOS_AGENT_ID=" + agent, "MESOS_SLAVE_ID=" + agent, "MESOS_EXECUTOR_ID=" + executor, "LIBPROCESS_PORT=0"}
 }
 
-// command returns a command that is to be started.
+// command returns the command that is to be started, with the files of its output.
 func (p *process) command(sandbox string) (*exec.Cmd, error) {
-	c := codec.MustReadProtobuf("mesos.CommandInfo", p.Command)
+	command, err := p.commandOf(codec.MustReadProtobuf("mesos.CommandInfo", p.Command), sandbox)
+	if err != nil {
+		return nil, err
+	}
+	for name, to := range map[string]*io.Writer{"stdout": &command.Stdout, "stderr": &command.Stderr} {
+		file, err := os.OpenFile(filepath.Join(sandbox, name), os.O_CREATE|os.O_APPEND|os.O_WRONLY, 0o644)
+		if err != nil {
+			return nil, err
+		}
+		*to = file
+	}
+	return command, nil
+}
+
+// commandOf returns a command that runs as the process does, without its output.
+func (p *process) commandOf(c codec.Message, sandbox string) (*exec.Cmd, error) {
 	var command *exec.Cmd
 	if c.Bool("shell") { // the default
 		command = exec.Command("/bin/sh", "-c", c.Text("value"))
@@ -69,13 +87,6 @@ func (p *process) command(sandbox string) (*exec.Cmd, error) {
 	command.Env = append([]string(nil), p.Environment...)
 	for _, one := range c.List("environment.variables") {
 		command.Env = append(command.Env, one.Text("name")+"="+one.Text("value"))
-	}
-	for name, to := range map[string]*io.Writer{"stdout": &command.Stdout, "stderr": &command.Stderr} {
-		file, err := os.OpenFile(filepath.Join(sandbox, name), os.O_CREATE|os.O_APPEND|os.O_WRONLY, 0o644)
-		if err != nil {
-			return nil, err
-		}
-		*to = file
 	}
 	return command, nil
 }

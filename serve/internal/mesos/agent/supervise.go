@@ -79,19 +79,29 @@ func (s *supervisor) run() exit {
 	if err := disk.WriteFile(s.path("pid"), []byte(strconv.Itoa(command.Process.Pid))); err != nil {
 		command.Process.Kill()
 	}
-	ended := s.wait(command)
+	checks := s.startChecks(command)
+	ended := s.wait(command, checks.kill)
+	checks.end()
 	s.killDescendants()
 	return ended
 }
 
-// wait waits until a command has ended, which signals may ask for.
-func (s *supervisor) wait(command *exec.Cmd) (ended exit) {
+// wait waits until a command has ended, which signals may ask for, and its health check.
+func (s *supervisor) wait(command *exec.Cmd, isUnhealthy <-chan struct{}) (ended exit) {
 	group, done := -command.Process.Pid, make(chan struct{})
 	go func() {
 		command.Wait()
 		close(done)
 	}()
 	kill := (<-chan time.Time)(nil)
+	begin := func() {
+		ended.IsKilled = true
+		grace := s.grace()
+		if grace > 0 {
+			syscall.Kill(group, syscall.SIGTERM)
+		}
+		kill = time.After(grace)
+	}
 	for {
 		select {
 		case signal := <-s.signals:
@@ -99,12 +109,12 @@ func (s *supervisor) wait(command *exec.Cmd) (ended exit) {
 			case signal == syscall.SIGCHLD:
 				s.reap()
 			case signal == syscall.SIGTERM && !ended.IsKilled:
-				ended.IsKilled = true
-				grace := s.grace()
-				if grace > 0 {
-					syscall.Kill(group, syscall.SIGTERM)
-				}
-				kill = time.After(grace)
+				begin()
+			}
+		case <-isUnhealthy:
+			if !ended.IsKilled {
+				ended.IsUnhealthy = true
+				begin()
 			}
 		case <-kill:
 			syscall.Kill(group, syscall.SIGKILL)
@@ -128,6 +138,13 @@ func (s *supervisor) startOwn(command *exec.Cmd) error {
 		s.own[command.Process.Pid] = true
 	}
 	return err
+}
+
+// forget forgets a command whose Wait has returned.
+func (s *supervisor) forget(pid int) {
+	s.mu.Lock()
+	defer s.mu.Unlock()
+	delete(s.own, pid)
 }
 
 // reap takes the exits of processes that lost their parents.

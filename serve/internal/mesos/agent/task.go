@@ -233,7 +233,12 @@ func (a *Agent) watch(ctx context.Context, t *task) {
 		a.watchUpdates(ctx, t)
 		return
 	}
-	for reported, wait := "", 5*time.Millisecond; ctx.Err() == nil; {
+	reported := ""
+	if t.hasChecks() { // others have one step before their end
+		text, _ := os.ReadFile(t.path("reported"))
+		reported = string(text)
+	}
+	for wait := 5 * time.Millisecond; ctx.Err() == nil; {
 		step, status := t.current(reported)
 		if step != reported {
 			if !a.report(ctx, t, status) {
@@ -243,7 +248,9 @@ func (a *Agent) watch(ctx context.Context, t *task) {
 				a.finish(t, status)
 				return
 			}
-			reported, wait = step, 5*time.Millisecond
+			if reported, wait = step, 5*time.Millisecond; t.hasChecks() {
+				disk.WriteFile(t.path("reported"), []byte(step))
+			}
 			continue
 		}
 		if wait *= 2; wait > 100*time.Millisecond {
@@ -265,15 +272,55 @@ func (t *task) current(reported string) (step string, status codec.Message) {
 		return "end", rejected
 	}
 	e, hasEnded, isLost := t.ended()
+	if t.exists("pid") {
+		if reported == "" {
+			return "running", t.running(checked{})
+		}
+		found := checked{}
+		if t.hasChecks() {
+			found = t.checkedOf()
+		}
+		if step := fmt.Sprintf("running-%d", found.Count); found.Count > 0 && step != reported && !hasEnded {
+			return step, t.running(found)
+		}
+	}
 	switch {
-	case reported == "" && t.exists("pid"):
-		return "running", t.status("running", "TASK_RUNNING")
 	case isLost:
 		return "end", t.status("end", "TASK_FAILED").Set("reason", "REASON_AGENT_RESTARTED").Set("message", "the task's process ended with the machine or was killed with its supervisor")
 	case hasEnded:
 		return "end", t.endStatus(e)
 	}
 	return reported, codec.Message{}
+}
+
+func (t *task) hasChecks() bool { return t.info.Has("health_check") || t.info.Has("check") }
+
+// running returns the status of a command that runs. When its checks find something else, it is another one.
+func (t *task) running(found checked) codec.Message {
+	step := "running"
+	if found.Count > 0 {
+		step = fmt.Sprintf("running-%d", found.Count)
+	}
+	status := t.status(step, "TASK_RUNNING")
+	if found.Count > 0 {
+		status.Set("reason", found.Reason)
+	}
+	t.addChecked(status, found)
+	return status
+}
+
+// addChecked sets what the checks of a command found.
+func (t *task) addChecked(status codec.Message, found checked) {
+	if found.Health != nil {
+		status.Set("healthy", *found.Health)
+	}
+	if t.info.Has("check") {
+		info := emptyCheckStatus(t.info.Sub("check"))
+		if len(found.Status) > 0 {
+			info = codec.MustReadProtobuf("mesos.CheckStatusInfo", found.Status)
+		}
+		status.Set("check_status", info)
+	}
 }
 
 // finish forgets a task whose end is taken.
@@ -297,6 +344,17 @@ func (a *Agent) finish(t *task, status codec.Message) {
 
 // endStatus returns the status of a command that ended by itself or was killed.
 func (t *task) endStatus(e exit) codec.Message {
+	status := t.endState(e)
+	if e.IsUnhealthy {
+		status.Set("healthy", false)
+	}
+	if t.info.Has("check") {
+		t.addChecked(status, checked{Status: t.checkedOf().Status})
+	}
+	return status
+}
+
+func (t *task) endState(e exit) codec.Message {
 	switch {
 	case e.Problem != "" && e.IsKilled:
 		return t.status("end", "TASK_KILLED").Set("message", e.Problem)

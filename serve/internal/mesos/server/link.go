@@ -80,7 +80,7 @@ func (s *Server) register(c *api.Call, id string, call codec.Message) error {
 	if err != nil {
 		return err
 	}
-	if one.isOver() && len(one.events) == 0 {
+	if one.isRefused() {
 		return api.Refuse(http.StatusConflict, "the allocator did not take the agent '%s': %s", id, strings.Join(answers, ", "))
 	}
 	setHeaders(c, form, "")
@@ -103,10 +103,9 @@ func (s *Server) writeLink(c *api.Call, form codec.Form, one *stream) {
 	for {
 		var text []byte
 		select {
-		case e := <-one.events:
-			text = form.Record(renderLink(e))
-			for more := len(one.events); more > 0 && len(text) < 1<<20; more-- {
-				text = append(text, form.Record(renderLink(<-one.events))...)
+		case <-one.wake:
+			for _, e := range one.take() {
+				text = append(text, form.Record(renderLink(e))...)
 			}
 		case <-one.over:
 			reason := one.reason
@@ -121,7 +120,7 @@ func (s *Server) writeLink(c *api.Call, form codec.Form, one *stream) {
 		case <-c.R.Context().Done():
 			return
 		}
-		if !c.Send(text) {
+		if len(text) > 0 && !c.Send(text) {
 			return
 		}
 	}

@@ -8,8 +8,9 @@ import (
 	"gateway/internal/registry/mesos"
 )
 
-// maxWaiting is how many events may wait for a stream. One that is slower ends: its caller comes again, and gets what exists.
-const maxWaiting = 8192
+// maxWaiting is how many events may wait for a stream. One that is slower ends: its caller comes again, and gets what exists. It is more than a
+// reconciliation of all tasks that the allocator has room for.
+const maxWaiting = 1 << 17
 
 // Streams are the streams that this gateway has.
 type Streams struct {
@@ -22,13 +23,16 @@ func NewStreams() *Streams { return &Streams{open: map[string]*stream{}} }
 
 type stream struct {
 	id     string
-	events chan mesos.Event
+	wake   chan struct{} // has something while events may wait
 	over   chan struct{} // closed when it is to end
 	reason string        // of its end, for an ERROR, or empty
+
+	mu      sync.Mutex
+	waiting []mesos.Event
 }
 
 func (s *Streams) add(id string) *stream {
-	one := &stream{id: id, events: make(chan mesos.Event, maxWaiting), over: make(chan struct{})}
+	one := &stream{id: id, wake: make(chan struct{}, 1), over: make(chan struct{})}
 	s.mu.Lock()
 	defer s.mu.Unlock()
 	s.open[id] = one
@@ -72,11 +76,40 @@ func (s *Streams) Publish(e mesos.Event) {
 		s.end(one, e.Message)
 		return
 	}
-	select {
-	case one.events <- e:
-	default:
+	if !one.put(e) {
 		s.end(one, "")
 	}
+}
+
+// put adds an event, unless too many wait.
+func (one *stream) put(e mesos.Event) bool {
+	one.mu.Lock()
+	defer one.mu.Unlock()
+	if len(one.waiting) >= maxWaiting {
+		return false
+	}
+	one.waiting = append(one.waiting, e)
+	select {
+	case one.wake <- struct{}{}:
+	default: // who takes them is awake already
+	}
+	return true
+}
+
+// take returns the events that wait.
+func (one *stream) take() []mesos.Event {
+	one.mu.Lock()
+	defer one.mu.Unlock()
+	taken := one.waiting
+	one.waiting = nil
+	return taken
+}
+
+// isRefused reports whether a stream is to end before it has anything.
+func (one *stream) isRefused() bool {
+	one.mu.Lock()
+	defer one.mu.Unlock()
+	return one.isOver() && len(one.waiting) == 0
 }
 
 // isOver reports whether a stream is to end.

@@ -156,7 +156,7 @@ func (s *Server) stream(c *api.Call, form codec.Form, call codec.Message) error 
 	if err != nil {
 		return err
 	}
-	if one.isOver() && len(one.events) == 0 {
+	if one.isRefused() {
 		return refuseSubscription("the allocator did not take the framework '%s': %s", id, strings.Join(answers, ", "))
 	}
 	setHeaders(c, form, one.id)
@@ -240,22 +240,24 @@ func (s *Server) write(c *api.Call, form codec.Form, one *stream, id string) (ha
 	for {
 		var text []byte
 		select {
-		case e := <-one.events:
-			for more := len(one.events); ; more-- {
+		case <-one.wake:
+			for _, e := range one.take() {
 				if e.Kind == "UPDATE" && len(e.Status.UUID) > 0 {
 					sent[e.Status.Task] = sentStatus{string(e.Status.UUID), time.Now()}
 				}
 				for _, m := range s.render(e) {
 					text = append(text, form.Record(m)...)
 				}
-				if more <= 0 || len(text) > 1<<20 {
-					break
+				if len(text) > 1<<20 {
+					if !c.Send(text) {
+						return true
+					}
+					text = text[:0]
 				}
-				e = <-one.events
 			}
 		case <-one.over:
-			for len(one.events) > 0 {
-				for _, m := range s.render(<-one.events) {
+			for _, e := range one.take() {
+				for _, m := range s.render(e) {
 					text = append(text, form.Record(m)...)
 				}
 			}

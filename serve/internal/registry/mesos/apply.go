@@ -174,7 +174,7 @@ func (s *State) removeFramework(name string) {
 func (s *State) complete(f *Framework, t *Task) {
 	delete(f.Tasks, t.Task)
 	if s.Completed = append(s.Completed, Completed{f.ID, t.Task, t.Agent, t.State, t.Call, s.at}); len(s.Completed) > maxCompleted {
-		s.Completed = append([]Completed(nil), s.Completed[len(s.Completed)-maxCompleted:]...)
+		s.Completed = s.Completed[len(s.Completed)-maxCompleted:] // the next append but some moves them, and frees what is before
 	}
 }
 
@@ -187,11 +187,11 @@ func (s *State) removeAgent(id string) {
 	}
 	for _, framework := range s.FrameworkIDs() {
 		f := s.Frameworks[framework]
-		for _, name := range f.TaskNames() {
-			if t := f.Tasks[name]; t.Agent == id && !IsTerminal(t.State) {
+		for _, name := range f.tasksOn(id) {
+			if t := f.Tasks[name]; !IsTerminal(t.State) {
 				s.add(f, t, Status{Task: name, Agent: id, State: s.lost(f, "TASK_GONE"), Reason: "REASON_AGENT_REMOVED", Message: "Agent " + id + " was removed", UUID: s.uuid(f, name), At: s.at})
 			}
-			if t := f.Tasks[name]; t != nil && t.Agent == id {
+			if t := f.Tasks[name]; t != nil {
 				for _, h := range t.Holds {
 					delete(s.Users, HoldKey(f.Name, h.Name))
 					delete(s.Unused, HoldKey(f.Name, h.Name))

@@ -116,8 +116,8 @@ func (s *State) register(n *Note, answers []string) {
 	var tasks []TaskOf
 	for _, framework := range s.FrameworkIDs() {
 		f := s.Frameworks[framework]
-		for _, name := range f.TaskNames() {
-			if t := f.Tasks[name]; t.Agent == a.ID && !IsTerminal(t.State) {
+		for _, name := range f.tasksOn(a.ID) {
+			if t := f.Tasks[name]; !IsTerminal(t.State) {
 				tasks = append(tasks, taskOf(f, t))
 			}
 		}

@@ -277,6 +277,17 @@ func (f *Framework) TaskNames() []string {
 	return names
 }
 
+// tasksOn returns the names of a framework's tasks on an agent, in order.
+func (f *Framework) tasksOn(agent string) (names []string) {
+	for name, t := range f.Tasks {
+		if t.Agent == agent {
+			names = append(names, name)
+		}
+	}
+	sort.Strings(names)
+	return names
+}
+
 // FrameworkIDs returns the ids of frameworks, in order.
 func (s *State) FrameworkIDs() []string {
 	ids := make([]string, 0, len(s.Frameworks))

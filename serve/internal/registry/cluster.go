@@ -231,3 +231,19 @@ func (r *Registry) Registration(kind, name string) (message int64, is bool) {
 	}
 	return message, is
 }
+
+// Names returns the names of the agents or frameworks that are registered, in order.
+func (r *Registry) Names(kind string) []string {
+	r.mu.RLock()
+	defer r.mu.RUnlock()
+	of := r.cluster.agents
+	if kind == Frameworks {
+		of = r.cluster.frameworks
+	}
+	names := make([]string, 0, len(of))
+	for name := range of {
+		names = append(names, name)
+	}
+	sort.Strings(names)
+	return names
+}

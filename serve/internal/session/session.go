@@ -119,7 +119,8 @@ func (m *Manager) Heartbeat(ctx context.Context, kind, name string) (wasAlive bo
 	if err == nil || err == rpctypes.ErrLeaseNotFound {
 		var ops []clientv3.Op
 		if ops, err = m.start(ctx, kind, name, registration); err == nil {
-			_, err = client.Txn(ctx).Then(append(ops, clientv3.OpDelete(m.key("watched", endings[kind].next, name)))...).Commit()
+			ops = append(ops, clientv3.OpDelete(m.key("watched", endings[kind].next, name)), clientv3.OpDelete(m.key("silent", kind, name)))
+			_, err = client.Txn(ctx).Then(ops...).Commit()
 		}
 	}
 	if err != nil {
@@ -147,8 +148,14 @@ func (m *Manager) waitApplied(ctx context.Context, revision int64) {
 // Run ends silent sessions until the context ends.
 func (m *Manager) Run(ctx context.Context) {
 	m.lastRun, m.calm = m.running(), m.running()
-	for ctx.Err() == nil {
+	for forgot := m.running(); ctx.Err() == nil; {
 		m.observe()
+		if m.running()-forgot > forgetEvery && m.ready() == nil {
+			forgot = m.running()
+			if err := m.forgetNotes(ctx); err != nil && ctx.Err() == nil {
+				log.Printf("sessions: %v", err)
+			}
+		}
 		for _, kind := range kinds {
 			if m.config.Timeouts[kind] > 0 && m.ready() == nil {
 				if err := m.endSilent(ctx, kind); err != nil && ctx.Err() == nil {
@@ -167,6 +174,8 @@ const (
 	pauseAfter = 3 * time.Second // between two runs: the process was stopped
 	holdFor    = 5 * time.Second // that another gateway may be gone before it is missed
 	minGrace   = 5 * time.Second
+
+	forgetEvery = time.Minute
 )
 
 // observe notes when heartbeats may have been lost that were sent: time-outs start again then.
@@ -274,6 +283,7 @@ func (m *Manager) end(ctx context.Context, kind, name, key string, revision, reg
 			return err
 		}
 		log.Printf("%s %s was silent: %s", strings.TrimSuffix(registered(kind), "s"), name, how.event)
+		then = append(then, m.note(kind, name, key, registration))
 		if m.config.Timeouts[how.next] > 0 {
 			next, err := m.start(ctx, how.next, name, registration)
 			if err != nil {

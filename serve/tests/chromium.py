@@ -40,6 +40,16 @@ class Browser:
         self.open(url)
         self.one("#token").send_keys(token, Keys.ENTER)
 
+    def show(self, page):
+        """Goes to a part of the page, as #agents/n7."""
+        self.run("location.hash = arguments[0]", page)
+
+    def ask(self, module, script, *given):
+        """What a script returns that gets a module of the page as `m`."""
+        self.driver.set_script_timeout(60)
+        code = "const done = arguments[arguments.length - 1], given = [...arguments].slice(0, -1); import('/page/%s.js').then(m => { %s }).then(done, e => done(String(e)))"
+        return self.driver.execute_async_script(code % (module, script), *given)
+
     def run(self, script, *given):
         return self.driver.execute_script(script, *given)
 

@@ -1,6 +1,6 @@
 # Tests of the page over a stand-in: what it shows of given rows, of events, of faults. Outside the proof.
 import json
-import os
+from urllib.parse import quote
 
 from selenium.webdriver.common.keys import Keys
 
@@ -8,25 +8,23 @@ import stand_in
 from chromium import equal, holds, test
 from stand_in import StandIn, TOKEN
 
-PAGE = open(os.path.join(os.path.dirname(os.path.realpath(__file__)), "..", "internal", "api", "page.html"), encoding="utf-8").read()
 
-
-def small(browser):
-    own = StandIn(PAGE, stand_in.small_rows())
+def small(browser, *rights):
+    own = StandIn(stand_in.small_rows(), *rights)
     browser.enter(own.url, TOKEN)
     browser.wait("the cluster", lambda: browser.texts("#tree tbody tr"))
     return own
 
 
 ROW = """
-const cells = ['.name span', '.share b', '.share small', '.weighted', '.made'];
+const cells = ['.label', '.used', '.offered', '.weighted'];
 return [...document.querySelectorAll('#tree tbody tr')].map(row =>
   [...cells.map(cell => row.querySelector(cell).textContent), ...[...row.querySelectorAll('.part i')].map(part => part.style.width)])"""
 
 
 @test
 def a_wrong_token_is_told(browser, room):
-    own = StandIn(PAGE, stand_in.small_rows())
+    own = StandIn(stand_in.small_rows())
     browser.enter(own.url, "another")
     browser.wait("the refusal", lambda: "not known" in browser.text("#denied"))
     holds("the page is not shown", not browser.one("#page").is_displayed() and browser.one("#login").is_displayed())
@@ -48,12 +46,17 @@ def the_token_is_kept_in_this_tab_alone(browser, room):
 
 @test
 def an_empty_cluster_is_told(browser, room):
-    own = StandIn(PAGE, [stand_in.state(0, 0, 1)])
+    own = StandIn([stand_in.state(0, 0, 1)])
     browser.enter(own.url, TOKEN)
     browser.wait("the words", lambda: browser.one("#nobody").is_displayed() and "There are no agents." in browser.text("#meters"))
-    holds("what is empty is hidden", not browser.one("#tree").is_displayed() and not browser.one("#agents").is_displayed())
+    holds("what is empty is hidden", not browser.one("#tree").is_displayed() and not browser.one("#map-card").is_displayed())
+    for page, words in (("agents", "There are no agents."), ("frameworks", "There are no frameworks."), ("tasks", "There are no tasks."), ("offers", "No offer is outstanding.")):
+        browser.show(page)
+        browser.wait(page, lambda: browser.one(f"#{page}-list .none").is_displayed())
+        equal(page, browser.text(f"#{page}-list .none"), words)
+    browser.show("overview")
     own.show(stand_in.small_rows() + [stand_in.agent("odd", "constructor:1;none:1;toString:2")])
-    browser.wait("the cluster", lambda: browser.one("#tree").is_displayed() and browser.one("#agents").is_displayed() and browser.run(MAPPED))
+    browser.wait("the cluster", lambda: browser.one("#tree").is_displayed() and browser.one("#map-card").is_displayed() and browser.run(MAPPED))
     holds("the words are gone", "There are no agents." not in browser.text("#meters"))
     equal("console", browser.console(), [])
     own.end()
@@ -66,19 +69,22 @@ return map.clientWidth > 0 && map.getContext('2d').getImageData(0, 0, map.width,
 
 
 @test
-def shares_weights_and_what_is_offered_apart(browser, room):
+def what_is_used_and_what_is_offered_are_apart(browser, room):
     own = small(browser)
     # Of cpus:40;mem:32768 together, the inactive agent's among them.
     equal("the tree", browser.run(ROW), [
-        ["ci", "0.0%", "", "0.0%", "0", "0%", "0%"], ["tests", "0.0%", "", "", "0", "0%", "0%"],
-        ["data", "15.6%", "mem", "15.6%", "3", "15.63%", "0%"], ["batch", "3.1%", "mem", "", "1", "3.13%", "0%"],
-        ["adhoc", "12.5%", "mem", "12.5%", "2", "12.5%", "0%"], ["query", "12.5%", "mem", "", "2", "12.5%", "0%"],
-        ["web", "20.0%", "cpus", "10.0%", "3", "10%", "10%"], ["batch", "0.0%", "", "", "0", "0%", "0%"],
-        ["site", "20.0%", "cpus", "", "3", "10%", "10%"]])
-    equal("how full", browser.texts("#meters .small"),
-          ["of 40", "7 used, 4 offered, 9 free, 20 inactive", "of 32,768", "6,144 used, 1,024 offered, 17,408 free, 8,192 inactive"])
-    equal("in numbers", dict(zip(browser.texts("#numbers dt"), browser.texts("#numbers dd"))),
-          {"agents, 1 inactive": "4", "frameworks": "4", "hold nothing": "1", "tasks": "3", "offers stand": "1", "filters in force": "1"})
+        ["ci", "–", "–", "–", "0%", "0%"], ["tests", "–", "–", "", "0%", "0%"],
+        ["data", "15.6%", "–", "15.6%", "15.63%", "0%"], ["batch", "3.1%", "–", "", "3.13%", "0%"],
+        ["adhoc", "12.5%", "–", "12.5%", "12.5%", "0%"], ["query", "12.5%", "–", "", "12.5%", "0%"],
+        ["web", "10.0%", "10.0%", "10.0%", "10%", "10%"], ["batch", "–", "–", "", "0%", "0%"],
+        ["site", "10.0%", "10.0%", "", "10%", "10%"]])
+    equal("how full is what is used", browser.texts("#meters .top b"), ["17.5%", "18.8%"])
+    equal("in figures", browser.run("return [...document.querySelectorAll('#meters dl')].map(dl => [...dl.children].map(row => row.innerText.split('\\n').filter(t => t.trim()).join(' ')))"), [
+        ["used 7 17.5%", "offered 4 10.0%", "free 9 22.5%", "inactive 20 50.0%", "total 40"],
+        ["used 6,144 18.8%", "offered 1,024 3.1%", "free 17,408 53.1%", "inactive 8,192 25.0%", "total 32,768"]])
+    equal("in numbers", browser.run("return [...document.querySelectorAll('#numbers > div')].map(e => [...e.children].map(c => c.textContent))"), [
+        ["agents", "4", "1 inactive"], ["frameworks", "4", "1 holds nothing"], ["tasks", "3", ""], ["offers", "1", "outstanding"], ["filters", "1", "in force"]])
+    equal("the title", browser.driver.title, "Overview · 19% used · Durzhanok")
     equal("console", browser.console(), [])
     own.end()
 
@@ -96,13 +102,13 @@ def limits_stand_beside_consumption(browser, room):
 def roles_fold_and_orders_change(browser, room):
     own = small(browser)
     browser.one("#fold").click()
-    equal("closed", browser.texts("#tree .name span"), ["ci", "data", "web"])
+    equal("closed", browser.texts("#tree .label"), ["ci", "data", "web"])
     browser.one("#tree button[aria-label='Open data']").click()
-    equal("one opened", browser.texts("#tree .name span"), ["ci", "data", "batch", "adhoc", "web"])
+    equal("one opened", browser.texts("#tree .label"), ["ci", "data", "batch", "adhoc", "web"])
     browser.one("#order option[value=share]").click()
-    equal("greatest first", browser.texts("#tree .name span"), ["web", "data", "batch", "adhoc", "ci"])
+    equal("greatest first", browser.texts("#tree .label"), ["web", "data", "batch", "adhoc", "ci"])
     browser.one("#order option[value=next]").click()
-    equal("served next first", browser.texts("#tree .name span"), ["ci", "web", "data", "batch", "adhoc"])
+    equal("served next first", browser.texts("#tree .label"), ["ci", "web", "data", "batch", "adhoc"])
     own.end()
 
 
@@ -112,23 +118,23 @@ def a_change_comes_within_seconds(browser, room):
     rows = [row for row in stand_in.small_rows() if row.get("offer") != 8]
     own.show(rows)
     own.tell('{"event":"rescind","offer":8}', '{"ok":true}')
-    browser.wait("the new share", lambda: ["web", "10.0%", "cpus", "5.0%", "3", "10%", "0%"] in browser.run(ROW), 5)
-    equal("the event", browser.texts("#feed li span")[0], "Offer 8 taken back")
-    equal("offers", browser.text("#count"), "No offer stands.")
+    browser.wait("the new share", lambda: ["web", "10.0%", "–", "5.0%", "10%", "0%"] in browser.run(ROW), 5)
+    equal("the event", browser.texts("#feed li span")[0], "Offer 8 rescinded")
+    equal("offers", browser.text("#n-offers"), "0")
     own.end()
 
 
 EVENTS = [
-    ({"event": "add_agent", "agent": "n9", "total": "cpus:4;mem:1024"}, {"ok": True}, "Agent n9 came, with cpus 4, mem 1024"),
+    ({"event": "add_agent", "agent": "n9", "total": "cpus:4;mem:1024"}, {"ok": True}, "Agent n9 registered with cpus 4, mem 1024"),
     ({"event": "set_limit", "role": "web", "limit": ""}, {"ok": True}, "web has no limit"),
     ({"event": "reserve", "agent": "n1", "role": "web", "resources": "cpus:1"}, {"ok": True}, "cpus 1 on n1 reserved for web"),
     ({"event": "accept", "framework": "site", "offer": 8, "tasks": [{"task": "a", "use": "cpus:1"}, {"task": "b", "use": "cpus:2"}]}, {"ok": True},
      "site accepted offer 8: task a uses cpus 1; task b uses cpus 2"),
     ({"event": "decline", "framework": "site", "offer": 8}, {"ok": True}, "site declined offer 8, for 5 s"),
     ({"event": "cycle", "at": 1}, {"offers": [{"framework": "site"}, {"framework": "batch"}]}, "Cycle: 2 offers, to site, batch"),
-    ({"event": "rescind", "offer": 7}, {"name": "UnknownOffer", "refused": 7}, "Refused: rescind offer 7 (UnknownOffer: no such offer stands)"),
-    ({"event": "constructor"}, {"name": "BadShape", "refused": 32}, 'Line: {"event": "constructor"} (BadShape: the line is no event)'),
-    ({"event": "add_agent", "agent": 7}, {"name": "BadShape", "refused": 32}, "Refused: add_agent 7 (BadShape: the line is no event)"),
+    ({"event": "rescind", "offer": 7}, {"name": "UnknownOffer", "refused": 7}, "Refused: rescind offer 7 (UnknownOffer: no outstanding offer has this number)"),
+    ({"event": "constructor"}, {"name": "BadShape", "refused": 32}, 'Line: {"event": "constructor"} (BadShape: the event is unknown, a key is missing or unknown, or a value has another type)'),
+    ({"event": "add_agent", "agent": 7}, {"name": "BadShape", "refused": 32}, "Refused: add_agent 7 (BadShape: the event is unknown, a key is missing or unknown, or a value has another type)"),
 ]
 
 
@@ -155,15 +161,15 @@ HOSTILE = "<img src=x onerror=\"window.taken=1\"><script>window.taken=1</script>
 
 @test
 def the_latest_events_of_the_journal_come_first(browser, room):
-    own = StandIn(PAGE, stand_in.small_rows())
+    own = StandIn(stand_in.small_rows())
     pairs = [f'{{"event":"decline","framework":"site","offer":{k},"at":{1795860000000 + k}}}\n{{"ok":true}}\n' for k in range(2000)]
     own.journal = "".join(pairs) + '{"ok":true}\n{"name":"BadShape","refused":32}\n'
     own.show(stand_in.small_rows())
     browser.enter(own.url, TOKEN)
-    wanted = ['Line: {"ok":true} (BadShape: the line is no event)', "site declined offer 1999, for 5 s", "site declined offer 1998, for 5 s"]
+    wanted = ['Line: {"ok":true} (BadShape: the event is unknown, a key is missing or unknown, or a value has another type)', "site declined offer 1999, for 5 s", "site declined offer 1998, for 5 s"]
     browser.wait("the latest", lambda: browser.texts("#feed li span")[:3] == wanted)
     own.tell('{"event":"rescind","offer":3000}', '{"ok":true}')
-    browser.wait("and what comes", lambda: browser.texts("#feed li span")[:1] == ["Offer 3000 taken back"])
+    browser.wait("and what comes", lambda: browser.texts("#feed li span")[:1] == ["Offer 3000 rescinded"])
     own.end()
 
 
@@ -178,13 +184,19 @@ def a_hostile_text_is_text(browser, room):
     own.tell(HOSTILE + "\u202egnp\u0000", '{"name":"NotJson","refused":31}')
     own.tell(json.dumps({"event": "add_framework", "framework": HOSTILE, "roles": [HOSTILE]}), '{"name":"' + HOSTILE.replace('"', "'") + '","refused":33}')
     browser.wait("the lines", lambda: len(browser.texts("#feed li time")) == 2)
-    browser.wait("the rows", lambda: bad in browser.texts("#tree .name span"))
+    browser.wait("the rows", lambda: bad in browser.texts("#tree .label"))
     holds("the line is shown, marks of direction made visible", "Line: " + HOSTILE + "\\u{202e}gnp\\u{0}" in browser.text("#feed"))
-    browser.one("#find").send_keys(HOSTILE)
-    browser.wait("the agent", lambda: HOSTILE in browser.text("#agent h3"))
-    browser.one("#whom").send_keys(bad, Keys.ENTER)
-    browser.wait("why", lambda: HOSTILE in browser.text("#because"))
-    made = "return [document.querySelectorAll('img, main b b, #page b:not(.top b):not(.share b), #page script').length, window.taken ?? null]"
+    made = "return [document.querySelectorAll('img, #page b:not(.top b), #page script').length, window.taken ?? null]"
+    equal("made of it", browser.run(made), [0, None])
+    for page in ("tasks", "offers", "agents/" + quote(HOSTILE, safe="")):
+        browser.show(page)
+        browser.wait(page, lambda: HOSTILE in browser.text("#content > section:not([hidden]) table"))
+        equal("made of it", browser.run(made), [0, None])
+    equal("the agent", browser.text("#agent-title"), HOSTILE)
+    browser.show("frameworks/" + quote(bad, safe=""))
+    browser.wait("the framework", lambda: browser.text("#framework-title") == bad)
+    browser.one("#framework .extra button").click()
+    browser.wait("why", lambda: HOSTILE in browser.text(".because"))
     equal("made of it", browser.run(made), [0, None])
     equal("console", browser.console(), [])
     own.end()
@@ -197,15 +209,16 @@ def why_is_told_in_words(browser, room):
         {"client": "web/./batch", "why": "Suppressed"}, {"agent": "n1", "client": "data/./batch", "role": "data", "why": "OverLimit"},
         {"agent": "n1", "client": "web/./site", "grant": "cpus:1"}, {"agent": "n2", "client": "data/./batch", "until": 1795860005000, "why": "HeldBack"},
         {"agent": "n3", "client": "web/./site", "grant": "cpus:2"}, {"agent": "n3", "clients": 2, "left": "cpus:0.005"}, {"agent": "n4", "why": "Inactive"}]))
-    browser.one("#whom").send_keys("batch", Keys.ENTER)
-    browser.wait("the answer", lambda: "Inactive" not in browser.text("#because") and "takes no part" in browser.text("#because"))
-    told = browser.texts("#because li")
-    for part in ("web: It wants no offers", "data: The limit of data leaves too little. On 1 agent: n1.", "data: It declined, or left a rest",
-                 "The agent takes no part. On 1 agent: n4."):
+    browser.show("frameworks/batch")
+    browser.wait("the framework", lambda: browser.text("#framework-title") == "batch")
+    browser.one("#framework .extra button").click()
+    browser.wait("the answer", lambda: "The agent is inactive" in browser.text(".because"))
+    told = browser.texts(".because li")
+    for part in ("web: it wants no offers", "data: the limit of data leaves too little. On 1 agent: n1.", "data: it declined, or left a rest",
+                 "The agent is inactive. On 1 agent: n4."):
         holds(f"{part!r} in {told}", any(part in line for line in told))
-    browser.one("#whom").clear()
-    browser.one("#whom").send_keys("nobody", Keys.ENTER)
-    browser.wait("no such framework", lambda: "There is no framework nobody" in browser.text("#because"))
+    browser.show("frameworks/nobody")
+    browser.wait("no such framework", lambda: "There is no such framework." in browser.text("#framework"))
     own.end()
 
 
@@ -219,26 +232,28 @@ def replaying_and_a_lost_gateway_are_told(browser, room):
     own.show(stand_in.small_rows(), clock_warning="the clock of this machine is 5h0m0s ahead of the last time at which the service ran: check it")
     browser.wait("a clock far ahead", lambda: browser.text("#health") == "Live" and "5h0m0s ahead" in browser.text("#notes"))
     own.show(stand_in.small_rows(), allocator={"restarts": 2})
-    browser.wait("a killed allocator", lambda: "started again, 2 times" in browser.text("#notes"))
+    browser.wait("a killed allocator", lambda: "restarted 2 times" in browser.text("#notes"))
     own.show(stand_in.small_rows())
     browser.wait("live", lambda: browser.text("#health") == "Live" and "replaying" not in browser.text("#notes"))
     own.end()
-    browser.wait("lost", lambda: browser.text("#health") == "No answer" and "no answer since" in browser.text("#notes"))
+    browser.wait("lost", lambda: browser.text("#health") == "No answer" and "no answer since" in browser.text("#lost"))
+    holds("it says that it asks again", "asks again by itself" in browser.text("#lost") and browser.one("#lost").is_displayed())
+    equal("how it is announced", [browser.one("#lost").get_attribute("role"), browser.one("#health").get_attribute("aria-live")], ["alert", "polite"])
     holds("what was last known stays", browser.texts("#tree tbody tr"))
     browser.console()
 
 
 @test
 def without_states_shares_are_shown(browser, room):
-    own = StandIn(PAGE, [])
+    own = StandIn([])
     own.answers["/drf/v1/state"] = (501, "drf has no `save`\n")
     nodes = [{"count": 2, "held": "cpus:4", "path": path, "share": "1/2", "weighted": w} for path, w in (("web", "1/4"), ("web/.", "1/2"), ("web/./site", "1/2"))]
     own.answers["/drf/v1/report"] = (200, {"nodes": nodes, "total": "cpus:8"})
     browser.enter(own.url, TOKEN)
-    browser.wait("the tree", lambda: browser.texts("#tree .name span") == ["web", "site"])
-    equal("shares", browser.texts("#tree .share b, #tree .weighted"), ["50.0%", "25.0%", "50.0%", ""])
+    browser.wait("the tree", lambda: browser.texts("#tree .label") == ["web", "site"])
+    equal("shares by weight", browser.texts("#tree .weighted"), ["25.0%", ""])
     holds("it says what is missing, and why", "not available: drf has no `save`" in browser.text("#notes"))
-    holds("the rest is hidden", not browser.one("#agents").is_displayed() and not browser.one("#standing").is_displayed())
+    holds("the rest is hidden", not browser.one("#map-card").is_displayed() and browser.text("#n-agents") == "")
     own.end()
 
 
@@ -249,13 +264,13 @@ return e !== document.body && (s.outlineStyle === 'none' || parseFloat(s.outline
 
 @test
 def it_is_used_by_keyboard(browser, room):
-    own = StandIn(PAGE, stand_in.small_rows())
+    own = StandIn(stand_in.small_rows())
     browser.open(own.url)
     equal("focus at the start", browser.focused(), "token")
     browser.keys(TOKEN, Keys.ENTER)
     browser.wait("the cluster", lambda: browser.texts("#tree tbody tr"))
     seen, unseen = [], []
-    for _ in range(40):
+    for _ in range(60):
         browser.keys(Keys.TAB)
         seen.append(browser.focused())
         if browser.run(UNSEEN):
@@ -263,17 +278,30 @@ def it_is_used_by_keyboard(browser, room):
         if seen[-1] == "Close data":
             browser.keys(Keys.SPACE)
             equal("focus stays on what was pressed", browser.focused(), "Open data")
-            holds("data is closed", "adhoc" not in browser.texts("#tree .name span"))
+            holds("data is closed", "adhoc" not in browser.texts("#tree .label"))
         if seen[-1] == "map":
             browser.keys(Keys.HOME, Keys.ARROW_RIGHT, Keys.ARROW_RIGHT)
-            browser.wait("the third agent", lambda: browser.text("#agent h3").startswith("n3"))
-            holds("its task", "scan of query" in browser.text("#agent"))
-        if seen[-1] == "whom":
-            browser.keys("site", Keys.ENTER)
-            browser.wait("an answer", lambda: browser.texts("#because li") and "Asking" not in browser.text("#because"))
+            browser.wait("the third agent", lambda: browser.text("#picked").startswith("n3: active"))
+        if seen[-1] == "feed":
             break
-    wanted = {"leave", "order", "unfold", "fold", "Close data", "measure", "find", "map", "which", "pause", "only", "refused", "raw", "feed", "whom"}
+    wanted = {"to-overview", "to-agents", "to-frameworks", "to-tasks", "to-offers", "leave", "order", "unfold", "fold", "Close data", "measure", "map", "pause", "only", "refused", "raw", "feed"}
     equal("not reached", wanted - set(seen), set())
+    browser.run("document.getElementById('skip').focus()")
+    browser.keys(Keys.ENTER)
+    equal("behind the link that skips", browser.focused(), "content")
+    browser.run("document.getElementById('map').focus()")
+    browser.keys(Keys.ENTER)
+    browser.wait("the agent", lambda: browser.focused() == "agent-title" and browser.text("#agent-title") == "n3")
+    seen = []
+    for _ in range(40):
+        browser.keys(Keys.TAB)
+        seen.append(browser.focused())
+        if browser.run(UNSEEN):
+            unseen.append(seen[-1])
+        if seen[-1] == "Close":
+            browser.keys(Keys.ENTER)
+            break
+    browser.wait("the focus is on the row", lambda: browser.focused() == "n3" and not browser.one("#agent").is_displayed())
     equal("focus that is not seen", unseen, [])
     own.end()
 
@@ -301,15 +329,30 @@ return bad"""
 def contrast_is_enough_in_light_and_dark(browser, room):
     for dark in (False, True):
         browser.look(dark=dark)
-        own = small(browser)
+        own = small(browser, "operate")
         for event, reply, _ in EVENTS:
             own.tell(json.dumps(event), json.dumps(reply))
         browser.wait("events", lambda: len(browser.texts("#feed li time")) == len(EVENTS))
         browser.one("#raw").click()
-        browser.one("#find").send_keys("n1")
         own.show(stand_in.small_rows(), ready=False)
         browser.wait("replaying", lambda: browser.text("#health") == "Replaying")
         equal("texts of too little contrast, dark" if dark else "texts of too little contrast", browser.run(CONTRAST), [])
+        own.detail({"row": "silent", "agent": "n2", "since": 1795859990000}, {"row": "mesos_agent", "agent": "n3", "since": 1795859990000})
+        own.show(stand_in.small_rows())
+        for page in ("agents/n2", "agents/n3", "frameworks/batch", "tasks", "offers"):
+            browser.show(page)
+            browser.wait(page, lambda: browser.texts("#content > section:not([hidden]) tbody tr"))
+            if page == "agents/n2":
+                browser.wait("silent", lambda: browser.text("#agent .state").startswith("silent"))
+            equal(f"texts of too little contrast in {page}", browser.run(CONTRAST), [])
+        browser.show("agents/n1")
+        browser.wait("actions", lambda: browser.texts("#agent .acts button"))
+        own.answers["/drf/v1/events"] = (200, '{"name":"UnknownAgent","refused":3}\n')
+        browser.one("#agent .acts button").click()
+        browser.one("#ask-go").click()
+        browser.wait("the refusal", lambda: "UnknownAgent" in browser.text("#ask-answer"))
+        equal("texts of too little contrast in the dialog", browser.run(CONTRAST), [])
+        browser.one("#ask-cancel").click()
         background = browser.run("return getComputedStyle(document.body).backgroundColor")
         equal("dark", sum(int(part) for part in background[4:-1].split(",")) < 200, dark)
         own.answers["/drf/v1/status"] = (401, "no such token")
@@ -320,40 +363,43 @@ def contrast_is_enough_in_light_and_dark(browser, room):
 
 
 CLIPPED = """
-const out = e => e.checkVisibility() && !e.closest('.sr, thead, canvas') && e.getBoundingClientRect().right > innerWidth + 1;
+const out = e => e.checkVisibility() && !e.closest('.sr, .skip, thead, canvas, .wide') && e.getBoundingClientRect().right > innerWidth + 1;
 return [...document.querySelectorAll('#page *')].filter(out).map(e => e.tagName + '.' + e.className)"""
 
 
 @test
 def nothing_is_wider_than_a_narrow_screen(browser, room):
+    own = small(browser, "operate")
+    long = "w" * 64
+    own.show(stand_in.small_rows() + [
+        stand_in.framework(long, (long, 1, True)), stand_in.limit(long, f"{long}:1000000;cpus:4000"), stand_in.agent(long, f"cpus:1;{long}:123456789"),
+        stand_in.offer(9007199254740991, long, long, long, f"{long}:1"), stand_in.task(long, long, long, long, f"{long}:1")])
+    for event, reply, _ in EVENTS:
+        own.tell(json.dumps(event), json.dumps(reply))
+    browser.wait("the long names", lambda: long in browser.texts("#tree .label"))
+    own.tell("x" * 3000, '{"name":"NotJson","refused":31}')
+    browser.wait("events", lambda: len(browser.texts("#feed li time")) > len(EVENTS))
+    browser.one("#raw").click()
     for width in (360, 700, 1001):
         browser.look(width=width, height=800)
-        own = small(browser)
-        long = "w" * 64
-        own.show(stand_in.small_rows() + [
-            stand_in.framework(long, (long, 1, True)), stand_in.limit(long, f"{long}:1000000;cpus:4000"), stand_in.agent(long, f"cpus:1;{long}:123456789"),
-            stand_in.offer(9007199254740991, long, long, long, f"{long}:1")])
-        browser.one("#find").send_keys(long)
-        for event, reply, _ in EVENTS:
-            own.tell(json.dumps(event), json.dumps(reply))
-        browser.wait("the long names", lambda: long in browser.texts("#tree .name span"))
-        own.tell("x" * 3000, '{"name":"NotJson","refused":31}')
-        browser.wait("events", lambda: len(browser.texts("#feed li time")) > len(EVENTS))
-        browser.one("#raw").click()
-        equal(f"width at {width}", browser.run("return document.documentElement.scrollWidth <= innerWidth"), True)
-        clipped = browser.run(CLIPPED)
-        equal(f"what stands out at {width}", clipped, [])
-        own.end()
+        for page in ("overview", "agents/" + long, "frameworks/" + long, "tasks", "offers"):
+            browser.show(page)
+            browser.wait(page, lambda: long in browser.text("#content > section:not([hidden])"))
+            equal(f"width of {page} at {width}", browser.run("return document.documentElement.scrollWidth <= innerWidth"), True)
+            equal(f"what stands out in {page} at {width}", browser.run(CLIPPED), [])
+        browser.show("agents/" + long)
+        browser.run("document.querySelector('#agent .acts button').click()")
+        equal(f"the dialog at {width}", browser.run("const r = document.getElementById('ask').getBoundingClientRect(); return r.left >= 0 && r.right <= innerWidth"), True)
+        browser.run("document.getElementById('ask-cancel').click()")
+    own.end()
 
 
 @test
 def two_thousand_agents_stay_quick(browser, room):
-    own = StandIn(PAGE, stand_in.large_rows())
+    own = StandIn(stand_in.large_rows())
     browser.enter(own.url, TOKEN)
     browser.wait("the cluster", lambda: len(browser.texts("#tree tbody tr")) == 20)
-    holds("the map tells them", "2,000 agents" in browser.one("#map").get_attribute("aria-label"))
-    took = browser.run("const began = performance.now(); view.cluster = clusterOf(arguments[0]); drawAll(); return performance.now() - began", stand_in.large_rows())
-    holds(f"a redraw took {took:.0f} ms", took < 500)
+    holds("the map says how many", "2,000 agents" in browser.one("#map").get_attribute("aria-label"))
     elements = browser.run("return document.querySelectorAll('*').length")
     holds(f"{elements} elements", elements < 6000)
     browser.one("#unfold").click()

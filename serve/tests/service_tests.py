@@ -48,13 +48,13 @@ class Room:
 def live_rows_come_in(browser, room):
     service = room.service()
     browser.enter(service.url, service.tokens["eye"])
-    browser.wait("the tree", lambda: {"web", "search", "etl"} <= set(browser.texts("#tree .name span")))
+    browser.wait("the tree", lambda: {"web", "search", "etl"} <= set(browser.texts("#tree .label")))
     browser.wait("health", lambda: browser.text("#health") == "Live")
     service.client().send(event("add_framework", framework="late", roles=["late/role"]))
-    browser.wait("the event", lambda: "Framework late came, in late/role" in browser.texts("#feed li span"), 5)
-    browser.wait("the row", lambda: "late" in browser.texts("#tree .role .name span"), 5)
+    browser.wait("the event", lambda: "Framework late registered in late/role" in browser.texts("#feed li span"), 5)
+    browser.wait("the row", lambda: "late" in browser.texts("#tree .role .label"), 5)
     service.client().send(event("remove_framework", framework="late"))
-    browser.wait("it is gone", lambda: "late" not in browser.texts("#tree .role .name span"), 5)
+    browser.wait("it is gone", lambda: "late" not in browser.texts("#tree .role .label"), 5)
     equal("console", browser.console(), [])
 
 
@@ -65,7 +65,7 @@ def shares_are_those_of_the_report(browser, room):
     report = {node["path"]: node for node in service.get("/drf/v1/report")["nodes"]}
     browser.enter(service.url, service.tokens["eye"])
     browser.wait("the tree", lambda: browser.texts("#tree tbody tr"))
-    shown = browser.run("return [...view.cluster.nodes.values()].map(n => [n.path, n.share, n.weighted, n.count])")
+    shown = browser.ask("state", "return [...m.view.cluster.nodes.values()].map(n => [n.path, n.share, n.weighted, n.count])")
     ratio = lambda text: int(text.split("/")[0]) / int(text.split("/")[1])
     for path, share, weighted, count in shown:
         if path in report:
@@ -84,8 +84,9 @@ def hostile_lines_are_text(browser, room):
     service.gateway.ask("/drf/v1/events", HOSTILE + "\u202e")
     service.client().send(event("add_framework", framework="odd", roles=["<b>&lt"]))
     browser.wait("the line", lambda: "Line: " + HOSTILE + "\\u{202e}" in browser.text("#feed"))
-    browser.wait("the role", lambda: "<b>&lt" in browser.texts("#tree .name span"))
+    browser.wait("the role", lambda: "<b>&lt" in browser.texts("#tree .label"))
     equal("made of it", browser.run("return [document.images.length, document.scripts.length, window.taken ?? null]"), [0, 1, None])
+    equal("the only script", browser.run("return [document.scripts[0].getAttribute('src'), document.scripts[0].textContent]"), ["/page/main.js", ""])
     service.client().send(event("remove_framework", framework="odd"))
     equal("console", browser.console(), [])
 
@@ -95,9 +96,13 @@ def the_page_may_run_nothing_but_itself(browser, room):
     service = room.service()
     browser.enter(service.url, service.tokens["eye"])
     browser.wait("the tree", lambda: browser.texts("#tree tbody tr"))
-    ran = browser.run("const s = document.createElement('script'); s.textContent = 'window.taken = 1'; document.body.append(s); return window.taken ?? null")
+    ran = browser.run("try { const s = document.createElement('script'); s.textContent = 'window.taken = 1'; document.body.append(s); } catch { } return window.taken ?? null")
     equal("a script that was put in", ran, None)
-    holds("the policy says so", any("Content Security Policy" in line for line in browser.console()))
+    text = browser.run("try { document.body.insertAdjacentHTML('beforeend', '<i></i>'); return 'taken'; } catch (e) { return e.name; }")
+    equal("markup of a text", text, "TypeError")
+    blocked = browser.run("const e = document.createElement('div'); e.setAttribute('style', 'color: red'); return e.style.color")
+    equal("a style that was put in", blocked, "")
+    holds("the policy says so", any("Content Security Policy" in line or "TrustedHTML" in line for line in browser.console()))
 
 
 @test
@@ -106,10 +111,12 @@ def why_nothing_of_a_real_cluster(browser, room):
     browser.enter(service.url, service.tokens["eye"])
     browser.wait("the tree", lambda: browser.texts("#tree tbody tr"))
     browser.wait("a note of who holds nothing", lambda: "1 framework holds nothing: waits" in browser.text("#notes"))
-    browser.one("#notes button").click()
-    browser.wait("the answer", lambda: browser.texts("#because li") and "Asking" not in browser.text("#because"))
-    told = browser.texts("#because li")
-    holds(f"the limit is told: {told}", any(line.startswith("ops/later: The limit of ops/later leaves too little") for line in told))
+    browser.run("[...document.querySelectorAll('#notes a')].find(a => a.textContent === 'Why?').click()")
+    browser.wait("the framework", lambda: browser.text("#framework-title") == "waits")
+    browser.one("#framework .extra button").click()
+    browser.wait("the answer", lambda: browser.texts(".because li") and "Asking" not in browser.text(".because"))
+    told = browser.texts(".because li")
+    holds(f"the limit is told: {told}", any(line.startswith("ops/later: the limit of ops/later leaves too little") for line in told))
 
 
 @test
@@ -127,11 +134,11 @@ def a_killed_gateway_comes_back(browser, room):
     browser.enter(service.url, service.tokens["eye"])
     browser.wait("live", lambda: browser.text("#health") == "Live")
     service.gateway.kill()
-    browser.wait("lost", lambda: browser.text("#health") == "No answer")
+    browser.wait("lost", lambda: browser.text("#health") == "No answer" and browser.one("#lost").is_displayed())
     service.start()
-    browser.wait("live again", lambda: browser.text("#health") == "Live", 30)
+    browser.wait("live again", lambda: browser.text("#health") == "Live" and not browser.one("#lost").is_displayed(), 30)
     service.client().send(event("add_framework", framework="shop", roles=["web"]))
-    browser.wait("events again", lambda: "Framework shop came, in web" in browser.texts("#feed li span"), 20)
+    browser.wait("events again", lambda: "Framework shop registered in web" in browser.texts("#feed li span"), 20)
     browser.console()
     service.end()
 

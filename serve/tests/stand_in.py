@@ -1,7 +1,6 @@
 # A stand-in for a gateway, for tests of the page alone: what a real one is hard to bring to, as a large cluster or a fault. Outside the proof.
-import base64
-import hashlib
 import json
+import os
 import queue
 import re
 import threading
@@ -10,14 +9,14 @@ from http.server import BaseHTTPRequestHandler, ThreadingHTTPServer
 TOKEN = "a-token-for-tests"
 
 
-def policy(page):
-    """The header that the gateway sends with the page."""
-    def source(tag):
-        inside = re.search(f"<{tag}>(.*?)</{tag}>", page, re.S)[1]
-        return f"'sha256-{base64.b64encode(hashlib.sha256(inside.encode()).digest()).decode()}'"
+API = os.path.join(os.path.dirname(os.path.realpath(__file__)), "..", "internal", "api")
+KINDS = {".html": "text/html; charset=utf-8", ".js": "text/javascript; charset=utf-8", ".css": "text/css; charset=utf-8"}
 
-    return (f"default-src 'none'; script-src {source('script')}; style-src {source('style')}; img-src data:; connect-src 'self'; "
-            "base-uri 'none'; form-action 'none'; frame-ancestors 'none'")
+
+def policy():
+    """The header that the gateway sends with the page."""
+    with open(os.path.join(API, "page.go"), encoding="utf-8") as file:
+        return "".join(re.findall(r'"([^"]*)"', re.search(r"const pagePolicy = (.*?)\n\n", file.read(), re.S)[1]))
 
 
 def state(clock=1795860000000, events=40, next_offer=9):
@@ -100,8 +99,10 @@ class Handler(BaseHTTPRequestHandler):
         if own.ended:  # a connection that was kept
             self.close_connection = True
             return None
-        if path == "/":
-            return self.answer(200, own.page, "text/html; charset=utf-8", Content_Security_Policy=policy(own.page))
+        name = "index.html" if path == "/" else path.removeprefix("/page/") if path.startswith("/page/") else ""
+        if name:
+            with open(os.path.join(API, "page", os.path.basename(name)), "rb") as file:
+                return self.answer(200, file.read(), KINDS[os.path.splitext(name)[1]], Content_Security_Policy=policy())
         if self.headers.get("Authorization") != "Bearer " + TOKEN:
             return self.answer(401, "no such token\n", "text/plain")
         if path == "/drf/v1/replies":
@@ -110,6 +111,16 @@ class Handler(BaseHTTPRequestHandler):
             return self.answer(200, own.journal[int(self.path.split("=")[1]):], "application/x-ndjson")
         code, body = own.answers.get(path, (404, "no such call\n"))
         self.answer(code, body if isinstance(body, str) else json.dumps(body))
+
+    def do_POST(self):
+        own, body = self.server.own, self.rfile.read(int(self.headers.get("Content-Length", 0))).decode()
+        own.sent.append((self.path, body, self.headers.get("Idempotency-Key")))
+        answer = own.answers.get(self.path, (404, "no such call\n"))
+        if answer is None:  # the connection breaks before an answer
+            self.close_connection = True
+            return None
+        code, text, *more = answer
+        return self.answer(code, text, "application/x-ndjson", **(more[0] if more else {}))
 
     def stream(self, own):
         self.send_response(200)
@@ -130,9 +141,10 @@ class Handler(BaseHTTPRequestHandler):
 class StandIn:
     """Answers what a test puts into `answers`, by path, as a status and a body."""
 
-    def __init__(self, page, rows):
-        self.page, self.listeners, self.message, self.journal, self.ended = page, [], 1, "", False
-        self.answers = {"/drf/v1/explain": (200, ""), "/drf/v1/report": (200, {"nodes": [], "total": ""})}
+    def __init__(self, rows, *rights, details=()):
+        self.listeners, self.message, self.journal, self.ended, self.sent, self.version = [], 1, "", False, [], 0
+        self.answers = {"/drf/v1/explain": (200, ""), "/drf/v1/report": (200, {"nodes": [], "total": ""}), "/drf/v1/me": (200, {"name": "me", "rights": ["read", *rights]})}
+        self.detail(*details)
         self.server = ThreadingHTTPServer(("127.0.0.1", 0), Handler)
         self.server.own, self.server.daemon_threads = self, True
         self.url = f"http://127.0.0.1:{self.server.server_port}"
@@ -145,6 +157,10 @@ class StandIn:
         self.answers["/drf/v1/status"] = (200, {
             "name": "a", "ready": True, "fault": "", "clock_fault": "", "messages": self.message, "at": 1795860000000,
             "journal": {"from": 0, "end": len(self.journal)}, "allocator": {"restarts": 0}, **status})
+
+    def detail(self, *rows):
+        self.version += 1
+        self.answers["/drf/v1/details"] = (200, {"version": str(self.version), "rows": list(rows)})
 
     def tell(self, line, reply):
         self.message += 1

@@ -284,6 +284,7 @@ func (g *gateway) build(list *oplog.Log, journal *allocator.Journal) (*api.Servi
 	mesosConfig.Name, mesosConfig.Folder, mesosConfig.Address, mesosConfig.Alone = g.etcd.Name, g.data, g.options.listen, g.etcd.IsAlone()
 	mesosCalls := mesosserver.New(mesosConfig, list, a, state, mesosState, streams, mayAppend)
 	service.Mounts = mesosCalls.Mounts()
+	service.Details = []api.DetailSource{silentDetails(sessions), mesosCalls.Details}
 	g.addGauges(service)
 	return service, func(ctx context.Context) {
 		runs := []func(context.Context){list.Clock.Run, list.Space.Run, sessions.Run, runner.Run, questions.Run, mesosCalls.Run, service.Members.Run,
@@ -308,6 +309,17 @@ func (g *gateway) build(list *oplog.Log, journal *allocator.Journal) (*api.Servi
 			}(run)
 		}
 		group.Wait()
+	}
+}
+
+// silentDetails returns a source of rows for the agents that are silent.
+func silentDetails(sessions *session.Manager) api.DetailSource {
+	return func(ctx context.Context) (details []api.Detail, err error) {
+		silent, err := sessions.Silent(ctx)
+		for _, one := range silent {
+			details = append(details, api.Detail{Row: "silent", Agent: one.Agent, Since: one.Since})
+		}
+		return details, err
 	}
 }
 

@@ -101,15 +101,6 @@ func TestAnswersBeforeThereIsAService(t *testing.T) {
 	}
 }
 
-func TestPolicyNamesWhatThePageRuns(t *testing.T) {
-	if p := policyOf([]byte("<style>a</style><script>b</script>")); !strings.Contains(p, "script-src 'sha256-PiPoFgA5WUoziU9lZOGxNIu9egCI1CxKy3PurtWcAJ0='") {
-		t.Error(p)
-	}
-	if p := policyOf(nil); !strings.Contains(p, "script-src 'none'; style-src 'none'") {
-		t.Error(p)
-	}
-}
-
 // A caller without a token that never sends the rest of its request does not hold its connection for long.
 func TestSilentCallersAreDropped(t *testing.T) {
 	s := newServer()

@@ -10,7 +10,7 @@ import (
 )
 
 // mountable are the paths that a service may have other answers for.
-var mountable = map[string]bool{"/api/v1/scheduler": true, Prefix + "agent-link": true}
+var mountable = map[string]bool{"/api/v1/scheduler": true, Prefix + "agent-link": true, Prefix + "kill-task": true}
 
 // Call is a call of another API: a POST of a known caller, while this gateway is in touch with the others.
 type Call struct {

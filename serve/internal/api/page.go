@@ -1,30 +1,43 @@
-// The page, and what it may run. Outside the proof.
+// The page's files, and what a browser may load for them. Outside the proof.
 
 package api
 
 import (
-	"crypto/sha256"
-	_ "embed"
-	"encoding/base64"
-	"regexp"
+	"embed"
+	"net/http"
+	"path"
+	"strings"
 )
 
-//go:embed page.html
-var page []byte
+//go:embed page
+var pageFiles embed.FS
 
-// policyOf returns a policy that lets a page run what is part of it, and nothing else.
-func policyOf(page []byte) string {
-	sums := func(tag string) string {
-		found := ""
-		for _, block := range regexp.MustCompile(`(?s)<`+tag+`>(.*?)</`+tag+`>`).FindAllSubmatch(page, -1) {
-			sum := sha256.Sum256(block[1])
-			found += " 'sha256-" + base64.StdEncoding.EncodeToString(sum[:]) + "'"
-		}
-		if found == "" {
-			return " 'none'"
-		}
-		return found
+// pagePolicy lets the page load its own files and call this gateway, and nothing else: no inline script, no other host, no frame.
+const pagePolicy = "default-src 'none'; script-src 'self'; style-src 'self'; img-src 'self' data:; connect-src 'self'; base-uri 'none'; form-action 'none'; " +
+	"frame-ancestors 'none'; require-trusted-types-for 'script'"
+
+var pageTypes = map[string]string{".html": "text/html; charset=utf-8", ".js": "text/javascript; charset=utf-8", ".css": "text/css; charset=utf-8"}
+
+// pageFile returns the file of the page that a path names.
+func pageFile(urlPath string) (text []byte, kind string, is bool) {
+	name := strings.TrimPrefix(urlPath, "/page/")
+	switch {
+	case urlPath == "/":
+		name = "index.html"
+	case name == urlPath || strings.Contains(name, "/") || name == "index.html":
+		return nil, "", false
 	}
-	return "default-src 'none'; connect-src 'self'; img-src 'self' data:; base-uri 'none'; form-action 'none'; frame-ancestors 'none'; script-src" +
-		sums("script") + "; style-src" + sums("style")
+	text, err := pageFiles.ReadFile("page/" + name)
+	kind = pageTypes[path.Ext(name)]
+	return text, kind, err == nil && kind != ""
+}
+
+// writePage writes a file of the page.
+func writePage(w http.ResponseWriter, text []byte, kind string) {
+	head := w.Header()
+	head.Set("Content-Security-Policy", pagePolicy)
+	head.Set("Content-Type", kind)
+	head.Set("Referrer-Policy", "no-referrer")
+	head.Set("Cross-Origin-Opener-Policy", "same-origin")
+	w.Write(text)
 }

@@ -42,6 +42,7 @@ type Service struct {
 	Registry  *registry.Registry
 	Sessions  *session.Manager
 	Members   *members.Table
+	Details   []DetailSource
 	Mounts    map[string]func(*Call) error // by path, calls of other APIs
 }
 
@@ -50,10 +51,11 @@ type Server struct {
 	metrics *metrics.Metrics
 	limiter *limit.Limiter
 	slots   *limit.Slots
-	policy  string
+	logins  *logins
 	inTime  time.Duration // that a caller may take to send a request, and to take an answer or a part of it
 
-	states stateCache
+	states   stateCache
+	detailed detailCache
 
 	callers atomic.Value // *auth.Callers
 	service atomic.Value // *Service
@@ -62,7 +64,7 @@ type Server struct {
 
 // New returns a server.
 func New(metrics *metrics.Metrics, limiter *limit.Limiter, slots *limit.Slots) *Server {
-	s := &Server{metrics: metrics, limiter: limiter, slots: slots, policy: policyOf(page), inTime: time.Minute}
+	s := &Server{metrics: metrics, limiter: limiter, slots: slots, logins: newLogins(), inTime: time.Minute}
 	s.callers.Store(&auth.Callers{})
 	s.waiting.Store("it starts")
 	return s
@@ -121,6 +123,9 @@ var calls = map[string]call{
 	Prefix + "journal":                {http.MethodGet, "read", (*request).readJournal, whenReady},
 	Prefix + "replies":                {http.MethodGet, "read", (*request).replies, whenReady},
 	Prefix + "status":                 {http.MethodGet, "read", (*request).status, whenCutOff},
+	Prefix + "details":                {http.MethodGet, "read", (*request).details, whenReady},
+	Prefix + "me":                     {http.MethodGet, "", (*request).me, always},
+	Prefix + "login-codes":            {http.MethodPost, "", (*request).createLogin, always},
 	Prefix + "frameworks/NAME/offers": {http.MethodGet, "", (*request).offers, whenReady},
 	Prefix + "frameworks/NAME/alive":  {http.MethodPost, "", (*request).frameworkAlive, whenReady},
 	Prefix + "agents/NAME/alive":      {http.MethodPost, "", (*request).agentAlive, whenReady},
@@ -133,12 +138,14 @@ func (s *Server) ServeHTTP(w http.ResponseWriter, r *http.Request) {
 	head := w.Header()
 	head.Set("X-Content-Type-Options", "nosniff")
 	head.Set("Cache-Control", "no-store")
+	text, kind, isPage := pageFile(r.URL.Path)
 	switch {
-	case r.URL.Path == "/" && r.Method == http.MethodGet:
-		head.Set("Content-Security-Policy", s.policy)
-		head.Set("Content-Type", "text/html; charset=utf-8")
-		head.Set("Referrer-Policy", "no-referrer")
-		w.Write(page)
+	case isPage && r.Method == http.MethodGet:
+		writePage(w, text, kind)
+	case r.URL.Path == Prefix+"login":
+		if err := s.useLogin(w, r); err != nil {
+			s.refuse(w, r, err)
+		}
 	case r.URL.Path == "/healthz":
 		if err := s.Healthy(); err != nil {
 			s.refuse(w, r, err)
@@ -210,10 +217,14 @@ func route(path string) (c call, name string, is bool) {
 	return c, name, is
 }
 
+func bearer(r *http.Request) (token string, is bool) {
+	return auth.BearerToken(r.Header.Get("Authorization"))
+}
+
 // dispatch finds who calls, and what for.
 func (s *Server) dispatch(w http.ResponseWriter, r *http.Request) error {
 	callers := s.callers.Load().(*auth.Callers)
-	token, hasToken := auth.BearerToken(r.Header.Get("Authorization"))
+	token, hasToken := bearer(r)
 	by, err := find(callers, token, hasToken)
 	if err != nil {
 		w.Header().Set("WWW-Authenticate", "Bearer")

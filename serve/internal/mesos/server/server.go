@@ -12,6 +12,7 @@ import (
 	"hash/fnv"
 	"net/http"
 	"strings"
+	"sync"
 	"time"
 
 	"gateway/internal/allocator"
@@ -52,6 +53,9 @@ type Server struct {
 	ids       ids
 	acks      chan mesos.Ack
 	silent    map[string]time.Time // owners of streams that do not run, and since when
+
+	namesLock sync.Mutex
+	names     named // for Details
 }
 
 // New returns a server. Run must be called for it to do what is due.
@@ -65,7 +69,7 @@ func New(config Config, log *oplog.Log, allocator *allocator.Allocator, registry
 
 // Mounts returns the calls by their paths.
 func (s *Server) Mounts() map[string]func(*api.Call) error {
-	return map[string]func(*api.Call) error{"/api/v1/scheduler": s.scheduler, api.Prefix + "agent-link": s.link}
+	return map[string]func(*api.Call) error{"/api/v1/scheduler": s.scheduler, api.Prefix + "agent-link": s.link, api.Prefix + "kill-task": s.killTask}
 }
 
 func random(size int) string {

@@ -14,9 +14,9 @@ from stand_in import StandIn, TOKEN
 
 
 def press(browser, where, text):
-    """Presses the button with a text, once it is there."""
-    find = "return [...document.querySelectorAll(arguments[0] + ' button')].find(b => b.textContent === arguments[1] && b.checkVisibility())"
-    browser.wait(f"a button {text}", lambda: browser.run(find, where, text)).click()
+    """Presses the button with a text, once it is there. It gets the focus first, as by a pointer."""
+    find = "const b = [...document.querySelectorAll(arguments[0] + ' button')].find(b => b.textContent === arguments[1] && b.checkVisibility()); b?.focus(); b?.click(); return !!b"
+    browser.wait(f"a button {text}", lambda: browser.run(find, where, text))
 
 
 def lines(browser):

@@ -73,7 +73,7 @@ class Browser:
     def console(self):
         return [entry["message"] for entry in self.driver.get_log("browser") if entry["level"] in ("SEVERE", "WARNING")]
 
-    def wait(self, what, holds, seconds=15):
+    def wait(self, what, holds, seconds=40):
         until = time.time() + seconds
         while time.time() < until:
             if got := holds():

@@ -78,12 +78,13 @@ export function drawAgent() {
     ["Last heartbeat", since ? `about ${stateTitle(a).replace("since ", "")}` : since === 0 ? "it is about to be deactivated" : ""],
   ], a);
   drawState(agentPanel.state, a);
-  const own = mayAgent(a.name), ops = mayOperate(), reserved = [...a.reserved];
-  agentPanel.actions(JSON.stringify([a.name, a.active, own, ops, reserved, a.tasks.length, a.offers.length]), () => [
-    ...(own ? [a.active ? actionButton("Drain", `Drain ${a.name}`, () => actions.drain(a)) : actionButton("Activate", `Activate ${a.name}`, () => actions.activate(a))] : []),
-    ...(ops ? [actionButton("Reserve", `Reserve on ${a.name}`, () => actions.reserve(a))] : []),
-    ...(ops && reserved.length ? [actionButton("Unreserve", `Unreserve on ${a.name}`, () => actions.unreserve(a, reserved[0][0], reserved[0][1].join(";")))] : []),
-    ...(own ? [actionButton("Remove", `Remove ${a.name}`, () => actions.removeAgent(a), "grave")] : []),
+  const own = mayAgent(name), ops = mayOperate(), hasReserved = a.reserved.size > 0;
+  const act = (text, action, as) => actionButton(text, `${text === "Reserve" || text === "Unreserve" ? text + " on" : text} ${name}`, () => action(view.cluster.agentOf.get(name) || a), as);
+  agentPanel.actions(JSON.stringify([name, a.active, own, ops, hasReserved]), () => [
+    ...(own ? [a.active ? act("Drain", actions.drain) : act("Activate", actions.activate)] : []),
+    ...(ops ? [act("Reserve", actions.reserve)] : []),
+    ...(ops && hasReserved ? [act("Unreserve", b => { const [[role, resources] = ["", []]] = b.reserved; return actions.unreserve(b, role, resources.join(";")); })] : []),
+    ...(own ? [act("Remove", actions.removeAgent, "grave")] : []),
   ]);
   drawResources(agentPanel.extra, a);
 }
@@ -120,8 +121,8 @@ export function drawFramework() {
   ], f);
   frameworkPanel.state.className = "state " + (f.link && !f.link.connected ? "bad" : "ok");
   say(frameworkPanel.state, frameworkState(f));
-  frameworkPanel.actions(JSON.stringify([f.name, mayFramework(f.name), f.tasks.length, f.offers.length]), () => mayFramework(f.name)
-    ? [actionButton("Remove", `Remove ${titleOf(f)}`, () => actions.removeFramework(f), "grave")] : []);
+  frameworkPanel.actions(JSON.stringify([name, mayFramework(name)]), () => mayFramework(name)
+    ? [actionButton("Remove", `Remove ${titleOf(f)}`, () => actions.removeFramework(view.cluster.frameworkOf.get(name) || f), "grave")] : []);
   const box = frameworkPanel.extra;
   if (box.of === f.name) return;
   box.of = f.name;

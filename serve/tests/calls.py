@@ -2,6 +2,7 @@
 import json
 import os
 import random
+import re
 import shutil
 import signal
 import ssl
@@ -164,7 +165,12 @@ def test_page(programs):
     with Fleet("alone", programs.gateway, programs.drf) as fleet:
         status, text, headers = fleet.gateways[0].ask("/", name=None)
         policy = headers["Content-Security-Policy"]
-        assert status == 200 and "<script>" in text and "unsafe" not in policy and "script-src 'sha256-" in policy and "default-src 'none'" in policy, policy
+        assert status == 200 and "unsafe" not in policy and "script-src 'self';" in policy and "default-src 'none'" in policy, policy
+        scripts = re.findall(r"<script[^>]*>.*?</script>", text, re.S)
+        assert scripts == ['<script type="module" src="/page/main.js"></script>'] and "<style" not in text and " style=" not in text and " on" not in re.sub(r">[^<]*<", "><", text), scripts
+        status, text, headers = fleet.gateways[0].ask("/page/main.js", name=None)
+        assert status == 200 and headers["Content-Type"].startswith("text/javascript") and headers["X-Content-Type-Options"] == "nosniff"
+        assert fleet.gateways[0].ask("/page/nothing.js", name=None)[0] == 401
 
 
 def test_figures(programs):

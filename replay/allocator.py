@@ -17,9 +17,9 @@ def program():
     return os.path.join(os.path.dirname(os.path.dirname(os.path.realpath(__file__))), "drf")
 
 
-def message_of(done):
+def message_of(stderr):
     """Returns what a command wrote to standard error, on one line and without the name of the program."""
-    return done.stderr.decode(errors="replace").strip().replace("\n", "; ").removeprefix("drf: ")
+    return stderr.decode(errors="replace").strip().replace("\n", "; ").removeprefix("drf: ")
 
 
 def run(words, source):
@@ -30,28 +30,45 @@ def run(words, source):
         raise Failed(f"{program()}: {error.strerror}") from None
 
 
-def check(pieces, source, state):
-    """Checks the journal of these pieces with `drf check`, and returns the number of its events. Raises BadInput at the first line that is not right."""
-    done = run(["check", *(["--from", state] if state else [])], source)
-    verdict = done.stdout.decode().split()
-    if done.returncode == 0 and verdict[:1] == ["good"]:
-        return int(verdict[1])
-    if verdict[:2] == ["bad", "line"]:
-        number = int(verdict[2])
-        good = "the lines before its event" if pieces.paths else f"lines 1 to {number - 2}"
-        raise BadInput(f"{pieces.place(number)}: the reply is missing, cut or wrong; {good} are a good journal, replay those"
-                       if number > 2 else f"{pieces.place(2)}: the reply is missing, cut or wrong; is this a journal of `drf run --echo`"
-                       + (" that continues the state?" if state else " from an empty cluster, or do you need --from STATE?"))
-    if done.returncode == 3:
-        raise BadInput(message_of(done))
-    raise Failed(message_of(done) or f"drf check ended with status {done.returncode}", NO_PROGRAM if done.returncode == NO_PROGRAM else 1)
+class Check:
+    """A `drf check` of the journal of these pieces. It runs until `verdict`, or the end of the block."""
+
+    def __init__(self, pieces, source, state):
+        self.pieces, self.state = pieces, state
+        try:
+            self.child = subprocess.Popen([program(), "check", *(["--from", state] if state else [])], stdin=source, stdout=subprocess.PIPE, stderr=subprocess.PIPE)
+        except OSError as error:
+            raise Failed(f"{program()}: {error.strerror}") from None
+
+    def __enter__(self):
+        return self
+
+    def __exit__(self, *_):
+        self.child.kill()
+        self.child.communicate()
+
+    def verdict(self):
+        """Returns the number of events. Raises BadInput at the first line that is not right."""
+        stdout, stderr = self.child.communicate()
+        status, verdict, said = self.child.returncode, stdout.decode().split(), message_of(stderr)
+        if status == 0 and verdict[:1] == ["good"]:
+            return int(verdict[1])
+        if verdict[:2] == ["bad", "line"]:
+            number, pieces = int(verdict[2]), self.pieces
+            good = "the lines before its event" if pieces.paths else f"lines 1 to {number - 2}"
+            raise BadInput(f"{pieces.place(number)}: the reply is missing, cut or wrong; {good} are a good journal, replay those"
+                           if number > 2 else f"{pieces.place(2)}: the reply is missing, cut or wrong; is this a journal of `drf run --echo`"
+                           + (" that continues the state?" if self.state else " from an empty cluster, or do you need --from STATE?"))
+        if status == 3:
+            raise BadInput(said)
+        raise Failed(said or f"drf check ended with status {status}", NO_PROGRAM if status == NO_PROGRAM else 1)
 
 
 def lint(source):
     """Returns the first finding of `drf lint`, such as `line 3 column 10: 32 BadShape: ..`, or None."""
     done = run(["lint"], source)
     if done.returncode not in (0, 3):
-        raise Failed(message_of(done), NO_PROGRAM if done.returncode == NO_PROGRAM else 1)
+        raise Failed(message_of(done.stderr), NO_PROGRAM if done.returncode == NO_PROGRAM else 1)
     return done.stdout.decode(errors="replace").splitlines()[0] if done.returncode else None
 
 

@@ -58,14 +58,31 @@ def unused_prefix(names):
     return f"r{number}."
 
 
+class Run:
+    """What a replay came to. It does not refer to the journal, so that it can be sent from one process to another."""
+
+    def __init__(self, replay):
+        # Of each task: its start, or until when it has waited without one; and how it ended, "finished", "lost" or "released".
+        self.starts, self.until, self.ends = replay.starts, replay.until, replay.ends
+        self.refused, self.retried, self.account = replay.refused, replay.retried, replay.account
+
+    def results(self, journal, policy):
+        """Yields of each task, in order, what figures.outcomes wants; for a task of a framework that takes no part, None."""
+        for task, start, until, how in zip(journal.tasks, self.starts, self.until, self.ends):
+            framework, role = task.client.framework, task.client.role
+            if framework in policy.gone_frameworks:
+                yield None
+            else:
+                yield policy.role_of(framework, role), start, until, how == "finished", how == "lost"
+
+
 class Replay:
-    """One run of the demand of a journal, under the policy. After `run`, the results are in `starts`, `until`, `ends` and `account`."""
+    """One run of the demand of a journal, under the policy."""
 
     def __init__(self, journal, policy, state_path, arrivals, progress):
         self.journal, self.policy, self.progress = journal, policy, progress
         self.stream = sorted([*journal.events, *set_arrivals(journal, arrivals)], key=itemgetter(0))
         count = len(journal.tasks)
-        # Of each task: its start, or until when it has waited without one; and how it ended, "finished", "lost" or "released".
         self.starts, self.until, self.ends = [None] * count, [journal.end] * count, [None] * count
         self.refused, self.retried = Counter(), 0
         self.account = Account(journal.start, journal.end)
@@ -333,13 +350,14 @@ class Replay:
             act(held)
 
     def run(self):
-        """Runs the replay to the end of the journal."""
+        """Runs the replay to the end of the journal, and returns what it came to."""
         try:
             self._run()
             self.allocator.close()
         finally:
             self.allocator.kill()
         self.account.close()
+        return Run(self)
 
     def _run(self):
         heap, end = self.heap, self.journal.end
@@ -361,11 +379,3 @@ class Replay:
         while heap and heap[0][0][0] <= end:
             self.react()
 
-    def results(self):
-        """Yields of each task, in order, what figures.outcomes wants; for a task of a framework that takes no part, None."""
-        for task, start, until, how in zip(self.journal.tasks, self.starts, self.until, self.ends):
-            framework, role = task.client.framework, task.client.role
-            if framework in self.policy.gone_frameworks:
-                yield None
-            else:
-                yield self.policy.role_of(framework, role), start, until, how == "finished", how == "lost"

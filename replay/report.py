@@ -21,9 +21,9 @@ def of_journal(journal):
     return measured(journal.account, journal.tasks, results)
 
 
-def of_replay(journal, replay):
-    """Returns the figures of a replay that has run."""
-    return measured(replay.account, journal.tasks, replay.results())
+def of_run(journal, policy, run):
+    """Returns the figures of a replay under the policy."""
+    return measured(run.account, journal.tasks, run.results(journal, policy))
 
 
 def agreement(tasks, starts, tolerance):
@@ -39,14 +39,14 @@ def agreement(tasks, starts, tolerance):
     }
 
 
-def agreements(journal, replay, tolerance):
+def agreements(journal, run, tolerance):
     """Returns the agreement of all tasks, with that of each role under `roles`."""
-    result = {"tolerance_ms": tolerance, **agreement(journal.tasks, replay.starts, tolerance), "roles": {}}
+    result = {"tolerance_ms": tolerance, **agreement(journal.tasks, run.starts, tolerance), "roles": {}}
     by_role = {}
     for task in journal.tasks:
         by_role.setdefault(task.client.role, []).append(task)
     for role, tasks in sorted(by_role.items()):
-        result["roles"][role] = agreement(tasks, [replay.starts[it.index] for it in tasks], tolerance)
+        result["roles"][role] = agreement(tasks, [run.starts[it.index] for it in tasks], tolerance)
     return result
 
 
@@ -83,7 +83,7 @@ def roles_of(document):
     return [it for it in document["roles"] if it["role"] != ALL] + [it for it in document["roles"] if it["role"] == ALL]
 
 
-def document(journal, policy, arrivals, figures_by_case, agreed, replays):
+def document(journal, policy, arrivals, figures_by_case, agreed, runs):
     """Returns the report as a value for JSON."""
     roles = sorted({role for found in figures_by_case.values() for role, it in found.items() if it["tasks"] or it["use"]["share"] or role == ROOT})
     return {
@@ -92,8 +92,8 @@ def document(journal, policy, arrivals, figures_by_case, agreed, replays):
         "arrivals": arrivals,
         "agreement": agreed,
         "roles": [{"role": name_of(role), **{case: found.get(role) for case, found in figures_by_case.items()}} for role in roles],
-        "refused": {case: [{"event": kind, "name": name, "count": count} for (kind, name), count in sorted(replay.refused.items())]
-                    for case, replay in replays.items()},
+        "refused": {case: [{"event": kind, "name": name, "count": count} for (kind, name), count in sorted(run.refused.items())]
+                    for case, run in runs.items()},
     }
 
 

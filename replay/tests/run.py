@@ -7,6 +7,7 @@ import resource
 import subprocess
 import sys
 import tempfile
+import time
 import traceback
 import xml.etree.ElementTree
 
@@ -16,6 +17,8 @@ REPOSITORY = os.path.dirname(FOLDER)
 sys.path[:0] = [FOLDER, f"{REPOSITORY}/bench/tools", HERE]
 
 import known_demand
+from apart import Apart
+from errors import Failed
 from figures import waiting
 from journal import find_arrivals
 from resources import read, take, text_of
@@ -467,6 +470,33 @@ def test_bad_states(room):
     state = subprocess.run([DRF, "save"], input=hand(), capture_output=True, check=True).stdout
     said = room.replay(journal, "--from", room.write("other.state", state), status=3)
     assert "line 2: " in said and "that continues the state?" in said, said
+
+
+def test_runs_apart(room):
+    with Apart(lambda: {"a": [1, None]}) as good, Apart(lambda: os._exit(3)) as ended, Apart(lambda: time.sleep(600)) as slow:
+        assert good.result() == {"a": [1, None]}
+        try:
+            ended.result()
+            raise AssertionError("a process that ended has a result")
+        except Failed as error:
+            assert str(error) == "a replay ended before it was complete", error
+
+    def refuse():
+        raise Failed("no program", 4)
+
+    with Apart(refuse) as failed:
+        try:
+            failed.result()
+            raise AssertionError("no error")
+        except Failed as error:
+            assert (str(error), error.status) == ("no program", 4), error
+    # None of the processes is left, the slow one neither.
+    for it in (good, ended, slow, failed):
+        try:
+            os.waitpid(it.pid or -1, os.WNOHANG)
+            raise AssertionError("a process is left")
+        except ChildProcessError:
+            pass
 
 
 # What is written

@@ -23,7 +23,7 @@ func TestDescriptorsAreCurrent(t *testing.T) {
 		t.Skip("protoc is not installed: apt-get install protobuf-compiler")
 	}
 	out := filepath.Join(t.TempDir(), "out")
-	text, err := exec.Command("protoc", "--include_imports", "-o", out, "-I", "proto", "mesos.proto", "scheduler.proto", "executor.proto", "link.proto").CombinedOutput()
+	text, err := exec.Command("protoc", "--include_imports", "-o", out, "-I", "proto", "mesos.proto", "scheduler.proto", "executor.proto", "link.proto", "master.proto", "agent.proto").CombinedOutput()
 	if err != nil {
 		t.Fatalf("%v: %s", err, text)
 	}

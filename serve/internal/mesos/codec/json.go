@@ -106,6 +106,9 @@ func isUnknownEnum(field protoreflect.FieldDescriptor, value json.RawMessage) bo
 }
 
 func readField(m protoreflect.Message, field protoreflect.FieldDescriptor, text []byte, depth int) error {
+	if field.IsMap() {
+		return readMap(m.Mutable(field).Map(), field, text, depth)
+	}
 	if !field.IsList() {
 		if field.Message() != nil {
 			return readObject(m.Mutable(field).Message(), text, depth+1)
@@ -229,6 +232,10 @@ func writeObject(out *bytes.Buffer, m protoreflect.Message) {
 			continue // JSON has no such number
 		}
 		member(string(field.Name()))
+		if field.IsMap() {
+			writeMap(out, value.Map())
+			continue
+		}
 		if !field.IsList() {
 			writeValue(out, field, value)
 			continue

@@ -79,6 +79,9 @@ func (s *Server) dueNow() (deeds []deed) {
 		for _, a := range s.state.Agents {
 			id, stream := a.ID, a.Stream
 			switch {
+			case a.Drain != nil && a.Drain.State == mesos.Drained && a.Drain.MarkGone:
+				number := a.Drain.Number
+				deeds = append(deeds, func(ctx context.Context) error { return s.removeDrained(ctx, id, number) })
 			case a.IsConnected && s.hasEnded(a.Gateway, a.Stream, live):
 				deeds = append(deeds, func(ctx context.Context) error { return s.leaveAgent(ctx, id, stream) })
 			case !a.IsConnected && now-a.Left >= s.config.AgentGone.Milliseconds():

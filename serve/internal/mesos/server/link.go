@@ -4,6 +4,7 @@ package server
 
 import (
 	"context"
+	"errors"
 	"log"
 	"net/http"
 	"strings"
@@ -71,12 +72,11 @@ func (s *Server) register(c *api.Call, id string, call codec.Message) error {
 	defer s.streams.remove(one)
 	n := &mesos.Note{Kind: mesos.NoteAgent, Agent: id, Stream: one.id, Gateway: s.session, Info: info.Protobuf()}
 	answers, err := s.putGuarded(c.R.Context(), guardOf("agent", id), func() (*message, error) {
-		m := &message{note: n}
-		m.add("add_agent", "agent", id, "total", total.Text())
-		m.add("set_agent", "agent", id, "total", total.Text()) // it changes nothing but for an agent that was there
-		m.add("activate_agent", "agent", id)
-		return m, nil
+		return s.registerMessage(n, total)
 	})
+	if errors.Is(err, errGone) {
+		return refuseGone(c, form)
+	}
 	if err != nil {
 		return err
 	}
@@ -94,6 +94,34 @@ func (s *Server) register(c *api.Call, id string, call codec.Message) error {
 		log.Printf("mesos: the end of the link of agent %s: %v", id, err)
 	}
 	return nil
+}
+
+// registerMessage builds the message of a registration. An agent that comes again with the resources that it had keeps what was reserved
+// there, and one that an operator deactivated stays so.
+func (s *Server) registerMessage(n *mesos.Note, total resources.Bundle) (m *message, err error) {
+	last := "activate_agent"
+	m = &message{note: n}
+	s.state.Read(func() {
+		if s.state.IsGone(n.Agent) {
+			err = errGone
+		}
+		m.add("add_agent", "agent", n.Agent, "total", total.Text())
+		a := s.state.Agents[n.Agent]
+		if a == nil || totalOf(a.Info).Text() != total.Text() {
+			m.add("set_agent", "agent", n.Agent, "total", total.Text()) // it changes nothing but for an agent that was there
+		}
+		if a != nil && a.IsDeactivated {
+			last = "deactivate_agent"
+		}
+	})
+	m.add(last, "agent", n.Agent)
+	return m, err
+}
+
+// totalOf returns the resources of an AgentInfo that was taken before.
+func totalOf(info []byte) resources.Bundle {
+	total, _ := resources.FromMessages(codec.MustReadProtobuf("mesos.AgentInfo", info).List("resources"))
+	return total
 }
 
 // writeLink writes what an agent gets, until its link ends.

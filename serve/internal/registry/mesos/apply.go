@@ -22,12 +22,14 @@ func (s *State) Apply(m *registry.Message) {
 	s.mu.Lock()
 	defer s.mu.Unlock()
 	s.number, s.at = m.Number, m.At
+	n, isNote := decode(m.Note)
+	s.isGone = isNote && n.Kind == NoteGone
 	answers := make([]string, len(m.Lines))
 	for k, line := range m.Lines {
 		answers[k] = registry.AnswerOf(m.Replies[k])
 		s.follow(registry.Kind(line), line, m.Replies[k], answers[k] == "ok")
 	}
-	if n, is := decode(m.Note); is {
+	if isNote {
 		s.apply(&n, answers)
 	}
 }
@@ -52,6 +54,8 @@ func (s *State) follow(kind string, line, reply []byte, isOK bool) {
 	case kind == "deactivate_agent":
 		name := registry.Text(registry.Fields(line), "agent")
 		s.endOffers(func(o Offer) bool { return o.Agent == name })
+	case kind == "activate_agent":
+		s.reactivate(registry.Text(registry.Fields(line), "agent"))
 	case kind == "remove_agent":
 		name := registry.Text(registry.Fields(line), "agent")
 		s.endOffers(func(o Offer) bool { return o.Agent == name })
@@ -147,6 +151,9 @@ func (s *State) removeFramework(name string) {
 		if !IsTerminal(t.State) {
 			s.toAgent(t.Agent, Event{Kind: "KILL", Tasks: []TaskOf{taskOf(f, t)}})
 			t.State = "TASK_KILLED"
+			t.remember(t.State, s.at)
+			s.Ended[t.State]++
+			s.taskChanged(f, t, &Status{Task: t.Task, Agent: t.Agent, State: t.State, Reason: "REASON_FRAMEWORK_REMOVED", Message: "Framework " + f.ID + " removed", At: s.at})
 		}
 		for _, h := range t.Holds {
 			delete(s.Users, HoldKey(name, h.Name))
@@ -165,6 +172,7 @@ func (s *State) removeFramework(name string) {
 	}
 	delete(s.Frameworks, id)
 	delete(s.IDs, name)
+	s.changed(Change{Kind: FrameworkRemoved, Framework: *f})
 	if s.Removed = append(s.Removed, Removed{id, s.at, f.Subscription}); len(s.Removed) > maxRemoved {
 		s.Removed = append([]Removed(nil), s.Removed[len(s.Removed)-maxRemoved:]...)
 	}
@@ -173,15 +181,20 @@ func (s *State) removeFramework(name string) {
 // complete moves a terminal task to those that nobody waits for.
 func (s *State) complete(f *Framework, t *Task) {
 	delete(f.Tasks, t.Task)
-	if s.Completed = append(s.Completed, Completed{f.ID, t.Task, t.Agent, t.State, t.Call, s.at}); len(s.Completed) > maxCompleted {
+	done := Completed{Framework: f.ID, Task: t.Task, Agent: t.Agent, State: t.State, Call: t.Call, At: s.at, Executor: t.OwnExecutor(), Role: t.Role, Info: brief(t.Info), Moments: t.Moments}
+	if s.Completed = append(s.Completed, done); len(s.Completed) > maxCompleted {
 		s.Completed = s.Completed[len(s.Completed)-maxCompleted:] // the next append but some moves them, and frees what is before
 	}
+	s.checkDrained(t.Agent)
 }
 
 // removeAgent ends an agent's tasks. Its holds went with it.
 func (s *State) removeAgent(id string) {
 	a := s.Agents[id]
 	delete(s.Agents, id)
+	if a != nil {
+		defer s.changed(Change{Kind: AgentRemoved, Agent: *a})
+	}
 	if a != nil && a.IsConnected {
 		s.publish(Event{Kind: EventEnd, Stream: a.Stream, Message: "the agent was removed"})
 	}
@@ -189,7 +202,7 @@ func (s *State) removeAgent(id string) {
 		f := s.Frameworks[framework]
 		for _, name := range f.tasksOn(id) {
 			if t := f.Tasks[name]; !IsTerminal(t.State) {
-				s.add(f, t, Status{Task: name, Agent: id, State: s.lost(f, "TASK_GONE"), Reason: "REASON_AGENT_REMOVED", Message: "Agent " + id + " was removed", UUID: s.uuid(f, name), At: s.at})
+				s.add(f, t, Status{Task: name, Agent: id, State: s.lost(f, goneState[s.isGone]), Reason: "REASON_AGENT_REMOVED", Message: "Agent " + id + " was removed", UUID: s.uuid(f, name), At: s.at})
 			}
 			if t := f.Tasks[name]; t != nil {
 				for _, h := range t.Holds {
@@ -205,6 +218,9 @@ func (s *State) removeAgent(id string) {
 	}
 }
 
+// goneState is the state of tasks of an agent that was removed, by whether an operator said that it does not come again.
+var goneState = map[bool]string{false: "TASK_GONE", true: "TASK_GONE_BY_OPERATOR"}
+
 // lost returns a state, or TASK_LOST for a framework that does not know the former.
 func (s *State) lost(f *Framework, state string) string {
 	if f.Has("PARTITION_AWARE") {
@@ -216,10 +232,13 @@ func (s *State) lost(f *Framework, state string) string {
 // add adds a status to a task, which its framework is to acknowledge.
 func (s *State) add(f *Framework, t *Task, status Status) {
 	t.State, t.Last, t.Taken = status.State, &status, t.Taken+1
+	t.remember(status.State, status.At)
+	s.taskChanged(f, t, &status)
 	if t.Unacked = append(t.Unacked, status); len(t.Unacked) == 1 {
 		s.update(f, status)
 	}
 	if IsTerminal(t.State) {
+		s.Ended[t.State]++
 		s.leaveHolds(f, t.Holds)
 	}
 }

@@ -21,6 +21,9 @@ const (
 	NoteAgentLeave = "agent_leave" // an agent's link ended
 	NoteStatus     = "status"      // an agent has a status of a task
 	NoteEnded      = "ended"       // an executor ended
+	NoteDeactivate = "deactivate"  // an operator deactivates an agent
+	NoteDrain      = "drain"       // an operator drains an agent
+	NoteGone       = "gone"        // an agent is removed for good
 )
 
 // Note is what a message says beside its lines.
@@ -47,6 +50,8 @@ type Note struct {
 	Acks         []Ack         `json:"acks,omitempty"`
 	Asked        []Asked       `json:"asked,omitempty"`
 	Data         []byte        `json:"data,omitempty"`
+	MaxGraceMS   *int64        `json:"max_grace_ms,omitempty"` // of a drain
+	MarkGone     bool          `json:"mark_gone,omitempty"`    // of a drain
 }
 
 // Subscription is what is known of a framework from its last SUBSCRIBE.

@@ -25,6 +25,8 @@ func (s *State) apply(n *Note, answers []string) {
 			a.IsConnected, a.Left = false, s.at
 			s.publish(Event{Kind: EventEnd, Stream: n.Stream})
 		}
+	case NoteDeactivate, NoteDrain, NoteGone:
+		s.operate(n, answers)
 	case NoteAck:
 		for _, ack := range n.Acks {
 			s.acknowledge(ack)
@@ -40,6 +42,7 @@ func (s *State) apply(n *Note, answers []string) {
 		if f.IsConnected && f.Stream == n.Stream {
 			s.publish(Event{Kind: EventEnd, Stream: n.Stream})
 			f.IsConnected, f.IsOurs, f.Left = false, n.IsOurs, s.at
+			s.changed(Change{Kind: FrameworkUpdated, Framework: *f})
 		}
 	case NoteAccept:
 		s.launch(f, n, answers)
@@ -68,20 +71,21 @@ func (s *State) apply(n *Note, answers []string) {
 
 // subscribe adds a framework, when its first line adds it to the allocator, or replaces its stream.
 func (s *State) subscribe(n *Note, answers []string) {
-	f := s.Frameworks[n.Framework]
+	f, change := s.Frameworks[n.Framework], FrameworkUpdated
 	switch {
 	case f == nil && (len(answers) == 0 || answers[0] != "ok"):
 		s.publish(Event{Kind: EventEnd, Stream: n.Stream, Message: "the allocator did not take the framework"})
 		return
 	case f == nil:
 		f = &Framework{ID: n.Framework, Registered: s.at, Tasks: map[string]*Task{}}
-		s.Frameworks[f.ID], s.IDs[n.Subscription.Name] = f, f.ID
+		s.Frameworks[f.ID], s.IDs[n.Subscription.Name], change = f, f.ID, FrameworkAdded
 	default:
 		if f.Reregistered = s.at; f.IsConnected {
 			s.publish(Event{Kind: EventEnd, Stream: f.Stream, Message: "Framework failed over"})
 		}
 	}
 	f.Subscription, f.Stream, f.Gateway, f.IsConnected, f.IsOurs, f.Left = *n.Subscription, n.Stream, n.Gateway, true, false, 0
+	s.changed(Change{Kind: change, Framework: *f})
 	s.toFramework(f, Event{Kind: "SUBSCRIBED"})
 	var offers []OfferOf
 	for _, o := range s.OffersOf(f.ID) {
@@ -106,13 +110,17 @@ func (s *State) register(n *Note, answers []string) {
 		return
 	}
 	a := s.Agents[n.Agent]
-	if a == nil {
+	isNew := a == nil
+	if isNew {
 		a = &Agent{ID: n.Agent, Registered: s.at}
 		s.Agents[n.Agent] = a
 	} else if a.Reregistered = s.at; a.IsConnected {
 		s.publish(Event{Kind: EventEnd, Stream: a.Stream, Message: "the agent registered again"})
 	}
 	a.Info, a.Stream, a.Gateway, a.IsConnected, a.Left = n.Info, n.Stream, n.Gateway, true, 0
+	if isNew {
+		s.changed(Change{Kind: AgentAdded, Agent: *a})
+	}
 	var tasks []TaskOf
 	for _, framework := range s.FrameworkIDs() {
 		f := s.Frameworks[framework]
@@ -137,6 +145,7 @@ func (s *State) launch(f *Framework, n *Note, answers []string) {
 	}
 	for _, status := range n.Refused {
 		if status.At = s.at; status.Reason != "REASON_INVALID_OFFERS" || !s.wasLaunched(f, status.Task, n.Call) {
+			s.Ended[status.State]++
 			s.update(f, status)
 		}
 	}
@@ -161,6 +170,7 @@ func (s *State) launch(f *Framework, n *Note, answers []string) {
 				}
 			}
 			if refusal.Reason != "REASON_INVALID_OFFERS" || !s.wasLaunched(f, l.Task, n.Call) {
+				s.Ended[refusal.State]++
 				s.update(f, refusal)
 			}
 			continue
@@ -168,6 +178,7 @@ func (s *State) launch(f *Framework, n *Note, answers []string) {
 		t := &Task{Launch: l, Number: s.number, Call: n.Call, State: "TASK_STAGING", GraceMS: -1, RunBy: s.useExecutor(f, &l)}
 		t.ExecutorHolds, t.StartsExecutor = nil, false // which the executor has
 		f.Tasks[l.Task] = t
+		s.taskChanged(f, t, nil)
 		started = append(started, taskOf(f, t))
 	}
 	byAgent := map[string][]TaskOf{}

@@ -40,6 +40,7 @@ type Task struct {
 	Last      *Status  `json:"last,omitempty"`
 	Unacked   []Status `json:"unacked,omitempty"` // the framework gets the first one until it acknowledges that
 	Taken     int      `json:"taken,omitempty"`   // statuses so far
+	Moments   []Moment `json:"moments,omitempty"` // the states that it took
 	IsKilling bool     `json:"killing,omitempty"`
 	GraceMS   int64    `json:"grace_ms,omitempty"`
 	RunBy     int64    `json:"run_by,omitempty"` // the number of its custom executor
@@ -55,6 +56,9 @@ type Agent struct {
 	Left         int64  `json:"left,omitempty"`
 	Registered   int64  `json:"registered"`
 	Reregistered int64  `json:"reregistered,omitempty"`
+
+	IsDeactivated bool   `json:"deactivated,omitempty"` // by an operator
+	Drain         *Drain `json:"drain,omitempty"`
 }
 
 // Offer is an offer of a framework of Mesos'.
@@ -74,6 +78,11 @@ type Completed struct {
 	State     string `json:"state"`
 	Call      string `json:"call,omitempty"`
 	At        int64  `json:"at"`
+
+	Executor string   `json:"executor,omitempty"` // that the task named
+	Role     string   `json:"role,omitempty"`
+	Info     []byte   `json:"info,omitempty"` // the part of TaskInfo that operators see
+	Moments  []Moment `json:"moments,omitempty"`
 }
 
 // Removed is a framework that was removed: its id is not used again.
@@ -94,6 +103,8 @@ type rows struct {
 	Unused     map[string]int64      `json:"unused,omitempty"` // holds without users, and the message since which they are to be finished
 	Completed  []Completed           `json:"completed,omitempty"`
 	Removed    []Removed             `json:"removed,omitempty"`
+	Gone       []Gone                `json:"gone,omitempty"`
+	Ended      map[string]int64      `json:"ended,omitempty"` // tasks, by their terminal states
 }
 
 // State is a State of the registry. Its fields are read within Read.
@@ -103,6 +114,8 @@ type State struct {
 
 	mu      sync.Mutex
 	publish func(Event)
+	watch   func(Change)
+	isGone  bool  // the message that is applied removes an agent for good
 	number  int64 // of the message that is applied
 	at      int64
 }
@@ -135,6 +148,9 @@ func (s *State) fill() {
 	}
 	if s.Unused == nil {
 		s.Unused = map[string]int64{}
+	}
+	if s.Ended == nil {
+		s.Ended = map[string]int64{}
 	}
 	for id, f := range s.Frameworks {
 		if f.Tasks == nil {
@@ -177,6 +193,7 @@ func (s *State) Restore(snapshot []byte) error {
 		s.fill()
 	}
 	s.publish(Event{Kind: EventReset})
+	s.changed(Change{Kind: AllReplaced})
 	return nil
 }
 

@@ -139,6 +139,7 @@ func (s *Server) ServeHTTP(w http.ResponseWriter, r *http.Request) {
 	head.Set("X-Content-Type-Options", "nosniff")
 	head.Set("Cache-Control", "no-store")
 	text, kind, isPage := pageFile(r.URL.Path)
+	name, m, isMounted := findMount(r.URL.Path)
 	switch {
 	case isPage && r.Method == http.MethodGet:
 		writePage(w, text, kind)
@@ -150,8 +151,8 @@ func (s *Server) ServeHTTP(w http.ResponseWriter, r *http.Request) {
 		if err := s.Healthy(); err != nil {
 			s.refuse(w, r, err)
 		}
-	case mountable[r.URL.Path]:
-		if err := s.mounted(w, r); err != nil {
+	case isMounted:
+		if err := s.mounted(w, r, name, m); err != nil {
 			s.refuse(w, r, err)
 		}
 	default:

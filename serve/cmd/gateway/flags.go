@@ -6,6 +6,7 @@ import (
 	"errors"
 	"flag"
 	"fmt"
+	"net"
 	"os"
 	"path/filepath"
 	"strconv"
@@ -143,3 +144,14 @@ func readPassword(path string) (string, error) {
 	}
 	return password, nil
 }
+
+// mesosFlags returns the flags of a Mesos master that mean the same here, by their names there.
+func (o *options) mesosFlags() map[string]string {
+	_, port, _ := net.SplitHostPort(o.listen)
+	return map[string]string{"agent_reregister_timeout": mesosTime(o.mesos.AgentGone), "allocation_interval": mesosTime(o.cycle), "authenticate_agents": "true",
+		"authenticate_frameworks": "true", "authenticate_http_frameworks": "true", "authenticate_http_readonly": "true", "authenticate_http_readwrite": "true",
+		"max_completed_frameworks": "50", "port": port, "work_dir": o.data}
+}
+
+// mesosTime writes a duration as Mesos does.
+func mesosTime(d time.Duration) string { return strconv.FormatFloat(d.Seconds(), 'f', -1, 64) + "secs" }

@@ -27,6 +27,7 @@ import (
 	"gateway/internal/etcd"
 	"gateway/internal/limit"
 	"gateway/internal/members"
+	"gateway/internal/mesos/operator"
 	mesosserver "gateway/internal/mesos/server"
 	"gateway/internal/metrics"
 	"gateway/internal/oplog"
@@ -285,6 +286,10 @@ func (g *gateway) build(list *oplog.Log, journal *allocator.Journal) (*api.Servi
 	mesosCalls := mesosserver.New(mesosConfig, list, a, state, mesosState, streams, mayAppend)
 	service.Mounts = mesosCalls.Mounts()
 	service.Details = []api.DetailSource{silentDetails(sessions), mesosCalls.Details}
+	operators := operator.New(operator.Config{Flags: g.mesosFlags()}, mesosCalls, mesosState, questions)
+	for path, call := range operators.Mounts() {
+		service.Mounts[path] = call
+	}
 	g.addGauges(service)
 	return service, func(ctx context.Context) {
 		runs := []func(context.Context){list.Clock.Run, list.Space.Run, sessions.Run, runner.Run, questions.Run, mesosCalls.Run, service.Members.Run,

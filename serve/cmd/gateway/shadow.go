@@ -33,6 +33,7 @@ func shadowCommand(ctx context.Context, arguments []string, out, notes io.Writer
 	flags.DurationVar(&timeout, "timeout", 30*time.Second, "time for the master to answer all questions of a poll")
 	flags.StringVar(&s.Program, "drf", "drf", "program of the allocator")
 	flags.StringVar(&s.State, "state", "", "file to which the state of the cluster is saved after each poll, for the commands of drf")
+	flags.StringVar(&s.Picture, "svg", "", "file to which a picture is written after each poll")
 	flags.StringVar(&principal, "principal", "", "principal to authenticate as")
 	flags.StringVar(&secretFile, "secret-file", "", "file of the principal's secret")
 	urls, err := parseMixed(flags, arguments, shadowForm)

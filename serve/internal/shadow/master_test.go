@@ -6,7 +6,9 @@ import (
 	"bytes"
 	"context"
 	"encoding/json"
+	"encoding/xml"
 	"fmt"
+	"io"
 	"net/http"
 	"net/http/httptest"
 	"os"
@@ -117,6 +119,38 @@ func TestJSON(t *testing.T) {
 		`"unmet":0,"why":[{"kind":"demand","text":"one task more fits in Mesos, so it does not want more"}]}]}` + "\n"
 	if out.String() != want {
 		t.Error(out.String())
+	}
+}
+
+// The picture is well formed, and has the shares and reasons.
+func TestPicture(t *testing.T) {
+	m := newFakeMaster(t, half.document(t))
+	s := m.shadow(t, time.Minute)
+	s.Picture = filepath.Join(t.TempDir(), "roles.svg")
+	if err := s.Once(context.Background(), &bytes.Buffer{}, &bytes.Buffer{}); err != nil {
+		t.Fatal(err)
+	}
+	picture, err := os.ReadFile(s.Picture)
+	if err != nil {
+		t.Fatal(err)
+	}
+	decoder, texts := xml.NewDecoder(bytes.NewReader(picture)), ""
+	for {
+		token, err := decoder.Token()
+		if err == io.EOF {
+			break
+		} else if err != nil {
+			t.Fatal(err)
+		}
+		if data, isText := token.(xml.CharData); isText && strings.TrimSpace(string(data)) != "" {
+			texts += string(data) + "\n"
+		}
+	}
+	for _, want := range []string{"Mesos 1.9.0: 1 agents, 8 tasks", "data\nweight 1\n60.0%\n40.0%\n40.0%\nlimit: 2 of its tasks find no place again: the limit of data,\ncpus:4\n",
+		"web\nweight 2\n20.0%\n20.0%\n60.0%\ndemand: one task more fits in Mesos"} {
+		if !strings.Contains(texts, want) {
+			t.Errorf("no %q in %s", want, texts)
+		}
 	}
 }
 

@@ -26,6 +26,7 @@ type Shadow struct {
 	Interval time.Duration // from one poll to the next
 	AsJSON   bool
 	State    string // the file to which the allocator's state of the cluster is saved after each poll, or empty
+	Picture  string // the file to which a picture is written after each poll, or empty
 	Now      func() time.Time
 
 	things  map[string]bool // agents and tasks of the last poll
@@ -151,6 +152,11 @@ func (s *Shadow) write(report *Report, out, notes io.Writer) error {
 		s.leftOut = leftOut
 		for _, one := range report.LeftOut {
 			fmt.Fprintln(notes, "left out:", one)
+		}
+	}
+	if s.Picture != "" {
+		if err := disk.WriteFile(s.Picture, report.picture()); err != nil {
+			return err
 		}
 	}
 	if s.AsJSON {

@@ -69,6 +69,7 @@ class Cluster:
         self.token = run(gateway, "token", "add", tokens, "admin", "admin").strip()
         with open(self.token_path, "w") as file:
             file.write(self.token)
+        os.chmod(self.token_path, 0o600)  # or agents that run tasks as other users refuse it
         self.gateways = [Node(folder, f"g{n}", 11 + n) for n in range(3)]
         self.agents = [Node(folder, f"a{n}", 21 + n) for n in range(5)]
         self.schedulers = [Node(folder, f"s{n}", 31 + n) for n in range(2)]

@@ -9,7 +9,9 @@ import (
 	"log"
 	"os"
 	"os/signal"
+	"os/user"
 	"runtime"
+	"strconv"
 	"strings"
 	"syscall"
 	"time"
@@ -27,6 +29,8 @@ func main() {
 	var err error
 	if len(os.Args) == 3 && os.Args[1] == "supervise" {
 		err = agent.Supervise(os.Args[2])
+	} else if len(os.Args) == 3 && os.Args[1] == "fetch" {
+		err = agent.Fetch(context.Background(), os.Args[2], os.Stdin)
 	} else {
 		err = run(os.Args[1:])
 	}
@@ -50,6 +54,7 @@ func run(arguments []string) error {
 	keep := flags.Duration("keep", 24*time.Hour, "how long sandboxes of ended tasks are kept")
 	grace := flags.Duration("executor-shutdown-grace-period", 5*time.Second, "time from SHUTDOWN to the end of an executor whose ExecutorInfo has none")
 	registration := flags.Duration("executor-registration-timeout", time.Minute, "time in which an executor must subscribe, after its start and after the agent's")
+	switchUser := flags.Bool("switch-user", os.Getuid() == 0, "run tasks as their frameworks' users; only root can")
 	recovery := flags.Duration("recovery-timeout", 15*time.Minute, "time in which executors try to subscribe again")
 	isVersion := flags.Bool("version", false, "print the version, and end")
 	if err := usage.Parse(flags, arguments, "[FLAG..]"); err != nil {
@@ -76,12 +81,18 @@ func run(arguments []string) error {
 	if *name == "" {
 		*name = *hostname
 	}
+	taskUser, err := userOfTasks(*switchUser, *tokenFile)
+	if err != nil {
+		return err
+	}
+	addAttribute(info, "task_user", taskUser)
 	self, err := os.Executable()
 	if err != nil {
 		return err
 	}
 	a, err := agent.New(agent.Config{Folder: *folder, Name: *name, Gateways: strings.Split(*gateways, ","), Principal: *principal, Token: strings.TrimSpace(string(token)),
-		Info: info, Keep: *keep, Program: []string{self, "supervise"}, ShutdownGrace: *grace, RegistrationTimeout: *registration, RecoveryTimeout: *recovery})
+		Info: info, Keep: *keep, Program: []string{self, "supervise"}, ShutdownGrace: *grace, RegistrationTimeout: *registration, RecoveryTimeout: *recovery,
+		SwitchUser: *switchUser})
 	if err != nil {
 		return err
 	}
@@ -111,9 +122,28 @@ func infoOf(hostname, given, attributes string) (codec.Message, error) {
 		if !is {
 			return info, fmt.Errorf("-attributes: %q: expected NAME:VALUE", one)
 		}
-		info.Add("attributes", codec.New("mesos.Attribute").Set("name", strings.TrimSpace(name)).Set("type", "TEXT").Set("text.value", strings.TrimSpace(value)))
+		if name = strings.TrimSpace(name); strings.HasPrefix(name, "task_") {
+			return info, fmt.Errorf("-attributes: %q: attributes that begin with task_ are the agent's own", one)
+		}
+		addAttribute(info, name, strings.TrimSpace(value))
 	}
 	return info, nil
+}
+
+func addAttribute(info codec.Message, name, value string) {
+	info.Add("attributes", codec.New("mesos.Attribute").Set("name", name).Set("type", "TEXT").Set("text.value", value))
+}
+
+// userOfTasks returns * where tasks run as their frameworks' users, or else the agent's user.
+func userOfTasks(switchUser bool, tokenFile string) (string, error) {
+	if switchUser {
+		return "*", agent.CheckUsers(tokenFile)
+	}
+	own, err := user.Current()
+	if err != nil {
+		return strconv.Itoa(os.Getuid()), nil
+	}
+	return own.Username, nil
 }
 
 // detect returns the processors and the memory of this machine, less 1 GiB or half of it for other uses, and ports as Mesos offers them.

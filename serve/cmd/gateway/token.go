@@ -21,7 +21,7 @@ const tokenUsage = `usage:
   durzhanok-gateway token add [-expires WHEN] FILE NAME RIGHT..
   durzhanok-gateway token list FILE
   durzhanok-gateway token revoke FILE NAME
-rights are admin, operate, clock, read, framework:NAME, role:ROLE, agent:NAME, agent:PREFIX*
+rights are admin, operate, clock, read, framework:NAME, role:ROLE, agent:NAME, agent:PREFIX*, user:NAME
 WHEN is 30d, 12h, 2027-01-31 (the end of that day in UTC) or 2027-01-31T12:00:00Z`
 
 // tokenCommand does what the arguments after "token" say. The form before there were names of commands, FILE NAME RIGHT.., still adds one.

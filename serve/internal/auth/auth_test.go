@@ -95,6 +95,25 @@ func TestTokens(t *testing.T) {
 	}
 }
 
+// A right to run tasks as a user is for that user alone, and no right to send lines.
+func TestUserRights(t *testing.T) {
+	path := filepath.Join(t.TempDir(), "tokens.json")
+	for _, right := range []string{"user:root", "user:web-1", "user:_apt", "user:machine$"} {
+		if _, err := AddCaller(path, "n"+strings.Trim(right[5:], "$"), []string{right}, time.Time{}); err != nil {
+			t.Error(err)
+		}
+	}
+	for _, right := range []string{"user:", "user:-x", "user:*", "user:a b", "user:a/b"} {
+		if _, err := AddCaller(path, "other", []string{right}, time.Time{}); err == nil {
+			t.Errorf("%s was accepted", right)
+		}
+	}
+	c := &Caller{Name: "web", Rights: []string{"user:web"}}
+	if !c.Has("user", "web") || c.Has("user", "root") || c.Has("user", "web2") || c.Has("user", "") || c.MaySend() {
+		t.Error("the right is another one than that of the user web")
+	}
+}
+
 func TestUnknownRightIsNamed(t *testing.T) {
 	_, err := AddCaller(filepath.Join(t.TempDir(), "tokens.json"), "web", []string{"y"}, time.Time{})
 	if err == nil || !strings.Contains(err.Error(), `token "web": unknown right "y"; expected admin, operate`) {

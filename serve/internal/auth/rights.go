@@ -31,7 +31,7 @@ func (c *Caller) Has(right, name string) bool {
 // MaySend reports whether a caller may send any line at all.
 func (c *Caller) MaySend() bool {
 	for _, r := range c.Rights {
-		if kind, _, _ := strings.Cut(r, ":"); kind != "read" {
+		if kind, _, _ := strings.Cut(r, ":"); kind != "read" && kind != "user" {
 			return true
 		}
 	}

@@ -19,7 +19,8 @@ import (
 	"gateway/internal/disk"
 )
 
-// Caller is who has a token. Its rights are admin, operate, clock, read, framework:NAME, role:ROLE, agent:NAME or agent:PREFIX*.
+// Caller is who has a token. Its rights are admin, operate, clock, read, framework:NAME, role:ROLE, agent:NAME, agent:PREFIX* or
+// user:NAME.
 type Caller struct {
 	Name    string     `json:"name"`
 	Sha256  string     `json:"sha256"`
@@ -56,11 +57,11 @@ type Callers struct {
 // internalOwners own the keys of messages that gateways append for themselves.
 var internalOwners = map[string]bool{"cycle": true, "rescind": true, "silent": true, "state": true}
 
-const rightsText = "admin, operate, clock, read, framework:NAME, role:ROLE, agent:NAME or agent:PREFIX*"
+const rightsText = "admin, operate, clock, read, framework:NAME, role:ROLE, agent:NAME, agent:PREFIX* or user:NAME"
 
 var (
 	isName  = regexp.MustCompile(`^[A-Za-z0-9_.-]{1,64}$`)
-	isRight = regexp.MustCompile(`^(admin|operate|clock|read|framework:[A-Za-z0-9_.-]{1,64}|agent:[A-Za-z0-9_.-]{0,64}\*?|role:[!-~]{1,64})$`)
+	isRight = regexp.MustCompile(`^(admin|operate|clock|read|framework:[A-Za-z0-9_.-]{1,64}|agent:[A-Za-z0-9_.-]{0,64}\*?|role:[!-~]{1,64}|user:[A-Za-z0-9_][A-Za-z0-9_.-]{0,31}\$?)$`)
 )
 
 // IsName reports whether a text may name a caller, an agent or a framework in a path.

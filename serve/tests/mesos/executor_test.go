@@ -106,7 +106,7 @@ func TestExecutor(t *testing.T) {
 			c := s.subscribe("admin", s.token, `{"user":"root","name":"n","roles":["web"],"capabilities":[{"type":"MULTI_ROLE"}]}`) // mesos-go's JSON knows no newer ones
 			offer, agent := c.offered()
 			info := s.executorInfo("e", arguments)
-			c.call(202, launchCall(offer, agent, executed("t1", agent, "env > "+s.folder+"/env; sleep 1000", info)+","+executed("t2", agent, "true", info)))
+			c.call(202, launchCall(offer, agent, executed("t1", agent, "env > "+s.folder+"/part; mv "+s.folder+"/part "+s.folder+"/env; sleep 1000", info)+","+executed("t2", agent, "true", info)))
 			last := c.states(map[string]string{"t1": "RUNNING", "t2": "RUNNING FINISHED"})
 			if at(last["t2"], "source") != "SOURCE_EXECUTOR" || at(last["t2"], "executor_id", "value") != "e" || at(last["t2"], "agent_id", "value") != agent {
 				t.Errorf("%v", last["t2"])
@@ -122,6 +122,7 @@ func TestExecutor(t *testing.T) {
 			if m := at(c.next("MESSAGE"), "message"); at(m, "data") != base64.StdEncoding.EncodeToString([]byte("HELLO")) || at(m, "executor_id", "value") != "e" || at(m, "agent_id", "value") != agent {
 				t.Errorf("%v", m)
 			}
+			s.checkEnvironment(c.id, agent)
 			c.call(202, `{"type":"KILL","kill":{"task_id":{"value":"t1"}}}`)
 			c.states(map[string]string{"t1": "KILLED"})
 			s.checkHeld("cpus:0.5")
@@ -136,7 +137,6 @@ func TestExecutor(t *testing.T) {
 			c.states(map[string]string{"g1": "KILLED"})
 			c.failure("e", 0.0)
 			s.waitFree(0)
-			s.checkEnvironment(c.id, agent)
 			s.checkJournal(0)
 		})
 	}
@@ -172,7 +172,10 @@ func (s *service) executorLog() (text string) {
 // checkEnvironment checks the variables that Mesos documents for executors.
 func (s *service) checkEnvironment(framework, agent string) {
 	s.t.Helper()
-	text, _ := os.ReadFile(filepath.Join(s.folder, "env"))
+	var text []byte
+	for end := time.Now().Add(20 * time.Second); len(text) == 0 && time.Now().Before(end); time.Sleep(20 * time.Millisecond) {
+		text, _ = os.ReadFile(filepath.Join(s.folder, "env"))
+	}
 	port, _ := os.ReadFile(filepath.Join(s.folder, "a0", "executor-port"))
 	sandboxes, _ := filepath.Glob(filepath.Join(s.folder, "a0", "executors", "*", "sandbox"))
 	for _, want := range []string{"MESOS_FRAMEWORK_ID=" + framework, "MESOS_EXECUTOR_ID=e", "MESOS_AGENT_ID=" + agent, "MESOS_SLAVE_ID=" + agent, "MESOS_DIRECTORY=" + sandboxes[0], "MESOS_SANDBOX=" + sandboxes[0],

@@ -35,6 +35,8 @@ type Config struct {
 	ShutdownGrace       time.Duration // from SHUTDOWN to the end of an executor that does not say otherwise
 	RegistrationTimeout time.Duration // in which an executor must subscribe, after its start and after the agent's
 	RecoveryTimeout     time.Duration // in which executors try to subscribe again
+
+	SwitchUser bool // tasks run as their frameworks' users, or else as the agent's
 }
 
 // Agent is a running agent.

@@ -156,7 +156,10 @@ func (a *Agent) executorOf(one codec.Message) (*executor, error) {
 	if err != nil {
 		return nil, err
 	}
-	err = e.start(a.config.Program, a.processOfExecutor(e))
+	p := a.processOfExecutor(e)
+	if p.User, err = a.accountFor(one.Text("user"), e.path("sandbox")); err == nil {
+		err = e.start(a.config.Program, p)
+	}
 	a.executors[e.key] = e // its end is reported in any case
 	go a.tend(context.Background(), e)
 	return e, err

@@ -20,6 +20,7 @@ type process struct {
 	GraceMS     int64    `json:"grace_ms"`    // between SIGTERM and SIGKILL, where the agent does not say otherwise
 	HealthCheck []byte   `json:"health_check,omitempty"`
 	Check       []byte   `json:"check,omitempty"` // CheckInfo
+	User        *account `json:"user,omitempty"`  // or the agent's own
 }
 
 // defaultGrace is the time between SIGTERM and SIGKILL of a command, Mesos' default.
@@ -58,7 +59,7 @@ func (p *process) command(sandbox string) (*exec.Cmd, error) {
 		return nil, err
 	}
 	for name, to := range map[string]*io.Writer{"stdout": &command.Stdout, "stderr": &command.Stderr} {
-		file, err := os.OpenFile(filepath.Join(sandbox, name), os.O_CREATE|os.O_APPEND|os.O_WRONLY, 0o644)
+		file, err := p.openOutput(filepath.Join(sandbox, name))
 		if err != nil {
 			return nil, err
 		}
@@ -83,7 +84,7 @@ func (p *process) commandOf(c codec.Message, sandbox string) (*exec.Cmd, error) 
 		}
 	}
 	command.Dir = sandbox
-	command.SysProcAttr = &syscall.SysProcAttr{Setpgid: true, Pdeathsig: syscall.SIGKILL}
+	command.SysProcAttr = &syscall.SysProcAttr{Setpgid: true, Pdeathsig: syscall.SIGKILL, Credential: p.User.credential()}
 	command.Env = append([]string(nil), p.Environment...)
 	for _, one := range c.List("environment.variables") {
 		command.Env = append(command.Env, one.Text("name")+"="+one.Text("value"))

@@ -21,7 +21,6 @@ import (
 	"golang.org/x/sys/unix"
 
 	"gateway/internal/disk"
-	"gateway/internal/mesos/codec"
 )
 
 // supervisor runs a process, and all that this starts: what loses its parent becomes the supervisor's child, so it is found in the end.
@@ -55,6 +54,7 @@ func Supervise(folder string) error {
 	}
 	runtime.LockOSThread() // the command ends with the thread that started it
 	ended := s.run()
+	s.killDescendants()
 	line, _ := json.Marshal(ended)
 	return disk.WriteFile(s.path("exit"), line)
 }
@@ -82,7 +82,6 @@ func (s *supervisor) run() exit {
 	checks := s.startChecks(command)
 	ended := s.wait(command, checks.kill)
 	checks.end()
-	s.killDescendants()
 	return ended
 }
 
@@ -186,7 +185,7 @@ func (s *supervisor) fetchUnlessKilled() (isKilled bool, err error) {
 	defer cancel()
 	done := make(chan error, 1)
 	go func() {
-		done <- fetch(ctx, s.sandbox(), codec.MustReadProtobuf("mesos.CommandInfo", s.process.Command))
+		done <- s.process.fetch(ctx, s.sandbox())
 	}()
 	for {
 		select {

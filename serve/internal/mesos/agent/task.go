@@ -171,7 +171,10 @@ func (a *Agent) start(one codec.Message) {
 		return
 	}
 	if err == nil {
-		err = t.start(a.config.Program, processOf(one, t.path("sandbox")))
+		p := processOf(one, t.path("sandbox"))
+		if p.User, err = a.accountFor(one.Text("user"), t.path("sandbox")); err == nil {
+			err = t.start(a.config.Program, p)
+		}
 	}
 	if err != nil {
 		a.reject(one, "TASK_FAILED", "REASON_CONTAINER_LAUNCH_FAILED", "the task was not started: "+err.Error())

@@ -34,12 +34,13 @@ type part struct {
 // acceptance is an ACCEPT on its way to a message.
 type acceptance struct {
 	*framework
-	epoch   int
-	agent   string
-	role    string
-	parts   []*part
-	invalid string // why the offers cannot be accepted, or empty
-	known   map[string]bool
+	epoch     int
+	agent     string
+	role      string
+	agentUser string // as which tasks run there
+	parts     []*part
+	invalid   string // why the offers cannot be accepted, or empty
+	known     map[string]bool
 
 	executors map[string]bool    // custom ones that run on the agent, as far as this gateway knows
 	runners   map[string]*runner // custom executors of this call
@@ -116,7 +117,7 @@ func (s *Server) acceptance(f *framework, ids []string) *acceptance {
 				a.invalid = "Aggregated offers must be allocated to the same role"
 			}
 			left, _ := resources.Parse(o.Resources) // which the allocator wrote
-			seen[id], a.agent, a.role = true, o.Agent, o.Role
+			seen[id], a.agent, a.role, a.agentUser = true, o.Agent, o.Role, agentUser(s.state.Agents[o.Agent])
 			a.parts = append(a.parts, &part{Offer: o, left: left, uses: map[string]resources.Bundle{}})
 		}
 	})
@@ -134,6 +135,9 @@ func (s *Server) refusal(filters codec.Message) int64 {
 	return int64(math.Min(ms, float64(s.config.MaxRefuse.Milliseconds())))
 }
 
+// groupReasons are the reasons of a group where Mesos has another than for a task.
+var groupReasons = map[string]string{"REASON_TASK_INVALID": "REASON_TASK_GROUP_INVALID", "REASON_TASK_UNAUTHORIZED": "REASON_TASK_GROUP_UNAUTHORIZED"}
+
 func (a *acceptance) operation(op codec.Message) error {
 	switch op.Enum("type") {
 	case "LAUNCH":
@@ -146,8 +150,8 @@ func (a *acceptance) operation(op codec.Message) error {
 		tasks := op.List("launch_group.task_group.tasks")
 		executor := op.Sub("launch_group.executor")
 		if state, reason, why := a.launch(tasks, executor, fmt.Sprintf("group.%d.%d.%d", a.epoch, a.firstOffer(), len(a.note.Launches))); why != "" {
-			if reason == "REASON_TASK_INVALID" {
-				reason = "REASON_TASK_GROUP_INVALID"
+			if group := groupReasons[reason]; group != "" {
+				reason = group
 			}
 			for _, task := range tasks {
 				a.refuse(task, state, reason, why)
@@ -183,6 +187,7 @@ func (a *acceptance) launch(tasks []codec.Message, executor codec.Message, group
 		return "TASK_DROPPED", "REASON_INVALID_OFFERS", "Task launched with invalid offers: RESERVE and LAUNCH in one ACCEPT are not supported: the next offer has the reservation"
 	}
 	isCustom, own, wanted := false, resources.Bundle{}, resources.Bundle{} // its own is a custom executor's
+	var users []string
 	if group != "" || !executor.IsAbsent() {
 		use, err := a.validateExecutor(executor)
 		isCustom = executor.Enum("type") == "CUSTOM"
@@ -203,6 +208,11 @@ func (a *acceptance) launch(tasks []codec.Message, executor codec.Message, group
 			return "TASK_ERROR", "REASON_TASK_INVALID", err.Error()
 		}
 		wanted.Add(use)
+		user, state, reason, why := a.userOf(task, executor)
+		if why != "" {
+			return state, reason, why
+		}
+		users = append(users, user)
 	}
 	if missing := a.missing(wanted, own); len(missing) > 0 {
 		return "TASK_ERROR", "REASON_TASK_INVALID", fmt.Sprintf("Task uses more resources %s than available %s: %s are missing", wanted.Text(), a.left().Text(), missing.Text())
@@ -216,7 +226,7 @@ func (a *acceptance) launch(tasks []codec.Message, executor codec.Message, group
 		name = tasks[0].Text("task_id.value")
 	}
 	holds := a.hold(name, wanted)
-	for _, task := range tasks {
+	for k, task := range tasks {
 		for _, one := range task.List("resources") { // Mesos sets it where a framework does not
 			one.Set("allocation_info.role", a.role)
 		}
@@ -224,7 +234,7 @@ func (a *acceptance) launch(tasks []codec.Message, executor codec.Message, group
 		if isCustom {
 			task.Set("executor", executor)
 		}
-		l := mesos.Launch{Task: id, Agent: a.agent, Executor: id, Info: task.Protobuf(), Role: a.role, Holds: holds}
+		l := mesos.Launch{Task: id, Agent: a.agent, Executor: id, Info: task.Protobuf(), Role: a.role, User: users[k], Holds: holds}
 		if !executor.IsAbsent() {
 			l.Executor = executor.Text("executor_id.value")
 			l.ExecutorInfo, l.ExecutorHolds, l.StartsExecutor = by.info, by.holds, isCustom && !a.isLaunched(l.Executor)

@@ -33,8 +33,6 @@ func (a *acceptance) validate(task codec.Message, isGrouped, isCustom bool) (res
 		return nil, errors.New("a task of a group with a DEFAULT executor without 'TaskInfo.command' is not supported")
 	case task.Int("kill_policy.grace_period.nanoseconds") < 0:
 		return nil, errors.New("Task's 'kill_policy.grace_period' must be non-negative")
-	case task.Has("command.user"):
-		return nil, errors.New("'CommandInfo.user' is not supported yet: tasks run as the agent's user")
 	}
 	if err := validateChecks(task); err != nil {
 		return nil, err

@@ -8,7 +8,6 @@ import sys
 import threading
 import time
 
-from selenium.webdriver.common.keys import Keys
 
 from chromium import NotRun, equal, holds, test
 from fleet import SERVE, Fleet
@@ -141,26 +140,6 @@ def a_killed_gateway_comes_back(browser, room):
     browser.wait("events again", lambda: "Framework shop registered in web" in browser.texts("#feed li span"), 20)
     browser.console()
     service.end()
-
-
-def take_screenshots(browser, room, folder):
-    """What the documents show: a filled cluster, light and dark."""
-    service = room.service()
-    for name, dark in (("service.png", False), ("service-dark.png", True)):
-        browser.look(1200, 1900, dark)
-        browser.enter(service.url, service.tokens["eye"])
-        browser.wait("the tree", lambda: browser.texts("#tree tbody tr"))
-        admin = service.client()
-        for offer in [offer for turn in range(4) for offer in admin.send(event("cycle"))[0]["offers"]][:12]:
-            admin.send(event("decline", framework=offer["framework"], offer=offer["offer"], refuse_ms=2000))
-            time.sleep(0.2)
-        browser.one("#map").send_keys(Keys.HOME, Keys.ARROW_RIGHT)
-        browser.run("document.activeElement.blur(); scrollTo(0, 0)")
-        time.sleep(2)
-        path = os.path.join(folder, name)
-        browser.driver.save_screenshot(path)
-        if shutil.which("pngquant"):
-            subprocess.run(["pngquant", "--force", "--skip-if-larger", "--output", path, "64", path], check=False)
 
 
 # ---- the client

@@ -49,6 +49,8 @@ func run(arguments []string) error {
 			return importCluster(arguments[1:], os.Stdin, os.Stdout, os.Stderr)
 		case "shadow":
 			return shadowCommand(ctx, arguments[1:], os.Stdout, os.Stderr)
+		case "demo":
+			return demoCommand(ctx, arguments[1:], os.Stdin, os.Stdout)
 		case "credentials":
 			return credentialsCommand(arguments[1:], os.Stderr)
 		}

@@ -2,8 +2,8 @@
 # Mesos' frameworks over three gateways and five agents, each in a network namespace, under random failures. Outside the proof.
 """    mesos_chaos.py TASKS SECONDS [SEED]        GATEWAY, DRF and SCHEDULER name the programs; needs root, for `ip netns`
 
-Gateways, agents' programs and schedulers are killed and started again, links fail for seconds, and a gateway and an agent are cut off for so
-long that the one loses its streams and the other its tasks. It goes on for the seconds, and until the tasks have finished. In the end each
+Gateways, agents' programs and schedulers are killed and started again, links fail for seconds, disks of gateways are full, and a gateway and
+an agent are cut off for so long that the one loses its streams and the other its tasks. It goes on for the seconds, and until the tasks have finished. In the end each
 task id started at most once, each launch has a terminal status, the allocator holds exactly the tasks that run, and `drf check` calls the
 journals good.
 """
@@ -56,6 +56,25 @@ class Node:
     def set_link(self, state):
         run("ip", "link", "set", "v" + self.name, state)
 
+    def fill_disk(self, left):
+        """Fills the disk of a gateway, but for some bytes."""
+        path = os.path.join(self.folder, self.name, "filler")
+        with open(path, "wb") as file:
+            for size in (1 << 24, 1 << 16, 1):  # the gateway takes space too
+                about = os.statvfs(path)
+                while about.f_bavail * about.f_frsize - left >= size:
+                    try:
+                        os.posix_fallocate(file.fileno(), os.fstat(file.fileno()).st_size, size)
+                    except OSError:
+                        break
+                    about = os.statvfs(path)
+
+    def free_disk(self):
+        """Makes room again. A gateway without any ended."""
+        os.remove(os.path.join(self.folder, self.name, "filler"))
+        if self.process.poll() is not None:
+            self.start()
+
 
 class Cluster:
     def __init__(self, folder, gateway, drf, scheduler):
@@ -76,6 +95,8 @@ class Cluster:
         self.hosts = ",".join(g.address + ":8450" for g in self.gateways)
         members = ",".join(f"{g.name}=http://{g.address}:2380" for g in self.gateways)
         for g in self.gateways:
+            os.mkdir(os.path.join(folder, g.name), 0o700)
+            run("mount", "-t", "tmpfs", "-o", "size=600m,mode=700", "none", os.path.join(folder, g.name))
             g.start(gateway, "-data", os.path.join(folder, g.name), "-drf", drf, "-listen", g.address + ":8450", "-tokens", tokens, "-name", g.name, "-members", members, "-cycle", "200ms",
                     "-mesos-silence", f"{SILENCE}s", "-mesos-agent-gone", f"{AGENT_GONE}s", "-mesos-gateway-grace", "20s")
         self.until_ready()
@@ -123,7 +144,7 @@ class Cluster:
 
 def disturb(cluster, tasks, seconds, chance):
     """Random failures, one after another, and the partition near the beginning. Returns how many of each kind there were."""
-    counts, begun, cut = collections.Counter(), time.time(), []
+    counts, begun, cut, full = collections.Counter(), time.time(), [], []
     partition = begun + 2
     while time.time() < begun + seconds or sum(cluster.finished(s.name) for s in cluster.schedulers) < tasks:
         assert time.time() < begun + max(20 * seconds, 600), counts
@@ -132,6 +153,9 @@ def disturb(cluster, tasks, seconds, chance):
         for node, until in [one for one in cut if one[1] < now]:
             node.set_link("up")
             cut.remove((node, until))
+        for node, until in [one for one in full if one[1] < now]:
+            node.free_disk()
+            full.remove((node, until))
         if partition and now > partition:
             partition = None
             for node, length in ((chance.choice(cluster.gateways), 7), (chance.choice(cluster.agents), SILENCE + 5 + AGENT_GONE + 4)):  # a heartbeat comes every 5 s
@@ -141,7 +165,7 @@ def disturb(cluster, tasks, seconds, chance):
             counts["partition"] += 1
             continue
         away = [one[0] for one in cut]
-        isolated = any(node in cluster.gateways for node in away)
+        isolated = full or any(node in cluster.gateways for node in away)
         node = chance.choice(cluster.gateways * 2 + cluster.agents + cluster.schedulers)
         if node in away or node in cluster.gateways and isolated:
             continue
@@ -150,12 +174,20 @@ def disturb(cluster, tasks, seconds, chance):
             cut.append((node, now + chance.uniform(0.5, 3)))
             counts["link of " + node.name[0]] += 1
             continue
+        if node in cluster.gateways and chance.random() < 0.3:
+            left = chance.choice((0, 60 << 20))
+            node.fill_disk(left)
+            full.append((node, now + chance.uniform(1, 3)))
+            counts["disk without space" if left == 0 else "disk with little space"] += 1
+            continue
         node.kill()
         time.sleep(0 if node.name[0] == "s" else chance.uniform(0, 1.5))
         node.start()
         counts["kill of " + node.name[0]] += 1
     for node, _ in cut:
         node.set_link("up")
+    for node, _ in full:
+        node.free_disk()
     return counts
 
 

@@ -100,7 +100,7 @@ func TestKills(t *testing.T) {
 	if strings.Contains(p.log()+again.log(), "TASK_LOST") {
 		t.Errorf("a task was lost: %s %s", p.log(), again.log())
 	}
-	s.checkOnce(file, 60)
+	s.checkOnce(file, 40) // what runs when the first one is killed finishes under the second
 	s.waitFree(0)
 	s.checkJournal(0)
 }

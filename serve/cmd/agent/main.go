@@ -56,6 +56,8 @@ func run(arguments []string) error {
 	registration := flags.Duration("executor-registration-timeout", time.Minute, "time in which an executor must subscribe, after its start and after the agent's")
 	switchUser := flags.Bool("switch-user", os.Getuid() == 0, "run tasks as their frameworks' users; only root can")
 	recovery := flags.Duration("recovery-timeout", 15*time.Minute, "time in which executors try to subscribe again")
+	asked := operators{flags.String("listen", "", "address for operators' calls (none)"), flags.String("cert", "", "file of certificates, for operators to come over TLS"),
+		flags.String("key", "", "file of its key")}
 	isVersion := flags.Bool("version", false, "print the version, and end")
 	if err := usage.Parse(flags, arguments, "[FLAG..]"); err != nil {
 		return err
@@ -90,6 +92,10 @@ func run(arguments []string) error {
 	if err != nil {
 		return err
 	}
+	listener, err := asked.listen(info)
+	if err != nil {
+		return err
+	}
 	a, err := agent.New(agent.Config{Folder: *folder, Name: *name, Gateways: strings.Split(*gateways, ","), Principal: *principal, Token: strings.TrimSpace(string(token)),
 		Info: info, Keep: *keep, Program: []string{self, "supervise"}, ShutdownGrace: *grace, RegistrationTimeout: *registration, RecoveryTimeout: *recovery,
 		SwitchUser: *switchUser})
@@ -100,6 +106,7 @@ func run(arguments []string) error {
 	ctx, stop := signal.NotifyContext(context.Background(), os.Interrupt, syscall.SIGTERM)
 	defer stop()
 	daemon.SdNotify(true, daemon.SdNotifyReady) // the flags and files are right; no task gets to know systemd's socket
+	go asked.serve(ctx, a, listener)
 	a.Run(ctx)
 	return nil
 }

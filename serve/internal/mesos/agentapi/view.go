@@ -1,0 +1,190 @@
+// The agent's tasks and executors, as messages of the operator API. Outside the proof.
+
+package agentapi
+
+import (
+	"path/filepath"
+	"time"
+
+	"gateway/internal/mesos/agent"
+	"gateway/internal/mesos/codec"
+)
+
+// box is a sandbox and whose it is.
+type box struct{ framework, executor, key, path string }
+
+// container is a process that runs, of a command or of an executor.
+type container struct {
+	framework, executor, name, key string
+	supervisor                     int
+	resources                      []codec.Message
+}
+
+// view is what the agent has now.
+type view struct {
+	folder string
+	seen   []agent.Seen
+	own    []agent.SeenExecutor
+	boxes  []box
+}
+
+func (s *Server) view() *view {
+	v := &view{folder: s.agent.Folder(), seen: s.agent.Tasks(), own: s.agent.Executors()}
+	for _, e := range v.own {
+		v.boxes = append(v.boxes, box{e.Executor.Text("framework_id.value"), e.Executor.Text("executor_info.executor_id.value"), e.Key, e.Sandbox})
+	}
+	for _, t := range v.seen {
+		if t.IsCommand {
+			v.boxes = append(v.boxes, box{t.Task.Text("framework_id.value"), t.Executor, t.Key, t.Sandbox})
+		}
+	}
+	return v
+}
+
+func nameOf(t agent.Seen) string {
+	info := t.Task.Sub("task_info")
+	return "Command Executor (Task: " + info.Text("task_id.value") + ") (Command: sh -c '" + info.Text("command.value") + "')"
+}
+
+// taskMessage writes a task.
+func taskMessage(t agent.Seen) codec.Message {
+	info := t.Task.Sub("task_info")
+	m := codec.New("mesos.Task").Set("name", info.Text("name")).Set("task_id", info.Sub("task_id")).Set("framework_id", t.Task.Sub("framework_id")).
+		Set("agent_id", info.Sub("agent_id")).Set("state", t.State)
+	if !t.IsCommand {
+		m.Set("executor_id.value", t.Executor)
+	}
+	for _, one := range info.List("resources") {
+		m.Add("resources", one)
+	}
+	m.Set("labels", info.Sub("labels")).Set("discovery", info.Sub("discovery")).Set("container", info.Sub("container"))
+	if !t.Status.IsAbsent() {
+		status := t.Status.Clone()
+		status.Clear("data")
+		m.Add("statuses", status)
+	}
+	return m
+}
+
+var stages = map[int]string{agent.Queued: "queued_tasks", agent.Launched: "launched_tasks", agent.Terminated: "terminated_tasks", agent.Completed: "completed_tasks"}
+
+func (v *view) tasks() codec.Message {
+	m := codec.New("mesos.agent.Response.GetTasks")
+	for _, t := range v.seen {
+		m.Add(stages[t.Stage], taskMessage(t))
+	}
+	return m
+}
+
+// commandExecutor writes a command as the executor that Mesos has for it.
+func commandExecutor(t agent.Seen) codec.Message {
+	info := t.Task.Sub("task_info")
+	m := codec.New("mesos.ExecutorInfo").Set("executor_id.value", t.Executor).Set("framework_id", t.Task.Sub("framework_id")).Set("name", nameOf(t)).
+		Set("source", t.Executor).Set("command", info.Sub("command"))
+	return m
+}
+
+func (v *view) executors() codec.Message {
+	m := codec.New("mesos.agent.Response.GetExecutors")
+	add := func(info codec.Message, isDone bool) {
+		field := map[bool]string{false: "executors", true: "completed_executors"}[isDone]
+		m.Add(field, codec.New("mesos.agent.Response.GetExecutors.Executor").Set("executor_info", info))
+	}
+	for _, e := range v.own {
+		add(e.Executor.Sub("executor_info").Clone().Set("framework_id", e.Executor.Sub("framework_id")), e.IsDone)
+	}
+	for _, t := range v.seen {
+		if t.IsCommand {
+			add(commandExecutor(t), t.Stage == agent.Completed)
+		}
+	}
+	return m
+}
+
+// frameworkInfos returns the frameworks, and whether each has something that is not completed. Of one with commands alone the agent knows
+// the id and the user.
+func (v *view) frameworkInfos() (order []string, infos map[string]codec.Message, isActive map[string]bool) {
+	infos, isActive = map[string]codec.Message{}, map[string]bool{}
+	add := func(id string, info codec.Message, active bool) {
+		if _, is := infos[id]; !is {
+			order = append(order, id)
+			infos[id] = codec.New("mesos.FrameworkInfo").Set("user", "").Set("name", id).Set("id.value", id)
+		}
+		if !info.IsAbsent() {
+			infos[id] = info.Clone().Set("id.value", id)
+		}
+		isActive[id] = isActive[id] || active
+	}
+	for _, e := range v.own {
+		add(e.Executor.Text("framework_id.value"), e.Executor.Sub("framework_info"), !e.IsDone)
+	}
+	for _, t := range v.seen {
+		id := t.Task.Text("framework_id.value")
+		add(id, t.Task.Sub("executor.framework_info"), t.Stage != agent.Completed)
+		if infos[id].Text("user") == "" {
+			infos[id].Set("user", t.Task.Text("user"))
+		}
+	}
+	return order, infos, isActive
+}
+
+func (v *view) frameworks() codec.Message {
+	m := codec.New("mesos.agent.Response.GetFrameworks")
+	order, infos, isActive := v.frameworkInfos()
+	for _, id := range order {
+		field := map[bool]string{true: "frameworks", false: "completed_frameworks"}[isActive[id]]
+		m.Add(field, codec.New("mesos.agent.Response.GetFrameworks.Framework").Set("framework_info", infos[id]))
+	}
+	return m
+}
+
+// running returns the commands and executors that run.
+func (v *view) running() (list []container) {
+	for _, e := range v.own {
+		if e.Supervisor > 0 {
+			info := e.Executor.Sub("executor_info")
+			one := container{e.Executor.Text("framework_id.value"), info.Text("executor_id.value"), info.Text("name"), e.Key, e.Supervisor, info.List("resources")}
+			for _, t := range v.seen {
+				if !t.IsCommand && t.Stage == agent.Launched && t.Sandbox == e.Sandbox {
+					one.resources = append(one.resources, t.Task.List("task_info.resources")...)
+				}
+			}
+			list = append(list, one)
+		}
+	}
+	for _, t := range v.seen {
+		if t.IsCommand && t.Supervisor > 0 {
+			list = append(list, container{t.Task.Text("framework_id.value"), t.Executor, nameOf(t), t.Key, t.Supervisor, t.Task.List("task_info.resources")})
+		}
+	}
+	return list
+}
+
+// statistics writes what a container uses, and what it may use as far as that is said.
+func (c container) statistics() codec.Message {
+	usage := agent.UsageOf(c.supervisor)
+	m := codec.New("mesos.ResourceStatistics").Set("timestamp", float64(time.Now().UnixMilli())/1000).Set("processes", usage.Processes).Set("threads", usage.Threads).
+		Set("cpus_user_time_secs", usage.User).Set("cpus_system_time_secs", usage.System).Set("mem_rss_bytes", int64(usage.Resident))
+	cpus, mem := 0.0, 0.0
+	for _, one := range c.resources {
+		switch one.Text("name") {
+		case "cpus":
+			cpus += one.Float("scalar.value")
+		case "mem":
+			mem += one.Float("scalar.value")
+		}
+	}
+	return m.Set("cpus_limit", cpus).Set("mem_limit_bytes", int64(mem*(1<<20)))
+}
+
+func (v *view) containers() codec.Message {
+	m := codec.New("mesos.agent.Response.GetContainers")
+	for _, c := range v.running() {
+		m.Add("containers", codec.New("mesos.agent.Response.GetContainers.Container").Set("framework_id.value", c.framework).Set("executor_id.value", c.executor).Set("executor_name", c.name).
+			Set("container_id.value", c.key).Set("container_status.executor_pid", c.supervisor).Set("resource_statistics", c.statistics()))
+	}
+	return m
+}
+
+// directory returns the absolute path of a sandbox.
+func (v *view) directory(path string) string { return filepath.Join(v.folder, path) }

@@ -1,4 +1,4 @@
-# Tests over a real gateway: the page, the client and its example, the dashboard, the unit. Outside the proof.
+# Tests over a real gateway: the page, the client and its example, the dashboard. Outside the proof.
 import json
 import os
 import re
@@ -336,27 +336,3 @@ def each_metric_of_the_dashboard_is_told(browser, room):
     equal("named, and not told", wanted - told, set())
     holds(f"few metrics: {wanted}", len(wanted) > 15)
     admin.send(*[event("remove_agent", agent=agent) for agent in ("m1", "m2", "m3")])
-
-
-@test
-def the_unit_is_right(browser, room):
-    if not shutil.which("systemd-analyze"):
-        raise NotRun("there is no systemd-analyze")
-    with open(os.path.join(SERVE, "durzhanok.service"), encoding="utf-8") as file:
-        text = file.read()
-    unit = os.path.join(room.folder, "durzhanok.service")
-    with open(unit, "w", encoding="utf-8") as file:  # its program need not be here
-        file.write(re.sub(r"^(ExecStart=)\S+", r"\1/bin/true", text, flags=re.M))
-    done = subprocess.run(["systemd-analyze", "verify", unit], capture_output=True, text=True, check=False)
-    equal("systemd-analyze verify", (done.returncode, done.stderr), (0, ""))
-    done = subprocess.run(["systemd-analyze", "security", "--offline=yes", "--threshold=20", unit], capture_output=True, text=True, check=False)
-    equal("its exposure, over 2.0", (done.returncode, "" if done.returncode == 0 else done.stdout[-300:]), (0, ""))
-
-
-@test
-def the_unit_names_flags_that_there_are(browser, room):
-    room.service()
-    with open(os.path.join(SERVE, "durzhanok.service"), encoding="utf-8") as file:
-        flags = set(re.findall(r"\s-([a-z-]+)", re.search(r"^ExecStart=(?:.*\\\n)*.*", file.read(), flags=re.M)[0]))
-    known = set(re.findall(r"^  -([a-z-]+)", subprocess.run([room.programs.gateway, "-help"], capture_output=True, text=True, check=False).stdout, flags=re.M))
-    equal("unknown", flags - known, set())

@@ -7,12 +7,14 @@ import (
 	"flag"
 	"fmt"
 	"io"
+	"path/filepath"
 
 	"gateway/internal/auth"
+	"gateway/internal/disk"
 )
 
 const credentialsUsage = `usage:
-  gateway credentials [-tokens durzhanok-data/tokens.json] FILE [RIGHT..]
+  durzhanok-gateway credentials [-tokens durzhanok-data/tokens.json] FILE [RIGHT..]
 FILE is a credentials file of Mesos: {"credentials":[{"principal":..,"secret":..},..]}, or a principal and a secret in each line
 RIGHT is what each of them may do, such as role:ROLE`
 
@@ -20,7 +22,7 @@ const shortSecret = 16 // bytes: a shorter one is likely to be guessed
 
 // credentialsCommand imports a credentials file of Mesos into a tokens file: all of it, or nothing.
 func credentialsCommand(arguments []string, notes io.Writer) error {
-	flags := flag.NewFlagSet("gateway credentials", flag.ContinueOnError)
+	flags := flag.NewFlagSet("durzhanok-gateway credentials", flag.ContinueOnError)
 	flags.SetOutput(io.Discard)
 	tokens := flags.String("tokens", "durzhanok-data/tokens.json", "")
 	if err := flags.Parse(arguments); err != nil {
@@ -28,6 +30,9 @@ func credentialsCommand(arguments []string, notes io.Writer) error {
 	}
 	if flags.NArg() < 1 {
 		return errors.New(credentialsUsage)
+	}
+	if err := disk.CheckOwner(filepath.Dir(*tokens)); err != nil { // the gateway could not read what another user writes
+		return err
 	}
 	list, err := auth.ImportCredentials(*tokens, flags.Arg(0), flags.Args()[1:])
 	if err != nil {

@@ -172,3 +172,18 @@ func TestQuotaOfRoles(t *testing.T) {
 		t.Error(err, cluster)
 	}
 }
+
+// An executor that does not say its role has that of its task.
+func TestRoleOfExecutor(t *testing.T) {
+	state := `{"version":"1.11.0","slaves":[{"id":"S0","unreserved_resources":{"cpus":4}}],"frameworks":[{"id":"F0","roles":["a","b"],
+		"tasks":[{"id":"t","slave_id":"S0","executor_id":"e","state":"TASK_RUNNING","role":"b","resources":{"cpus":1}}],
+		"executors":[{"executor_id":"e","slave_id":"S0","resources":{"cpus":0.5}}]}]}`
+	cluster, err := Read(Answers{State: Answer{"state", []byte(state)}})
+	if err != nil || len(cluster.Frameworks[0].Holdings) != 2 || cluster.Frameworks[0].Holdings[0].Role != "b" || cluster.Frameworks[0].Holdings[1].Role != "b" {
+		t.Error(err, cluster)
+	}
+	_, err = Read(Answers{State: Answer{"state", []byte(strings.Replace(state, `"executor_id":"e","state"`, `"executor_id":"x","state"`, 1))}})
+	if err == nil || err.Error() != "state: frameworks[0].executors[0].role: missing: expected the role that the resources are allocated to" {
+		t.Error(err)
+	}
+}

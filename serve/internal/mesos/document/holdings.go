@@ -22,6 +22,7 @@ type claim struct {
 
 func (r *reader) claims(framework int, v value) (claims []claim) {
 	f := r.cluster.Frameworks[framework]
+	roles := map[string]string{} // of the tasks of executors, as an executor may not say its own
 	for _, task := range v.field("tasks").list() {
 		task.only("a task", taskFields)
 		id, state := task.field("id"), task.field("state")
@@ -33,7 +34,8 @@ func (r *reader) claims(framework int, v value) (claims []claim) {
 		}
 		c := claim{framework: framework, place: task, what: fmt.Sprintf("the task %q of the framework %s", id.text(), f.ID)}
 		c.Name = r.name(id, "task\x00"+f.ID, "task", id.required())
-		claims = r.claim(claims, c, v)
+		roles[task.field("executor_id").text()+"\x00"+task.field("slave_id").text()] = task.field("role").text()
+		claims = r.claim(claims, c, v, "")
 	}
 	for _, executor := range v.field("executors").list() {
 		executor.only("an executor", executorFields)
@@ -43,19 +45,21 @@ func (r *reader) claims(framework int, v value) (claims []claim) {
 		sum := sha256.Sum256([]byte(id.required() + "\x00" + executor.field("slave_id").text()))
 		c.Name, c.IsExecutor = "executor."+hex.EncodeToString(sum[:12]), true
 		if wanted := r.summary(executor.field("resources"), false); len(wanted) > 0 {
-			claims = r.claim(claims, c, v)
+			claims = r.claim(claims, c, v, roles[id.text()+"\x00"+executor.field("slave_id").text()])
 		}
 	}
 	return claims
 }
 
-// claim completes a claim, and appends it if the allocator can have it.
-func (r *reader) claim(claims []claim, c claim, framework value) []claim {
+// claim completes a claim, and appends it if the allocator can have it. Another role is taken if it does not say its own.
+func (r *reader) claim(claims []claim, c claim, framework value, other string) []claim {
 	slave, role := c.place.field("slave_id"), c.place.field("role")
 	c.Role = role.text()
-	if roles := r.rolesOf(framework); !role.exists() && len(roles) == 1 {
+	if roles := r.rolesOf(framework); c.Role == "" && other != "" {
+		c.Role = other
+	} else if c.Role == "" && len(roles) == 1 {
 		c.Role = roles[0].text()
-	} else if !role.exists() {
+	} else if c.Role == "" {
 		r.fail(role, "missing: expected the role that the resources are allocated to")
 	}
 	index, isKnown := r.agentOf[slave.required()]

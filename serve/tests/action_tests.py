@@ -254,3 +254,25 @@ def an_agent_that_becomes_silent_is_shown(browser, room):
     browser.wait("it is heard again, and still inactive", lambda: browser.text("#agent .state") == "inactive", 20)
     beat.set()
     service.end()
+
+
+@test
+def who_set_a_limit_and_when_is_found(browser, room):
+    service = prepared(room)
+    service.client("ops").send(event("set_limit", role="web", limit="cpus:7"))
+    service.client("ops").send(event("set_weight", role="web", weight="x"))
+    browser.enter(service.url, service.tokens["eye"])
+    browser.wait("the cluster", lambda: browser.text("#n-agents") == "2")
+    browser.show("audit?event=set_limit&role=web")
+    cells = "return [...document.querySelectorAll('#audit-table tbody tr')].map(row => [...row.cells].slice(1, 4).map(c => c.textContent))"
+    browser.wait("who", lambda: browser.run(cells) == [["ops", "127.0.0.1", "The limit of web is cpus 7"]])
+    holds("when, with the zone", browser.text("#audit-table tbody th").endswith(" UTC") or "GMT" in browser.text("#audit-table tbody th"))
+    browser.run("document.getElementById('audit-event').value = ''; document.getElementById('audit-role').value = ''; document.getElementById('audit-refused').click()")
+    press(browser, "#audit", "Search")
+    browser.wait("what was refused", lambda: browser.run(cells) == [["ops", "127.0.0.1", "1 set_weight, 1 refused"]])
+    browser.show("agents/n1")
+    browser.wait("a link", lambda: browser.text("#agent .facts-list a") == "who sent what")
+    browser.run("document.querySelector('#agent .facts-list a').click()")
+    browser.wait("the agent's history", lambda: browser.run(cells)[-1:] and browser.run(cells)[-1][2].startswith("Agent n1 registered"))
+    equal("console", browser.console(), [])
+    service.end()

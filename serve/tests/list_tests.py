@@ -196,3 +196,31 @@ def the_map_of_agents_that_are_all_offered_says_to_whom(browser, room):
     holds(f"{colours} colours", colours >= 4)
     equal("nothing is used", set(browser.texts("#meters .top b")), {"0.0%"})
     own.end()
+
+
+MEMBERS = {
+    "gateways": [
+        {"name": "a", "version": "1.2", "ready": True, "fault": "", "clock_fault": "", "clock_offset_ms": 3, "messages": 900, "lag": 0, "started": 1795850000000, "live": True, "silent_ms": 500},
+        {"name": "b", "version": "1.2", "ready": False, "fault": "replaying", "clock_fault": "", "clock_offset_ms": -40, "messages": 100, "lag": 800, "started": 1795859990000, "live": True, "silent_ms": 100},
+        {"name": "c", "version": "1.1", "ready": True, "fault": "", "clock_fault": "", "clock_offset_ms": 0, "messages": 850, "lag": 50, "started": 1795850000000, "live": False, "silent_ms": 300000}],
+    "etcd": [
+        {"id": "1", "name": "a", "reachable": True, "leader": True, "version": "3.4", "index": 5, "lag": 0, "used": 1, "size": 7 << 30, "quota": 8 << 30, "problems": None},
+        {"id": "2", "name": "b", "reachable": True, "leader": False, "version": "3.4", "index": 5, "lag": 7, "used": 1, "size": 1 << 20, "quota": 8 << 30, "problems": ["NOSPACE"]},
+        {"id": "3", "name": "c", "reachable": False, "leader": False, "version": "", "index": 0, "lag": 0, "used": 0, "size": 0, "quota": 0, "problems": None}]}
+
+
+@test
+def members_and_who_lags_are_shown(browser, room):
+    own = StandIn(stand_in.small_rows())
+    own.show(stand_in.small_rows(), members=MEMBERS)
+    browser.enter(own.url, TOKEN)
+    for note in ("1 gateway is silent: c.", "1 member of etcd is not reachable: c.", "1 store of etcd is nearly full: a."):
+        browser.wait(note, lambda: note in browser.text("#notes"))
+    browser.show("members")
+    browser.wait("the lists", lambda: listed(browser, "gateways") and listed(browser, "etcd"))
+    equal("gateways", [row[:6] for row in listed(browser, "gateways")], [
+        ["a (this one)", "ready", "1.2", "900", "0", "3 ms"], ["b", "replaying", "1.2", "100", "800", "-40 ms"], ["c", "silent, for 5 min", "1.1", "850", "50", "0 ms"]])
+    equal("members of etcd", listed(browser, "etcd"), [
+        ["a", "leader", "3.4", "0", "7 GiB of 8 GiB, 87.5%"], ["b", "NOSPACE", "3.4", "7", "1 MiB of 8 GiB, 0.0%"], ["c", "not reachable", "", "–", "–"]])
+    equal("console", browser.console(), [])
+    own.end()

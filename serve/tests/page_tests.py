@@ -284,7 +284,7 @@ def it_is_used_by_keyboard(browser, room):
             browser.wait("the third agent", lambda: browser.text("#picked").startswith("n3: active"))
         if seen[-1] == "feed":
             break
-    wanted = {"to-overview", "to-agents", "to-frameworks", "to-tasks", "to-offers", "leave", "order", "unfold", "fold", "Close data", "measure", "map", "pause", "only", "refused", "raw", "feed"}
+    wanted = {"to-overview", "to-agents", "to-frameworks", "to-tasks", "to-offers", "to-members", "to-audit", "leave", "order", "unfold", "fold", "Close data", "measure", "map", "pause", "only", "refused", "raw", "feed"}
     equal("not reached", wanted - set(seen), set())
     browser.run("document.getElementById('skip').focus()")
     browser.keys(Keys.ENTER)
@@ -382,9 +382,9 @@ def nothing_is_wider_than_a_narrow_screen(browser, room):
     browser.one("#raw").click()
     for width in (360, 700, 1001):
         browser.look(width=width, height=800)
-        for page in ("overview", "agents/" + long, "frameworks/" + long, "tasks", "offers"):
+        for page in ("overview", "agents/" + long, "frameworks/" + long, "tasks", "offers", "members", "audit?role=" + long):
             browser.show(page)
-            browser.wait(page, lambda: long in browser.text("#content > section:not([hidden])"))
+            browser.wait(page, lambda: long in browser.text("#content > section:not([hidden])") or browser.run("return location.hash").startswith(("#members", "#audit")))
             equal(f"width of {page} at {width}", browser.run("return document.documentElement.scrollWidth <= innerWidth"), True)
             equal(f"what stands out in {page} at {width}", browser.run(CLIPPED), [])
         browser.show("agents/" + long)

@@ -30,15 +30,15 @@ type team struct {
 }
 
 var teams = []team{
-	{"site", "web/front", 2, 4096, 0, 30, 44, 9 * time.Minute, 5 * time.Minute},
-	{"shop", "web/front", 2, 3072, 0, 18, 30, 7 * time.Minute, 4 * time.Minute},
-	{"search", "web/search", 4, 16384, 0, 12, 20, 11 * time.Minute, 6 * time.Minute},
-	{"loads", "data/etl", 4, 8192, 0, 4, 22, 5 * time.Minute, 70 * time.Second},
+	{"site", "web/front", 2, 4096, 0, 44, 64, 9 * time.Minute, 5 * time.Minute},
+	{"shop", "web/front", 2, 6144, 0, 24, 40, 7 * time.Minute, 4 * time.Minute},
+	{"search", "web/search", 4, 24576, 0, 16, 26, 11 * time.Minute, 6 * time.Minute},
+	{"loads", "data/etl", 4, 16384, 0, 6, 22, 5 * time.Minute, 70 * time.Second},
 	{"sums", "data/etl", 2, 12288, 0, 6, 16, 6 * time.Minute, 90 * time.Second},
 	{"query", "data/adhoc", 3, 12288, 0, 4, 18, 4 * time.Minute, 40 * time.Second},
 	{"notebooks", "data/adhoc", 1, 6144, 0, 8, 14, 13 * time.Minute, 8 * time.Minute},
 	{"models", "ml/train", 8, 32768, 1, 6, 9, 15 * time.Minute, 10 * time.Minute},
-	{"predict", "ml/serve", 2, 8192, 0, 8, 14, 8 * time.Minute, 5 * time.Minute},
+	{"predict", "ml/serve", 2, 16384, 0, 10, 18, 8 * time.Minute, 5 * time.Minute},
 	{"builds", "ci", 4, 6144, 0, 2, 14, 3 * time.Minute, 45 * time.Second},
 	{"tests", "ci", 1, 2048, 0, 4, 24, 3 * time.Minute, 30 * time.Second},
 	{"backup", "ops", 1, 2048, 0, 4, 10, 10 * time.Minute, 2 * time.Minute},
@@ -65,7 +65,7 @@ func setUp() (events []Event) {
 	}
 	return append(events,
 		Event{"event": "set_weight", "role": "web", "weight": "2"}, Event{"event": "set_weight", "role": "ml", "weight": "1.5"},
-		Event{"event": "set_limit", "role": "data", "limit": "cpus:150;mem:600000"}, Event{"event": "set_limit", "role": "ci", "limit": "cpus:48"},
+		Event{"event": "set_limit", "role": "data", "limit": "cpus:180;mem:800000"}, Event{"event": "set_limit", "role": "ci", "limit": "cpus:72"},
 		Event{"event": "reserve", "agent": "rack1-1", "role": "ops", "resources": "cpus:4;mem:8192"},
 		Event{"event": "deactivate_agent", "agent": inRepair})
 }
@@ -99,7 +99,7 @@ func NewCluster(seed int64) *Cluster {
 // Take notes the offers of a cycle, which are answered after some seconds.
 func (c *Cluster) Take(offers []Offer, now time.Duration) {
 	for _, o := range offers {
-		c.offers = append(c.offers, held{o, now + time.Duration(c.random.Int63n(int64(5*time.Second)))})
+		c.offers = append(c.offers, held{o, now + time.Duration(c.random.Int63n(int64(2500*time.Millisecond)))})
 	}
 }
 
@@ -170,9 +170,9 @@ func (c *Cluster) answer(o Offer, now time.Duration) Event {
 		launched = append(launched, Event{"task": name, "use": use(t)})
 	}
 	if len(launched) == 0 {
-		return Event{"event": "decline", "framework": o.Framework, "offer": o.Offer, "refuse_ms": 4000 + c.random.Intn(16000)}
+		return Event{"event": "decline", "framework": o.Framework, "offer": o.Offer, "refuse_ms": 10000 + c.random.Intn(50000)}
 	}
-	return Event{"event": "accept", "framework": o.Framework, "offer": o.Offer, "tasks": launched, "refuse_ms": 1000}
+	return Event{"event": "accept", "framework": o.Framework, "offer": o.Offer, "tasks": launched, "refuse_ms": 5000}
 }
 
 func teamOf(framework string) (team, bool) {

@@ -63,8 +63,8 @@ func TestTasksComeAndGo(t *testing.T) {
 			most = len(running)
 		}
 	}
-	// The least that all teams want at once is 106 tasks, the most 235.
-	if most < 106 || most > 235 || len(answered) != int(number) {
+	// The least that all teams want at once is 134 tasks, the most 275.
+	if most < 134 || most > 275 || len(answered) != int(number) {
 		t.Errorf("%d tasks at most, %d of %d offers answered", most, len(answered), number)
 	}
 	c.Due(1000 * time.Hour)

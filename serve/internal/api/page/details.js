@@ -30,7 +30,7 @@ class Panel {
     this.root.hidden = false;
     say(this.title, visible(title));
     keyed(this.facts, facts.filter(f => f[1]), f => f[0], ([name]) => { const e = make("div", "", make("dt", "", name), make("dd")); return e; }, (e, [, value]) => {
-      if (value instanceof Node) e.lastChild.replaceChildren(value); else say(e.lastChild, value);
+      if (!(value instanceof Node)) say(e.lastChild, value); else if (e.lastChild.firstChild?.key !== value.key) e.lastChild.replaceChildren(value);
     });
     say(this.taskTitle, plural(row.tasks.length, "task"));
     say(this.offerTitle, plural(row.offers.length, "outstanding offer"));
@@ -66,6 +66,13 @@ export function startDetails() {
   agentPanel = new Panel("agent", ["agent"], back("agents"));
   frameworkPanel = new Panel("framework", ["framework"], back("frameworks"));
 }
+// A link to the messages that name an agent or a framework.
+function history(kind, name) {
+  const a = make("a", "", "who sent what");
+  a.href = `#audit?${kind}=${encodeURIComponent(name)}`;
+  a.key = kind + name;
+  return a;
+}
 export const focusDetail = page => (page === "agents" ? agentPanel : frameworkPanel).title.focus();
 
 export function drawAgent() {
@@ -74,7 +81,7 @@ export function drawAgent() {
   if (!a) { agentPanel.gone(name, "There is no such agent."); return; }
   const since = silentSince(a);
   agentPanel.draw(a.name, [
-    ["Total", cut(bundle(a.text), 400)], ["Host", a.link?.host ? visible(a.link.host) : ""],
+    ["Total", cut(bundle(a.text), 400)], ["History", history("agent", a.name)], ["Host", a.link?.host ? visible(a.link.host) : ""],
     ["Last heartbeat", since ? `about ${stateTitle(a).replace("since ", "")}` : since === 0 ? "it is about to be deactivated" : ""],
   ], a);
   drawState(agentPanel.state, a);
@@ -115,7 +122,7 @@ export function drawFramework() {
   const asleep = f.clients.filter(k => k.suppressed).map(k => k.role);
   frameworkPanel.draw(titleOf(f), [
     ["Roles", visible(f.clients.map(k => k.role).join(", "))], ["Used", `${percent(f.usedPart)} of the cluster's ${f.of || "resources"}`], ["Offered", percent(f.offeredPart)],
-    ["Offers received", plain(f.count)], ["Suppressed in", visible(asleep.join(", "))],
+    ["Offers received", plain(f.count)], ["History", history("framework", f.name)], ["Suppressed in", visible(asleep.join(", "))],
     ["Mesos id", f.link ? visible(f.link.id) : ""], ["Principal", f.link?.principal ? visible(f.link.principal) : ""],
     ["Stream ended", f.link && !f.link.connected && f.link.since ? moment(f.link.since) : ""],
   ], f);

@@ -29,7 +29,7 @@ const words = {
 };
 const asked = e => [e.event, e.agent, e.framework, e.role, e.offer && "offer " + e.offer, e.task && "task " + e.task].filter(w => w).join(" ");
 // An entry of the list of events: its words, and the name of its refusal. A line that is no event is shown as it is.
-function told(line, reply) {
+export function told(line, reply) {
   let event, answer = {}, text;
   try { answer = JSON.parse(reply); } catch { /* not an answer: shown as it is */ }
   try { event = JSON.parse(line); text = words[event.event](event, answer); } catch { text = "Line: " + line; }

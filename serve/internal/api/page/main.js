@@ -1,23 +1,26 @@
 // Starts the page, signs in, and shows the part that the address names. Outside the proof.
 import {startActions} from "./actions.js";
+import {openAudit, startAudit} from "./audit.js";
 import {drawAgent, drawFramework, focusDetail, startDetails} from "./details.js";
 import {$, keyed, make, say} from "./dom.js";
 import {drawFeed, drawRate, startFeed} from "./feed.js";
 import {enter, leave, redeem} from "./gateway.js";
 import {agents, frameworks, offers, tasks} from "./lists.js";
 import {drawMap, startMap} from "./map.js";
+import {drawMembers, startMembers} from "./members.js";
 import {drawMeters, drawNotes, drawNumbers, drawTree, startOverview} from "./overview.js";
 import {view} from "./state.js";
 import {visible} from "./text.js";
 
 const lists = {agents, frameworks, tasks, offers};
-const titles = {overview: "Overview", agents: "Agents", frameworks: "Frameworks", tasks: "Tasks", offers: "Offers"};
+const titles = {overview: "Overview", agents: "Agents", frameworks: "Frameworks", tasks: "Tasks", offers: "Offers", members: "Members", audit: "Audit"};
 
 function drawPage() {
   const c = view.cluster;
   drawRate();
   drawNotes();
   if (view.me) say($("who"), visible(view.me.name));
+  if (view.page === "members") drawMembers();
   if (!c) return;
   drawNumbers(c);
   const fullest = Math.max(0, ...[...c.total].map(([name, all]) => all ? (c.used.get(name) || 0) / all : 0));
@@ -31,14 +34,15 @@ function drawPage() {
     return;
   }
   const list = lists[view.page];
+  if (!list) return;
   list.isChosen = row => row.name !== undefined && row.name === view.chosen;
   list.show(c[view.page]);
   drawAgent();
   drawFramework();
 }
-// The address says what is shown: #agents, or #agents/n7, or #agents?silent.
+// The address says what is shown: #agents, or #agents/n7, or #agents?silent, or #audit?agent=n7.
 function route(isFirst) {
-  const [, page = "", filter = "", name = ""] = /^#(\w*)(?:\?([\w ]+))?(?:\/(.*))?$/.exec(location.hash) || [];
+  const [, page = "", filter = "", name = ""] = /^#(\w*)(?:\?([^/]*))?(?:\/(.*))?$/.exec(location.hash) || [];
   const old = view.page, chosen = view.chosen;
   view.page = titles[page] ? page : "overview";
   try { view.chosen = decodeURIComponent(name); } catch { view.chosen = name; }
@@ -48,6 +52,7 @@ function route(isFirst) {
     if (each === view.page) tab.setAttribute("aria-current", "page"); else tab.removeAttribute("aria-current");
   }
   if (filter && lists[view.page]?.select) lists[view.page].select.value = lists[view.page].filter = filter;
+  if (view.page === "audit") openAudit(filter);
   document.body.classList.toggle("has-detail", !!view.chosen);
   drawPage();
   if (isFirst) return;
@@ -75,6 +80,8 @@ function start() {
   startFeed();
   startOverview();
   startMap();
+  startMembers();
+  startAudit();
   $("sign-in").onsubmit = e => { e.preventDefault(); if ($("token").value.trim()) signIn($("token").value.trim()); };
   $("skip").onclick = e => { e.preventDefault(); $("content").focus(); };
   $("leave").onclick = () => leave("");

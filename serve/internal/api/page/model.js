@@ -141,13 +141,15 @@ function takeHolding(c, row, kind, text) {
     addAll(node.consumed, text, p => isScalar(p) && p.role === "*");
   }
 }
-// The dominant share: the greatest part, over the scalars, of the cluster's total that is held.
+// The dominant share: the greatest part, over the scalars, of the cluster's total that is held. Likewise of what is used, and what is offered, alone.
 function shareOf(c, node) {
   node.share = 0; node.of = ""; node.usedPart = 0; node.offeredPart = 0;
   for (const [name, total] of c.total) {
     if (!total) continue;
     const used = (node.used.get(name) || 0) / total, offered = (node.offered.get(name) || 0) / total;
-    if (used + offered > node.share) Object.assign(node, {share: used + offered, of: name, usedPart: used, offeredPart: offered});
+    if (used + offered > node.share) { node.share = used + offered; node.of = name; }
+    node.usedPart = Math.max(node.usedPart, used);
+    node.offeredPart = Math.max(node.offeredPart, offered);
   }
   node.weighted = node.share / node.weight;
 }

@@ -1,6 +1,7 @@
 // The overview: how full the cluster is, its numbers, what needs attention, and the shares of roles. Outside the proof.
 import {actions, confirm} from "./actions.js";
 import {$, bar, button, keyed, make, say} from "./dom.js";
+import {memberNotes} from "./members.js";
 import {waiting} from "./model.js";
 import {link} from "./lists.js";
 import {mayOperate, view} from "./state.js";
@@ -68,6 +69,7 @@ function notesOf(c) {
 }
 export function drawNotes() {
   const notes = view.problem ? [{bad: true, text: view.problem}] : [];
+  notes.push(...memberNotes());
   for (const text of [view.lacks, view.warning, view.restarts]) if (text) notes.push({text});
   if (view.cluster) notes.push(...notesOf(view.cluster));
   const refused = [...view.refusals].sort((a, b) => b[1] - a[1]);

@@ -6,9 +6,11 @@ import os
 import shutil
 import signal
 import subprocess
+import tempfile
 import threading
 import time
 
+from faults import small_disk
 from fleet import Fleet, NotRun, wait
 
 AGENT = {"event": "add_agent", "agent": "n1", "total": "cpus:4;mem:4096"}
@@ -186,6 +188,103 @@ def test_audit(programs):
         one.start()
         one.until_ready()
         assert audit(one, "event=set_limit&role=web") == pages[0]
+
+
+def limits(count, start=0):
+    return [{"event": "set_limit", "role": f"r{n}", "limit": "cpus:1"} for n in range(start, start + count)]
+
+
+def verify(programs, folder, *words):
+    return run(programs.gateway, "verify-archive", *words, folder)
+
+
+def archived(gateway):
+    return gateway.status()["archive"]
+
+
+def test_archive(programs):
+    """The archive goes on over kills of the gateway and of its allocator, epochs and pruning; it is checked by drf, and answers what the journal no longer has."""
+    with Fleet("alone", programs.gateway, programs.drf, "-cycle", "100ms", "-epoch-every", "400", "-archive-segment", "8KiB", "-archive-every", "1s", save_every=40) as fleet:
+        g, folder = fleet.gateways[0], os.path.join(fleet.folder, "archive")
+        g.kill()
+        g.start("-archive", folder)
+        g.until_ready()
+        g.send(*limits(3), name="ops")
+        for turn in range(6):
+            for n in range(40):
+                g.send(*limits(2, 100 * turn + 2 * n))
+            if turn % 2:
+                g.kill()
+                g.start("-archive", folder)
+            else:
+                g.kill_drf()
+            g.until_ready()
+        assert wait(lambda: archived(g)["messages"] >= 250 and g.status()["epoch"] >= 1, 30), g.status()
+        status = archived(g)
+        assert status["fault"] == "" and status["gaps"] == 0 and figure(g, "drf_archive_failing") == 0 and figure(g, "drf_archive_messages") >= 250, status
+        kept = int(g.ask("/drf/v1/journal")[2]["Drf-From"])
+        first, = audit(g, "event=set_limit&role=r1&name=ops")["records"]
+        assert kept > first["byte"] + first["bytes"], "the journal still has it"
+        assert first["matches"][0]["text"] == '{"event":"set_limit","limit":"cpus:1","role":"r1"}' and first["address"] == "127.0.0.1", first
+        numbers, before = [], ""
+        while True:
+            page = audit(g, "cause=cycle&limit=50" + before)
+            numbers += [r["message"] for r in page["records"]]
+            if "next" not in page:
+                break
+            before = f"&before={page['next']}"
+        assert numbers == sorted(set(numbers), reverse=True) and numbers[-1] < 100, numbers
+        g.kill()
+        code, journal, told = verify(programs, folder, "-drf", programs.drf, "-print", "journal")
+        last = json.loads(open(os.path.join(g.folder, "archived"), encoding="utf-8").read())
+        assert code == 0 and "good: segments 1 to " in told and "messages 1 to " in told and ", and 0 messages were not checked" in told and '"role":"r1"' in journal, told
+        assert verify(programs, folder, "-last", last["sha256"])[0] == 0
+        # damage has a status of its own, and names the segment
+        names = sorted(name for name in os.listdir(folder) if name.endswith(".segment"))
+        path = os.path.join(folder, names[len(names) // 2])
+        with open(path, "r+b") as file:
+            file.seek(os.path.getsize(path) - 200)
+            byte = file.read(1)[0]
+            file.seek(-1, 1)
+            file.write(bytes([byte ^ 4]))
+        code, _, told = verify(programs, folder)
+        assert code == 3 and f"{names[len(names) // 2]} is damaged at byte " in told, told
+        os.remove(path)
+        code, _, told = verify(programs, folder)
+        assert code == 3 and f"{names[len(names) // 2]} is damaged at byte 0: it is missing" in told, told
+        assert verify(programs, os.path.join(folder, "none"))[0] == 1 and run(programs.gateway, "verify-archive")[0] == 1
+        code, _, told = verify(programs, folder, "-last", "0" * 64)
+        assert code == 3, told
+
+
+def test_archive_on_a_full_disk(programs):
+    """While the archive's disk is full or read-only the service goes on; then what came meanwhile is archived, without a gap."""
+    outer = tempfile.mkdtemp(prefix="serve-test-")
+    point = small_disk(outer, 500 << 20)
+    try:
+        with Fleet("alone", programs.gateway, programs.drf, "-cycle", "0", "-archive", os.path.join(point, "archive"), "-archive-every", "1s", save_every=20) as fleet:
+            g, rest = fleet.gateways[0], os.path.join(point, "rest")
+            g.send(*limits(2))
+            assert wait(lambda: archived(g)["messages"] == 1, 20), archived(g)
+            with open(rest, "wb") as file:
+                os.posix_fallocate(file.fileno(), 0, shutil.disk_usage(point).free - (100 << 20))
+            for n in range(100):
+                g.send(*limits(1, n))
+            assert wait(lambda: "MiB left" in archived(g)["fault"], 20) and figure(g, "drf_archive_failing") == 1, archived(g)
+            os.remove(rest)
+            assert wait(lambda: archived(g)["fault"] == "" and archived(g)["messages"] >= 101, 40), archived(g)
+            if subprocess.run(["chattr", "+i", os.path.join(point, "archive")], capture_output=True, check=False).returncode == 0:  # nobody may write there, root neither
+                for n in range(50):
+                    g.send(*limits(1, n))
+                assert wait(lambda: "not permitted" in archived(g)["fault"], 20), archived(g)
+                subprocess.run(["chattr", "-i", os.path.join(point, "archive")], check=True)
+                assert wait(lambda: archived(g)["fault"] == "" and archived(g)["messages"] >= 151, 40), archived(g)
+            assert archived(g)["gaps"] == 0
+            code, _, told = verify(programs, os.path.join(point, "archive"), "-drf", programs.drf)
+            assert code == 0 and ", and 0 messages were not checked" in told, told
+    finally:
+        subprocess.run(["umount", "-l", point], check=False)
+        shutil.rmtree(outer, ignore_errors=True)
 
 
 TESTS = [test for name, test in list(globals().items()) if name.startswith("test_")]

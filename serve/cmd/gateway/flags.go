@@ -14,6 +14,7 @@ import (
 	"time"
 
 	"gateway/internal/allocator"
+	"gateway/internal/archive"
 	"gateway/internal/etcd"
 	"gateway/internal/limit"
 	mesosserver "gateway/internal/mesos/server"
@@ -32,6 +33,7 @@ type options struct {
 	allocator                                    allocator.Config
 	limits                                       limit.Rates
 	mesos                                        mesosserver.Config
+	archive                                      archive.Config
 	version                                      bool
 }
 
@@ -57,7 +59,7 @@ func (s *size) Set(text string) error {
 
 func readOptions(arguments []string) (*options, error) {
 	o, flags := &options{mesos: mesosserver.DefaultConfig()}, flag.NewFlagSet("durzhanok-gateway", flag.ContinueOnError)
-	o.etcd.Quota = 8 << 30
+	o.etcd.Quota, o.archive.Bytes = 8<<30, 16<<20
 	flags.StringVar(&o.data, "data", "durzhanok-data", "folder of the journal, the snapshots and the embedded etcd")
 	flags.StringVar(&o.drf, "drf", "drf", "program of the allocator")
 	flags.StringVar(&o.listen, "listen", "127.0.0.1:8450", "address for callers")
@@ -87,6 +89,11 @@ func readOptions(arguments []string) (*options, error) {
 	flags.Int64Var(&o.allocator.SnapshotMessages, "save-every", 20_000, "messages between snapshots")
 	flags.DurationVar(&o.allocator.SnapshotApart, "save-apart", time.Minute, "least time between snapshots: replies are kept for that long")
 	flags.Int64Var(&o.allocator.EpochLines, "epoch-every", 4_000_000_000, "lines of an epoch, at most 4294967295")
+	flags.StringVar(&o.archive.Folder, "archive", "", "folder of this gateway's archive of the journal and the audit (none: there is no archive)")
+	flags.DurationVar(&o.archive.Every, "archive-every", time.Hour, "time after which a segment of the archive ends, at the latest")
+	flags.Var((*size)(&o.archive.Bytes), "archive-segment", "size of a segment of the archive, about")
+	flags.Var((*size)(&o.archive.MaxSize), "archive-size", "size of the archive, above which its oldest segments are removed, such as 20GiB (0: no limit)")
+	flags.DurationVar(&o.archive.MaxAge, "archive-age", 0, "age of messages, above which their segments are removed, such as 2160h (0: no limit)")
 	flags.Float64Var(&o.limits.Requests, "limit-requests", 25_000, "requests a second of one caller (0: no limit)")
 	flags.Float64Var(&o.limits.Bytes, "limit-bytes", 32<<20, "bytes of events a second of one caller (0: no limit)")
 	flags.Float64Var(&o.limits.Lines, "limit-lines", 500_000, "events a second of one caller (0: no limit)")
@@ -114,6 +121,8 @@ func readOptions(arguments []string) (*options, error) {
 		{o.window < 0, fmt.Sprintf("-window %v: expected at least 0s", o.window)},
 		{o.maxKept < 1, fmt.Sprintf("-max-kept-keys %d: expected at least 1", o.maxKept)},
 		{o.etcd.Quota < 64<<20, fmt.Sprintf("-etcd-quota %d: expected at least 64MiB", o.etcd.Quota)},
+		{o.archive.Every < time.Second || o.archive.MaxAge < 0, "-archive-..: expected at least 1s for -archive-every, and no negative age"},
+		{o.archive.Bytes < 1<<10, fmt.Sprintf("-archive-segment %d: expected at least 1KiB", o.archive.Bytes)},
 		{o.removalRate <= 0, fmt.Sprintf("-removal-rate %v: expected more than 0", o.removalRate)},
 		{o.allocator.SnapshotMessages < 1, fmt.Sprintf("-save-every %d: expected at least 1", o.allocator.SnapshotMessages)},
 		{o.allocator.EpochLines < 1 || o.allocator.EpochLines > 1<<32-1, fmt.Sprintf("-epoch-every %d: expected 1 to 4294967295", o.allocator.EpochLines)},
@@ -128,6 +137,10 @@ func readOptions(arguments []string) (*options, error) {
 	if o.tokens == "" {
 		o.tokens = filepath.Join(o.data, "tokens.json")
 	}
+	if o.archive.Folder != "" && filepath.Clean(o.archive.Folder) == filepath.Clean(o.data) {
+		return nil, errors.New("-archive and -data: expected two folders")
+	}
+	o.archive.Data = o.data
 	o.etcd.Folder, o.allocator.Folder, o.allocator.Program = o.data, o.data, o.drf
 	return o, nil
 }

@@ -34,4 +34,11 @@ func (g *gateway) addGauges(service *api.Service) {
 		}
 		return count
 	})
+	if service.Archive == nil {
+		return
+	}
+	g.metrics.Gauge("drf_archive_failing", "Whether the archive cannot be written.", func() float64 { return isTrue[service.Archive.Status().Fault != ""] })
+	g.metrics.Gauge("drf_archive_messages", "Messages up to which all are archived.", func() float64 { return float64(service.Archive.Status().Messages) })
+	g.metrics.Gauge("drf_archive_bytes", "Bytes of the archive's segments.", func() float64 { return float64(service.Archive.Status().Bytes) })
+	g.metrics.Gauge("drf_archive_gaps", "Gaps in the archive since the gateway started.", func() float64 { return float64(service.Archive.Status().Gaps) })
 }

@@ -45,6 +45,8 @@ func run(arguments []string) error {
 		switch arguments[0] {
 		case "token":
 			return tokenCommand(arguments[1:], os.Stdout, os.Stderr)
+		case "verify-archive":
+			return verifyArchive(context.Background(), arguments[1:], os.Stdout, os.Stderr)
 		case "import":
 			return importCluster(arguments[1:], os.Stdin, os.Stdout, os.Stderr)
 		case "shadow":

@@ -22,6 +22,7 @@ import (
 
 	"gateway/internal/allocator"
 	"gateway/internal/api"
+	"gateway/internal/archive"
 	"gateway/internal/auth"
 	"gateway/internal/disk"
 	"gateway/internal/etcd"
@@ -260,6 +261,14 @@ func (g *gateway) waitFor(ctx context.Context, cluster *etcd.Cluster) bool {
 	return ctx.Err() == nil
 }
 
+// newArchiver returns the archive's, or nil where there is none.
+func (g *gateway) newArchiver() *archive.Archiver {
+	if g.archive.Folder == "" {
+		return nil
+	}
+	return archive.New(g.archive)
+}
+
 // build creates the parts and connects them. What it returns runs them until a context ends.
 func (g *gateway) build(list *oplog.Log, journal *allocator.Journal) (*api.Service, func(context.Context)) {
 	streams := mesosserver.NewStreams()
@@ -267,7 +276,14 @@ func (g *gateway) build(list *oplog.Log, journal *allocator.Journal) (*api.Servi
 	state := registry.New(g.metrics, mesosState)
 	config := g.allocator
 	config.SnapshotBytes = list.Space.SnapshotBytes()
+	archiver := g.newArchiver()
+	if archiver != nil {
+		config.Archive = archiver
+	}
 	a := allocator.New(config, list, journal, state, func(err error) { g.ends <- err })
+	if archiver != nil {
+		archiver.SetSource(a.Source())
+	}
 	questions := allocator.NewQuestions(a)
 	mayAppend := func() error {
 		if err := g.server.Healthy(); err != nil {
@@ -280,7 +296,7 @@ func (g *gateway) build(list *oplog.Log, journal *allocator.Journal) (*api.Servi
 	runner := periodic.New(periodic.Config{Cycle: g.cycle, OfferTimeout: g.offerTimeout, Window: g.window}, list, a, state, mayAppend)
 	service := &api.Service{Name: g.etcd.Name, Version: version.Number, Drf: digestOf(g.drf), Started: time.Now(), Folder: g.data, Window: g.window, Log: list, Journal: journal, Allocator: a, Questions: questions, Registry: state, Sessions: sessions}
 	service.Members = members.New(list.Cluster(), list.Path("members/"), g.etcd.Name, service.Report, list.Clock.Live)
-	list.KeepSenders = service.Members.AllReport
+	list.KeepSenders, service.Archive = service.Members.AllReport, archiver
 	mesosConfig := g.mesos
 	mesosConfig.Name, mesosConfig.Folder, mesosConfig.Address, mesosConfig.Alone = g.etcd.Name, g.data, g.options.listen, g.etcd.IsAlone()
 	mesosCalls := mesosserver.New(mesosConfig, list, a, state, mesosState, streams, mayAppend)
@@ -299,6 +315,9 @@ func (g *gateway) build(list *oplog.Log, journal *allocator.Journal) (*api.Servi
 					g.ends <- err
 				}
 			}}
+		if archiver != nil {
+			runs = append(runs, archiver.Run)
+		}
 		for n := 0; n < committers; n++ {
 			runs = append(runs, list.Run)
 		}

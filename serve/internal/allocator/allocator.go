@@ -24,6 +24,8 @@ type Config struct {
 	SnapshotBytes    int64         // bytes of the journal between snapshots, at which one is due whatever else
 	SnapshotApart    time.Duration // the least time between snapshots, unless one is due by bytes
 	EpochLines       int64         // lines of an epoch
+
+	Archive Archive // or nil
 }
 
 // Allocator follows the list with a child of its own. Nobody leads: each gateway has one, and all give the same replies.

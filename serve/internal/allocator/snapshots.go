@@ -232,6 +232,7 @@ func (s *snapshots) make(ctx context.Context, marked oplog.Snapshot, registry []
 			return marked, err
 		}
 	}
+	a.waitForArchive(ctx, last.Position)
 	part := io.NewSectionReader(a.journal, last.Bytes, marked.Bytes-last.Bytes)
 	text, err := a.output(ctx, part, append(append([]string{"save"}, s.arguments(last)...), arguments...)...)
 	if err == nil {
@@ -255,10 +256,11 @@ func (s *snapshots) make(ctx context.Context, marked oplog.Snapshot, registry []
 		err = s.prune(ctx, last)
 	}
 	a.positions.forget(last.Revision)
-	if fault := a.journal.prune(last.Bytes); fault != nil {
+	messages, end := a.prunable(last.Position)
+	if fault := a.journal.prune(end); fault != nil {
 		log.Printf("the journal keeps its space on the disk: %v", fault)
 	}
-	if fault := a.journal.Audit.Prune(last.Messages); fault != nil {
+	if fault := a.journal.Audit.Prune(messages); fault != nil {
 		log.Printf("the audit keeps its space on the disk: %v", fault)
 	}
 	s.removeBelow(last.Number)

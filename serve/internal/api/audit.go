@@ -25,7 +25,7 @@ func (q *request) audit() error {
 	if err != nil {
 		return err
 	}
-	page, err := audit.Search(q.r.Context(), q.Journal.Audit.Blocks(q.Journal), f)
+	page, err := audit.Search(q.r.Context(), q.auditBlocks(), f)
 	if err != nil {
 		return err
 	}
@@ -34,6 +34,19 @@ func (q *request) audit() error {
 	out := json.NewEncoder(q.w)
 	out.SetEscapeHTML(false)
 	return out.Encode(page)
+}
+
+// auditBlocks returns the records that this gateway has: first what only its archive has, then what is beside the journal.
+func (q *request) auditBlocks() []audit.Block {
+	live := q.Journal.Audit.Blocks(q.Journal)
+	if q.Archive == nil {
+		return live
+	}
+	before := int64(1) << 62
+	if len(live) > 0 {
+		before = live[0].First
+	}
+	return append(q.Archive.Blocks(before), live...)
 }
 
 // auditFilter reads what records a caller asks for.

@@ -12,6 +12,7 @@ import (
 	"time"
 
 	"gateway/internal/allocator"
+	"gateway/internal/archive"
 	"gateway/internal/auth"
 	"gateway/internal/limit"
 	"gateway/internal/members"
@@ -43,6 +44,7 @@ type Service struct {
 	Sessions  *session.Manager
 	Members   *members.Table
 	Details   []DetailSource
+	Archive   *archive.Archiver            // or nil
 	Mounts    map[string]func(*Call) error // by path, calls of other APIs
 }
 

@@ -5,6 +5,7 @@ package api
 import (
 	"encoding/json"
 
+	"gateway/internal/archive"
 	"gateway/internal/members"
 	"gateway/internal/oplog"
 )
@@ -37,7 +38,8 @@ type Status struct {
 		Restarts  int    `json:"restarts"`
 		Questions int    `json:"questions_pid"`
 	} `json:"allocator"`
-	Etcd struct {
+	Archive *archive.Status `json:"archive,omitempty"` // where there is one
+	Etcd    struct {
 		Used  int64 `json:"used"`
 		Quota int64 `json:"quota"`
 	} `json:"etcd"`
@@ -58,6 +60,10 @@ func (service *Service) Status() (s Status) {
 	s.Journal.From, s.Journal.End, s.Journal.Sha256 = service.Journal.Bounds()
 	s.At, s.Epoch, s.Offers = info.Now, info.Epoch, info.Offers
 	s.KeptKeys = service.Log.Kept.Count()
+	if service.Archive != nil {
+		status := service.Archive.Status()
+		s.Archive = &status
+	}
 	s.Etcd.Used, s.Etcd.Quota = service.Log.Space.Usage()
 	return s
 }

@@ -213,8 +213,14 @@ func TestPruning(t *testing.T) {
 		t.Fatal(err)
 	}
 	w.journal.pruned = 1500 * 58
-	if page := w.search(Filter{Limit: 2000}); len(page.Records) < 500 || len(page.Records) > 1200 || page.Records[0].Message != 2000 {
+	if page := w.search(Filter{Limit: 2000}); len(page.Records) != 500 || page.Records[0].Message != 2000 {
 		t.Error(len(page.Records))
+	}
+	if records, err := w.log.Records(0, 10); err != nil || len(records) != 10 || records[0].Message != 1501 {
+		t.Error(records, err)
+	}
+	if records, err := w.log.Records(1998, 10); err != nil || len(records) != 2 || records[0].Message != 1999 {
+		t.Error(records, err)
 	}
 	if page := w.search(Filter{Limit: 2000, Event: "finish"}); len(page.Records) != 500 { // those whose lines are kept
 		t.Error(len(page.Records))

@@ -3,6 +3,8 @@
 package audit
 
 import (
+	"bytes"
+	"encoding/json"
 	"fmt"
 	"os"
 	"path/filepath"
@@ -16,10 +18,11 @@ import (
 type Log struct {
 	path string
 
-	mu    sync.RWMutex
-	file  *os.File
-	end   int64  // of what is written
-	marks []mark // the oldest first
+	mu     sync.RWMutex
+	file   *os.File
+	end    int64  // of what is written
+	pruned int64  // the last message whose record is dropped
+	marks  []mark // the oldest first
 }
 
 // mark is a part of the file: whole records.
@@ -46,7 +49,7 @@ func (l *Log) Begin() error {
 	if err != nil {
 		return fmt.Errorf("the audit: %w", err)
 	}
-	l.file, l.end, l.marks = file, 0, nil
+	l.file, l.end, l.pruned, l.marks = file, 0, 0, nil
 	return nil
 }
 
@@ -80,10 +83,13 @@ func (l *Log) Write(records []Record) error {
 	return nil
 }
 
-// Prune drops records of messages up to a number, as far as these are whole parts.
+// Prune drops records of messages up to a number. Whole parts give their space back to the disk.
 func (l *Log) Prune(message int64) error {
 	l.mu.Lock()
 	defer l.mu.Unlock()
+	if message > l.pruned {
+		l.pruned = message
+	}
 	k := sort.Search(len(l.marks), func(k int) bool { return l.marks[k].last > message })
 	if k == 0 {
 		return nil
@@ -97,12 +103,41 @@ func (l *Log) Prune(message int64) error {
 func (l *Log) Blocks(journal Journal) []Block {
 	l.mu.RLock()
 	defer l.mu.RUnlock()
-	blocks := make([]Block, len(l.marks))
-	for k, m := range l.marks {
+	var blocks []Block
+	for _, m := range l.marks {
 		m, file := m, l.file
-		blocks[k] = Block{First: m.first, Last: m.last, Until: m.until, Size: m.to - m.from, Journal: journal, Read: func() ([]byte, error) { return l.read(file, m) }}
+		b := Block{First: m.first, Last: m.last, Until: m.until, Size: m.to - m.from, Journal: journal, Read: func() ([]byte, error) { return l.read(file, m) }}
+		if b.First <= l.pruned {
+			b.First = l.pruned + 1
+		}
+		if b.First <= b.Last {
+			blocks = append(blocks, b)
+		}
 	}
 	return blocks
+}
+
+// Records returns some records after a message, in order.
+func (l *Log) Records(after int64, max int) (records []Record, err error) {
+	for _, b := range l.Blocks(nil) {
+		if b.Last <= after || len(records) >= max {
+			continue
+		}
+		text, err := b.Read()
+		if err != nil {
+			return nil, err
+		}
+		for _, line := range bytes.Split(bytes.TrimSuffix(text, []byte("\n")), []byte("\n")) {
+			var r Record
+			if err := json.Unmarshal(line, &r); err != nil {
+				return nil, fmt.Errorf("a record after message %d is damaged: %w", after, err)
+			}
+			if r.Message > after && r.Message >= b.First && len(records) < max {
+				records = append(records, r)
+			}
+		}
+	}
+	return records, nil
 }
 
 // read reads a part, unless the file was replaced or the part is pruned.

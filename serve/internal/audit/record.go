@@ -18,7 +18,7 @@ type Record struct {
 	At      int64          `json:"at"`                // its timestamp in milliseconds
 	Name    string         `json:"name,omitempty"`    // of the token or Mesos principal
 	Address string         `json:"address,omitempty"` // that the request came from
-	Cause   string         `json:"cause,omitempty"`   // cycle, rescind, silent, state or mesos
+	Cause   string         `json:"cause,omitempty"`   // cycle, rescind, silent, state, epoch or mesos
 	Key     string         `json:"key,omitempty"`     // the caller's Idempotency-Key
 	Call    string         `json:"call,omitempty"`    // of Mesos' API or an agent's link, such as kill
 	Line    int64          `json:"line"`              // the number of its first event line
@@ -40,6 +40,9 @@ func NewRecord(m *oplog.Message, number, line, at, bytes int64, lines, replies [
 	switch isOwn := strings.HasPrefix(key, " "); {
 	case causes[owner]:
 		r.Name, r.Cause = "", owner
+		if m.Marker == oplog.MarkerEpoch {
+			r.Cause = "epoch"
+		}
 	case owner == "mesos" && isOwn && r.Name == "":
 		r.Cause = owner
 	case !isOwn:

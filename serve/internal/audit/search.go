@@ -23,7 +23,7 @@ type Journal interface {
 
 // Block is a number of records that are read at once.
 type Block struct {
-	First, Last int64 // messages
+	First, Last int64 // messages: records of others are passed over
 	Until       int64 // the greatest timestamp
 	Size        int64 // bytes of its records
 	Journal     Journal
@@ -117,7 +117,7 @@ func (s *search) add(b Block) error {
 		if err := json.Unmarshal(lines[k], &r); err != nil {
 			return fmt.Errorf("a record of messages %d to %d is damaged: %w", b.First, b.Last, err)
 		}
-		if s.Before != 0 && r.Message >= s.Before || !s.takes(&r) {
+		if r.Message < b.First || r.Message > b.Last || s.Before != 0 && r.Message >= s.Before || !s.takes(&r) {
 			continue
 		}
 		if err := s.addRecord(b.Journal, &r); err != nil {

@@ -31,13 +31,22 @@ func (e *SpaceError) Error() string {
 
 func (e *SpaceError) Unwrap() error { return e.Err }
 
-// CheckFree returns a *SpaceError when the disk of a folder has less than MinFree bytes left.
-func CheckFree(folder string) error {
+// Free returns the free space of a folder's disk, in bytes.
+func Free(folder string) (uint64, error) {
 	var stat unix.Statfs_t
 	if err := unix.Statfs(folder, &stat); err != nil {
+		return 0, &os.PathError{Op: "statfs", Path: folder, Err: err}
+	}
+	return stat.Bavail * uint64(stat.Bsize), nil
+}
+
+// CheckFree returns a *SpaceError when the disk of a folder has less than MinFree bytes left.
+func CheckFree(folder string) error {
+	free, err := Free(folder)
+	if err != nil {
 		return &SpaceError{Folder: folder, Err: err}
 	}
-	if free := stat.Bavail * uint64(stat.Bsize); free < MinFree {
+	if free < MinFree {
 		return &SpaceError{Folder: folder, Free: free}
 	}
 	return nil

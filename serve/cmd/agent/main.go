@@ -55,6 +55,9 @@ func run(arguments []string) error {
 	grace := flags.Duration("executor-shutdown-grace-period", 5*time.Second, "time from SHUTDOWN to the end of an executor whose ExecutorInfo has none")
 	registration := flags.Duration("executor-registration-timeout", time.Minute, "time in which an executor must subscribe, after its start and after the agent's")
 	switchUser := flags.Bool("switch-user", os.Getuid() == 0, "run tasks as their frameworks' users; only root can")
+	cgroups := flags.String("cgroups", "auto", "folder in cgroup v2 for limits of tasks; auto for one of its own where that can be made; none")
+	outputSize := flags.Int64("output-size", 10, "MiB of stdout, and of stderr, before a new file begins; 0 for no limit")
+	outputFiles := flags.Int("output-files", 5, "files of stdout, and of stderr, that are kept besides the last one")
 	recovery := flags.Duration("recovery-timeout", 15*time.Minute, "time in which executors try to subscribe again")
 	asked := operators{flags.String("listen", "", "address for operators' calls (none)"), flags.String("cert", "", "file of certificates, for operators to come over TLS"),
 		flags.String("key", "", "file of its key")}
@@ -88,6 +91,16 @@ func run(arguments []string) error {
 		return err
 	}
 	addAttribute(info, "task_user", taskUser)
+	groups, reason, err := agent.FindCgroups(*cgroups)
+	switch {
+	case err != nil:
+		return fmt.Errorf("-cgroups: %w", err)
+	case groups == "":
+		log.Printf("tasks have no limits of processors and memory: %v", reason)
+		addAttribute(info, "task_limits", "none")
+	default:
+		addAttribute(info, "task_limits", "cgroup2")
+	}
 	self, err := os.Executable()
 	if err != nil {
 		return err
@@ -98,7 +111,7 @@ func run(arguments []string) error {
 	}
 	a, err := agent.New(agent.Config{Folder: *folder, Name: *name, Gateways: strings.Split(*gateways, ","), Principal: *principal, Token: strings.TrimSpace(string(token)),
 		Info: info, Keep: *keep, Program: []string{self, "supervise"}, ShutdownGrace: *grace, RegistrationTimeout: *registration, RecoveryTimeout: *recovery,
-		SwitchUser: *switchUser})
+		SwitchUser: *switchUser, Cgroups: groups, OutputBytes: *outputSize << 20, OutputFiles: *outputFiles})
 	if err != nil {
 		return err
 	}

@@ -40,7 +40,7 @@ func TestCommands(t *testing.T) {
 		t.Fatal(string(text), err)
 	}
 	for k, one := range []struct{ command, state, message string }{
-		{`{"value":"echo $MESOS_TASK_ID $GREETING; pwd; echo $MESOS_SANDBOX; echo $MESOS_FRAMEWORK_ID; echo wrong >&2; cp stdout ` + out + `","environment":{"variables":[{"name":"GREETING","value":"hello"}]}}`, "TASK_FINISHED", "exited with status 0"},
+		{`{"value":"echo $MESOS_TASK_ID $GREETING; pwd; echo $MESOS_SANDBOX; echo $MESOS_FRAMEWORK_ID; echo wrong >&2; until grep -q $MESOS_FRAMEWORK_ID stdout; do sleep 0.05; done; cp stdout ` + out + `","environment":{"variables":[{"name":"GREETING","value":"hello"}]}}`, "TASK_FINISHED", "exited with status 0"},
 		{`{"value":"exit 3"}`, "TASK_FAILED", "exited with status 3"},
 		{`{"value":"kill -9 $$"}`, "TASK_FAILED", "terminated with signal killed"},
 		{`{"shell":false,"value":"sh","arguments":["sh","-c","exit $0","4"]}`, "TASK_FAILED", "exited with status 4"},
@@ -125,4 +125,27 @@ func (s *service) exits() (texts []string) {
 		texts = append(texts, string(text))
 	}
 	return texts
+}
+
+func TestOutputIsRotated(t *testing.T) {
+	s := newService(t, 1, 0)
+	a := s.process("a0", filepath.Join(s.programs, "agent"), "-gateways", s.urls[0], "-work", "a0", "-name", "a0", "-token-file", filepath.Join(s.folder, "g0", "admin.token"),
+		"-resources", "cpus:2;mem:64", "-output-size", "1", "-output-files", "2")
+	a.start()
+	c := s.subscribe("admin", s.token, frameworkInfo)
+	offer, agent := c.offered()
+	c.call(202, launchCall(offer, agent, taskInfo("t", agent, "1", `,"command":{"value":"yes | head -c 5000000; echo end"}`)))
+	if status := c.outcome("t"); at(status, "state") != "TASK_FINISHED" {
+		t.Errorf("%v", status)
+	}
+	files, _ := filepath.Glob(filepath.Join(s.folder, "a0", "tasks", "*", "sandbox", "stdout*"))
+	for _, file := range files {
+		if about, err := os.Stat(file); err != nil || about.Size() > 1<<20 {
+			t.Errorf("%s has %d bytes (%v)", file, about.Size(), err)
+		}
+	}
+	if text, _ := os.ReadFile(files[0]); len(files) != 3 || !strings.HasSuffix(string(text), "y\nend\n") {
+		t.Errorf("%v: %.20q", files, text)
+	}
+	s.waitFree(0)
 }

@@ -141,7 +141,7 @@ func newService(t *testing.T, gateways, agents int, flags ...string) *service {
 	for k := 0; k < agents; k++ {
 		name := fmt.Sprintf("a%d", k)
 		s.agents = append(s.agents, s.process(name, filepath.Join(s.programs, "agent"), "-gateways", strings.Join(s.urls, ","), "-work", name, "-name", name,
-			"-token-file", filepath.Join(s.folder, "g0", "admin.token"), "-resources", "cpus:2;mem:1024"))
+			"-token-file", filepath.Join(s.folder, "g0", "admin.token"), "-resources", "cpus:2;mem:1024", "-cgroups", "none"))
 		s.agents[k].start()
 	}
 	t.Cleanup(func() {

@@ -36,7 +36,11 @@ type Config struct {
 	RegistrationTimeout time.Duration // in which an executor must subscribe, after its start and after the agent's
 	RecoveryTimeout     time.Duration // in which executors try to subscribe again
 
-	SwitchUser bool // tasks run as their frameworks' users, or else as the agent's
+	SwitchUser bool   // tasks run as their frameworks' users, or else as the agent's
+	Cgroups    string // folder of groups with limits, or nothing
+
+	OutputBytes int64 // of stdout and of stderr, before a new file begins
+	OutputFiles int   // that are kept of each
 }
 
 // Agent is a running agent.

@@ -156,10 +156,8 @@ func (a *Agent) executorOf(one codec.Message) (*executor, error) {
 	if err != nil {
 		return nil, err
 	}
-	p := a.processOfExecutor(e)
-	if p.User, err = a.accountFor(one.Text("user"), e.path("sandbox")); err == nil {
-		err = e.start(a.config.Program, p)
-	}
+	cpus, mem := cpusAndMem(one.List("executor_info.resources"))
+	err = a.startIn(e.supervised, a.processOfExecutor(e), one.Text("user"), cpus, mem)
 	a.executors[e.key] = e // its end is reported in any case
 	go a.tend(context.Background(), e)
 	return e, err
@@ -285,6 +283,8 @@ func (e *executor) close(how exit) {
 	}
 	reason, why := "REASON_EXECUTOR_TERMINATED", "Executor "+how.text()
 	switch {
+	case how.IsOutOfMemory:
+		reason, why = "REASON_CONTAINER_LIMITATION_MEMORY", outOfMemory
 	case e.reason != "":
 		reason, why = e.reason, e.why
 	case how.Problem != "" && !how.IsKilled:
@@ -302,6 +302,7 @@ func (e *executor) run(tasks []*task) {
 		return
 	}
 	e.queue = append(e.queue, tasks)
+	e.limit()
 	if e.stream != nil {
 		e.sendQueue()
 	}

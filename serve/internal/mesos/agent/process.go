@@ -3,10 +3,8 @@
 package agent
 
 import (
-	"io"
 	"os"
 	"os/exec"
-	"path/filepath"
 	"syscall"
 	"time"
 
@@ -21,6 +19,9 @@ type process struct {
 	HealthCheck []byte   `json:"health_check,omitempty"`
 	Check       []byte   `json:"check,omitempty"` // CheckInfo
 	User        *account `json:"user,omitempty"`  // or the agent's own
+	Cgroup      cgroup   `json:"cgroup,omitempty"`
+	OutputBytes int64    `json:"output_bytes,omitempty"` // of stdout and of stderr, before a new file begins; 0 for no limit
+	OutputFiles int      `json:"output_files,omitempty"` // that are kept of each, besides the one that is written
 }
 
 // defaultGrace is the time between SIGTERM and SIGKILL of a command, Mesos' default.
@@ -52,20 +53,14 @@ func environment(sandbox, framework, agent, executor string) []string {
 		"MESOS_AGENT_ID=" + agent, "MESOS_SLAVE_ID=" + agent, "MESOS_EXECUTOR_ID=" + executor, "LIBPROCESS_PORT=0"}
 }
 
-// command returns the command that is to be started, with the files of its output.
-func (p *process) command(sandbox string) (*exec.Cmd, error) {
+// command returns the command that is to be started, and its output.
+func (p *process) command(sandbox string) (*exec.Cmd, *outputs, error) {
 	command, err := p.commandOf(codec.MustReadProtobuf("mesos.CommandInfo", p.Command), sandbox)
 	if err != nil {
-		return nil, err
+		return nil, nil, err
 	}
-	for name, to := range map[string]*io.Writer{"stdout": &command.Stdout, "stderr": &command.Stderr} {
-		file, err := p.openOutput(filepath.Join(sandbox, name))
-		if err != nil {
-			return nil, err
-		}
-		*to = file
-	}
-	return command, nil
+	all, err := p.pipes(sandbox, &command.Stdout, &command.Stderr)
+	return command, all, err
 }
 
 // commandOf returns a command that runs as the process does, without its output.

@@ -140,6 +140,7 @@ func (e *executor) take(status codec.Message) error {
 		}
 		if isTerminal(status.Enum("state")) {
 			delete(e.sent, t.id)
+			e.limit()
 		}
 	}
 	e.push(codec.New("mesos.executor.Event").Set("type", "ACKNOWLEDGED").Set("acknowledged.task_id.value", status.Text("task_id.value")).Set("acknowledged.uuid", uuid))

@@ -28,6 +28,7 @@ type supervisor struct {
 	supervised
 	process *process
 	signals chan os.Signal
+	output  *outputs
 
 	mu  sync.Mutex
 	own map[int]bool // children that a call of Wait waits for
@@ -55,6 +56,11 @@ func Supervise(folder string) error {
 	runtime.LockOSThread() // the command ends with the thread that started it
 	ended := s.run()
 	s.killDescendants()
+	if s.output != nil {
+		s.output.end()
+	}
+	ended.IsOutOfMemory = ended.Signal != "" && s.process.Cgroup.isOutOfMemory()
+	s.process.Cgroup.remove()
 	line, _ := json.Marshal(ended)
 	return disk.WriteFile(s.path("exit"), line)
 }
@@ -69,8 +75,8 @@ func (s *supervisor) run() exit {
 	if err != nil {
 		return exit{Problem: err.Error()}
 	}
-	command, err := s.process.command(s.sandbox())
-	if err == nil {
+	command, output, err := s.process.command(s.sandbox())
+	if s.output = output; err == nil {
 		err = s.startOwn(command)
 	}
 	if err != nil {
@@ -132,7 +138,7 @@ func (s *supervisor) wait(command *exec.Cmd, isUnhealthy <-chan struct{}) (ended
 func (s *supervisor) startOwn(command *exec.Cmd) error {
 	s.mu.Lock()
 	defer s.mu.Unlock()
-	err := command.Start()
+	err := s.process.Cgroup.enter(command.Start)
 	if err == nil {
 		s.own[command.Process.Pid] = true
 	}

@@ -94,6 +94,8 @@ type exit struct {
 	IsKilled    bool   `json:"killed,omitempty"`    // it was asked to end
 	IsUnhealthy bool   `json:"unhealthy,omitempty"` // by its health check
 	Problem     string `json:"problem,omitempty"`
+
+	IsOutOfMemory bool `json:"out_of_memory,omitempty"` // it had more memory than its limit
 }
 
 func (e exit) text() string {
@@ -121,8 +123,9 @@ func (s supervised) ended() (e exit, hasEnded, isLost bool) {
 	return e, true, true
 }
 
-// killLeft kills what a supervisor left behind that was itself killed: all processes of its session.
+// killLeft kills what a supervisor left behind that was itself killed: all processes of its group and of its session.
 func (s supervised) killLeft() {
+	s.cgroup().remove()
 	boot, _ := os.ReadFile(s.path("started"))
 	session := s.number("supervisor")
 	if session == 0 || string(boot) != bootID() || processExists(session) { // numbers of processes were used again

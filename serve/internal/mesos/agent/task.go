@@ -171,10 +171,8 @@ func (a *Agent) start(one codec.Message) {
 		return
 	}
 	if err == nil {
-		p := processOf(one, t.path("sandbox"))
-		if p.User, err = a.accountFor(one.Text("user"), t.path("sandbox")); err == nil {
-			err = t.start(a.config.Program, p)
-		}
+		cpus, mem := cpusAndMem(t.info.List("resources"))
+		err = a.startIn(t.supervised, processOf(one, t.path("sandbox")), one.Text("user"), cpus, mem)
 	}
 	if err != nil {
 		a.reject(one, "TASK_FAILED", "REASON_CONTAINER_LAUNCH_FAILED", "the task was not started: "+err.Error())
@@ -363,6 +361,8 @@ func (t *task) endState(e exit) codec.Message {
 		return t.status("end", "TASK_KILLED").Set("message", e.Problem)
 	case e.Problem != "":
 		return t.status("end", "TASK_FAILED").Set("reason", "REASON_CONTAINER_LAUNCH_FAILED").Set("message", e.Problem)
+	case e.IsOutOfMemory:
+		return t.status("end", "TASK_FAILED").Set("reason", "REASON_CONTAINER_LIMITATION_MEMORY").Set("message", outOfMemory)
 	case e.IsKilled:
 		return t.status("end", "TASK_KILLED").Set("message", "Command "+e.text())
 	case e.Code == 0 && e.Signal == "":

@@ -74,7 +74,8 @@ type pending struct {
 }
 
 const (
-	maxGroup      = 100     // batches in a transaction: etcd takes 128 operations by default
+	maxGroup      = 100     // batches in a transaction
+	maxOperations = 128     // of a transaction, for batches and for the names that they touch: etcd's default
 	maxGroupBytes = 1 << 20 // of a transaction, unless one batch has more
 )
 
@@ -124,7 +125,8 @@ func (l *Log) gather(first *pending) (group []*pending, next *pending) {
 	keys, touched, size := map[string]bool{}, map[string]bool{}, 0
 	for next = first; ; {
 		size += next.Size()
-		if len(group) > 0 && (keys[next.Key] || len(group) == maxGroup || size > maxGroupBytes || next.dependsOn(touched)) {
+		operations := len(group) + 1 + len(touched) + len(next.Touches)
+		if len(group) > 0 && (keys[next.Key] || len(group) == maxGroup || operations > maxOperations || size > maxGroupBytes || next.dependsOn(touched)) {
 			return group, next
 		}
 		for _, name := range next.Touches {

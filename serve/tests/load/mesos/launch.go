@@ -97,8 +97,14 @@ func launch(ctx context.Context, c *client) error {
 			go func() {
 				for o := range offers {
 					var ids []string
+					room := int64(perOffer)
+					for _, r := range o.List("resources") {
+						if each := needs[r.Text("name")]; each > 0 && int64(r.Float("scalar.value")/each) < room {
+							room = int64(r.Float("scalar.value") / each)
+						}
+					}
 					mu.Lock()
-					for i := paced.take(perOffer); i > 0; i-- {
+					for i := paced.take(room); i > 0; i-- {
 						ids = append(ids, fmt.Sprintf("t%d", atomic.AddInt64(&launched, 1)))
 						sent[ids[len(ids)-1]] = time.Now()
 					}

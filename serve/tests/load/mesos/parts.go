@@ -142,13 +142,19 @@ func (f *framework) acknowledge(ctx context.Context, status codec.Message) error
 	return f.send(ctx, call)
 }
 
+// needs is what each task uses.
+var needs = map[string]float64{"cpus": 0.125, "mem": 32}
+
 // accept launches tasks on an offer.
 func (f *framework) accept(ctx context.Context, offer codec.Message, ids []string) error {
 	launch := codec.New("mesos.Offer.Operation").Set("type", "LAUNCH")
 	infos := codec.New("mesos.Offer.Operation.Launch")
 	for _, id := range ids {
 		info := codec.New("mesos.TaskInfo").Set("name", "t").Set("task_id.value", id).Set("agent_id", offer.Sub("agent_id")).Set("command.value", "true")
-		infos.Add("task_infos", info.Add("resources", scalar("cpus", 0.1)).Add("resources", scalar("mem", 32)))
+		for _, name := range []string{"cpus", "mem"} {
+			info.Add("resources", scalar(name, needs[name]))
+		}
+		infos.Add("task_infos", info)
 	}
 	launch.Set("launch", infos)
 	accept := codec.New("mesos.scheduler.Call.Accept").Add("offer_ids", offer.Sub("id")).Add("operations", launch).Set("filters.refuse_seconds", 0.0)

@@ -4,6 +4,7 @@ package mesos
 
 import (
 	"bytes"
+	"fmt"
 	"io"
 	"net/http"
 	"strings"
@@ -308,5 +309,30 @@ func TestOperatorStream(t *testing.T) {
 		case <-end:
 			t.Fatal("the stream did not end with its gateway")
 		}
+	}
+}
+
+// What one gateway acknowledged, the next answer of any other has. Each gateway has the whole stream.
+func TestOperatorAtSeveralGateways(t *testing.T) {
+	s := newService(t, 3, 0)
+	urls := s.urls
+	at1, at2 := *s, *s
+	at1.urls, at2.urls = []string{urls[1]}, []string{urls[2]}
+	l := at2.listen("/api/v1", "admin", s.token, `{"type":"SUBSCRIBE"}`)
+	l.next("SUBSCRIBED")
+	for k := 1; k <= 20; k++ {
+		s.operate(200, fmt.Sprintf(`{"type":"UPDATE_WEIGHTS","update_weights":{"weight_infos":[{"role":"web","weight":%d}]}}`, k))
+		if weight := at(at1.operate(200, `{"type":"GET_WEIGHTS"}`), "get_weights", "weight_infos", 0, "weight"); weight != float64(k) {
+			t.Errorf("%v after %d", weight, k)
+		}
+	}
+	a := s.simulate("n1", scalar("cpus", "4"))
+	a.next("REGISTERED")
+	if e := l.next("AGENT_ADDED"); at(e, "agent_added", "agent", "agent_info", "id", "value") != "n1" {
+		t.Errorf("%v", e)
+	}
+	at1.operate(200, agentCall("DEACTIVATE_AGENT", "n1", ""))
+	if at2.agentField("n1", "deactivated") != true {
+		t.Errorf("%v", at2.operate(200, `{"type":"GET_AGENTS"}`))
 	}
 }

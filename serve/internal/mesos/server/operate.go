@@ -9,6 +9,7 @@ import (
 
 	"gateway/internal/api"
 	"gateway/internal/mesos/codec"
+	"gateway/internal/oplog"
 	"gateway/internal/registry/mesos"
 )
 
@@ -39,8 +40,10 @@ func (s *Server) Teardown(ctx context.Context, id string) error {
 	return s.remove(ctx, id, "", "teardown")
 }
 
-// CatchUp waits until this gateway has applied all that any gateway answered before.
-func (s *Server) CatchUp(ctx context.Context) error { return s.catchUp(ctx) }
+// CatchUp waits until this gateway has applied all that any gateway answered before. What that needs is the gateway's own, and nobody's call.
+func (s *Server) CatchUp(ctx context.Context) error {
+	return s.catchUp(oplog.WithSender(ctx, oplog.Sender{}))
+}
 
 // Ready returns why this gateway does not take calls, or nil.
 func (s *Server) Ready() error { return s.ready() }

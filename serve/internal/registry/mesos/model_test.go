@@ -126,6 +126,12 @@ func define(messages []*registry.Message) (rows []string) {
 					t.statuses, t.state = append(t.statuses, uuidOf(m, t)), "TASK_KILLING"
 				}
 			}
+		case NoteDrain:
+			for _, t := range tasks {
+				if t.agent == n.Agent && registry.AnswerOf(m.Replies[0]) == "ok" && t.state == "TASK_RUNNING" && !t.isDone && !t.isRunBy && knowsKilling[t.framework] {
+					t.statuses, t.state = append(t.statuses, uuidOf(m, t)), "TASK_KILLING"
+				}
+			}
 		case NoteEnded:
 			dropExecutors(func(e *slowExecutor) bool {
 				return e.framework == n.Framework && e.agent == n.Agent && e.id == n.Executor && e.number == n.Launch
@@ -203,6 +209,9 @@ func (w *world) check(s *State) error {
 	}
 	if !reflect.DeepEqual(w.offers, s.Offers) {
 		return fmt.Errorf("the offers %v are not the allocator's %v", s.Offers, w.offers)
+	}
+	if err := checkDrains(s); err != nil {
+		return err
 	}
 	if len(s.Frameworks) != len(w.frameworks) || len(s.IDs) != len(s.Frameworks) {
 		return fmt.Errorf("%d frameworks, and %d of the allocator's", len(s.Frameworks), len(w.frameworks))

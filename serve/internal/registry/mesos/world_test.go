@@ -157,7 +157,7 @@ func (w *world) message(n *Note, lines ...string) *registry.Message {
 func (w *world) random(seen *State) *registry.Message {
 	framework, agent, stream := fmt.Sprintf("f%d", w.Intn(3)), fmt.Sprintf("a%d", w.Intn(3)), fmt.Sprintf("s%d", w.Int63())
 	f := seen.Frameworks[framework]
-	switch w.Intn(14) {
+	switch w.Intn(15) {
 	case 0:
 		sub := &Subscription{Name: "x." + framework, Roles: []string{"web"}, Info: []byte(framework)}
 		if w.Intn(2) == 0 {
@@ -223,6 +223,8 @@ func (w *world) random(seen *State) *registry.Message {
 			agent = ""
 		}
 		return w.message(&Note{Kind: kind, Framework: framework, Task: fmt.Sprintf("t%d", w.Intn(9)), Agent: agent, Executor: "e1"})
+	case 14:
+		return w.operate(agent)
 	}
 	return w.message(nil)
 }

@@ -155,7 +155,7 @@ def take_screenshots(browser, room, folder):
             demo.process.stdin.write("\n")
             demo.process.stdin.flush()
             links = demo.links(len(links) + 1)
-            browser.look(1280, 1180, dark)
+            browser.look(1280, 1290, dark)
             browser.driver.get("about:blank")
             browser.driver.get(links[-1])
             browser.wait("the tree", lambda: browser.texts("#tree tbody tr"))

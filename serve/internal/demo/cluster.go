@@ -65,7 +65,7 @@ func setUp() (events []Event) {
 	}
 	return append(events,
 		Event{"event": "set_weight", "role": "web", "weight": "2"}, Event{"event": "set_weight", "role": "ml", "weight": "1.5"},
-		Event{"event": "set_limit", "role": "data", "limit": "cpus:180;mem:800000"}, Event{"event": "set_limit", "role": "ci", "limit": "cpus:72"},
+		Event{"event": "set_limit", "role": "data", "limit": "cpus:280;mem:1400000"}, Event{"event": "set_limit", "role": "ci", "limit": "cpus:48"},
 		Event{"event": "reserve", "agent": "rack1-1", "role": "ops", "resources": "cpus:4;mem:8192"},
 		Event{"event": "deactivate_agent", "agent": inRepair})
 }

@@ -5,6 +5,7 @@ package importer
 import (
 	"bytes"
 	"encoding/json"
+	"errors"
 	"fmt"
 	"math/rand"
 	"os"
@@ -211,7 +212,7 @@ func TestLargeCluster(t *testing.T) {
 // exported from it gives the same lines.
 func TestRoundTrip(t *testing.T) {
 	drf(t, "run", nil)
-	for seed := int64(0); seed < 60; seed++ {
+	for seed := int64(0); seed < 40; seed++ {
 		state, weights, quota := randomCluster(rand.New(rand.NewSource(seed)))
 		lines := imported(t, state, weights, quota)
 		runs(t, lines)
@@ -271,4 +272,89 @@ func TestCyclesBetweenTheLines(t *testing.T) {
 			t.Fatalf("seed %d: %v %v", seed, got, want)
 		}
 	}
+}
+
+// Whatever is wrong in a document, it is an error or left out: the allocator takes all lines that are printed.
+func TestChangedDocuments(t *testing.T) {
+	drf(t, "run", nil)
+	accepted, refused := 0, 0
+	for _, version := range []string{"1.4", "1.8", "1.11"} {
+		body, err := os.ReadFile(filepath.Join(fixtures, version, "state.json"))
+		if err != nil {
+			t.Fatal(err)
+		}
+		for seed := int64(0); seed < 100; seed++ {
+			random := rand.New(rand.NewSource(seed))
+			var tree any
+			if err := json.Unmarshal(body, &tree); err != nil {
+				t.Fatal(err)
+			}
+			for changes := 1 + random.Intn(3); changes > 0; changes-- {
+				change(random, tree)
+			}
+			changed, err := json.Marshal(tree)
+			if err != nil {
+				t.Fatal(err)
+			}
+			cluster, err := document.Read(document.Answers{State: document.Answer{Name: "state", Body: changed}})
+			if err != nil {
+				if e := (*document.Error)(nil); !errors.As(err, &e) || !strings.HasPrefix(e.Place, "state") {
+					t.Fatalf("%s %d: %v", version, seed, err)
+				}
+				refused++
+				continue
+			}
+			accepted++
+			if lines, _ := Lines(cluster, ByName); len(lines) > 0 {
+				runs(t, lines)
+			}
+		}
+	}
+	if accepted < 80 || refused < 40 {
+		t.Errorf("%d accepted, %d refused: the changes are too many or too few", accepted, refused)
+	}
+}
+
+// change changes a value somewhere in a tree.
+func change(random *rand.Rand, tree any) {
+	values := []any{nil, -1, 0, 0.0004, 1e300, 1e12, "", "x", "a/b", "*", "a b", "[1-2]", "{a}", "[2-1]", true, []any{}, map[string]any{}, []any{1}, map[string]any{"a": 1}, strings.Repeat("y", 300)}
+	for {
+		switch node := tree.(type) {
+		case map[string]any:
+			keys := sortedRoles(node)
+			if len(keys) == 0 {
+				return
+			}
+			key := keys[random.Intn(len(keys))]
+			if isLeaf(node[key]) || random.Intn(12) == 0 {
+				if node[key] = values[random.Intn(len(values))]; random.Intn(4) == 0 {
+					delete(node, key)
+				}
+				return
+			}
+			tree = node[key]
+		case []any:
+			if len(node) == 0 {
+				return
+			}
+			k := random.Intn(len(node))
+			if isLeaf(node[k]) || random.Intn(12) == 0 {
+				if node[k] = values[random.Intn(len(values))]; random.Intn(3) == 0 {
+					node[k] = node[random.Intn(len(node))]
+				}
+				return
+			}
+			tree = node[k]
+		default:
+			return
+		}
+	}
+}
+
+func isLeaf(value any) bool {
+	switch value.(type) {
+	case map[string]any, []any:
+		return false
+	}
+	return true
 }

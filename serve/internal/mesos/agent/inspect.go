@@ -176,18 +176,3 @@ func (a *Agent) Executors() (list []SeenExecutor) {
 	}
 	return list
 }
-
-// Usage is what some processes use.
-type Usage struct {
-	Processes, Threads int
-	User, System       float64 // seconds
-	Resident           uint64  // bytes
-}
-
-// UsageOf returns what the processes below a supervisor use now. Those that ended count in their parents' times, as far as these waited.
-func UsageOf(supervisor int) (u Usage) {
-	for _, pid := range descendants(supervisor) {
-		u.add(pid)
-	}
-	return u
-}

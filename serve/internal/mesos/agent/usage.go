@@ -1,13 +1,57 @@
-// What processes use, as /proc says. Outside the proof.
+// What processes use, as /proc and their cgroups say. Outside the proof.
 
 package agent
 
 import (
 	"fmt"
 	"os"
+	"path/filepath"
 	"strconv"
 	"strings"
 )
+
+// Usage is what some processes use.
+type Usage struct {
+	Processes, Threads int
+	User, System       float64 // seconds
+	Resident           uint64  // bytes
+
+	IsLimited          bool // in a cgroup, which has the following, and the times of all its processes
+	Memory             uint64
+	Periods, Throttled uint64
+	ThrottledFor       float64 // seconds
+}
+
+// Usage returns what the processes below a supervisor use now, whose sandbox is below the work folder. Without a cgroup, processes that ended
+// count in their parents' times, as far as these waited.
+func (a *Agent) Usage(sandbox string, supervisor int) (u Usage) {
+	for _, pid := range descendants(supervisor) {
+		u.add(pid)
+	}
+	group := supervised{filepath.Join(a.config.Folder, filepath.Dir(sandbox))}.cgroup()
+	memory, err := strconv.ParseUint(group.read("memory.current"), 10, 64)
+	if group == "" || err != nil {
+		return u
+	}
+	u.IsLimited, u.Memory = true, memory
+	for _, line := range strings.Split(group.read("cpu.stat"), "\n") {
+		name, text, _ := strings.Cut(line, " ")
+		value, _ := strconv.ParseUint(text, 10, 64)
+		switch name {
+		case "user_usec":
+			u.User = float64(value) / 1e6
+		case "system_usec":
+			u.System = float64(value) / 1e6
+		case "nr_periods":
+			u.Periods = value
+		case "nr_throttled":
+			u.Throttled = value
+		case "throttled_usec":
+			u.ThrottledFor = float64(value) / 1e6
+		}
+	}
+	return u
+}
 
 // ticks is how often a second the kernel counts times in /proc, on all machines of Linux.
 const ticks = 100

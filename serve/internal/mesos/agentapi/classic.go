@@ -141,10 +141,10 @@ func classicTask(t agent.Seen) object {
 
 // statistics answers `/monitor/statistics`.
 func (s *Server) statistics(w http.ResponseWriter, _ *http.Request) error {
-	list := []object{}
-	for _, c := range s.view().running() {
+	list, v := []object{}, s.view()
+	for _, c := range v.running() {
 		list = append(list, object{"framework_id": c.framework, "executor_id": c.executor, "executor_name": c.name, "source": c.executor, "container_id": c.key,
-			"statistics": json.RawMessage(c.statistics().JSON())})
+			"statistics": json.RawMessage(v.statistics(c).JSON())})
 	}
 	sort.Slice(list, func(i, j int) bool { return list[i]["container_id"].(string) < list[j]["container_id"].(string) })
 	return sendJSON(w, list)

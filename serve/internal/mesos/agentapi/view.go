@@ -15,13 +15,14 @@ type box struct{ framework, executor, key, path string }
 
 // container is a process that runs, of a command or of an executor.
 type container struct {
-	framework, executor, name, key string
-	supervisor                     int
-	resources                      []codec.Message
+	framework, executor, name, key, sandbox string
+	supervisor                              int
+	resources                               []codec.Message
 }
 
 // view is what the agent has now.
 type view struct {
+	agent  *agent.Agent
 	folder string
 	seen   []agent.Seen
 	own    []agent.SeenExecutor
@@ -29,7 +30,7 @@ type view struct {
 }
 
 func (s *Server) view() *view {
-	v := &view{folder: s.agent.Folder(), seen: s.agent.Tasks(), own: s.agent.Executors()}
+	v := &view{agent: s.agent, folder: s.agent.Folder(), seen: s.agent.Tasks(), own: s.agent.Executors()}
 	for _, e := range v.own {
 		v.boxes = append(v.boxes, box{e.Executor.Text("framework_id.value"), e.Executor.Text("executor_info.executor_id.value"), e.Key, e.Sandbox})
 	}
@@ -143,7 +144,7 @@ func (v *view) running() (list []container) {
 	for _, e := range v.own {
 		if e.Supervisor > 0 {
 			info := e.Executor.Sub("executor_info")
-			one := container{e.Executor.Text("framework_id.value"), info.Text("executor_id.value"), info.Text("name"), e.Key, e.Supervisor, info.List("resources")}
+			one := container{e.Executor.Text("framework_id.value"), info.Text("executor_id.value"), info.Text("name"), e.Key, e.Sandbox, e.Supervisor, info.List("resources")}
 			for _, t := range v.seen {
 				if !t.IsCommand && t.Stage == agent.Launched && t.Sandbox == e.Sandbox {
 					one.resources = append(one.resources, t.Task.List("task_info.resources")...)
@@ -154,17 +155,20 @@ func (v *view) running() (list []container) {
 	}
 	for _, t := range v.seen {
 		if t.IsCommand && t.Supervisor > 0 {
-			list = append(list, container{t.Task.Text("framework_id.value"), t.Executor, nameOf(t), t.Key, t.Supervisor, t.Task.List("task_info.resources")})
+			list = append(list, container{t.Task.Text("framework_id.value"), t.Executor, nameOf(t), t.Key, t.Sandbox, t.Supervisor, t.Task.List("task_info.resources")})
 		}
 	}
 	return list
 }
 
 // statistics writes what a container uses, and what it may use as far as that is said.
-func (c container) statistics() codec.Message {
-	usage := agent.UsageOf(c.supervisor)
+func (v *view) statistics(c container) codec.Message {
+	usage := v.agent.Usage(c.sandbox, c.supervisor)
 	m := codec.New("mesos.ResourceStatistics").Set("timestamp", float64(time.Now().UnixMilli())/1000).Set("processes", usage.Processes).Set("threads", usage.Threads).
 		Set("cpus_user_time_secs", usage.User).Set("cpus_system_time_secs", usage.System).Set("mem_rss_bytes", int64(usage.Resident))
+	if usage.IsLimited {
+		m.Set("mem_total_bytes", int64(usage.Memory)).Set("cpus_nr_periods", int64(usage.Periods)).Set("cpus_nr_throttled", int64(usage.Throttled)).Set("cpus_throttled_time_secs", usage.ThrottledFor)
+	}
 	cpus, mem := 0.0, 0.0
 	for _, one := range c.resources {
 		switch one.Text("name") {
@@ -181,7 +185,7 @@ func (v *view) containers() codec.Message {
 	m := codec.New("mesos.agent.Response.GetContainers")
 	for _, c := range v.running() {
 		m.Add("containers", codec.New("mesos.agent.Response.GetContainers.Container").Set("framework_id.value", c.framework).Set("executor_id.value", c.executor).Set("executor_name", c.name).
-			Set("container_id.value", c.key).Set("container_status.executor_pid", c.supervisor).Set("resource_statistics", c.statistics()))
+			Set("container_id.value", c.key).Set("container_status.executor_pid", c.supervisor).Set("resource_statistics", v.statistics(c)))
 	}
 	return m
 }

@@ -4,7 +4,6 @@ package operator
 
 import (
 	"context"
-	"errors"
 	"net/http"
 
 	"gateway/internal/api"
@@ -12,8 +11,6 @@ import (
 	"gateway/internal/mesos/server"
 	"gateway/internal/registry/mesos"
 )
-
-var errNotReserved = errors.New("the resources are not reserved: expected `reservations` with a role, or `role` with `reservation`")
 
 // agentCall appends a line about an agent with a note. Build gets the agent as it is.
 func (o *Operator) agentCall(ctx context.Context, c *api.Call, id, event string, build func(mesos.Agent) (*mesos.Note, error)) error {

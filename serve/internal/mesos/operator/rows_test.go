@@ -72,20 +72,24 @@ func TestAmounts(t *testing.T) {
 }
 
 func TestReadReservations(t *testing.T) {
-	read := func(text string) (byRole, error) {
+	read := func(text string, principal string) (byRole, error) {
 		m, err := codec.ReadJSON("mesos.Resource", []byte(`{"name":"cpus","type":"SCALAR","scalar":{"value":1.5}`+text+`}`))
 		if err != nil {
 			t.Fatal(err)
 		}
-		return readReservations([]codec.Message{m})
+		return readReservations([]codec.Message{m}, principal)
 	}
-	for _, text := range []string{`,"role":"eng","reservation":{}`, `,"reservations":[{"type":"DYNAMIC","role":"eng"}]`, `,"role":"eng","reservation":{},"reservations":[{"type":"DYNAMIC","role":"eng"}]`} {
-		if all, err := read(text); err != nil || len(all) != 1 || all["eng"].Text() != "cpus:1.5" {
-			t.Errorf("%s: %v %v", text, all, err)
+	for _, text := range []string{`,"role":"eng","reservation":{}`, `,"reservations":[{"type":"DYNAMIC","role":"eng"}]`, `,"role":"eng","reservation":{},"reservations":[{"type":"DYNAMIC","role":"eng"}]`,
+		`,"role":"eng","reservation":{"principal":"ops"}`} {
+		for _, principal := range []string{"", "ops"} {
+			if all, err := read(text, principal); err != nil || len(all) != 1 || all["eng"].Text() != "cpus:1.5" {
+				t.Errorf("%s: %v %v", text, all, err)
+			}
 		}
 	}
-	for _, text := range []string{``, `,"role":"*"`, `,"reservations":[{"role":"a"},{"role":"a/b"}]`, `,"role":"eng","revocable":{}`} {
-		if all, err := read(text); err == nil {
+	for _, text := range []string{``, `,"role":"*"`, `,"reservations":[{"role":"a"},{"role":"a/b"}]`, `,"role":"eng","revocable":{}`,
+		`,"role":"eng","reservation":{"labels":{"labels":[{"key":"k"}]}}`, `,"role":"eng","reservation":{"principal":"other"}`, `,"reservations":[{"type":"STATIC","role":"eng"}]`} {
+		if all, err := read(text, "ops"); err == nil {
 			t.Errorf("%s was accepted: %v", text, all)
 		}
 	}

@@ -6,6 +6,8 @@ package operator
 import (
 	"context"
 	"encoding/json"
+	"errors"
+	"fmt"
 	"net/http"
 	"sort"
 	"strconv"
@@ -15,6 +17,13 @@ import (
 	"gateway/internal/mesos/codec"
 	"gateway/internal/mesos/resources"
 	"gateway/internal/mesos/server"
+)
+
+// Errors of resources that are to be reserved or unreserved.
+var (
+	errNotReserved = errors.New("the resources are not reserved: expected `reservations` with a role, or `role` with `reservation`")
+	errLabels      = errors.New("labels of reservations are not supported")
+	errStatic      = errors.New("a reservation by a call is DYNAMIC, not STATIC")
 )
 
 // mayAppend returns an error unless a caller may send some lines.
@@ -195,7 +204,11 @@ func (o *Operator) move(ctx context.Context, c *api.Call, event, agent string, l
 	if err := mayAppend(c, server.Line{"event": event}); err != nil {
 		return err
 	}
-	wanted, err := readReservations(list)
+	principal := ""
+	if event == "reserve" {
+		principal = c.By().Name
+	}
+	wanted, err := readReservations(list, principal)
 	if err != nil {
 		return invalid("%v", err)
 	}
@@ -254,10 +267,25 @@ func (r *rows) rescinds(event, agent string, wanted byRole) (lines []server.Line
 	return lines, true
 }
 
-// readReservations reads resources by the role that they are reserved for, in the older or the newer form, or in both as they are read.
-func readReservations(list []codec.Message) (byRole, error) {
+// readReservations reads resources by the role that they are reserved for, in the older or the newer form, or in both as they are read. What
+// is not kept of a reservation is an error. A principal is that of the caller, or empty where any may be named.
+func readReservations(list []codec.Message, principal string) (byRole, error) {
 	var some []codec.Message
 	for _, one := range list {
+		infos := one.List("reservations")
+		if one.Has("reservation") {
+			infos = append(infos, one.Sub("reservation"))
+		}
+		for _, info := range infos {
+			switch {
+			case info.Has("labels"):
+				return nil, errLabels
+			case principal != "" && info.Has("principal") && info.Text("principal") != principal:
+				return nil, fmt.Errorf("the reservation's principal is '%s', and the caller's '%s'", info.Text("principal"), principal)
+			case principal != "" && info.Enum("type") == "STATIC":
+				return nil, errStatic
+			}
+		}
 		if one = one.Clone(); len(one.List("reservations")) > 0 {
 			one.Clear("role")
 			one.Clear("reservation")

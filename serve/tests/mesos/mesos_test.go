@@ -183,3 +183,27 @@ func TestAgentIsGone(t *testing.T) {
 		}
 	}
 }
+
+// The time for which an agent may be away begins again with the service: while there was none, no agent could come.
+func TestTimesBeginAgain(t *testing.T) {
+	s := newService(t, 1, 0, "-mesos-agent-gone", "8s")
+	a := s.simulate("n1", scalar("cpus", "1"))
+	a.next("REGISTERED")
+	c := s.subscribe("admin", s.token, frameworkInfo)
+	c.call(202, launchCall(c.offer(), "n1", taskInfo("t1", "n1", "1", commandField)))
+	a.report(at(a.next("RUN"), "tasks", 0), "TASK_RUNNING", 1)
+	a.body.Close()
+	for end := time.Now().Add(20 * time.Second); !strings.Contains(string(s.get(0, "/drf/v1/state")), `"active":false`); time.Sleep(50 * time.Millisecond) {
+		if time.Now().After(end) {
+			t.Fatalf("the agent is still active: %s", s.get(0, "/drf/v1/state"))
+		}
+	}
+	s.gateways[0].kill()
+	time.Sleep(9 * time.Second)
+	s.gateways[0].start()
+	s.waitReady(0)
+	time.Sleep(2 * time.Second) // within which an agent whose time is over is removed
+	if e := s.simulate("n1", scalar("cpus", "1")).next("REGISTERED"); at(e, "tasks", 0, "task_info", "task_id", "value") != "t1" {
+		t.Errorf("%v", e)
+	}
+}

@@ -8,6 +8,7 @@ import (
 	"fmt"
 	"log"
 	"strings"
+	"sync"
 	"time"
 
 	"gateway/internal/registry/mesos"
@@ -20,18 +21,40 @@ const holdFor = 3 * time.Second
 func (s *Server) Run(ctx context.Context) {
 	go s.runAcks(ctx)
 	for ctx.Err() == nil {
-		if s.ready() == nil {
-			for _, do := range s.dueNow() {
-				if err := do(ctx); err != nil && !isSettled(err) && ctx.Err() == nil {
-					log.Printf("mesos: %v", err)
-				}
+		if s.ready() != nil {
+			s.since = time.Time{}
+		} else {
+			if s.since.IsZero() {
+				s.since = time.Now()
 			}
+			s.doAll(ctx, s.dueNow())
 		}
 		select {
 		case <-time.After(500 * time.Millisecond):
 		case <-ctx.Done():
 		}
 	}
+}
+
+// atOnce is how many deeds are done at once: when a gateway with thousands of streams ends, there are as many.
+const atOnce = 32
+
+func (s *Server) doAll(ctx context.Context, deeds []deed) {
+	slots, group := make(chan struct{}, atOnce), sync.WaitGroup{}
+	for _, do := range deeds {
+		slots <- struct{}{}
+		group.Add(1)
+		go func(do deed) {
+			defer func() {
+				<-slots
+				group.Done()
+			}()
+			if err := do(ctx); err != nil && !isSettled(err) && ctx.Err() == nil {
+				log.Printf("mesos: %v", err)
+			}
+		}(do)
+	}
+	group.Wait()
 }
 
 // hasEnded reports whether the process that had a stream runs no more, or is this one and has not got it.
@@ -55,8 +78,11 @@ func (s *Server) hasEnded(owner, stream string, live map[string]bool) bool {
 
 type deed func(context.Context) error
 
+// dueNow returns what is due. Times for which a framework or an agent may be away begin again when this gateway becomes ready: while there was no
+// service, none could come.
 func (s *Server) dueNow() (deeds []deed) {
 	live, now := map[string]bool{}, s.log.Clock.Now().UnixMilli()
+	isOver := func(left, wait int64) bool { return now-left >= wait && time.Since(s.since).Milliseconds() >= wait }
 	for _, name := range s.log.Clock.Live() {
 		live[name] = true
 	}
@@ -70,7 +96,7 @@ func (s *Server) dueNow() (deeds []deed) {
 			switch {
 			case f.IsConnected && s.hasEnded(f.Gateway, f.Stream, live):
 				deeds = append(deeds, func(ctx context.Context) error { return s.leave(ctx, id, stream, true) })
-			case !f.IsConnected && now-f.Left >= wait:
+			case !f.IsConnected && isOver(f.Left, wait):
 				deeds = append(deeds, func(ctx context.Context) error { return s.remove(ctx, id, stream, "failover") })
 			case !f.IsConnected:
 				deeds = append(deeds, s.rescinds(id)...)
@@ -84,7 +110,7 @@ func (s *Server) dueNow() (deeds []deed) {
 				deeds = append(deeds, func(ctx context.Context) error { return s.removeDrained(ctx, id, number) })
 			case a.IsConnected && s.hasEnded(a.Gateway, a.Stream, live):
 				deeds = append(deeds, func(ctx context.Context) error { return s.leaveAgent(ctx, id, stream) })
-			case !a.IsConnected && now-a.Left >= s.config.AgentGone.Milliseconds():
+			case !a.IsConnected && isOver(a.Left, s.config.AgentGone.Milliseconds()):
 				deeds = append(deeds, func(ctx context.Context) error { return s.removeAgent(ctx, id, stream) })
 			}
 		}

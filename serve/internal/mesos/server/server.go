@@ -53,6 +53,7 @@ type Server struct {
 	ids       ids
 	acks      chan mesos.Ack
 	silent    map[string]time.Time // owners of streams that do not run, and since when
+	since     time.Time            // when this gateway became ready, or zero while it is not
 
 	namesLock sync.Mutex
 	names     named // for Details

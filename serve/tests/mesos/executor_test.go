@@ -397,3 +397,51 @@ func TestExecutorCalls(t *testing.T) {
 	c.failure("e", 9.0)
 	s.waitFree(0)
 }
+
+// The tasks of a group with a default executor have its id, and end together. What a supervisor ran that is killed ends too.
+func TestDefaultExecutor(t *testing.T) {
+	s := newService(t, 1, 1)
+	c := s.subscribe("admin", s.token, frameworkInfo)
+	offer, agent := c.offered()
+	left := filepath.Join(s.folder, "left")
+	command := func(id, text string) string { return taskInfo(id, agent, "0.1", `,"command":{"value":"`+text+`"}`) }
+	c.call(202, `{"type":"ACCEPT","accept":{"offer_ids":[{"value":"`+offer+`"}],"operations":[{"type":"LAUNCH_GROUP","launch_group":{"executor":{"type":"DEFAULT","executor_id":{"value":"e"},"resources":[`+scalar("cpus", "0.1")+
+		`]},"task_group":{"tasks":[`+command("g1", `test $MESOS_EXECUTOR_ID = e`)+`,`+command("g2", `echo $$ > `+left+`; sleep 1000`)+`,`+command("g3", `(sleep 1000 & echo $! >> `+left+`.new; wait)`)+`]}}}]}}`)
+	c.states(map[string]string{"g1": "RUNNING FINISHED", "g2": "RUNNING", "g3": "RUNNING"})
+	pids := append(s.written(left, 1), s.written(left+".new", 1)...)
+	for _, pid := range pids[1:] { // its supervisor is its grandparent
+		stat, _ := os.ReadFile(fmt.Sprintf("/proc/%d/stat", pid))
+		session, _ := strconv.Atoi(strings.Fields(string(stat))[5])
+		syscall.Kill(session, syscall.SIGKILL)
+	}
+	last := c.states(map[string]string{"g3": "FAILED", "g2": "KILLED"})
+	if at(last["g3"], "reason") != "REASON_AGENT_RESTARTED" || at(last["g2"], "executor_id", "value") != "e" {
+		t.Errorf("%v", last)
+	}
+	s.waitFree(0)
+	for _, pid := range pids {
+		if about, _ := os.ReadFile(fmt.Sprintf("/proc/%d/stat", pid)); len(about) > 0 && !strings.Contains(string(about), ") Z ") {
+			t.Errorf("process %d outlives its supervisor: %s", pid, about)
+		}
+	}
+}
+
+// written waits for numbers of processes in a file.
+func (s *service) written(path string, count int) (pids []int) {
+	s.t.Helper()
+	for end := time.Now().Add(20 * time.Second); ; time.Sleep(20 * time.Millisecond) {
+		text, _ := os.ReadFile(path)
+		pids = nil
+		for _, word := range strings.Fields(string(text)) {
+			if pid, err := strconv.Atoi(word); err == nil {
+				pids = append(pids, pid)
+			}
+		}
+		if len(pids) >= count {
+			return pids
+		}
+		if time.Now().After(end) {
+			s.t.Fatalf("%s has %q", path, text)
+		}
+	}
+}

@@ -23,11 +23,6 @@ type procStat struct {
 	isZombie             bool
 }
 
-func processExists(pid int) bool {
-	_, err := os.Stat(fmt.Sprintf("/proc/%d", pid))
-	return err == nil
-}
-
 // readStat reads what is after the name of a process, which may have any characters: state, parent, group, session.
 func readStat(pid int) (procStat, bool) {
 	text, err := os.ReadFile(fmt.Sprintf("/proc/%d/stat", pid))

@@ -42,9 +42,13 @@ func graceOf(one codec.Message) time.Duration {
 func processOf(one codec.Message, sandbox string) *process {
 	info := one.Sub("task_info")
 	task := info.Text("task_id.value")
+	executor := task
+	if one.Has("executor_id") {
+		executor = one.Text("executor_id.value")
+	}
 	return &process{Command: info.Sub("command").Protobuf(), GraceMS: graceOf(one).Milliseconds(),
 		HealthCheck: info.Sub("health_check").Protobuf(), Check: info.Sub("check").Protobuf(),
-		Environment: append(environment(sandbox, one.Text("framework_id.value"), info.Text("agent_id.value"), task), "MESOS_TASK_ID="+task)}
+		Environment: append(environment(sandbox, one.Text("framework_id.value"), info.Text("agent_id.value"), executor), "MESOS_TASK_ID="+task)}
 }
 
 // environment returns what Mesos sets for every process of a framework.

@@ -128,7 +128,8 @@ func (s supervised) killLeft() {
 	s.cgroup().remove()
 	boot, _ := os.ReadFile(s.path("started"))
 	session := s.number("supervisor")
-	if session == 0 || string(boot) != bootID() || processExists(session) { // numbers of processes were used again
+	about, isThere := readStat(session)
+	if session == 0 || string(boot) != bootID() || isThere && !about.isZombie { // numbers of processes were used again
 		return
 	}
 	for _, pid := range processesOf(func(about procStat) bool { return about.session == session }) {

@@ -57,7 +57,10 @@ func launchKey(launch int64, framework, id string) string {
 func newTask(folder string, one codec.Message) *task {
 	t := &task{supervised: supervised{folder}, key: keyOf(one), id: one.Text("task_info.task_id.value"), framework: one.Text("framework_id.value"),
 		group: one.Text("group"), launch: one.Int("launch"), capabilities: one.Texts("capabilities"), info: one.Sub("task_info"), wake: make(chan struct{}, 1)}
-	if t.executor = t.id; one.Has("executor") {
+	if t.executor = t.id; one.Has("executor_id") {
+		t.executor = one.Text("executor_id.value")
+	}
+	if one.Has("executor") {
 		t.executor, t.isRunBy = one.Text("executor.executor_info.executor_id.value"), true
 		t.runner = launchKey(one.Int("executor.launch"), t.framework, t.executor)
 	}
@@ -225,7 +228,7 @@ func (a *Agent) reject(one codec.Message, state, reason, message string) {
 func (t *task) status(step, state string) codec.Message {
 	sum := sha256.Sum256([]byte(t.framework + "/" + t.key + "/" + step))
 	return codec.New("mesos.TaskStatus").Set("task_id.value", t.id).Set("state", state).Set("source", "SOURCE_EXECUTOR").Set("uuid", sum[:16]).
-		Set("executor_id.value", t.id).Set("timestamp", float64(time.Now().UnixMilli())/1000)
+		Set("executor_id.value", t.executor).Set("timestamp", float64(time.Now().UnixMilli())/1000)
 }
 
 // watch reports what becomes of a task, until its end is taken.

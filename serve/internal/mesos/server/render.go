@@ -151,7 +151,7 @@ func renderTask(t mesos.TaskOf) codec.Message {
 		m.Add("capabilities", one)
 	}
 	if t.Group != "" {
-		m.Set("group", t.Group)
+		m.Set("group", t.Group).Set("executor_id.value", t.ExecutorID)
 	}
 	return m
 }

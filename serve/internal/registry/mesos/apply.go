@@ -262,5 +262,8 @@ func taskOf(f *Framework, t *Task) TaskOf {
 	if t.RunBy != 0 { // its executor may have ended: the agent knows
 		one.Executor = executorOf(f, &Executor{ID: t.Executor, Agent: t.Agent, Number: t.RunBy, Info: t.ExecutorInfo, User: t.User})
 	}
+	if t.Group != "" {
+		one.ExecutorID = t.Launch.Executor
+	}
 	return one
 }

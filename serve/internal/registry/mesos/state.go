@@ -236,6 +236,7 @@ type TaskOf struct {
 	IsKilling                           bool
 	Executor                            *ExecutorOf // a custom one that runs it, or nil
 	Capabilities                        []string    // of the framework
+	ExecutorID                          string      // of a group's default executor
 }
 
 // OfferID returns the id of an offer, which no other offer ever had.

@@ -322,7 +322,8 @@ def names_in(dashboard):
 
 @test
 def each_metric_of_the_dashboard_is_told(browser, room):
-    service = room.service()
+    service = room.start("-archive", os.path.join(room.folder, "archive"))
+    fill(service)
     with open(os.path.join(SERVE, "grafana.json"), encoding="utf-8") as file:
         wanted = names_in(json.load(file))
     admin = service.client()
@@ -335,4 +336,4 @@ def each_metric_of_the_dashboard_is_told(browser, room):
     told = set(re.findall(r"^([a-z_]+)", re.sub(r"^#.*$", "", service.gateway.ask("/metrics")[1], flags=re.M), flags=re.M))
     equal("named, and not told", wanted - told, set())
     holds(f"few metrics: {wanted}", len(wanted) > 15)
-    admin.send(*[event("remove_agent", agent=agent) for agent in ("m1", "m2", "m3")])
+    service.end()

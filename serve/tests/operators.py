@@ -3,6 +3,7 @@ import datetime
 import hashlib
 import json
 import os
+import re
 import shutil
 import signal
 import subprocess
@@ -11,7 +12,7 @@ import threading
 import time
 
 from faults import small_disk
-from fleet import Fleet, NotRun, wait
+from fleet import SERVE, Fleet, NotRun, wait
 
 AGENT = {"event": "add_agent", "agent": "n1", "total": "cpus:4;mem:4096"}
 
@@ -285,6 +286,43 @@ def test_archive_on_a_full_disk(programs):
     finally:
         subprocess.run(["umount", "-l", point], check=False)
         shutil.rmtree(outer, ignore_errors=True)
+
+
+def read_file(*parts):
+    with open(os.path.join(SERVE, *parts), encoding="utf-8") as file:
+        return file.read()
+
+
+def test_alert_rules(programs):
+    """The rules are right by promtool's tests, each has one and a section of the manual, and a real gateway has each metric that they name."""
+    if not shutil.which("promtool"):
+        raise NotRun("there is no promtool: apt-get install prometheus")
+    for words in (["check", "rules", "alerts.yml"], ["test", "rules", "tests/alerts.yml"]):
+        done = subprocess.run(["promtool", *words], cwd=SERVE, capture_output=True, text=True, check=False)
+        assert done.returncode == 0, done.stdout + done.stderr
+    rules, tests, manual = read_file("alerts.yml"), read_file("tests", "alerts.yml"), read_file("..", "docs", "OPERATIONS.md")
+    names, runbooks = re.findall(r"- alert: (\w+)", rules), re.findall(r"runbook: (\S+)", rules)
+    assert len(names) == len(set(names)) == len(runbooks) > 10, (names, runbooks)
+    for name, runbook in zip(names, runbooks):
+        assert runbook == "docs/OPERATIONS.md#" + name.lower() and f"\n### {name}\n" in manual, f"{name} has no section in docs/OPERATIONS.md"
+        assert f"runbook: {runbook}\n" in tests, f"no test expects {name}"
+    metrics = set(re.findall(r"\bdrf_\w+", "".join(re.findall(r"expr: .*\n(?:            .*\n|          [a-z]+ by .*\n)*", rules))))
+    assert {"drf_connected", "drf_events_total", "drf_requests_refused_total", "drf_archive_gaps"} <= metrics and len(metrics) > 15, metrics
+    with Fleet("alone", programs.gateway, programs.drf) as fleet:
+        g = fleet.gateways[0]
+        code, _, told = run(programs.gateway, "token", "add", "-expires", "30d", fleet.tokens_path, "guest", "read")
+        assert code == 0, told
+        g.kill()
+        g.start("-archive", os.path.join(fleet.folder, "archive"))
+        g.until_ready()
+        g.send(AGENT, AGENT)
+        g.ask("/nothing")
+        assert wait(lambda: 'drf_events_total{answer="ok",event="cycle"}' in g.ask("/metrics")[1], 20)
+        text = g.ask("/metrics")[1]
+        assert metrics - set(re.findall(r"^(drf_\w+)", text, flags=re.M)) == set()
+        for series in ('drf_table_rows{table="filters"}', 'drf_table_rows_limit{table="filters"}', 'drf_token_expires_timestamp_seconds{name="guest"}', 'drf_requests_refused_total{status="404"}'):
+            assert series in text, series
+        assert figure(g, "drf_etcd_quota_bytes") == 8 << 30 and 0 < figure(g, "drf_etcd_used_bytes") < 1 << 30 and figure(g, "drf_connected") == 1 and abs(figure(g, "drf_clock_offset_seconds")) < 1
 
 
 TESTS = [test for name, test in list(globals().items()) if name.startswith("test_")]

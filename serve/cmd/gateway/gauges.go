@@ -20,7 +20,7 @@ func (g *gateway) addGauges(service *api.Service) {
 	add("drf_clock_agrees", "Whether this gateway's clock is near the service's.", func(s api.Status) float64 { return isTrue[s.ClockFault == ""] })
 	add("drf_clock_offset_seconds", "How far this gateway's clock is ahead of the gateways' median.", func(s api.Status) float64 { return float64(s.ClockOffsetMS) / 1000 })
 	add("drf_messages", "Messages in the list so far.", func(s api.Status) float64 { return float64(s.Messages) })
-	add("drf_lag_messages", "Messages that this gateway has read, and whose replies it has not applied.", func(s api.Status) float64 { return float64(s.Lag) })
+	g.metrics.Gauge("drf_lag_messages", "Messages that this gateway has not applied.", func() float64 { return float64(service.Members.Lag()) })
 	add("drf_journal_bytes", "Bytes of the journal so far.", func(s api.Status) float64 { return float64(s.Bytes) })
 	add("drf_offers_standing", "Offers that exist.", func(s api.Status) float64 { return float64(s.Offers) })
 	add("drf_allocator_restarts", "How often the allocator was restarted.", func(s api.Status) float64 { return float64(s.Allocator.Restarts) })

@@ -104,7 +104,7 @@ func (o *options) serve(ctx context.Context) error {
 	}
 	m := metrics.New()
 	g := &gateway{options: o, metrics: m, ends: make(chan error, 8), server: api.New(m, limit.New(o.limits), limit.NewSlots(largeBodies, 10*time.Second))}
-	g.server.SetCallers(callers)
+	g.setCallers(callers)
 	g.addEarlyGauges()
 	closeServer, err := g.listen()
 	if err != nil {
@@ -197,9 +197,14 @@ func (g *gateway) reload(ctx context.Context) {
 			log.Printf("the old tokens stay in use: %v", err)
 			continue
 		}
-		g.server.SetCallers(callers)
+		g.setCallers(callers)
 		log.Printf("%d tokens", callers.Len())
 	}
+}
+
+func (g *gateway) setCallers(callers *auth.Callers) {
+	g.server.SetCallers(callers)
+	g.metrics.SetTokens(callers.List())
 }
 
 // runParts runs everything behind the server until the context ends.

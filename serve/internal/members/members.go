@@ -183,6 +183,14 @@ func (t *Table) AllReport() bool {
 	return true
 }
 
+// Lag returns the messages that this gateway has not applied, or that another gateway applied before.
+func (t *Table) Lag() int64 {
+	own := t.own()
+	t.mu.Lock()
+	defer t.mu.Unlock()
+	return atLeast(own.Lag, t.most(latest).messages-own.Messages)
+}
+
 // List returns what is known of all gateways and members.
 func (t *Table) List() All { return t.list(time.Now()) }
 

@@ -23,6 +23,7 @@ type Metrics struct {
 	events, made, ended, refused   *prometheus.CounterVec
 	cycles, answers                prometheus.Histogram
 	rows, limits, shares, weighted *prometheus.GaugeVec
+	tokens                         *prometheus.GaugeVec
 }
 
 // New returns metrics without gauges of the gateway: see Gauge.
@@ -46,6 +47,7 @@ func New() *Metrics {
 		refused:  count("drf_requests_refused_total", "Requests that were refused, by status.", "status"),
 		cycles:   times("drf_cycle_duration_seconds", "From the feeding of a cycle to its reply."),
 		answers:  times("drf_answer_duration_seconds", "From a batch to its replies."),
+		tokens:   gauge("drf_token_expires_timestamp_seconds", "When a token expires, if it does.", "name"),
 		rows:     gauge("drf_table_rows", "Current rows.", "table"),
 		limits:   gauge("drf_table_rows_limit", "Capacity of a table in rows.", "table"),
 		shares:   gauge("drf_role_dominant_share_ratio", "The dominant share of a role.", "role"),
@@ -123,6 +125,16 @@ func (m *Metrics) SetTables(answer []byte) {
 	for name, table := range tables {
 		m.rows.WithLabelValues(name).Set(table.Rows)
 		m.limits.WithLabelValues(name).Set(table.Limit)
+	}
+}
+
+// SetTokens sets when the tokens expire that do.
+func (m *Metrics) SetTokens(callers []*auth.Caller) {
+	m.tokens.Reset()
+	for _, c := range callers {
+		if c.Expires != nil {
+			m.tokens.WithLabelValues(c.Name).Set(float64(c.Expires.Unix()))
+		}
 	}
 }
 

@@ -340,13 +340,15 @@ def test_listens_after_bind(programs):
 
 
 def test_old_paths(programs):
-    """Calls are below /drf/v1/ alone."""
+    """The service's own calls are below /drf/v1/ alone: /state is that of a Mesos master."""
     with Fleet("alone", programs.gateway, programs.drf, "-cycle", "0") as fleet:
         g = fleet.gateways[0]
-        for path in ("/state", "/events", "/report", "/explain", "/journal", "/replies", "/status", "/frameworks/site/offers", "/agents/n1/alive", "/drf/v1/metrics"):
+        for path in ("/events", "/report", "/explain", "/journal", "/replies", "/status", "/frameworks/site/offers", "/agents/n1/alive", "/drf/v1/metrics"):
             assert g.ask(path)[0] == 404, path
         for path in ("/healthz", "/metrics", "/"):
             assert g.ask(path)[0] == 200, path
+        status, answer = g.ask("/state")[:2]
+        assert status == 200 and '"activated_slaves":0' in answer, (status, answer)
 
 
 def test_state_differences(programs):

@@ -147,7 +147,8 @@ func TestOperatorRefusals(t *testing.T) {
 		want                   string
 	}{
 		{"", "", `{}`, nil, 400, "Expecting 'type' to be present"},
-		{"", "", `{"type":"NO_SUCH_CALL"}`, nil, 400, "Expecting 'type' to be present"},
+		{"", "", `{"type":"NO_SUCH_CALL"}`, nil, 400, "Failed to find enum for 'NO_SUCH_CALL'"},
+		{"", "", `{"type":"GET_STATE"}`, []string{"Accept", codec.TypeRecordIO}, 406, "Expecting 'Accept' to allow"},
 		{"", "", `{"type":7.5}`, nil, 400, "Failed to convert JSON into Call protobuf"},
 		{"", "", `{"type":"UPDATE_WEIGHTS"}`, nil, 400, "Expecting 'update_weights' to be present"},
 		{"", "", `{"type":"DRAIN_AGENT","drain_agent":{}}`, nil, 400, "agent_id"},

@@ -136,6 +136,11 @@ func sendJSON(w http.ResponseWriter, value interface{}) error {
 	return writer.Encode(value)
 }
 
+// newer are calls of newer agents, whose numbers are not among the messages.
+var newer = map[string]bool{"LAUNCH_CONTAINER": true, "WAIT_CONTAINER": true, "KILL_CONTAINER": true, "REMOVE_CONTAINER": true, "PRUNE_IMAGES": true,
+	"GET_OPERATIONS": true, "GET_RESOURCE_PROVIDERS": true, "ADD_RESOURCE_PROVIDER_CONFIG": true, "UPDATE_RESOURCE_PROVIDER_CONFIG": true,
+	"REMOVE_RESOURCE_PROVIDER_CONFIG": true, "MARK_RESOURCE_PROVIDER_GONE": true}
+
 // bodies are the fields that calls need.
 var bodies = map[string]string{"LIST_FILES": "list_files", "READ_FILE": "read_file"}
 
@@ -156,10 +161,17 @@ func (s *Server) call(w http.ResponseWriter, r *http.Request) error {
 	if err != nil {
 		return refuse(http.StatusNotAcceptable, "%v", err)
 	}
-	if !call.Has("type") {
+	kind, is := call.Name("type")
+	switch {
+	case !is:
 		return refuse(http.StatusBadRequest, "Failed to validate agent::Call: Expecting 'type' to be present")
+	case newer[kind]:
+		return refuse(http.StatusNotImplemented, "%s is not supported", kind)
+	case !call.Has("type"): // in JSON, a name that Mesos does not have
+		return refuse(http.StatusBadRequest, "Failed to convert JSON into Call protobuf: Failed to find enum for '%s'", kind)
+	case form.Framed:
+		return refuse(http.StatusNotAcceptable, "%v", codec.ErrNotAcceptable)
 	}
-	kind := call.Enum("type")
 	if body := bodies[kind]; body != "" {
 		if !call.Has(body) {
 			return refuse(http.StatusBadRequest, "Failed to validate agent::Call: Expecting '%s' to be present", body)

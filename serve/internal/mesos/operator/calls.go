@@ -62,9 +62,14 @@ func (o *Operator) call(c *api.Call) error {
 	if err != nil {
 		return api.Refuse(http.StatusNotAcceptable, "%v", err)
 	}
-	kind := call.Enum("type")
-	if !call.Has("type") {
+	kind, is := call.Name("type")
+	switch {
+	case !is:
 		return invalid("Expecting 'type' to be present")
+	case !call.Has("type"): // in JSON, a name that Mesos does not have
+		return api.Refuse(http.StatusBadRequest, "Failed to convert JSON into Call protobuf: Failed to find enum for '%s'", kind)
+	case form.Framed && kind != "SUBSCRIBE":
+		return api.Refuse(http.StatusNotAcceptable, "%v", codec.ErrNotAcceptable)
 	}
 	if body := bodies[kind]; body != "" && !call.Has(body) {
 		return invalid("Expecting '%s' to be present", body)

@@ -142,6 +142,22 @@ MESOS = [
 
 
 @test
+def the_output_of_a_task_is_linked_to_its_agent(browser, room):
+    agent = {"row": "mesos_agent", "agent": "n1", "host": "host1", "port": 5051, "connected": True}
+    details = [agent, *MESOS[:1], {**MESOS[1], "executor": "my executor"}]
+    links = "return [...document.querySelectorAll('#tasks-list tbody a[target]')].map(a => [a.textContent, a.href, a.rel])"
+    own = StandIn(stand_in.small_rows(), "operate", details=details)
+    open_list(browser, own, "tasks")
+    path = "http://host1:5051/files/read?offset=0&path=%2Fframeworks%2Fuuid-0001%2Fexecutors%2Fmy%20executor%2Fruns%2Flatest%2F"
+    browser.wait("the links", lambda: browser.run(links) == [["stdout", path + "stdout", "noopener noreferrer"], ["stderr", path + "stderr", "noopener noreferrer"]])
+    own.end()
+    own = StandIn(stand_in.small_rows(), details=details)
+    open_list(browser, own, "tasks")
+    equal("without the right", browser.run(links), [])
+    own.end()
+
+
+@test
 def tasks_of_mesos_have_their_states(browser, room):
     own = StandIn(stand_in.small_rows(), details=MESOS)
     open_list(browser, own, "tasks")

@@ -24,7 +24,9 @@ type Detail struct {
 	Reason    string `json:"reason,omitempty"`
 	Principal string `json:"principal,omitempty"`
 	Host      string `json:"host,omitempty"`
-	Since     int64  `json:"since,omitempty"` // milliseconds
+	Port      int64  `json:"port,omitempty"`     // at which an agent answers operators
+	Executor  string `json:"executor,omitempty"` // of a task, in whose sandbox it runs
+	Since     int64  `json:"since,omitempty"`    // milliseconds
 	Connected bool   `json:"connected,omitempty"`
 	Killing   bool   `json:"killing,omitempty"`
 	// Holds are the allocator's tasks that have the task's resources.

@@ -63,6 +63,7 @@ func TestDetails(t *testing.T) {
 	name := at(parse(frameworkInfo), "name").(string)
 	framework := fmt.Sprintf(`"id":"%s","name":"%s","principal":"admin","row":"mesos_framework"`, c.id, name)
 	s.waitDetails(t, `{"agent":"n1","connected":true,"host":"host-n1","row":"mesos_agent"}`, framework, `"state":"TASK_STAGING","task":"t1"}`)
+	s.waitDetails(t, `"mesos_agent"`, framework, `{"agent":"n1","executor":"t1","framework"`)
 	a.report(run, "TASK_RUNNING", 1)
 	s.waitDetails(t, `"mesos_agent"`, `"connected":true`, `"state":"TASK_RUNNING","task":"t1"}`)
 

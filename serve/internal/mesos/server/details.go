@@ -8,6 +8,8 @@ import (
 	"fmt"
 	"net/http"
 	"sort"
+	"strconv"
+	"strings"
 
 	"gateway/internal/api"
 	"gateway/internal/mesos/codec"
@@ -17,16 +19,44 @@ import (
 // named has the names of tasks, agents and frameworks that were decoded before.
 type named map[string]string
 
-// of returns the name in a message, which is decoded when it was not there before. Kept has what is to be kept for the next time.
-func (n named) of(kept named, key, message, field string, info []byte) string {
+// of returns the name under a key, which is decoded when it was not there before. Kept has what is to be kept for the next time.
+func (n named) of(kept named, key string, decode func() string) string {
 	name, is := n[key]
 	if !is {
-		if m, err := codec.ReadProtobuf(message, info); err == nil {
-			name = m.Text(field)
-		}
+		name = decode()
 	}
 	kept[key] = name
 	return name
+}
+
+// text returns a function that decodes a field of a message.
+func text(message, field string, info []byte) func() string {
+	return func() string {
+		m, err := codec.ReadProtobuf(message, info)
+		if err != nil {
+			return ""
+		}
+		return m.Text(field)
+	}
+}
+
+// address returns the host of an agent and, where it answers operators, its port.
+func address(info []byte) string {
+	m, err := codec.ReadProtobuf("mesos.AgentInfo", info)
+	if err != nil {
+		return ""
+	}
+	if !m.Has("port") {
+		return m.Text("hostname") + " 0"
+	}
+	return fmt.Sprintf("%s %d", m.Text("hostname"), m.Int("port"))
+}
+
+// addressOf returns the parts of an address.
+func addressOf(address string) (host string, port int64) {
+	host, number, _ := strings.Cut(address, " ")
+	port, _ = strconv.ParseInt(number, 10, 64)
+	return host, port
 }
 
 // Details returns rows about agents, frameworks and tasks, each in order.
@@ -37,8 +67,8 @@ func (s *Server) Details(context.Context) (details []api.Detail, err error) {
 	s.state.Read(func() {
 		for _, id := range sortedAgents(s.state.Agents) {
 			a := s.state.Agents[id]
-			host := s.names.of(kept, fmt.Sprintf("agent %s %d", id, a.Reregistered), "mesos.AgentInfo", "hostname", a.Info)
-			one := api.Detail{Row: "mesos_agent", Agent: id, Host: host, Connected: a.IsConnected}
+			one := api.Detail{Row: "mesos_agent", Agent: id, Connected: a.IsConnected}
+			one.Host, one.Port = addressOf(s.names.of(kept, fmt.Sprintf("agent %s %d", id, a.Reregistered), func() string { return address(a.Info) }))
 			if !a.IsConnected {
 				one.Since = a.Left
 			}
@@ -47,7 +77,7 @@ func (s *Server) Details(context.Context) (details []api.Detail, err error) {
 		for _, id := range s.state.FrameworkIDs() {
 			f := s.state.Frameworks[id]
 			one := api.Detail{Row: "mesos_framework", Framework: f.Name, ID: id, Principal: f.Principal, Connected: f.IsConnected,
-				Name: s.names.of(kept, fmt.Sprintf("framework %s %d", id, f.Reregistered), "mesos.FrameworkInfo", "name", f.Info)}
+				Name: s.names.of(kept, fmt.Sprintf("framework %s %d", id, f.Reregistered), text("mesos.FrameworkInfo", "name", f.Info))}
 			if !f.IsConnected {
 				one.Since = f.Left
 			}
@@ -63,7 +93,10 @@ func (s *Server) Details(context.Context) (details []api.Detail, err error) {
 
 func (s *Server) detailOf(kept named, f *mesos.Framework, t *mesos.Task) api.Detail {
 	one := api.Detail{Row: "mesos_task", Framework: f.Name, ID: f.ID, Task: t.Task, Agent: t.Agent, State: t.State, Killing: t.IsKilling && !mesos.IsTerminal(t.State),
-		Name: s.names.of(kept, fmt.Sprintf("task %s %s %d", f.ID, t.Task, t.Number), "mesos.TaskInfo", "name", t.Info)}
+		Name: s.names.of(kept, fmt.Sprintf("task %s %s %d", f.ID, t.Task, t.Number), text("mesos.TaskInfo", "name", t.Info))}
+	if one.Executor = t.Executor; one.Executor == "" { // a command is its own executor
+		one.Executor = t.Task
+	}
 	if t.Last != nil {
 		one.Since, one.Reason = t.Last.At, t.Last.Reason
 	}

@@ -60,7 +60,7 @@ class Demo:
 
     def end(self, how=signal.SIGINT):
         if self.process.poll() is None:
-            self.process.send_signal(how)
+            os.killpg(self.process.pid, how)  # as a terminal does
         status = self.process.wait(60)
         self.process.stdin.close()
         self.log.close()
@@ -109,9 +109,9 @@ def a_demo_starts_and_ends_without_a_trace(browser, room):
 def a_demo_that_is_interrupted_early_leaves_nothing(browser, room):
     room.service()
     demo = Demo(room.folder)
-    until = time.time() + 60
-    while not demo.processes() and time.time() < until:
-        time.sleep(0.05)
+    until = time.time() + 240
+    while not glob.glob(demo.temporary + "/durzhanok-demo-*") and time.time() < until:
+        time.sleep(0.02)
     demo.end(signal.SIGTERM)
     equal("processes that are left", demo.processes(), [])
     equal("folders that are left", os.listdir(demo.temporary), [])

@@ -13,7 +13,7 @@ import (
 	"gateway/internal/archive"
 )
 
-const verifyUsage = `usage: gateway verify-archive [-drf PROGRAM] [-last SHA256] [-print journal|audit] DIR
+const verifyUsage = `usage: durzhanok-gateway verify-archive [-drf PROGRAM] [-last SHA256] [-print journal|audit] DIR
   -drf PROGRAM    check the replies too, by PROGRAM check
   -last SHA256    the digest of the last segment, which /drf/v1/status has: later ones are not missing
   -print WHAT     write the journal, or who sent the messages, to standard output
@@ -27,10 +27,13 @@ const (
 
 // verifyArchive checks the archive that the arguments name, and says what it has.
 func verifyArchive(ctx context.Context, arguments []string, out, notes io.Writer) error {
-	flags := flag.NewFlagSet("gateway verify-archive", flag.ContinueOnError)
+	flags := flag.NewFlagSet("durzhanok-gateway verify-archive", flag.ContinueOnError)
 	flags.SetOutput(io.Discard)
 	program, last, print := flags.String("drf", "", ""), flags.String("last", "", ""), flags.String("print", "", "")
-	if err := flags.Parse(arguments); err != nil {
+	if err := flags.Parse(arguments); errors.Is(err, flag.ErrHelp) {
+		fmt.Fprintln(out, verifyUsage)
+		return err
+	} else if err != nil {
 		return fmt.Errorf("verify-archive: %w\n%s", err, verifyUsage)
 	}
 	if flags.NArg() != 1 || *print != "" && *print != "journal" && *print != "audit" {

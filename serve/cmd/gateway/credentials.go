@@ -7,6 +7,7 @@ import (
 	"flag"
 	"fmt"
 	"io"
+	"os"
 	"path/filepath"
 
 	"gateway/internal/auth"
@@ -25,7 +26,10 @@ func credentialsCommand(arguments []string, notes io.Writer) error {
 	flags := flag.NewFlagSet("durzhanok-gateway credentials", flag.ContinueOnError)
 	flags.SetOutput(io.Discard)
 	tokens := flags.String("tokens", "durzhanok-data/tokens.json", "")
-	if err := flags.Parse(arguments); err != nil {
+	if err := flags.Parse(arguments); errors.Is(err, flag.ErrHelp) {
+		fmt.Fprintln(os.Stdout, credentialsUsage)
+		return err
+	} else if err != nil {
 		return fmt.Errorf("credentials: %w\n%s", err, credentialsUsage)
 	}
 	if flags.NArg() < 1 {

@@ -104,7 +104,8 @@ func readOptions(arguments []string) (*options, error) {
 	flags.DurationVar(&o.mesos.Silence, "mesos-silence", o.mesos.Silence, "how long the machine of an agent or a framework of Mesos' may acknowledge nothing until its stream ends")
 	flags.DurationVar(&o.mesos.MaxRefuse, "mesos-max-refuse", o.mesos.MaxRefuse, "greatest refuse_seconds of frameworks of Mesos'")
 	flags.BoolVar(&o.version, "version", false, "print the version, and end")
-	if err := usage.Parse(flags, arguments, "[FLAG..]", "token add|list|revoke ..", "import [FLAG..] FILE", "shadow [FLAG..] URL", "credentials [FLAG..] FILE [RIGHT..]"); err != nil {
+	if err := usage.Parse(flags, arguments, "[FLAG..]", "token add|list|revoke ..", "credentials [FLAG..] FILE [RIGHT..]", "import [FLAG..] FILE", "shadow [FLAG..] URL",
+		"verify-archive [FLAG..] FOLDER", "demo [FLAG..]"); err != nil {
 		return nil, err
 	}
 	for _, check := range []struct {

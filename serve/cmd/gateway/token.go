@@ -42,10 +42,13 @@ func tokenCommand(arguments []string, out, notes io.Writer) error {
 
 // addToken creates a token and prints it. Root does it as the owner of the file's folder, so that the gateway can read the file.
 func addToken(arguments []string, out io.Writer, now time.Time) error {
-	flags := flag.NewFlagSet("gateway token add", flag.ContinueOnError)
+	flags := flag.NewFlagSet("durzhanok-gateway token add", flag.ContinueOnError)
 	flags.SetOutput(io.Discard)
 	when := flags.String("expires", "", "")
-	if err := flags.Parse(arguments); err != nil {
+	if err := flags.Parse(arguments); errors.Is(err, flag.ErrHelp) {
+		fmt.Fprintln(out, tokenUsage)
+		return err
+	} else if err != nil {
 		return fmt.Errorf("token add: %w\n%s", err, tokenUsage)
 	}
 	if flags.NArg() < 3 {

@@ -209,6 +209,7 @@ def test_in_debian_the_services_run_as_they_should(package):
     equal("enabled", machine.try_run("systemctl is-enabled durzhanok-gateway durzhanok-agent")[1].split(), ["disabled", "disabled"])
     assert machine.try_run(f"runuser -u nobody -- cat /etc/durzhanok/agent.token {DATA}/admin.token")[1].count("denied") == 2, "another user can read a token"
     equal("warnings of systemd", machine.run("journalctl -b --no-pager -p warning _PID=1 | grep durzhanok || true"), "")
+    equal("groups of tasks that the unit forbids", machine.run("journalctl -u durzhanok-agent --no-pager | grep -i 'read-only' || true"), "")
     machine.run("systemctl restart durzhanok-gateway")
     machine.wait_until_healthy()
 

@@ -9,9 +9,8 @@ import tempfile
 
 from package import HERE, PROGRAMS, TOP, Package, call, equal, version
 
-UNITS = {"durzhanok-gateway": 20, "durzhanok-agent": 29}  # the exposure that systemd may find, in tenths: under 3.0 for both
+UNITS = {"durzhanok-gateway": 20, "durzhanok-agent": 31}  # the exposure that systemd may find, in tenths: the agent starts tasks as their users, with limits
 PAGES = {"drf": 1, "durzhanok-gateway": 8, "durzhanok-agent": 8}
-HELPED, WITH_USAGE = ("import", "shadow"), ("token", "credentials")  # commands of the gateway
 DOC = "usr/share/doc/durzhanok"
 
 
@@ -77,20 +76,19 @@ def test_owners_modes_and_digests_are_right(package):
 
 
 def flags_in(text):
-    return set(re.findall(r"^  (-[a-z-]+)", text, flags=re.M)) | {"-help"}
+    """The flags in a help, where each begins a line, or in a usage, where each is in brackets."""
+    return set(re.findall(r"(?:^  |\[)(-[a-z-]+)", text, flags=re.M)) | {"-help"}
 
 
-def usage_of(package, command):
-    """What a command of the gateway that has a usage and no help prints."""
-    return subprocess.run([package.program("durzhanok-gateway"), command], capture_output=True, text=True, check=False).stderr
+def commands_of_gateway(package):
+    return re.findall(r"^       durzhanok-gateway ([a-z-]+) ", call(package.program("durzhanok-gateway"), "-help"), flags=re.M)
 
 
 def help_of(package, name, with_commands=False):
     """The flags that the help of a program prints. For drf, and for the gateway if that is asked for: also those of all commands."""
     text = call(package.program(name), "--help")
     if name == "durzhanok-gateway" and with_commands:
-        text += "".join(call(package.program(name), command, "-help") for command in HELPED)
-        return flags_in(text) | {flag for command in WITH_USAGE for flag in re.findall(r"\[(-[a-z]+)", usage_of(package, command))}
+        text += "".join(call(package.program(name), command, "-help") for command in commands_of_gateway(package))
     if name != "drf":
         return flags_in(text)
     for command in commands_of(package):
@@ -122,10 +120,10 @@ def test_manual_pages_have_the_flags_of_the_help(package):
         synopsis = text.replace("\\-", "-").split(".SH SYNOPSIS")[1].split(".SH DESCRIPTION")[0]
         tags = re.findall(r"^\.TP\n(\..*)", options, flags=re.M) + synopsis.splitlines()
         flags = {flag for tag in tags for flag in re.findall(r'(?<![A-Za-z-])--?[A-Za-z][a-z-]*', tag)}
-        equal(f"{name}: in the page, not in the help", flags - help_of(package, name, True), set())
-        equal(f"{name}: in the help, not in the page", help_of(package, name, True) - flags, set())
-    commands = re.findall(r"^       durzhanok-gateway ([a-z]+) ", call(package.program("durzhanok-gateway"), "--help"), flags=re.M)
-    equal("commands of the gateway", sorted(commands), sorted(HELPED + WITH_USAGE))
+        equal(f"{name}: in the page, not in the help", flags - help_of(package, name, with_commands=True), set())
+        equal(f"{name}: in the help, not in the page", help_of(package, name, with_commands=True) - flags, set())
+    synopsis = page_of(package, "durzhanok-gateway", 8).split(".SH SYNOPSIS")[1].split(".SH DESCRIPTION")[0]
+    equal("commands of the gateway", set(re.findall(r"^\.B durzhanok-gateway ([a-z-]+)", synopsis, flags=re.M)), set(commands_of_gateway(package)))
     text = page_of(package, "drf", 1)
     tags = re.findall(r"^\.TP\n\.B ([a-z]+)$", text.split(".SH COMMANDS")[1].split(".SH OPTIONS")[0], flags=re.M)
     equal("commands of drf", sorted(tags), sorted(commands_of(package)))
@@ -177,8 +175,8 @@ def test_bash_completes_commands_and_flags(package):
         want = set(re.findall(r"--?[a-z]+(?=[, \n]|$)", "\n".join(re.findall(r"^ +((?:-[a-z], )?--[a-z]+)", call(package.program("drf"), command, "--help"), flags=re.M))))
         equal(f"drf {command} -", complete(package, f"drf {command} -"), want)
     for line, want in {"drf ex": {"explain"}, "drf run --e": {"--echo"}, "drf explain --c": {"--client"}, "durzhanok-gateway -peer-": {"-peer-ca", "-peer-cert", "-peer-key"},
-                       "durzhanok-gateway t": {"token"}, "durzhanok-gateway ": {"credentials", "import", "shadow", "token"}, "durzhanok-gateway import -pa": {"-partial"},
-                       "durzhanok-gateway token ": {"add", "list", "revoke"}, "durzhanok-gateway token add -": {"-expires"},
+                       "durzhanok-gateway t": {"token"}, "durzhanok-gateway ": set(commands_of_gateway(package)), "durzhanok-gateway cr": {"credentials"}, "durzhanok-gateway import -pa": {"-partial"},
+                       "durzhanok-gateway token ": {"add", "list", "revoke"}, "durzhanok-gateway token add -e": {"-expires"}, "durzhanok-gateway credentials -t": {"-tokens"},
                        "durzhanok-agent -pr": {"-principal"}, "durzhanok-agent t": set(), "drf run --from ": set()}.items():
         equal(line, complete(package, line), want)
     for name in ("durzhanok-gateway", "durzhanok-agent"):

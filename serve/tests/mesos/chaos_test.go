@@ -7,10 +7,28 @@ import (
 	"math/rand"
 	"os"
 	"path/filepath"
+	"strconv"
 	"strings"
+	"syscall"
 	"testing"
 	"time"
 )
+
+// killExecutor kills one of the executors.
+func (s *service) killExecutor(random *rand.Rand) {
+	paths, _ := filepath.Glob(filepath.Join(s.folder, "a*", "executors", "*", "pid"))
+	if len(paths) == 0 {
+		return
+	}
+	path := paths[random.Intn(len(paths))]
+	if _, err := os.Stat(filepath.Join(filepath.Dir(path), "exit")); err == nil { // its number may be another's
+		return
+	}
+	text, _ := os.ReadFile(path)
+	if pid, err := strconv.Atoi(string(text)); err == nil {
+		syscall.Kill(pid, syscall.SIGKILL)
+	}
+}
 
 // For 15 seconds, or as long as MESOS_CHAOS says, a process is killed each second and started again. Then each scheduler gets its tasks done.
 func TestRandomKills(t *testing.T) {
@@ -23,12 +41,15 @@ func TestRandomKills(t *testing.T) {
 		if k == 1 {
 			flags = append(flags, "-codec", "json")
 		}
+		if k == 2 {
+			flags = append(flags, "-executor", "exec "+filepath.Join(s.programs, "executor"))
+		}
 		p := s.scheduler(name, random.Intn(3), flags...)
 		p.start()
 		all = append(all, p)
 		return p
 	}
-	current := []*process{start(0, "100000"), start(1, "100000")}
+	current := []*process{start(0, "100000"), start(1, "100000"), start(2, "100000")}
 	length, err := time.ParseDuration(os.Getenv("MESOS_CHAOS"))
 	if err != nil {
 		length = 15 * time.Second
@@ -36,7 +57,7 @@ func TestRandomKills(t *testing.T) {
 	kills := 0
 	for end := time.Now().Add(length); time.Now().Before(end); kills++ {
 		time.Sleep(time.Duration(500+random.Intn(1000)) * time.Millisecond)
-		switch k := random.Intn(3); random.Intn(4) {
+		switch k := random.Intn(3); random.Intn(5) {
 		case 0, 1:
 			s.gateways[k].kill()
 			time.Sleep(time.Duration(random.Intn(1500)) * time.Millisecond)
@@ -46,8 +67,10 @@ func TestRandomKills(t *testing.T) {
 			time.Sleep(time.Duration(random.Intn(1500)) * time.Millisecond)
 			s.agents[k].start()
 		case 3:
-			current[k%2].kill()
-			current[k%2] = start(k%2, "100000")
+			current[k].kill()
+			current[k] = start(k, "100000")
+		case 4:
+			s.killExecutor(random)
 		}
 	}
 	for k := range s.gateways {

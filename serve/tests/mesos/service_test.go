@@ -145,7 +145,7 @@ func newService(t *testing.T, gateways, agents int, flags ...string) *service {
 		s.agents[k].start()
 	}
 	t.Cleanup(func() {
-		for _, p := range s.gateways {
+		for _, p := range append(append([]*process(nil), s.gateways...), s.agents...) {
 			if strings.Contains(p.log(), "DATA RACE") { // with GOFLAGS=-race
 				t.Errorf("%s: %s", p.name, p.log())
 			}

@@ -125,7 +125,7 @@ func (p *program) follow(decoder encoding.Decoder) error {
 func (p *program) launch(t mesos.TaskInfo) {
 	id := t.TaskID.Value
 	command := exec.Command("/bin/sh", "-c", string(t.Data))
-	command.Env = append(os.Environ(), "TASK="+id)
+	command.Env = append(os.Environ(), "TASK="+id, "MESOS_TASK_ID="+id)
 	command.SysProcAttr = &syscall.SysProcAttr{Setpgid: true}
 	p.mu.Lock()
 	p.tasks[id] = t

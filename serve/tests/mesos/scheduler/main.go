@@ -40,6 +40,7 @@ var (
 	idFile   = flag.String("id-file", "", "file of the framework's id, so that a restart is a failover")
 	wanted   = flag.Int("tasks", 10, "tasks that are to finish")
 	command  = flag.String("command", "echo $MESOS_TASK_ID", "shell command")
+	runner   = flag.String("executor", "", "shell command of a custom executor that runs the tasks")
 	within   = flag.Duration("within", 2*time.Minute, "time for all of them")
 )
 
@@ -149,6 +150,7 @@ func (f *framework) offers(ctx context.Context, e *scheduler.Event) error {
 	for _, o := range e.Offers.Offers {
 		var tasks []mesos.TaskInfo
 		left := mesos.Resources(o.Resources)
+		own := f.executor(&left)
 		for len(f.finished)+len(f.running)+len(tasks) < *wanted {
 			found := resources.Find(need, left...)
 			if found == nil {
@@ -157,7 +159,11 @@ func (f *framework) offers(ctx context.Context, e *scheduler.Event) error {
 			left.Subtract(found...)
 			id := fmt.Sprintf("%s-%d", *prefix, f.launched)
 			f.launched++
-			tasks = append(tasks, mesos.TaskInfo{Name: id, TaskID: mesos.TaskID{Value: id}, AgentID: o.AgentID, Resources: found, Command: &mesos.CommandInfo{Value: command}})
+			task := mesos.TaskInfo{Name: id, TaskID: mesos.TaskID{Value: id}, AgentID: o.AgentID, Resources: found}
+			if task.Command = &(mesos.CommandInfo{Value: command}); own != nil {
+				task.Command, task.Executor, task.Data = nil, own, []byte(*command)
+			}
+			tasks = append(tasks, task)
 		}
 		for _, t := range tasks {
 			f.running[t.TaskID.Value], f.agents[t.TaskID.Value] = true, o.AgentID.Value
@@ -172,6 +178,17 @@ func (f *framework) offers(ctx context.Context, e *scheduler.Event) error {
 		}
 	}
 	return nil
+}
+
+// executor takes the resources of the custom executor out of an offer, or returns nil where commands run without one. The executor is the same
+// for all tasks; where it runs already, its resources stay in the offer.
+func (f *framework) executor(left *mesos.Resources) *mesos.ExecutorInfo {
+	if *runner == "" {
+		return nil
+	}
+	found := resources.Find(mesos.Resources{resources.NewCPUs(0.05).Resource, resources.NewMemory(16).Resource}, *left...)
+	left.Subtract(found...)
+	return &mesos.ExecutorInfo{Type: mesos.ExecutorInfo_CUSTOM, ExecutorID: mesos.ExecutorID{Value: "e"}, Command: &mesos.CommandInfo{Value: runner}, Resources: found}
 }
 
 func idsOf(tasks []mesos.TaskInfo, agent string) map[string]string {

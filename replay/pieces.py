@@ -42,7 +42,7 @@ class Pieces:
     """Where the lines of a journal come from: a file, or pieces that are joined."""
 
     def __init__(self, name):
-        self.name, self.first_lines, self.paths = name, [], []
+        self.name, self.first_lines, self.paths, self.state = name, [], [], None
 
     def join(self, paths, target):
         """Writes pieces to an open file, one after the other."""
@@ -60,9 +60,13 @@ class Pieces:
             except OSError as error:
                 raise Failed(f"{path}: cannot be read: {error.strerror or error}") from None
 
+    def piece_of(self, line):
+        """Returns the place of the piece that has a line. A line after the last one is in the last piece."""
+        return bisect_right(self.first_lines, line - 1) - 1
+
     def place(self, line):
         """Returns the place of a line that is counted from 1 over all pieces, such as `day.journal line 82`."""
         if not self.paths:
             return f"{self.name} line {line}"
-        piece = bisect_right(self.first_lines, line - 1) - 1
+        piece = self.piece_of(line)
         return f"{self.paths[piece]} line {line - self.first_lines[piece]}"

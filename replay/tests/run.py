@@ -1,9 +1,11 @@
 """Outside the proof. Runs the tests of drf-replay. Expected values are worked out by hand, or come from a simulation that knows the demand."""
 import gzip
+import hashlib
 import json
 import os
 import re
 import resource
+import shutil
 import subprocess
 import sys
 import tempfile
@@ -396,6 +398,122 @@ def test_bad_pieces(room):
     room.write("pieces/j.2.gz", gzip.compress(b"".join(lines[6:15]) + b'{"ok":false}\n'))
     said = room.replay("pieces", status=3)
     assert said == "drf-replay: pieces/j.2.gz line 10: the reply is missing, cut or wrong; the lines before its event are a good journal, replay those", said
+
+
+# An archive, as the service writes it (serve/README.md): for each segment a header, the state, the audit and the journal, and a digest.
+
+
+def written_segment(number, previous, begin, journal, state=b"", kept=1, ends=False, chunk=64 << 10):
+    """Returns the file of a segment whose journal begins after (messages, lines, bytes), and where the next one begins."""
+    count = journal.count(b"\n") // 2
+    end = begin[0] + 1, begin[1] + count, begin[2] + len(journal)
+    audit = b'{"message":%d}\n' % end[0]
+    body = state + audit + journal
+    names = "messages", "lines", "bytes"
+    header = {"archive": 1, "segment": number, "previous": previous, "kept": kept, "from": dict(zip(names, begin)), "to": dict(zip(names, end)), "first_at": 0, "last_at": 0,
+              "epoch": 0, "ends_epoch": ends, "state_bytes": len(state), "audit_bytes": len(audit), "journal_bytes": len(journal),
+              "chunks": [hashlib.sha256(body[place:place + chunk]).hexdigest()[:8] for place in range(0, len(body), chunk)]}
+    text = json.dumps(header, separators=(",", ":")).encode() + b"\n" + body
+    return text + b'{"sha256":"' + hashlib.sha256(text).hexdigest().encode() + b'"}\n', end
+
+
+def archive(room, journal, events, has_states=True, gap_before=None, epoch_after=None):
+    """Writes an archive of a journal in segments of so many events, each with the state before it, and returns its folder."""
+    os.makedirs(f"{room.path}/archive")
+    lines, previous, end = journal.splitlines(keepends=True), "", (0, 0, 0)
+    for number, place in enumerate(range(0, len(lines), 2 * events), 1):
+        part, state = b"".join(lines[place:place + 2 * events]), b""
+        if has_states and place:
+            state = subprocess.run([DRF, "save"], input=b"".join(lines[:place]), capture_output=True, check=True).stdout
+        if number == gap_before:
+            end = end[0] + 5, *end[1:]
+        text, end = written_segment(number, previous, end, part, state, ends=number == epoch_after)
+        previous = hashlib.sha256(text).hexdigest()
+        room.write(f"archive/{number:08d}.segment", text)
+    room.write("archive/lock", b"")
+    return f"{room.path}/archive"
+
+
+def test_archives(room):
+    journal = busy_day()
+    whole = room.report(room.write("day.journal", journal), "--set-weight", "web=4")
+    folder = archive(room, journal, 500)
+    assert len(os.listdir(folder)) == 7  # 2542 events in segments of 500, and the lock
+    again = room.report(folder, "--set-weight", "web=4")
+    again["journal"]["name"] = whole["journal"]["name"]
+    assert again == whole
+    # From a segment on, it is the rest of the journal with the state before it.
+    lines = journal.splitlines(keepends=True)
+    state = subprocess.run([DRF, "save"], input=b"".join(lines[:2000]), capture_output=True, check=True).stdout
+    for words, rest in {"3-": lines[2000:], "3-4": lines[2000:4000]}.items():
+        want = room.report(room.write("rest.journal", b"".join(rest)), "--from", room.write("day.state", state))
+        found = room.report(folder, "--segments", words)
+        found["journal"]["name"] = want["journal"]["name"]
+        assert found == want, words
+    assert room.report("archive", "--segments", "-2")["journal"]["events"] == 1000
+    for words in (["--segments", "0-2"], ["--segments", "4-3"], ["--segments", "2-9"]):
+        assert room.replay("archive", *words, status=3).startswith("drf-replay: archive: has the segments 1 to 6, not "), words
+    assert room.replay("archive", "--segments", "x", status=2) == "drf-replay: --segments x: expected FIRST-LAST, FIRST- or -LAST"
+    assert room.replay("archive", "--from", "day.state", status=2) == "drf-replay: --from: an archive has its own states"
+    assert room.replay("day.journal", "--segments", "1-2", status=2) == "drf-replay: --segments 1-2: day.journal is no archive"
+
+
+def test_damaged_archives(room):
+    folder = archive(room, hand(), 4)  # 18 events in 5 segments
+    whole = {name: open(f"{folder}/{name}", "rb").read() for name in os.listdir(folder)}
+    third = whole["00000003.segment"]
+
+    def said(name, text):
+        """What is said when one of the segments has another text, or is missing."""
+        if text is None:
+            os.remove(f"{folder}/{name}")
+        else:
+            room.write(f"archive/{name}", text)
+        message = room.replay("archive", status=3)
+        room.write(f"archive/{name}", whole[name])
+        return message.removeprefix("drf-replay: archive/")
+
+    for place in range(0, len(third), 13):
+        message = said("00000003.segment", third[:place] + bytes([third[place] ^ 8]) + third[place + 1:])
+        assert message.startswith("00000003.segment"), (place, message)
+    for place in range(0, len(third), 97):
+        assert said("00000003.segment", third[:place]).startswith("00000003.segment"), place
+    start = third.index(b"\n") + 1
+    assert said("00000003.segment", third[:start + 30] + b"x" + third[start + 31:]) == f"00000003.segment: damaged or cut at byte {start}, or up to 65536 bytes after it"
+    assert said("00000003.segment", None) == "00000003.segment: missing"
+    assert said("00000001.segment", None) == "00000001.segment: missing: the archive was kept from it on when segment 5 was written"
+    assert said("00000003.segment", whole["00000002.segment"]) == "00000003.segment line 1: it is segment 2: its file was renamed"
+    other, _ = written_segment(3, "0" * 64, (2, 8, 0), b"")
+    assert said("00000003.segment", other) == "00000003.segment line 1: does not follow archive/00000002.segment: that has another SHA-256"
+    assert said("00000003.segment", other.replace(b'"archive":1', b'"archive":2')) == "00000003.segment line 1: the format 2 is not known; expected 1"
+    # A wrong reply in a segment whose digests are right, at its line in the file: the header, the state, the audit, and five lines before it.
+    lines = hand().splitlines(keepends=True)
+    bad = b"".join([*lines[16:21], b'{"ok":false}\n', *lines[22:24]])
+    header = json.loads(third[:start])
+    state = third[start:start + header["state_bytes"]]
+    begin = tuple(header["from"][it] for it in ("messages", "lines", "bytes"))
+    text, _ = written_segment(3, header["previous"], begin, bad, state)
+    room.write("archive/00000003.segment", text)
+    message = room.replay("archive", "--segments", "1-3", status=3)
+    line = 1 + state.count(b"\n") + 1 + 6
+    assert message == f"drf-replay: archive/00000003.segment line {line}: the reply is missing, cut or wrong; the lines before its event are a good journal, replay those", message
+    assert text.splitlines()[line - 1] == b'{"ok":false}'
+
+
+def test_archives_in_parts(room):
+    journal = hand()
+    archive(room, journal, 6, gap_before=2)
+    said = room.replay("archive", status=3)
+    assert said == "drf-replay: archive/00000002.segment line 1: messages 2 to 6 were never archived; replay the segments before or after them with --segments FIRST-LAST", said
+    assert room.report("archive", "--segments", "-1")["journal"]["events"] == 6
+    assert room.report("archive", "--segments", "2-")["journal"]["events"] == 12
+    shutil.rmtree(f"{room.path}/archive")
+    archive(room, journal, 6, epoch_after=1)
+    assert room.replay("archive", status=3).startswith("drf-replay: archive/00000002.segment line 1: an epoch begins; replay the segments before it, or from it on, with ")
+    shutil.rmtree(f"{room.path}/archive")
+    archive(room, journal, 6, has_states=False)
+    assert role_in(room.report("archive"), "a")["before"]["tasks"] == 3
+    assert room.replay("archive", "--segments", "2-", status=3) == "drf-replay: archive/00000002.segment: begins without a state; begin at another one with --segments FIRST-LAST"
 
 
 def test_journals_without_cycles(room):

@@ -199,6 +199,13 @@ def verify(programs, folder, *words):
     return run(programs.gateway, "verify-archive", *words, folder)
 
 
+def replay(programs, *words):
+    """The same of a replay of a journal."""
+    program = os.path.join(os.path.dirname(os.path.abspath(__file__)), "..", "..", "replay", "drf-replay")
+    done = subprocess.run([program, "--quiet", "--json", *words], capture_output=True, text=True, check=False, env={**os.environ, "DRF": programs.drf})
+    return done.returncode, done.stdout, done.stderr
+
+
 def archived(gateway):
     return gateway.status()["archive"]
 
@@ -240,6 +247,14 @@ def test_archive(programs):
         last = json.loads(open(os.path.join(g.folder, "archived"), encoding="utf-8").read())
         assert code == 0 and "good: segments 1 to " in told and "messages 1 to " in told and ", and 0 messages were not checked" in told and '"role":"r1"' in journal, told
         assert verify(programs, folder, "-last", last["sha256"])[0] == 0
+        # drf-replay takes the archive, one epoch at a time
+        code, _, told = replay(programs, folder)
+        assert code == 3 and ".segment line 1: an epoch begins; replay the segments before it" in told, told
+        begins = int(told.partition(".segment line 1: ")[0][-8:])
+        code, report, told = replay(programs, folder, "--segments", f"-{begins - 1}")
+        with open(os.path.join(folder, f"{begins - 1:08d}.segment"), encoding="utf-8") as file:
+            events = json.loads(file.readline())["to"]["lines"]
+        assert code == 0 and json.loads(report)["journal"]["events"] == events > 400, told
         # damage has a status of its own, and names the segment
         names = sorted(name for name in os.listdir(folder) if name.endswith(".segment"))
         path = os.path.join(folder, names[len(names) // 2])

@@ -102,6 +102,7 @@ func readOptions(arguments []string) (*options, error) {
 	flags.DurationVar(&o.mesos.AgentGone, "mesos-agent-gone", o.mesos.AgentGone, "how long an agent of Mesos' may be away until it is removed and its tasks are lost")
 	flags.DurationVar(&o.mesos.GatewayGrace, "mesos-gateway-grace", o.mesos.GatewayGrace, "how long a framework of Mesos' may take to come again when its gateway ended, if its failover_timeout is less")
 	flags.DurationVar(&o.mesos.Silence, "mesos-silence", o.mesos.Silence, "how long the machine of an agent or a framework of Mesos' may acknowledge nothing until its stream ends")
+	flags.IntVar(&o.mesos.MaxFrameworks, "mesos-max-frameworks", o.mesos.MaxFrameworks, "frameworks of one principal, with those that are away (0: no limit)")
 	flags.DurationVar(&o.mesos.MaxRefuse, "mesos-max-refuse", o.mesos.MaxRefuse, "greatest refuse_seconds of frameworks of Mesos'")
 	flags.BoolVar(&o.version, "version", false, "print the version, and end")
 	if err := usage.Parse(flags, arguments, "[FLAG..]", "token add|list|revoke ..", "credentials [FLAG..] FILE [RIGHT..]", "import [FLAG..] FILE", "shadow [FLAG..] URL",
@@ -128,7 +129,7 @@ func readOptions(arguments []string) (*options, error) {
 		{o.allocator.SnapshotMessages < 1, fmt.Sprintf("-save-every %d: expected at least 1", o.allocator.SnapshotMessages)},
 		{o.allocator.EpochLines < 1 || o.allocator.EpochLines > 1<<32-1, fmt.Sprintf("-epoch-every %d: expected 1 to 4294967295", o.allocator.EpochLines)},
 		{o.limits.Requests < 0 || o.limits.Bytes < 0 || o.limits.Lines < 0 || o.limits.Streams < 0, "-limit-..: expected 0 or more"},
-		{o.mesos.AgentGone < time.Second || o.mesos.Silence < time.Second || o.mesos.GatewayGrace < 0 || o.mesos.MaxRefuse < 0, "-mesos-..: expected at least 1s for -mesos-agent-gone and -mesos-silence, and no negative times"},
+		{o.mesos.AgentGone < time.Second || o.mesos.Silence < time.Second || o.mesos.GatewayGrace < 0 || o.mesos.MaxRefuse < 0 || o.mesos.MaxFrameworks < 0, "-mesos-..: expected at least 1s for -mesos-agent-gone and -mesos-silence, and nothing negative"},
 		{o.limits.Burst <= 0, fmt.Sprintf("-limit-burst %v: expected more than 0s", o.limits.Burst)},
 	} {
 		if check.isWrong {

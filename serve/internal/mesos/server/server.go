@@ -33,11 +33,13 @@ type Config struct {
 	AgentGone    time.Duration // after which an agent without a link is removed
 	MaxRefuse    time.Duration // for which an offer may be refused
 	Silence      time.Duration // after which a stream ends whose caller's machine acknowledges nothing
+
+	MaxFrameworks int // of one principal, or 0 for no limit
 }
 
-// DefaultConfig returns the usual times.
+// DefaultConfig returns the usual times and limits.
 func DefaultConfig() Config {
-	return Config{GatewayGrace: time.Minute, AgentGone: 75 * time.Second, MaxRefuse: time.Minute, Silence: 20 * time.Second}
+	return Config{GatewayGrace: time.Minute, AgentGone: 75 * time.Second, MaxRefuse: time.Minute, Silence: 20 * time.Second, MaxFrameworks: 256}
 }
 
 // Server answers calls from what the registry has.

@@ -193,6 +193,8 @@ func (s *Server) subscribeMessage(id, stream string, sub mesos.Subscription, sup
 	s.state.Read(func() {
 		f := s.state.Frameworks[id]
 		switch {
+		case f == nil && s.hasManyFrameworks(sub.Principal):
+			err = refuseSubscription("The principal '%s' has %d frameworks, which is the most that one may have: tear some down, or subscribe with their ids", sub.Principal, s.config.MaxFrameworks)
 		case f == nil:
 			m.add("add_framework", "framework", sub.Name, "roles", sub.Roles)
 		case f.Principal != sub.Principal:
@@ -216,6 +218,18 @@ func (s *Server) subscribeMessage(id, stream string, sub mesos.Subscription, sup
 		}
 	})
 	return m, err
+}
+
+// hasManyFrameworks reports whether a principal has as many frameworks as it may have, with those that are away: one principal must not fill
+// the allocator's table.
+func (s *Server) hasManyFrameworks(principal string) bool {
+	count := 0
+	for _, f := range s.state.Frameworks {
+		if f.Principal == principal {
+			count++
+		}
+	}
+	return s.config.MaxFrameworks > 0 && count >= s.config.MaxFrameworks
 }
 
 // run writes a framework's stream until it ends, and then lets the registry know.

@@ -142,14 +142,14 @@ MESOS = [
 
 
 @test
-def the_output_of_a_task_is_linked_to_its_agent(browser, room):
+def the_sandbox_of_a_task_is_linked_to_its_agent(browser, room):
     agent = {"row": "mesos_agent", "agent": "n1", "host": "host1", "port": 5051, "connected": True}
     details = [agent, *MESOS[:1], {**MESOS[1], "executor": "my executor"}]
     links = "return [...document.querySelectorAll('#tasks-list tbody a[target]')].map(a => [a.textContent, a.href, a.rel])"
     own = StandIn(stand_in.small_rows(), "operate", details=details)
     open_list(browser, own, "tasks")
-    path = "http://host1:5051/files/read?offset=0&path=%2Fframeworks%2Fuuid-0001%2Fexecutors%2Fmy%20executor%2Fruns%2Flatest%2F"
-    browser.wait("the links", lambda: browser.run(links) == [["stdout", path + "stdout", "noopener noreferrer"], ["stderr", path + "stderr", "noopener noreferrer"]])
+    path = "http://host1:5051/sandbox#/frameworks/uuid-0001/executors/my%20executor/runs/latest"
+    browser.wait("the links", lambda: browser.run(links) == [[name, path + more, "noopener noreferrer"] for name, more in (("files", "/"), ("stdout", "/stdout"), ("stderr", "/stderr"))])
     own.end()
     own = StandIn(stand_in.small_rows(), details=details)
     open_list(browser, own, "tasks")

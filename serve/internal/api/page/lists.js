@@ -105,16 +105,15 @@ function outputOf(t) {
   const agent = t.mesos && mayOperate() ? view.cluster?.agentOf.get(t.agent)?.link : null;
   if (!agent?.port || !/^[\w.:-]+$/.test(agent.host || "")) return "";
   const host = agent.host.includes(":") ? `[${agent.host}]` : agent.host;
-  const path = `/frameworks/${t.mesos.id}/executors/${t.mesos.executor}/runs/latest/`;
-  return `${location.protocol}//${host}:${agent.port}/files/read?offset=0&path=${encodeURIComponent(path)}`;
+  return `${location.protocol}//${host}:${agent.port}/sandbox#/frameworks/${encodeURIComponent(t.mesos.id)}/executors/${encodeURIComponent(t.mesos.executor)}/runs/latest`;
 }
 function drawOutput(td, t) {
   const to = outputOf(t);
   if (td.to === to) return;
   td.to = to;
-  td.replaceChildren(...(to ? ["stdout", "stderr"] : []).flatMap(name => {
+  td.replaceChildren(...(to ? [["files", "/"], ["stdout", "/stdout"], ["stderr", "/stderr"]] : []).flatMap(([name, path]) => {
     const a = make("a", "", name);
-    Object.assign(a, {href: to + name, target: "_blank", rel: "noopener noreferrer"});
+    Object.assign(a, {href: to + path, target: "_blank", rel: "noopener noreferrer"});
     a.setAttribute("aria-label", `${name} of task ${visible(taskName(t))}, in a new tab`);
     return [a, " "];
   }));
@@ -130,7 +129,7 @@ export function taskList(options = {}) {
     {key: "role", label: "Role", sort: t => t.role, text: t => visible(t.role)},
     {key: "agent", label: "Agent", sort: t => natural(t.agent || ""), update: (td, t) => follow(td, "agents", t.agent || "")},
     {key: "state", label: "State", isOptional: true, sort: taskState, text: taskState},
-    {key: "output", label: "Output", isOptional: true, sort: t => outputOf(t), update: drawOutput},
+    {key: "sandbox", label: "Sandbox", isOptional: true, sort: t => outputOf(t), update: drawOutput},
     {key: "cpus", label: "Uses", sort: t => amountOf(t.use, "cpus"), first: true, text: t => t.use ? cut(bundle(t.use), 120) + (t.shared ? " (shared)" : "") : ""},
     {key: "act", label: "Actions", isHidden: true, as: "act",
       update: (td, t) => act(td, killable(t) && mayKill(t), "Kill", `Kill task ${taskName(t)}`, () => confirm(actions.kill(t.mesos)))},

@@ -77,6 +77,9 @@ var endpoints = map[string]endpoint{
 	"/monitor/statistics": {http.MethodGet, "read", (*Server).statistics},
 	"/files/browse":       {http.MethodGet, "operate", (*Server).browse},
 	"/files/read":         {http.MethodGet, "operate", (*Server).read},
+	"/sandbox":            {http.MethodGet, "operate", viewerFile("sandbox.html", "text/html")}, // so that a browser asks for a token
+	"/sandbox.js":         {http.MethodGet, "", viewerFile("sandbox.js", "text/javascript")},
+	"/sandbox.css":        {http.MethodGet, "", viewerFile("sandbox.css", "text/css")},
 	"/health":             {http.MethodGet, "", func(*Server, http.ResponseWriter, *http.Request) error { return nil }},
 	"/version": {http.MethodGet, "", func(_ *Server, w http.ResponseWriter, _ *http.Request) error {
 		return sendJSON(w, object{"version": version})

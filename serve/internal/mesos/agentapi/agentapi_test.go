@@ -282,6 +282,10 @@ func TestRefusals(t *testing.T) {
 		{"GET", "/files/browse?path=" + file, "operate", "", nil, 404, "is not found"},
 		{"GET", "/files/download?path=" + file, "operate", "", nil, 404, "there is no /files/download"},
 		{"GET", "/health", "", "", nil, 200, ""},
+		{"GET", "/sandbox", "read", "", nil, 403, "no right to operate"},
+		{"GET", "/sandbox", "operate", "", nil, 200, `<script type="module" src="/sandbox.js"></script>`},
+		{"GET", "/sandbox.js", "", "", nil, 200, "addEventListener"},
+		{"GET", "/sandbox.html", "operate", "", nil, 404, "there is no /sandbox.html"},
 	} {
 		w := s.ask(c.method, c.path, c.rights, c.body, c.headers...)
 		if w.Code != c.status || !strings.Contains(w.Body.String(), c.want) {

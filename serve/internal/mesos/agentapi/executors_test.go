@@ -56,6 +56,13 @@ func newExecutorServer(t *testing.T) (*Server, string) {
 			write(fmt.Sprintf("%s/update-%06d", task, n), codec.New("mesos.TaskStatus").Set("task_id.value", id).Set("state", state).Set("uuid", []byte(fmt.Sprintf("%016d", 10*k+n))).Set("timestamp", 7.5).Protobuf())
 		}
 	}
+	for k, id := range []string{"g1", "g2"} { // a group of two commands, whose default executor is d
+		one := codec.New("durzhanok.link.Task").Set("framework_id.value", "f").Set("launch", 9).Set("group", "g").Set("executor_id.value", "d")
+		one.Set("task_info.name", id).Set("task_info.task_id.value", id).Set("task_info.agent_id.value", "n").Set("task_info.command.value", "true")
+		task := fmt.Sprintf("tasks/k-%d", k)
+		write(task+"/task", one.Protobuf())
+		write(task+"/sandbox/stdout", []byte("output of "+id))
+	}
 	a, err := agent.New(agent.Config{Folder: folder, Name: "n", Gateways: []string{"http://127.0.0.1:1"}, Info: codec.New("mesos.AgentInfo").Set("hostname", "h")})
 	if err != nil {
 		t.Fatal(err)
@@ -78,7 +85,9 @@ func TestExecutors(t *testing.T) {
 		{"GET_TASKS", keys{"get_tasks", "terminated_tasks", 0, "state"}, "TASK_FINISHED"},
 		{"GET_EXECUTORS", keys{"get_executors", "executors", 0, "executor_info", "name"}, "the executor"},
 		{"GET_EXECUTORS", keys{"get_executors", "executors", 0, "executor_info", "framework_id", "value"}, "f"},
-		{"GET_EXECUTORS", keys{"get_executors", "executors", 1}, nil},
+		{"GET_EXECUTORS", keys{"get_executors", "executors", 1, "executor_info", "executor_id", "value"}, "g1"},
+		{"GET_EXECUTORS", keys{"get_executors", "executors", 3}, nil},
+		{"GET_TASKS", keys{"get_tasks", "launched_tasks", 1, "executor_id", "value"}, "d"},
 		{"GET_FRAMEWORKS", keys{"get_frameworks", "frameworks", 0, "framework_info", "name"}, "fw"},
 		{"GET_CONTAINERS", keys{"get_containers", "containers"}, nil}, // it does not run
 	} {
@@ -91,7 +100,7 @@ func TestExecutors(t *testing.T) {
 		path keys
 		want interface{}
 	}{
-		{keys{"roles", 0}, "web"}, {keys{"name"}, "fw"}, {keys{"executors", 0, "id"}, "e"}, {keys{"executors", 1}, nil},
+		{keys{"roles", 0}, "web"}, {keys{"name"}, "fw"}, {keys{"executors", 0, "id"}, "e"}, {keys{"executors", 2, "directory"}, folder + "/tasks/k-1/sandbox"},
 		{keys{"executors", 0, "directory"}, folder + "/executors/" + keyOf(5, "f", "e") + "/sandbox"},
 		{keys{"executors", 0, "queued_tasks", 0, "id"}, "t0"}, {keys{"executors", 0, "tasks", 0, "id"}, "t1"}, {keys{"executors", 0, "completed_tasks", 0, "id"}, "t2"},
 		{keys{"executors", 0, "resources", "cpus"}, 2.5}, // its own 0.5, and 1 of each task that has not ended
@@ -100,9 +109,11 @@ func TestExecutors(t *testing.T) {
 			t.Errorf("%v: %v, want %v", c.path, got, c.want)
 		}
 	}
-	w := s.ask("GET", "/files/read?offset=0&path=/frameworks/f/executors/e/runs/latest/stdout", "", "")
-	if at(w.Body.Bytes(), "data") != "output of e" {
-		t.Errorf("%d %s", w.Code, w.Body)
+	for path, want := range map[string]string{"e/runs/latest/stdout": "output of e", "g1/runs/latest/stdout": "output of g1", "d/runs/latest/tasks/g1/stdout": "output of g1",
+		"d/runs/latest/tasks/g2/stdout": "output of g2"} {
+		if w := s.ask("GET", "/files/read?offset=0&path=/frameworks/f/executors/"+path, "", ""); at(w.Body.Bytes(), "data") != want {
+			t.Errorf("%s: %d %s", path, w.Code, w.Body)
+		}
 	}
 	if w := s.ask("GET", "/files/read?offset=0&path=/frameworks/f/executors/e/runs/latest/../token", "", ""); w.Code != 404 {
 		t.Errorf("%d %s", w.Code, w.Body)

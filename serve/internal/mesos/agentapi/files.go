@@ -33,18 +33,23 @@ func (s *Server) locate(name string) (box, inside string, err error) {
 		}
 		return "", "", notFound(name)
 	}
-	parts := strings.SplitN(strings.TrimPrefix(clean, "/"), "/", 7) // frameworks/ID/executors/ID/runs/latest/..
-	if len(parts) >= 6 && parts[0] == "frameworks" && parts[2] == "executors" && parts[4] == "runs" {
-		for _, one := range s.view().boxes {
-			if one.framework == parts[1] && one.executor == parts[3] && (one.key == parts[5] || parts[5] == "latest") {
-				box = one.path // the latest is the last
-			}
-		}
-		if box != "" {
-			return box, strings.Join(parts[6:], "/"), nil
+	parts := strings.Split(strings.TrimPrefix(clean, "/"), "/") // frameworks/ID/executors/ID/runs/latest/.., and in a group tasks/ID/..
+	if len(parts) < 6 || parts[0] != "frameworks" || parts[2] != "executors" || parts[4] != "runs" {
+		return "", "", notFound(name)
+	}
+	for _, one := range s.view().boxes { // the latest is the last
+		switch isRun := parts[5] == "latest" || parts[5] == one.key; {
+		case one.framework != parts[1]:
+		case one.executor == parts[3] && isRun:
+			box, inside = one.path, strings.Join(parts[6:], "/")
+		case one.group == parts[3] && len(parts) >= 8 && parts[6] == "tasks" && one.executor == parts[7]:
+			box, inside = one.path, strings.Join(parts[8:], "/")
 		}
 	}
-	return "", "", notFound(name)
+	if box == "" {
+		return "", "", notFound(name)
+	}
+	return box, inside, nil
 }
 
 func notFound(name string) error {

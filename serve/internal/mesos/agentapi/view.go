@@ -10,8 +10,8 @@ import (
 	"gateway/internal/mesos/codec"
 )
 
-// box is a sandbox and whose it is.
-type box struct{ framework, executor, key, path string }
+// box is a sandbox and whose it is. A command has one of its own, also in a group, where its default executor has an id.
+type box struct{ framework, executor, group, key, path string }
 
 // container is a process that runs, of a command or of an executor.
 type container struct {
@@ -32,19 +32,21 @@ type view struct {
 func (s *Server) view() *view {
 	v := &view{agent: s.agent, folder: s.agent.Folder(), seen: s.agent.Tasks(), own: s.agent.Executors()}
 	for _, e := range v.own {
-		v.boxes = append(v.boxes, box{e.Executor.Text("framework_id.value"), e.Executor.Text("executor_info.executor_id.value"), e.Key, e.Sandbox})
+		v.boxes = append(v.boxes, box{e.Executor.Text("framework_id.value"), e.Executor.Text("executor_info.executor_id.value"), "", e.Key, e.Sandbox})
 	}
 	for _, t := range v.seen {
 		if t.IsCommand {
-			v.boxes = append(v.boxes, box{t.Task.Text("framework_id.value"), t.Executor, t.Key, t.Sandbox})
+			v.boxes = append(v.boxes, box{t.Task.Text("framework_id.value"), taskID(t), t.Task.Text("executor_id.value"), t.Key, t.Sandbox})
 		}
 	}
 	return v
 }
 
+// taskID returns the id of a task, which as a command is shown as its own executor.
+func taskID(t agent.Seen) string { return t.Task.Text("task_info.task_id.value") }
+
 func nameOf(t agent.Seen) string {
-	info := t.Task.Sub("task_info")
-	return "Command Executor (Task: " + info.Text("task_id.value") + ") (Command: sh -c '" + info.Text("command.value") + "')"
+	return "Command Executor (Task: " + taskID(t) + ") (Command: sh -c '" + t.Task.Text("task_info.command.value") + "')"
 }
 
 // taskMessage writes a task.
@@ -52,7 +54,7 @@ func taskMessage(t agent.Seen) codec.Message {
 	info := t.Task.Sub("task_info")
 	m := codec.New("mesos.Task").Set("name", info.Text("name")).Set("task_id", info.Sub("task_id")).Set("framework_id", t.Task.Sub("framework_id")).
 		Set("agent_id", info.Sub("agent_id")).Set("state", t.State)
-	if !t.IsCommand {
+	if !t.IsCommand || t.Task.Has("executor_id") {
 		m.Set("executor_id.value", t.Executor)
 	}
 	for _, one := range info.List("resources") {
@@ -80,9 +82,8 @@ func (v *view) tasks() codec.Message {
 // commandExecutor writes a command as the executor that Mesos has for it.
 func commandExecutor(t agent.Seen) codec.Message {
 	info := t.Task.Sub("task_info")
-	m := codec.New("mesos.ExecutorInfo").Set("executor_id.value", t.Executor).Set("framework_id", t.Task.Sub("framework_id")).Set("name", nameOf(t)).
-		Set("source", t.Executor).Set("command", info.Sub("command"))
-	return m
+	return codec.New("mesos.ExecutorInfo").Set("executor_id.value", taskID(t)).Set("framework_id", t.Task.Sub("framework_id")).Set("name", nameOf(t)).
+		Set("source", taskID(t)).Set("command", info.Sub("command"))
 }
 
 func (v *view) executors() codec.Message {
@@ -155,7 +156,7 @@ func (v *view) running() (list []container) {
 	}
 	for _, t := range v.seen {
 		if t.IsCommand && t.Supervisor > 0 {
-			list = append(list, container{t.Task.Text("framework_id.value"), t.Executor, nameOf(t), t.Key, t.Sandbox, t.Supervisor, t.Task.List("task_info.resources")})
+			list = append(list, container{t.Task.Text("framework_id.value"), taskID(t), nameOf(t), t.Key, t.Sandbox, t.Supervisor, t.Task.List("task_info.resources")})
 		}
 	}
 	return list

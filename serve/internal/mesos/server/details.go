@@ -94,7 +94,7 @@ func (s *Server) Details(context.Context) (details []api.Detail, err error) {
 func (s *Server) detailOf(kept named, f *mesos.Framework, t *mesos.Task) api.Detail {
 	one := api.Detail{Row: "mesos_task", Framework: f.Name, ID: f.ID, Task: t.Task, Agent: t.Agent, State: t.State, Killing: t.IsKilling && !mesos.IsTerminal(t.State),
 		Name: s.names.of(kept, fmt.Sprintf("task %s %s %d", f.ID, t.Task, t.Number), text("mesos.TaskInfo", "name", t.Info))}
-	if one.Executor = t.Executor; one.Executor == "" { // a command is its own executor
+	if one.Executor = t.Executor; one.Executor == "" || len(t.ExecutorInfo) == 0 { // a command has a sandbox of its own, also in a group
 		one.Executor = t.Task
 	}
 	if t.Last != nil {

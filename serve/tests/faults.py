@@ -368,7 +368,7 @@ def test_states(programs):
         assert g.ask("/drf/v1/report")[1] == report
         assert g.send({"event": "decline", "framework": "site", "offer": offer["offer"]}) == [{"ok": True}]
         text = g.ask("/drf/v1/journal")[1]
-        state = os.path.join(g.folder, f"state.{min(int(name[6:]) for name in os.listdir(g.folder) if name.startswith('state.')):08d}")
+        state = os.path.join(g.folder, f"state.{min(int(name[6:]) for name in os.listdir(g.folder) if name.startswith('state.') and name[6:].isdigit()):08d}")
         assert os.path.exists(state) and text
 
 

@@ -191,6 +191,41 @@ def test_audit(programs):
         assert audit(one, "event=set_limit&role=web") == pages[0]
 
 
+def test_settings(programs):
+    """Who set what is set is known at each gateway, also when its message is pruned, and at a gateway that lost its folder."""
+    with Fleet("outer", programs.gateway, programs.drf, "-cycle", "0", save_every=20) as fleet:
+        one, other = fleet.gateways
+
+        def settings(gateway, words):
+            status, text, _ = gateway.ask("/drf/v1/settings?" + words, name="eye")
+            assert status == 200, text
+            return json.loads(text)["settings"]
+
+        assert wait(lambda: all(len(members(g, "gateways")) == 2 for g in fleet.gateways)), one.status()
+        one.send({"event": "set_limit", "role": "eng", "limit": "cpus:1"}, AGENT, {"event": "deactivate_agent", "agent": "n1"}, name="ops")
+        other.send({"event": "set_limit", "role": "eng", "limit": "x"}, name="admin")  # refused: it sets nothing
+        for n in range(150):
+            one.send({"event": "set_weight", "role": f"r{n % 3}", "weight": "2"})
+        assert wait(lambda: one.status()["state"] >= 4, 20), one.status()
+        assert audit(one, "event=set_limit")["records"] == []  # its message is pruned
+        found, = settings(one, "event=set_limit&role=eng")
+        assert (found["name"], found["address"], found["message"], found["line"], found["text"]) == ("ops", "127.0.0.1", 1, 1, '{"event":"set_limit","limit":"cpus:1","role":"eng"}'), found
+        assert [s["event"] for s in settings(one, "agent=n1")] == ["deactivate_agent", "add_agent"] and len(settings(one, "event=set_weight")) == 3 and len(settings(one, "limit=2")) == 2
+        fleet.agreed()
+        assert settings(other, "") == settings(one, "")
+        other.kill()
+        shutil.rmtree(other.folder)
+        other.start()
+        other.until_ready()
+        assert settings(other, "event=set_limit&role=eng") == [found]
+        one.kill()  # whatever it had not written
+        one.start()
+        one.until_ready()
+        assert settings(one, "") == settings(other, "")
+        for words, name, want in (("", "site", 403), ("name=x", "eye", 400), ("limit=0", "eye", 400)):
+            assert one.ask("/drf/v1/settings?" + words, name=name)[0] == want, words
+
+
 def limits(count, start=0):
     return [{"event": "set_limit", "role": f"r{n}", "limit": "cpus:1"} for n in range(start, start + count)]
 

@@ -133,6 +133,9 @@ func (o *options) serve(ctx context.Context) error {
 	if marked := journal.Mark(); err == nil {
 		err = marked
 	}
+	if saved := journal.Settings.Save(); err == nil {
+		err = saved
+	}
 	return err
 }
 
@@ -352,9 +355,9 @@ func silentDetails(sessions *session.Manager) api.DetailSource {
 	}
 }
 
-// markEachSecond makes durable how much of the journal was answered.
+// markEachSecond makes durable how much of the journal was answered, and from time to time who set what.
 func markEachSecond(ctx context.Context, journal *allocator.Journal) {
-	for {
+	for second := 1; ; second++ {
 		select {
 		case <-time.After(time.Second):
 		case <-ctx.Done():
@@ -362,6 +365,12 @@ func markEachSecond(ctx context.Context, journal *allocator.Journal) {
 		}
 		if err := journal.Mark(); err != nil {
 			log.Print(err)
+		}
+		if second%10 != 0 {
+			continue
+		}
+		if err := journal.Settings.Save(); err != nil {
+			log.Printf("who set what cannot be written: %v", err)
 		}
 	}
 }

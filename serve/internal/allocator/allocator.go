@@ -60,6 +60,7 @@ func (epochError) Error() string { return "an epoch begins" }
 func (a *Allocator) Run(ctx context.Context) error {
 	for ctx.Err() == nil {
 		started := time.Now()
+		a.adoptSettings(ctx)
 		from, revision, err := a.snapshots.start(ctx)
 		if err == nil {
 			err = a.journal.begin(from)

@@ -11,6 +11,7 @@ import (
 	"fmt"
 	"hash"
 	"io"
+	"log"
 	"os"
 	"path/filepath"
 	"sync"
@@ -25,16 +26,19 @@ import (
 // Journal is made from the list alone: each child of the allocator writes it again, from a snapshot on. Bytes are counted from the first that
 // ever was. What was answered must come again, after a restart too: the file `answered`, which is durable, has its length and digest.
 type Journal struct {
-	Audit *audit.Log // who sent the messages
+	Audit    *audit.Log      // who sent the messages
+	Settings *audit.Settings // and who set what is set
 
-	folder   string
-	mu       sync.RWMutex
-	file     *os.File
-	base     int64     // the byte that the file begins with
-	kept     int64     // the first byte that is not pruned
-	end      int64     // of what is written
-	sum      hash.Hash // of all bytes before the end
-	answered answered
+	folder string
+	mu     sync.RWMutex
+
+	lacksSettings bool // there was no file
+	file          *os.File
+	base          int64     // the byte that the file begins with
+	kept          int64     // the first byte that is not pruned
+	end           int64     // of what is written
+	sum           hash.Hash // of all bytes before the end
+	answered      answered
 }
 
 // answered is how much of the journal was once written, and its digest.
@@ -46,6 +50,10 @@ type answered struct {
 // OpenJournal returns the journal of a data folder. It has no content before an allocator runs.
 func OpenJournal(folder string) (*Journal, error) {
 	j := &Journal{Audit: audit.NewLog(folder), folder: folder, sum: sha256.New()}
+	var broken error
+	if j.Settings, j.lacksSettings, broken = audit.OpenSettings(filepath.Join(folder, "settings")); broken != nil {
+		log.Printf("%v: who set what is read from etcd", broken)
+	}
 	text, err := os.ReadFile(filepath.Join(folder, "answered"))
 	if err == nil {
 		err = json.Unmarshal(text, &j.answered)

@@ -200,6 +200,7 @@ func (a *Allocator) deliver(block []byte, done []*inFlight) error {
 		}
 		new = append(new, now)
 		records = append(records, audit.NewRecord(&f.Message, now.Messages, before.Lines+1, before.Bytes, now.Bytes-before.Bytes, f.lines, f.replies))
+		a.journal.Settings.Apply(&records[len(records)-1], f.lines, f.replies)
 		a.registry.Apply(&registry.Message{Number: now.Messages, Revision: f.Revision.Main, Last: f.Last, At: f.At, Key: f.Key, Note: f.Note,
 			Lines: f.lines, Replies: f.replies, Took: time.Since(f.fed)})
 	}
@@ -210,6 +211,7 @@ func (a *Allocator) deliver(block []byte, done []*inFlight) error {
 		if err := a.journal.checkWhole(); err != nil {
 			return err
 		}
+		a.journal.Settings.DropAfter(now.Messages)
 	}
 	a.positions.add(new, isWhole)
 	a.waiting.Add(-int64(len(new)))

@@ -253,6 +253,9 @@ func (s *snapshots) make(ctx context.Context, marked oplog.Snapshot, registry []
 	s.mu.Unlock()
 	if isFirst {
 		log.Printf("snapshot %d: message %d, %d bytes", marked.Number, marked.Messages, len(text)+len(registry))
+		if fault := a.shareSettings(ctx); fault != nil {
+			log.Print(fault)
+		}
 		err = s.prune(ctx, last)
 	}
 	a.positions.forget(last.Revision)

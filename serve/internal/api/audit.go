@@ -36,6 +36,24 @@ func (q *request) audit() error {
 	return out.Encode(page)
 }
 
+// settings writes who set what the cluster has now, the newest first.
+func (q *request) settings() error {
+	query := q.r.URL.Query()
+	for name := range query {
+		if !isSettingParameter[name] {
+			return refusal(http.StatusBadRequest, "%q: expected event, agent, framework, role or limit", name)
+		}
+	}
+	f, err := auditFilter(query)
+	if err != nil {
+		return err
+	}
+	q.w.Header().Set("Content-Type", "application/json")
+	out := json.NewEncoder(q.w)
+	out.SetEscapeHTML(false)
+	return out.Encode(map[string]interface{}{"settings": q.Journal.Settings.Find(f.Event, f.Fields, f.Limit)})
+}
+
 // auditBlocks returns the records that this gateway has: first what only its archive has, then what is beside the journal.
 func (q *request) auditBlocks() []audit.Block {
 	live := q.Journal.Audit.Blocks(q.Journal)
@@ -90,6 +108,8 @@ func auditFilter(query url.Values) (f audit.Filter, err error) {
 
 var isAuditParameter = map[string]bool{"from": true, "to": true, "name": true, "address": true, "cause": true, "event": true, "agent": true, "framework": true,
 	"role": true, "task": true, "answer": true, "limit": true, "before": true}
+
+var isSettingParameter = map[string]bool{"event": true, "agent": true, "framework": true, "role": true, "limit": true}
 
 // timeOf reads a parameter that is a number of milliseconds, a time, or a day in UTC, and returns milliseconds, or 0 where there is none.
 func timeOf(query url.Values, name string) (int64, error) {

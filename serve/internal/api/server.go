@@ -122,6 +122,7 @@ var calls = map[string]call{
 	Prefix + "state":                  {http.MethodGet, "read", (*request).state, whenReady},
 	Prefix + "explain":                {http.MethodGet, "read", (*request).explain, whenReady},
 	Prefix + "audit":                  {http.MethodGet, "read", (*request).audit, whenReady},
+	Prefix + "settings":               {http.MethodGet, "read", (*request).settings, whenReady},
 	Prefix + "journal":                {http.MethodGet, "read", (*request).readJournal, whenReady},
 	Prefix + "replies":                {http.MethodGet, "read", (*request).replies, whenReady},
 	Prefix + "status":                 {http.MethodGet, "read", (*request).status, whenCutOff},

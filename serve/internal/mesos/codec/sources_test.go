@@ -12,6 +12,7 @@ import (
 	"google.golang.org/protobuf/proto"
 	"google.golang.org/protobuf/reflect/protodesc"
 	"google.golang.org/protobuf/reflect/protoreflect"
+	"google.golang.org/protobuf/reflect/protoregistry"
 	"google.golang.org/protobuf/types/descriptorpb"
 )
 
@@ -52,8 +53,9 @@ func numbers(file protoreflect.FileDescriptor) map[string]string {
 	return found
 }
 
-// No number is from memory: each field and each value has the number, type and default that Debian's mesos-go has, and none is missing.
-func TestNumbersAreThoseOfMesosGo(t *testing.T) {
+// mesosGoFiles returns files of Debian's mesos-go.
+func mesosGoFiles(t *testing.T, names ...string) *protoregistry.Files {
+	t.Helper()
 	root := "/usr/share/gocode/src"
 	if _, err := os.Stat(filepath.Join(root, mesosGo)); err != nil {
 		t.Skip("mesos-go is not installed: apt-get install golang-github-mesos-mesos-go-dev")
@@ -62,7 +64,6 @@ func TestNumbersAreThoseOfMesosGo(t *testing.T) {
 		t.Skip("protoc is not installed: apt-get install protobuf-compiler")
 	}
 	out := filepath.Join(t.TempDir(), "out")
-	names := []string{"mesos.proto", "scheduler/scheduler.proto", "executor/executor.proto"}
 	arguments := []string{"-I", root, "--include_imports", "-o", out}
 	for _, name := range names {
 		arguments = append(arguments, mesosGo+name)
@@ -82,6 +83,13 @@ func TestNumbersAreThoseOfMesosGo(t *testing.T) {
 	if err != nil {
 		t.Fatal(err)
 	}
+	return theirs
+}
+
+// No number is from memory: each field and each value has the number, type and default that Debian's mesos-go has, and none is missing.
+func TestNumbersAreThoseOfMesosGo(t *testing.T) {
+	names := []string{"mesos.proto", "scheduler/scheduler.proto", "executor/executor.proto"}
+	theirs := mesosGoFiles(t, names...)
 	for _, name := range names {
 		their, err := theirs.FindFileByPath(mesosGo + name)
 		if err != nil {

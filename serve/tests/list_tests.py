@@ -240,3 +240,32 @@ def members_and_who_lags_are_shown(browser, room):
         ["a", "leader", "3.4", "0", "7 GiB of 8 GiB, 87.5%"], ["b", "NOSPACE", "3.4", "7", "1 MiB of 8 GiB, 0.0%"], ["c", "not reachable", "", "–", "–"]])
     equal("console", browser.console(), [])
     own.end()
+
+
+# What a screen reader goes by: ids that are there twice, headings that skip a level, what has no name, cells without headers, and landmarks.
+STRUCTURE = """
+const all = selector => [...document.querySelectorAll(selector)].filter(e => e.checkVisibility());
+const ids = [...document.querySelectorAll('[id]')].map(e => e.id), levels = all('h1, h2, h3, h4').map(e => Number(e.tagName[1]));
+const name = e => (e.getAttribute('aria-label') || e.textContent || e.title || '').trim() || [...e.labels || []].map(l => l.textContent).join('').trim();
+const refers = ['aria-labelledby', 'aria-describedby', 'for'].flatMap(key => [...document.querySelectorAll('[' + key + ']')].map(e => e.getAttribute(key)));
+return {
+  twice: ids.filter((id, k) => ids.indexOf(id) !== k), skipped: levels.filter((n, k) => k && n > levels[k - 1] + 1), nameless: all('button, a, input, select, canvas, [role=img]').filter(e => !e.ariaHidden && !name(e)).map(e => e.outerHTML.slice(0, 80)),
+  dangling: refers.filter(id => !document.getElementById(id)), headers: all('thead th').filter(e => e.scope !== 'col').length + all('tbody tr').filter(row => row.cells[0].scope !== 'row').length,
+  captions: all('table').filter(t => !t.caption?.textContent).length, landmarks: ['header', 'nav', 'main', 'footer'].map(tag => all(tag + (tag === 'nav' ? '[aria-label]' : '')).length > 0), language: document.documentElement.lang,
+}"""
+
+
+@test
+def the_structure_is_sound_for_screen_readers(browser, room):
+    own = StandIn(stand_in.small_rows(), "operate", details=MESOS)
+    own.show(stand_in.small_rows(), members=MEMBERS)
+    own.answers["/drf/v1/audit"] = (200, {"records": [{"message": 7, "at": 1795860000000, "name": "ops", "address": "10.0.0.7", "events": {"cycle": 1}, "refused": 0}]})
+    browser.enter(own.url, TOKEN)
+    browser.wait("the cluster", lambda: browser.text("#n-agents") == "4")
+    for page in ("overview", "agents/n1", "frameworks/site", "tasks", "offers", "members", "audit"):
+        browser.show(page)
+        browser.wait(page, lambda: browser.run("return [...document.querySelectorAll('#content > section tbody tr')].some(e => e.checkVisibility())"))
+        equal(page, browser.run(STRUCTURE), {"twice": [], "skipped": [], "nameless": [], "dangling": [], "headers": 0, "captions": 0, "landmarks": [True] * 4, "language": "en"})
+    equal("who sent it", browser.run("return [...document.querySelectorAll('#audit-table tbody tr')].map(row => [...row.cells].map(c => c.textContent))"),
+          [["28 Nov 2026, 10:00:00 UTC", "ops", "10.0.0.7", "1 cycle", "7"]])
+    own.end()

@@ -2,14 +2,13 @@
 import {$, make, say} from "./dom.js";
 import {told} from "./feed.js";
 import {call} from "./gateway.js";
-import {cut, plain, plural, visible} from "./text.js";
+import {cut, plain, plural, stamp, visible} from "./text.js";
 
 const fields = ["event", "agent", "framework", "role", "task", "name"];
 const kinds = ["set_limit", "set_weight", "reserve", "unreserve", "add_agent", "set_agent", "activate_agent", "deactivate_agent", "remove_agent", "add_framework", "remove_framework",
   "accept", "decline", "rescind", "finish", "suppress", "revive", "cycle"];
 let asked = 0;
 
-const whenOf = at => new Date(at).toLocaleString("en-GB", {timeZoneName: "short"});
 // The lines that were asked for in words, or how many events of each kind there are.
 function whatOf(r) {
   if (r.matches?.length) return r.matches.slice(0, 5).map(m => { const t = told(m.text, JSON.stringify(m.reply)); return t.text + (t.refused ? ` (${t.refused})` : ""); })
@@ -17,7 +16,7 @@ function whatOf(r) {
   return [Object.entries(r.events).map(([kind, n]) => `${plain(n)} ${kind}`).join(", ") + (r.refused ? `, ${plain(r.refused)} refused` : "") || visible(r.call || "")];
 }
 function rowOf(r) {
-  const tr = make("tr"), when = make("th", "", whenOf(r.at)), what = make("td");
+  const tr = make("tr"), when = make("th", "", stamp(r.at)), what = make("td");
   when.scope = "row";
   for (const text of whatOf(r)) what.append(make("div", "", text));
   const who = make("td", "", visible(r.name || (r.cause ? `the gateways (${r.cause})` : "not known")));

@@ -121,7 +121,7 @@ export function drawFramework() {
   if (!f) { frameworkPanel.gone(name, "There is no such framework."); return; }
   const asleep = f.clients.filter(k => k.suppressed).map(k => k.role);
   frameworkPanel.draw(titleOf(f), [
-    ["Roles", visible(f.clients.map(k => k.role).join(", "))], ["Used", `${percent(f.usedPart)} of the cluster's ${f.of || "resources"}`], ["Offered", percent(f.offeredPart)],
+    ["Roles", visible(f.clients.map(k => k.role).join(", "))], ["Used", `${percent(f.usedPart)} of the cluster`], ["Offered", percent(f.offeredPart)], ["Dominant", f.of],
     ["Offers received", plain(f.count)], ["History", history("framework", f.name)], ["Suppressed in", visible(asleep.join(", "))],
     ["Mesos id", f.link ? visible(f.link.id) : ""], ["Principal", f.link?.principal ? visible(f.link.principal) : ""],
     ["Stream ended", f.link && !f.link.connected && f.link.since ? moment(f.link.since) : ""],

@@ -4,7 +4,7 @@ import {bar, button, make, say} from "./dom.js";
 import {silentSince} from "./model.js";
 import {mayFramework, mayOperate, view} from "./state.js";
 import {List} from "./table.js";
-import {ago, bundle, byRank, cut, moment, natural, percent, pieces, plain, short, visible} from "./text.js";
+import {ago, bundle, byRank, cut, moment, natural, percent, pieces, plain, short, stamp, visible} from "./text.js";
 
 export const link = (page, name) => "#" + page + "/" + encodeURIComponent(name);
 export function anchor(page, name, text = name) {
@@ -27,7 +27,7 @@ export const stateText = a => {
 export const now = () => view.status?.at || Date.now();
 export function stateTitle(a) {
   const since = silentSince(a);
-  return since ? "since " + new Date(since).toLocaleString("en-GB", {timeZoneName: "short"}) : "";
+  return since ? "since " + stamp(since) : "";
 }
 const bad = new Set(["silent", "no link"]);
 export function drawState(td, a) {

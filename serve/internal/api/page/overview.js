@@ -134,7 +134,7 @@ function newTreeRow(node) {
   name.scope = "row";
   e.append(name, make("td", "part", p.track), p.used, p.offered, p.weighted, p.limit, p.set);
   [...e.cells].forEach((cell, k) => cell.setAttribute("role", k ? "cell" : "rowheader"));
-  [p.used, p.offered, p.weighted].forEach((cell, k) => { cell.dataset.label = ["used", "offered", "share by weight"][k]; });
+  [p.used, p.offered, p.weighted].forEach((cell, k) => { cell.dataset.label = ["used", "offered", "by weight"][k]; });
   return e;
 }
 function updateTreeRow(e, node, whole) {

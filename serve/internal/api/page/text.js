@@ -22,6 +22,9 @@ const dated = new Intl.DateTimeFormat("en-GB", {weekday: "short", day: "numeric"
 const clock = new Intl.DateTimeFormat("en-GB", {hour: "2-digit", minute: "2-digit", second: "2-digit", timeZoneName: "short"});
 // The date, and the time with its zone.
 export const dateAndZone = ms => isDate(ms) ? [dated.format(ms), clock.format(ms)] : ["", plain(ms) + " ms"];
+const stamped = new Intl.DateTimeFormat("en-GB", {day: "numeric", month: "short", year: "numeric", hour: "2-digit", minute: "2-digit", second: "2-digit", timeZoneName: "short"});
+// A date, a time and its zone.
+export const stamp = ms => isDate(ms) ? stamped.format(ms) : plain(ms) + " ms";
 export function span(ms) {
   const rounded = unit => plain(Math.round(10 * ms / unit) / 10);
   return ms < 1000 ? plain(ms) + " ms" : ms < 120000 ? rounded(1000) + " s" : ms < 7200000 ? rounded(60000) + " min" : rounded(3600000) + " h";

@@ -103,6 +103,7 @@ func readOptions(arguments []string) (*options, error) {
 	flags.DurationVar(&o.mesos.GatewayGrace, "mesos-gateway-grace", o.mesos.GatewayGrace, "how long a framework of Mesos' may take to come again when its gateway ended, if its failover_timeout is less")
 	flags.DurationVar(&o.mesos.Silence, "mesos-silence", o.mesos.Silence, "how long the machine of an agent or a framework of Mesos' may acknowledge nothing until its stream ends")
 	flags.IntVar(&o.mesos.MaxFrameworks, "mesos-max-frameworks", o.mesos.MaxFrameworks, "frameworks of one principal, with those that are away (0: no limit)")
+	flags.Var((*size)(&o.mesos.MaxBytes), "mesos-max-bytes", "size of what the frameworks of one principal have in the state: descriptions of live tasks, statuses that are not acknowledged (0: no limit)")
 	flags.DurationVar(&o.mesos.MaxRefuse, "mesos-max-refuse", o.mesos.MaxRefuse, "greatest refuse_seconds of frameworks of Mesos'")
 	flags.BoolVar(&o.version, "version", false, "print the version, and end")
 	if err := usage.Parse(flags, arguments, "[FLAG..]", "token add|list|revoke ..", "credentials [FLAG..] FILE [RIGHT..]", "import [FLAG..] FILE", "shadow [FLAG..] URL",

@@ -5,6 +5,7 @@ package mesos
 import (
 	"strings"
 	"testing"
+	"time"
 )
 
 func TestFrameworksOfOnePrincipal(t *testing.T) {
@@ -19,4 +20,30 @@ func TestFrameworksOfOnePrincipal(t *testing.T) {
 	s.subscribe("q", other, frameworkInfo)
 	second.call(202, `{"type":"TEARDOWN"}`)
 	s.subscribe("p", token, frameworkInfo)
+}
+
+func TestStateOfOnePrincipal(t *testing.T) {
+	s := newService(t, 1, 0, "-mesos-max-bytes", "100KiB")
+	token, other := s.addToken("p", "role:web", "user:root"), s.addToken("q", "role:web", "user:root")
+	a := s.simulate("n1", scalar("cpus", "4"))
+	a.next("REGISTERED")
+	c := s.subscribe("p", token, frameworkInfo)
+	long := commandField + `,"labels":{"labels":[{"key":"k","value":"` + strings.Repeat("x", 60<<10) + `"}]}`
+	c.call(202, launchCall(c.offer(), "n1", taskInfo("one", "n1", "1", long)))
+	run := at(a.next("RUN"), "tasks", 0)
+	a.report(run, "TASK_FINISHED", 1)
+	status := at(c.next("UPDATE"), "update", "status") // which is not acknowledged yet
+	offer := c.offer()
+	if text := c.call(429, launchCall(offer, "n1", taskInfo("two", "n1", "1", long))); !strings.Contains(text, "'p' have 102400 bytes") {
+		t.Error(text)
+	}
+	big := strings.Replace(frameworkInfo, "{", `{"hostname":"`+strings.Repeat("x", 60<<10)+`",`, 1)
+	if e := s.listen("/api/v1/scheduler", "p", token, `{"type":"SUBSCRIBE","subscribe":{"framework_info":`+big+`}}`).next("ERROR"); !strings.Contains(jsonOf(e), "102400 bytes") {
+		t.Error(e)
+	}
+	s.subscribe("q", other, big)
+	c.call(202, jsonOf(object{"type": "ACKNOWLEDGE", "acknowledge": object{"agent_id": object{"value": "n1"}, "task_id": at(status, "task_id"), "uuid": at(status, "uuid")}}))
+	time.Sleep(2 * time.Second) // until the bytes are counted again
+	c.call(202, launchCall(offer, "n1", taskInfo("two", "n1", "1", long)))
+	a.next("RUN")
 }

@@ -77,6 +77,13 @@ func (s *Server) accept(ctx context.Context, f *framework, call codec.Message) e
 			return err
 		}
 	}
+	more := int64(0)
+	for k := range a.note.Launches {
+		more += a.note.Launches[k].Bytes()
+	}
+	if more > 0 && !s.budget.take(f.Principal, more) {
+		return api.Refuse(http.StatusTooManyRequests, "%s; nothing of this call was done", s.overBudget(f.Principal))
+	}
 	return s.putAccept(ctx, a, s.refusal(call.Sub("accept.filters")))
 }
 

@@ -34,12 +34,13 @@ type Config struct {
 	MaxRefuse    time.Duration // for which an offer may be refused
 	Silence      time.Duration // after which a stream ends whose caller's machine acknowledges nothing
 
-	MaxFrameworks int // of one principal, or 0 for no limit
+	MaxFrameworks int   // of one principal, or 0 for no limit
+	MaxBytes      int64 // of the state, for the frameworks of one principal, or 0 for no limit
 }
 
 // DefaultConfig returns the usual times and limits.
 func DefaultConfig() Config {
-	return Config{GatewayGrace: time.Minute, AgentGone: 75 * time.Second, MaxRefuse: time.Minute, Silence: 20 * time.Second, MaxFrameworks: 256}
+	return Config{GatewayGrace: time.Minute, AgentGone: 75 * time.Second, MaxRefuse: time.Minute, Silence: 20 * time.Second, MaxFrameworks: 256, MaxBytes: 64 << 20}
 }
 
 // Server answers calls from what the registry has.
@@ -53,6 +54,7 @@ type Server struct {
 	ready     func() error // nil while this gateway may append
 	session   string       // of this process, as owner of streams
 	ids       ids
+	budget    *budget
 	acks      chan mesos.Ack
 	silent    map[string]time.Time // owners of streams that do not run, and since when
 	since     time.Time            // when this gateway became ready, or zero while it is not
@@ -67,6 +69,10 @@ func New(config Config, log *oplog.Log, allocator *allocator.Allocator, registry
 		acks: make(chan mesos.Ack, 4096), silent: map[string]time.Time{}}
 	s.session = config.Name + "/" + random(8)
 	s.ids.prefix = uuid()
+	s.budget = &budget{max: config.MaxBytes, held: map[string]*held{}, count: func(principal string) (bytes int64) {
+		state.Read(func() { bytes = state.BytesOf(principal) })
+		return bytes
+	}}
 	return s
 }
 

@@ -143,10 +143,18 @@ func (s *Server) stream(c *api.Call, form codec.Form, call codec.Message) error 
 	}
 	info := call.Sub("subscribe.framework_info")
 	sub.Info = info.Set("id.value", id).Set("principal", sub.Principal).Protobuf()
-	wasRemoved := false
-	s.state.Read(func() { wasRemoved = s.state.WasRemoved(id) && s.state.Frameworks[id] == nil })
-	if wasRemoved {
+	wasRemoved, more := false, int64(len(sub.Info))
+	s.state.Read(func() {
+		f := s.state.Frameworks[id]
+		if wasRemoved = s.state.WasRemoved(id) && f == nil; f != nil {
+			more -= int64(len(f.Info))
+		}
+	})
+	switch {
+	case wasRemoved:
 		return refuseSubscription("Framework has been removed")
+	case more > 0 && !s.budget.take(sub.Principal, more):
+		return refuseSubscription("%s", s.overBudget(sub.Principal))
 	}
 	one := s.streams.add(uuid())
 	defer s.streams.remove(one)
@@ -218,6 +226,11 @@ func (s *Server) subscribeMessage(id, stream string, sub mesos.Subscription, sup
 		}
 	})
 	return m, err
+}
+
+// overBudget says that a principal may keep nothing more in the state.
+func (s *Server) overBudget(principal string) string {
+	return fmt.Sprintf("the frameworks of the principal '%s' have %d bytes in the state, and may have no more: acknowledge statuses, or end tasks", principal, s.config.MaxBytes)
 }
 
 // hasManyFrameworks reports whether a principal has as many frameworks as it may have, with those that are away: one principal must not fill

@@ -238,7 +238,9 @@ func TestOperatorWrites(t *testing.T) {
 	if configs := at(s.operate(200, `{"type":"GET_QUOTA"}`), "get_quota", "status", "configs").([]interface{}); len(configs) != 1 || at(configs, 0, "role") != "eng" {
 		t.Error(configs)
 	}
-	s.operate(200, `{"type":"UPDATE_QUOTA","update_quota":{"quota_configs":[{"role":"eng"}]}}`) // without limits it is removed
+	s.operate(400, `{"type":"UPDATE_QUOTA","update_quota":{"quota_configs":[{"role":"web","limits":{"cpus":{"value":0.5}}}]}}`) // 1 is in use
+	s.operate(200, `{"type":"UPDATE_QUOTA","update_quota":{"force":true,"quota_configs":[{"role":"web","limits":{"cpus":{"value":0.5}}}]}}`)
+	s.operate(200, `{"type":"UPDATE_QUOTA","update_quota":{"quota_configs":[{"role":"eng"},{"role":"web"}]}}`) // without limits they are removed
 	if configs := at(s.operate(200, `{"type":"GET_QUOTA"}`), "get_quota", "status", "configs"); configs != nil {
 		t.Error(configs)
 	}
@@ -264,9 +266,7 @@ func TestOperatorStream(t *testing.T) {
 		at(first, "subscribed", "get_state", "get_agents", "agents", 0, "agent_info", "id", "value") != "n1" || at(first, "subscribed", "get_state", "get_frameworks", "frameworks", 0, "framework_info", "id", "value") != c.id {
 		t.Fatalf("%v", first)
 	}
-	if e := <-l.events; e["type"] != "HEARTBEAT" {
-		t.Errorf("%v, want HEARTBEAT", e)
-	}
+	l.next("HEARTBEAT")
 	a.report(run, "TASK_FINISHED", 2)
 	if e := l.next("TASK_UPDATED"); at(e, "task_updated", "state") != "TASK_FINISHED" || at(e, "task_updated", "status", "task_id", "value") != "t1" || at(e, "task_updated", "framework_id", "value") != c.id {
 		t.Errorf("%v", e)

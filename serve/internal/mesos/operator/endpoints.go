@@ -101,6 +101,7 @@ func (o *Operator) postQuota(c *api.Call) error {
 	var request struct {
 		Guarantee []json.RawMessage          `json:"guarantee"`
 		Limits    map[string]json.RawMessage `json:"limits"`
+		Force     bool                       `json:"force"`
 	}
 	if err := json.Unmarshal(text, &request); err != nil {
 		return api.Refuse(http.StatusBadRequest, "Failed to parse set quota request JSON: %v", err)
@@ -112,7 +113,7 @@ func (o *Operator) postQuota(c *api.Call) error {
 	if err != nil || request.Limits == nil {
 		return api.Refuse(http.StatusBadRequest, "Failed to convert set quota request JSON into a protobuf: expected `role` and `limits` (%v)", err)
 	}
-	return done(c, http.StatusOK, o.setLimits(c.R.Context(), c, []codec.Message{config}))
+	return done(c, http.StatusOK, o.setLimits(c.R.Context(), c, []codec.Message{config}, request.Force))
 }
 
 // form reads the fields of a form.

@@ -136,14 +136,13 @@ func (r *rows) limit(role string) map[string]float64 {
 // isIn reports whether a role is another, or below it.
 func isIn(role, above string) bool { return role == above || strings.HasPrefix(role, above+"/") }
 
-// consumed returns what a role and those below it consume of its limit: unreserved resources that are held, and all that is reserved.
+// consumed returns what Mesos calls the consumption of a role and those below it: unreserved resources that tasks use, and all that is
+// reserved. To the allocator, offers count too.
 func (r *rows) consumed(role string) resources.Bundle {
 	all := resources.Bundle{}
-	for _, held := range []byRole{r.usedIn, r.offeredIn} {
-		for of, bundle := range held {
-			if isIn(of, role) {
-				all.Add(unreserved(bundle))
-			}
+	for of, bundle := range r.usedIn {
+		if isIn(of, role) {
+			all.Add(unreserved(bundle))
 		}
 	}
 	for of, bundle := range r.reserved() {

@@ -31,7 +31,7 @@ func TestRows(t *testing.T) {
 	if free := r.free("n1").Text(); free != "cpus:4;cpus(eng):1;mem:512;ports:[31000-31002,31004-31009]" {
 		t.Error(free)
 	}
-	if consumed := r.consumed("eng").Text(); consumed != "cpus:6;mem:512;ports:[31003-31003]" { // 1 + 3 unreserved and held, and 2 reserved
+	if consumed := r.consumed("eng").Text(); consumed != "cpus:3;ports:[31003-31003]" { // 1 that is unreserved and used, and 2 that are reserved
 		t.Error(consumed)
 	}
 	if limit := r.limit("eng"); !reflect.DeepEqual(limit, map[string]float64{"cpus": 6, "gpus": 0}) || r.weight("eng") != 2.5 || r.weight("other") != 1 || r.filters["eng/web"] != 1 {

@@ -124,11 +124,12 @@ func (o *Operator) setWeights(ctx context.Context, c *api.Call, infos []codec.Me
 const noGuarantees = "guarantees are not supported: this allocator has quota limits, and reservations set resources aside (RESERVE_RESOURCES)"
 
 func (o *Operator) updateQuota(ctx context.Context, c *api.Call, call codec.Message) error {
-	return o.setLimits(ctx, c, call.List("update_quota.quota_configs"))
+	return o.setLimits(ctx, c, call.List("update_quota.quota_configs"), call.Bool("update_quota.force"))
 }
 
-// setLimits sets the limits of roles. An empty list of limits removes those of its role.
-func (o *Operator) setLimits(ctx context.Context, c *api.Call, configs []codec.Message) error {
+// setLimits sets the limits of roles. An empty list of limits removes those of its role. One below what its role consumes needs force, as by
+// Mesos.
+func (o *Operator) setLimits(ctx context.Context, c *api.Call, configs []codec.Message, isForced bool) error {
 	if err := mayAppend(c, server.Line{"event": "set_limit"}); err != nil {
 		return err
 	}
@@ -156,7 +157,31 @@ func (o *Operator) setLimits(ctx context.Context, c *api.Call, configs []codec.M
 		sort.Strings(pieces)
 		lines = append(lines, server.Line{"event": "set_limit", "role": role, "limit": strings.Join(pieces, ";")})
 	}
+	if !isForced && len(configs) > 0 {
+		v, err := o.view(ctx)
+		if err != nil {
+			return err
+		}
+		if err := v.rows.checkLimits(configs); err != nil {
+			return err
+		}
+	}
 	return o.apply(ctx, c, lines...)
+}
+
+// checkLimits returns an error for a limit below what its role consumes.
+func (r *rows) checkLimits(configs []codec.Message) error {
+	for _, one := range configs {
+		role := one.Text("role")
+		consumed := scalars(r.consumed(role))
+		for name, limit := range one.Map("limits") {
+			if consumed[name] > limit.Float("value") {
+				return api.Refuse(http.StatusBadRequest, "Invalid QuotaConfig: Role '%s' is already consuming %v of '%s'; this exceeds the requested limit %v (use 'force' to bypass this check)",
+					role, consumed[name], name, limit.Float("value"))
+			}
+		}
+	}
+	return nil
 }
 
 func (o *Operator) setQuota(_ context.Context, c *api.Call, _ codec.Message) error {

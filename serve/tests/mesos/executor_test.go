@@ -214,7 +214,7 @@ func TestExecutorIsKilled(t *testing.T) {
 	for k, command := range []string{"exit 3", "sleep 1000"} { // which end, or never subscribe
 		offer, agent = c.offered()
 		id := fmt.Sprintf("e%d", k)
-		bad := `{"executor_id":{"value":"` + id + `"},"command":{"value":"` + command + `"}}`
+		bad := `{"executor_id":{"value":"` + id + `"},"command":{"value":"` + command + `"},"shutdown_grace_period":{"nanoseconds":300000000}}`
 		task := "b" + id
 		c.call(202, launchCall(offer, agent, executed(task, agent, "true", bad)))
 		if k == 1 {
@@ -308,7 +308,7 @@ func TestExecutorCalls(t *testing.T) {
 	c := s.subscribe("admin", s.token, frameworkInfo)
 	offer, agent := c.offered()
 	env := filepath.Join(s.folder, "env")
-	silent := `{"executor_id":{"value":"e"},"command":{"value":"env > ` + env + `.part; mv ` + env + `.part ` + env + `; sleep 1000"}}`
+	silent := `{"executor_id":{"value":"e"},"command":{"value":"env > ` + env + `.part; mv ` + env + `.part ` + env + `; sleep 1000"},"shutdown_grace_period":{"nanoseconds":300000000}}`
 	c.call(202, launchCall(offer, agent, executed("t1", agent, "x", silent)))
 	var variables map[string]string
 	for end := time.Now().Add(20 * time.Second); len(variables) == 0 && time.Now().Before(end); time.Sleep(20 * time.Millisecond) {
@@ -319,6 +319,9 @@ func TestExecutorCalls(t *testing.T) {
 				variables[name] = value
 			}
 		}
+	}
+	if grace := variables["MESOS_EXECUTOR_SHUTDOWN_GRACE_PERIOD"]; grace != "300ms" {
+		t.Errorf("the time of grace is %q", grace)
 	}
 	token := "Bearer " + variables["MESOS_EXECUTOR_AUTHENTICATION_TOKEN"]
 	s.urls[0] = "http://" + variables["MESOS_AGENT_ENDPOINT"]
@@ -418,6 +421,7 @@ func TestDefaultExecutor(t *testing.T) {
 	if at(last["g3"], "reason") != "REASON_AGENT_RESTARTED" || at(last["g2"], "executor_id", "value") != "e" {
 		t.Errorf("%v", last)
 	}
+	c.failure("e", 0.0)
 	s.waitFree(0)
 	for _, pid := range pids {
 		if about, _ := os.ReadFile(fmt.Sprintf("/proc/%d/stat", pid)); len(about) > 0 && !strings.Contains(string(about), ") Z ") {

@@ -125,7 +125,7 @@ func TestCredentials(t *testing.T) {
 	if err := os.WriteFile(file, []byte("marathon s3cret\nchronos s3cret\n"), 0o600); err != nil {
 		t.Fatal(err)
 	}
-	importer := exec.Command(filepath.Join(s.programs, "gateway"), "credentials", "-tokens", filepath.Join(s.folder, "g0", "tokens.json"), file, "role:web")
+	importer := exec.Command(filepath.Join(s.programs, "gateway"), "credentials", "-tokens", filepath.Join(s.folder, "g0", "tokens.json"), file, "role:web", "user:root")
 	if text, err := importer.CombinedOutput(); err != nil || !strings.Contains(string(text), "2 principals are in") || strings.Contains(string(text), "s3cret") {
 		t.Fatalf("%v %s", err, text)
 	}

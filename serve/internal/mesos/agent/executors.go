@@ -190,6 +190,8 @@ func mesosDuration(d time.Duration) string {
 
 // tend waits for the end of an executor, ends one that does not subscribe in time, and reports its end when those of its tasks are reported.
 func (a *Agent) tend(ctx context.Context, e *executor) {
+	ctx, cancel := context.WithCancel(ctx)
+	defer cancel()
 	go a.sendMessages(ctx, e)
 	isKilled := false
 	how := exit{}

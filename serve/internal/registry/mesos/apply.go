@@ -240,6 +240,7 @@ func (s *State) add(f *Framework, t *Task, status Status) {
 	if IsTerminal(t.State) {
 		s.Ended[t.State]++
 		s.leaveHolds(f, t.Holds)
+		s.endDefault(f, t)
 	}
 }
 

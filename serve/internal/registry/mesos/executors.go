@@ -132,3 +132,16 @@ func (s *State) executorsOn(agent string) (list []*ExecutorOf) {
 	}
 	return list
 }
+
+// endDefault reports the end of a default executor, which is that of its last task.
+func (s *State) endDefault(f *Framework, t *Task) {
+	if t.Group == "" || t.RunBy != 0 || s.Agents[t.Agent] == nil {
+		return
+	}
+	for _, other := range f.Tasks {
+		if other.Group != "" && other.Agent == t.Agent && other.Executor == t.Executor && !IsTerminal(other.State) {
+			return
+		}
+	}
+	s.toFramework(f, Event{Kind: "FAILURE", Agent: t.Agent, Executor: t.Executor})
+}

@@ -47,3 +47,24 @@ func TestStateOfOnePrincipal(t *testing.T) {
 	c.call(202, launchCall(offer, "n1", taskInfo("two", "n1", "1", long)))
 	a.next("RUN")
 }
+
+func TestStatusesOfOneTask(t *testing.T) {
+	s := newService(t, 1, 0)
+	a := s.simulate("n1", scalar("cpus", "4"))
+	a.next("REGISTERED")
+	c := s.subscribe("admin", s.token, frameworkInfo)
+	c.call(202, launchCall(c.offer(), "n1", taskInfo("t", "n1", "1", commandField)))
+	run := at(a.next("RUN"), "tasks", 0)
+	for k := byte(1); k <= 64; k++ {
+		a.report(run, "TASK_RUNNING", k)
+	}
+	if status, text := a.tryReport(run, "TASK_RUNNING", 65); status != 429 || !strings.Contains(text, `"t" has 64 statuses`) {
+		t.Error(status, text)
+	}
+	status := at(c.next("UPDATE"), "update", "status")
+	c.call(202, jsonOf(object{"type": "ACKNOWLEDGE", "acknowledge": object{"agent_id": object{"value": "n1"}, "task_id": at(status, "task_id"), "uuid": at(status, "uuid")}}))
+	c.next("UPDATE")
+	a.report(run, "TASK_RUNNING", 65)
+	a.report(run, "TASK_FINISHED", 66) // what the task used is free at once
+	c.offer()
+}

@@ -221,13 +221,20 @@ func scalar(name, value string) string {
 // report sends a status of a task that the agent got.
 func (a *simulated) report(task interface{}, state string, uuid byte) {
 	a.t.Helper()
+	if status, text := a.tryReport(task, state, uuid); status != http.StatusAccepted {
+		a.t.Fatalf("%s: %d %s", state, status, text)
+	}
+}
+
+// tryReport sends a status, and returns the answer.
+func (a *simulated) tryReport(task interface{}, state string, uuid byte) (int, string) {
+	a.t.Helper()
 	status := object{"task_id": at(task, "task_info", "task_id"), "state": state, "uuid": base64.StdEncoding.EncodeToString(bytes.Repeat([]byte{uuid}, 16))}
 	text := jsonOf(object{"type": "UPDATE", "agent_id": object{"value": a.id}, "framework_id": at(task, "framework_id"), "launch": at(task, "launch"), "status": status})
 	answer := a.s.request("/drf/v1/agent-link", "admin", a.s.token, text)
 	defer answer.Body.Close()
-	if body, _ := io.ReadAll(answer.Body); answer.StatusCode != http.StatusAccepted {
-		a.t.Fatalf("%s: %s %s", text, answer.Status, body)
-	}
+	body, _ := io.ReadAll(answer.Body)
+	return answer.StatusCode, string(body)
 }
 
 func launchCall(offer, agent, tasks string) string {

@@ -16,6 +16,8 @@ import (
 	"gateway/internal/registry/mesos"
 )
 
+const maxUnacked = 64 // statuses of a task that a gateway takes before its framework acknowledges one
+
 func (s *Server) link(c *api.Call) error {
 	call, err := read(c, "durzhanok.link.Call")
 	if err != nil {
@@ -185,12 +187,16 @@ func (s *Server) update(ctx context.Context, agent string, call codec.Message) e
 	status.Set("agent_id.value", agent)
 	m := &message{note: &mesos.Note{Kind: mesos.NoteStatus, Framework: call.Text("framework_id.value"), Task: task, Agent: agent, Launch: call.Int("launch"),
 		Status: &mesos.Status{State: state, UUID: status.Bytes("uuid"), Raw: status.Protobuf()}}}
+	isFull := false
 	s.state.Read(func() {
 		f := s.state.Frameworks[m.note.Framework]
-		if f == nil || f.Tasks[task] == nil || !mesos.IsTerminal(state) {
+		if f == nil || f.Tasks[task] == nil {
 			return
 		}
 		t := f.Tasks[task]
+		if isFull = len(t.Unacked) >= maxUnacked && !mesos.IsTerminal(state); isFull || !mesos.IsTerminal(state) {
+			return
+		}
 		if t.Number != m.note.Launch || t.Agent != agent || mesos.IsTerminal(t.State) {
 			return
 		}
@@ -200,6 +206,9 @@ func (s *Server) update(ctx context.Context, agent string, call codec.Message) e
 			}
 		}
 	})
+	if isFull { // the agent keeps it, and sends it again
+		return api.Refuse(http.StatusTooManyRequests, "the task %q has %d statuses that its framework did not acknowledge", task, maxUnacked)
+	}
 	_, err := s.put(ctx, m)
 	return err
 }

@@ -165,9 +165,9 @@ func randomCluster(random *rand.Rand) (state *stateDocument, weights, quota any)
 		}
 		var disks, ports resources.Value
 		for _, item := range []string{"sda", "sdb", "sdc"}[:random.Intn(4)] {
-			disks.AddItem(item)
+			disks.AddItems(item)
 		}
-		ports.AddRange(31000, 31000+uint64(random.Intn(9)))
+		ports.AddRanges(resources.Range{First: 31000, Last: 31000 + uint64(random.Intn(9))})
 		free.Add(resources.Bundle{{Name: "disks", Role: "*"}: disks, {Name: "ports", Role: "*"}: ports})
 		total, used, tasks := free.Copy(), map[string]resources.Bundle{}, 0
 		for try := random.Intn(45); try > 0; try-- {

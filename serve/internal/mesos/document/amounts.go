@@ -53,26 +53,29 @@ func (r *reader) parseSummary(v value, isSaid bool) (parsed resources.Value) {
 	switch {
 	case text == "" || text == "[]" || text == "{}":
 	case text[0] == '[' && text[len(text)-1] == ']':
+		var ranges []resources.Range
 		for _, one := range strings.Split(text[1:len(text)-1], ",") {
 			first, last, _ := strings.Cut(strings.TrimSpace(one), "-")
-			r.addRange(&parsed, v, r.port(v, first), r.port(v, last))
+			ranges = append(ranges, r.rangeOf(v, r.port(v, first), r.port(v, last)))
 		}
+		parsed.AddRanges(ranges...)
 	case text[0] == '{' && text[len(text)-1] == '}':
+		var items []string
 		for _, one := range strings.Split(text[1:len(text)-1], ",") {
-			parsed.AddItem(strings.TrimSpace(one))
+			items = append(items, strings.TrimSpace(one))
 		}
+		parsed.AddItems(items...)
 	default:
 		r.fail(v, "%q: expected a number, [FIRST-LAST, ..] or {ITEM, ..}", text)
 	}
 	return parsed
 }
 
-func (r *reader) addRange(parsed *resources.Value, v value, first, last uint64) {
+func (r *reader) rangeOf(v value, first, last uint64) resources.Range {
 	if first > last {
 		r.fail(v, "the range %d-%d ends before it begins", first, last)
-		return
 	}
-	parsed.AddRange(first, last)
+	return resources.Range{First: first, Last: last}
 }
 
 // port reads a number of a range.
@@ -129,13 +132,17 @@ func (r *reader) message(v value, isSaid bool) (key resources.Key, parsed resour
 	case "SCALAR":
 		parsed.Scalar = r.amount(v.field("scalar").field("value"), isSaid)
 	case "RANGES":
+		var ranges []resources.Range
 		for _, one := range v.field("ranges").field("range").list() {
-			r.addRange(&parsed, one, r.bound(one.field("begin")), r.bound(one.field("end")))
+			ranges = append(ranges, r.rangeOf(one, r.bound(one.field("begin")), r.bound(one.field("end"))))
 		}
+		parsed.AddRanges(ranges...)
 	case "SET":
+		var items []string
 		for _, one := range v.field("set").field("item").list() {
-			parsed.AddItem(one.required())
+			items = append(items, one.required())
 		}
+		parsed.AddItems(items...)
 	default:
 		r.fail(kind, "the type %q: expected SCALAR, RANGES or SET", kind.text())
 	}

@@ -25,11 +25,11 @@ type Value struct {
 
 func (v Value) isEmpty() bool { return v.Scalar == 0 && len(v.Ranges) == 0 && len(v.Items) == 0 }
 
-// AddRange adds the numbers from the first to the last.
-func (v *Value) AddRange(first, last uint64) { v.Ranges = joinRanges(v.Ranges, []Range{{first, last}}) }
+// AddRanges adds ranges, which may be in any order.
+func (v *Value) AddRanges(ranges ...Range) { v.Ranges = joinRanges(v.Ranges, ranges) }
 
-// AddItem adds an item.
-func (v *Value) AddItem(item string) { v.Items = joinItems(v.Items, []string{item}) }
+// AddItems adds items, which may be in any order.
+func (v *Value) AddItems(items ...string) { v.Items = joinItems(v.Items, items) }
 
 // Bundle is resources. An empty value is not in it.
 type Bundle map[Key]Value
@@ -162,15 +162,16 @@ func commonRanges(a, b []Range) (common []Range) {
 }
 
 func withoutRanges(a, b []Range) (rest []Range) {
+	j := 0
 	for _, r := range a {
-		for _, cut := range b {
-			if cut.Last < r.First || cut.First > r.Last {
-				continue
+		for j < len(b) && b[j].Last < r.First {
+			j++
+		}
+		for k := j; k < len(b) && b[k].First <= r.Last; k++ {
+			if b[k].First > r.First {
+				rest = append(rest, Range{r.First, b[k].First - 1})
 			}
-			if cut.First > r.First {
-				rest = append(rest, Range{r.First, cut.First - 1})
-			}
-			r.First = cut.Last + 1
+			r.First = b[k].Last + 1
 		}
 		if r.First <= r.Last {
 			rest = append(rest, r)

@@ -109,6 +109,8 @@ def who_is_silent_and_since_when(browser, room):
     browser.enter(own.url, TOKEN)
     browser.wait("a note", lambda: "3 agents are silent: n2, n3, n4." in browser.text("#notes"))
     holds("in numbers", "3 silent" in browser.text("#numbers"))
+    own.detail(*own.details, {"row": "mesos_framework", "framework": "site", "id": "uuid-0001", "name": "Marathon", "since": at - 60_000})
+    browser.wait("a framework too", lambda: "1 framework is disconnected: Marathon." in browser.text("#notes"))
     browser.run("document.querySelector('#notes a').click()")
     browser.wait("the silent ones", lambda: browser.texts(NAMES) == ["n2", "n3", "n4"])
     equal("since when", browser.texts("#agents-list .state"), ["silent", "no link, for 2 h", "silent, for 5 min"])

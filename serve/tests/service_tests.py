@@ -76,6 +76,21 @@ def shares_are_those_of_the_report(browser, room):
 
 
 @test
+def a_small_change_is_a_small_answer(browser, room):
+    service = room.start()
+    service.client().send(*[event("add_agent", agent=f"n{k}", total="cpus:8;mem:1024") for k in range(1000)])
+    whole = service.gateway.ask("/drf/v1/state?since=0")[1]
+    holds("all rows", len(json.loads(whole)["rows"]) == 1001)
+    time.sleep(1.1)  # a state is answered again within a second
+    service.client().send(event("deactivate_agent", agent="n500"))
+    change = json.loads(service.gateway.ask(f"/drf/v1/state?since={json.loads(whole)['message']}")[1])
+    new = [edit for edit in change["edits"] if isinstance(edit, dict) and edit["row"] == "agent"]
+    equal("the row that changed", new, [{"active": False, "agent": "n500", "row": "agent", "total": "cpus:8;mem:1024"}])
+    holds("and runs of rows that stay", len(change["edits"]) <= 4)
+    service.end()
+
+
+@test
 def hostile_lines_are_text(browser, room):
     service = room.service()
     browser.enter(service.url, service.tokens["eye"])

@@ -159,7 +159,7 @@ class StandIn:
             "journal": {"from": 0, "end": len(self.journal)}, "allocator": {"restarts": 0}, **status})
 
     def detail(self, *rows):
-        self.version += 1
+        self.version, self.details = self.version + 1, rows
         self.answers["/drf/v1/details"] = (200, {"version": str(self.version), "rows": list(rows)})
 
     def tell(self, line, reply):

@@ -53,15 +53,15 @@ func (s *service) waitDetails(t *testing.T, want ...string) {
 
 func TestDetails(t *testing.T) {
 	s := newService(t, 1, 0)
-	operator, reader := s.addToken("ops", "operate"), s.addToken("eye", "read") // before there are streams, which end when tokens are read
+	operator, reader, owner := s.addToken("ops", "operate"), s.addToken("eye", "read"), s.addToken("web", "role:web", "user:root") // before there are streams, which end when tokens are read
 	a := s.simulate("n1", scalar("cpus", "4")+","+scalar("mem", "1024"))
 	a.next("REGISTERED")
-	c := s.subscribe("admin", s.token, frameworkInfo)
+	c := s.subscribe("web", owner, frameworkInfo)
 	offer := at(c.next("OFFERS"), "offers", "offers", 0, "id", "value").(string)
 	c.call(202, launchCall(offer, "n1", taskInfo("t1", "n1", "1", commandField)))
 	run := at(a.next("RUN"), "tasks", 0)
 	name := at(parse(frameworkInfo), "name").(string)
-	framework := fmt.Sprintf(`"id":"%s","name":"%s","principal":"admin","row":"mesos_framework"`, c.id, name)
+	framework := fmt.Sprintf(`"id":"%s","name":"%s","principal":"web","row":"mesos_framework"`, c.id, name)
 	s.waitDetails(t, `{"agent":"n1","connected":true,"host":"host-n1","row":"mesos_agent"}`, framework, `"state":"TASK_STAGING","task":"t1"}`)
 	s.waitDetails(t, `"mesos_agent"`, framework, `{"agent":"n1","executor":"t1","framework"`)
 	a.report(run, "TASK_RUNNING", 1)
@@ -83,6 +83,8 @@ func TestDetails(t *testing.T) {
 		{"ops", operator, c.id, "t2", 404, `has no task "t2"`},
 		{"ops", operator, "", "t1", 400, "expected"},
 		{"ops", operator, c.id, "t1", 202, ""},
+		{"web", owner, c.id, "t1", 202, ""},
+		{"web", owner, "unknown", "t1", 403, "web has no right to operate"},
 	} {
 		if status, text := kill(one.principal, one.token, one.framework, one.task); status != one.status || !strings.Contains(text, one.want) {
 			t.Errorf("%s kills %q of %q: %d %s", one.principal, one.task, one.framework, status, text)

@@ -97,7 +97,8 @@ function drawLegend(c, measure) {
   $("map").setAttribute("aria-label", `Map of ${plural(c.agents.length, "agent")}: ${words}`);
   const uses = new Map(), offers = new Map(), count = (map, role) => { if (role) map.set(role, (map.get(role) || 0) + 1); };
   for (const a of c.agents) { count(uses, greatest(a.users)); count(offers, greatest(a.offerees)); }
-  const roles = c.roots.filter(node => uses.has(node.path) || offers.has(node.path)).slice(0, 8);
+  const all = c.roots.filter(node => uses.has(node.path) || offers.has(node.path)), roles = all.slice(0, 8);
+  say($("map-more"), all.length > roles.length ? `and ${plural(all.length - roles.length, "more role")}, in the same colours again` : "");
   keyed($("map-roles"), roles, node => node.path + node.hue, node => make("li", "", make("i", "swatch hue" + node.hue), make("span", "", visible(node.path)), make("span", "dim")), (e, node) => {
     say(e.children[2], [uses.get(node.path) ? `${plain(uses.get(node.path))} used` : "", offers.get(node.path) ? `${plain(offers.get(node.path))} offered` : ""].filter(w => w).join(", "));
   });

@@ -54,6 +54,8 @@ function notesOf(c) {
   const notes = [];
   const silent = c.agents.filter(isAway).map(a => a.name);
   if (silent.length) notes.push({bad: true, text: `${plural(silent.length, "agent is", "agents are")} silent: ${some(silent)}. `, to: silent.length === 1 ? link("agents", silent[0]) : "#agents?silent", label: "Show"});
+  const cut = c.frameworks.filter(f => f.link && !f.link.connected);
+  if (cut.length) notes.push({text: `${plural(cut.length, "framework is", "frameworks are")} disconnected: ${some(cut.map(f => f.link.name || f.name))}. `, to: cut.length === 1 ? link("frameworks", cut[0].name) : "#frameworks?disconnected", label: "Show"});
   for (const node of c.nodes.values()) {
     const full = [...node.limit || []].filter(([name, most]) => node.consumed.get(name) && node.consumed.get(name) >= most);
     if (full.length) notes.push({text: `${visible(node.path)} has consumed its limit of ${full.map(([name]) => name).join(", ")}.`});

@@ -81,12 +81,12 @@ func TestUsersAreNotSwitched(t *testing.T) {
 	a := s.process("a0", filepath.Join(s.programs, "agent"), "-gateways", s.urls[0], "-work", "a0", "-name", "a0", "-token-file", filepath.Join(s.folder, "g0", "admin.token"), "-resources", "cpus:2;mem:64", "-switch-user=false")
 	a.start()
 	c := s.subscribe("admin", s.token, strings.Replace(frameworkInfo, `"root"`, `"no-such-user"`, 1))
-	for k, one := range []struct{ user, state string }{{"", "TASK_FINISHED"}, {`,"user":"nobody"`, "TASK_ERROR"}} {
+	for k, one := range []struct{ user, state string }{{"", "TASK_FINISHED"}, {`,"user":"someone-else"`, "TASK_ERROR"}} {
 		offer, agent := c.offered()
 		id := []string{"t0", "t1"}[k]
 		c.call(202, launchCall(offer, agent, taskInfo(id, agent, "0.1", `,"command":{"value":"true"`+one.user+`}`)))
 		status := c.outcome(id)
-		if message, _ := at(status, "message").(string); at(status, "state") != one.state || one.user != "" && !strings.Contains(message, "'CommandInfo.user' is 'nobody': the agent does not run tasks as other users than its own") {
+		if message, _ := at(status, "message").(string); at(status, "state") != one.state || one.user != "" && !strings.Contains(message, "'CommandInfo.user' is 'someone-else': the agent does not run tasks as other users than its own") {
 			t.Errorf("%v", status)
 		}
 	}

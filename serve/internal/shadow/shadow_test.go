@@ -6,6 +6,7 @@ import (
 	"context"
 	"encoding/json"
 	"fmt"
+	"math/rand"
 	"os"
 	"reflect"
 	"strings"
@@ -34,7 +35,7 @@ type cluster struct {
 // document returns the answers of a master that has the cluster: a framework for each role.
 func (c cluster) document(t *testing.T) document.Answers {
 	t.Helper()
-	var slaves, frameworks []map[string]any
+	slaves, frameworks := []map[string]any{}, []map[string]any{}
 	place := map[string]int{}
 	for k, text := range c.agents {
 		isActive := !strings.HasPrefix(text, "!")
@@ -219,5 +220,50 @@ func TestCompareLarge(t *testing.T) {
 	}
 	if sum > 1 || sum < 0.99 {
 		t.Errorf("all have %v", sum)
+	}
+}
+
+// In random clusters no limit is exceeded, nothing is given twice, and tasks of the same demand are all there or said to find no place.
+func TestCompareRandom(t *testing.T) {
+	for seed := int64(0); seed < 25; seed++ {
+		random := rand.New(rand.NewSource(seed))
+		c := cluster{weights: map[string]float64{"a": float64(1 + random.Intn(3))}, limits: map[string]float64{"b": float64(random.Intn(20)), "c": float64(random.Intn(12))}}
+		total := 0
+		for k := 0; k < 1+random.Intn(5); k++ {
+			size := 1 + random.Intn(16)
+			total += size
+			c.agents = append(c.agents, fmt.Sprint(size))
+			for size > 0 && random.Intn(6) > 0 {
+				own := 1 + random.Intn(size)
+				size -= own
+				c.tasks = append(c.tasks, fmt.Sprintf("%s S%d %d", []string{"a", "b/x", "b/y", "c", "!d"}[random.Intn(5)], k, own))
+			}
+		}
+		read, err := document.Read(c.document(t))
+		if err != nil {
+			t.Fatal(err)
+		}
+		roles, err := Compare(context.Background(), program(t), read)
+		if err != nil {
+			t.Fatalf("seed %d: %v", seed, err)
+		}
+		same, fair := 0.0, 0.0
+		for _, role := range roles {
+			if limit, isSet := role.Limit["cpus"]; isSet && (role.Same.Resources["cpus"] > limit || role.Fair.Resources["cpus"] > limit) {
+				t.Errorf("seed %d: %+v exceeds its limit", seed, role)
+			}
+			if (role.Unmet == 0) != (role.Same.Resources["cpus"] == role.Mesos.Resources["cpus"]) || role.Same.Share > role.Mesos.Share {
+				t.Errorf("seed %d: %+v", seed, role)
+			}
+			if differs := role.Mesos.Share != role.Fair.Share || role.Unmet > 0; differs != (len(role.Why) > 0) {
+				t.Errorf("seed %d: %+v", seed, role)
+			}
+			if !strings.Contains(role.Role, "/") {
+				same, fair = same+role.Same.Resources["cpus"], fair+role.Fair.Resources["cpus"]
+			}
+		}
+		if same > float64(total) || fair > float64(total) {
+			t.Errorf("seed %d: %v and %v of %d cpus are given", seed, same, fair, total)
+		}
 	}
 }

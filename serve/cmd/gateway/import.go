@@ -99,7 +99,11 @@ func readAnswers(path string, in io.Reader, files map[string]*string) (answers d
 			return answers, err
 		}
 	}
-	for name, answer := range map[string]*document.Answer{"slaves": &answers.Slaves, "roles": &answers.Roles, "weights": &answers.Weights, "quota": &answers.Quota} {
+	for _, other := range []struct {
+		name   string
+		answer *document.Answer
+	}{{"slaves", &answers.Slaves}, {"roles", &answers.Roles}, {"weights", &answers.Weights}, {"quota", &answers.Quota}} {
+		name, answer := other.name, other.answer
 		path := *files[name]
 		if path == "" && folder == "" {
 			continue

@@ -134,6 +134,37 @@ func TestGone(t *testing.T) {
 	s.checkJournal(0)
 }
 
+// A machine that is drained and then away for long is still drained when it comes again, until it is reactivated.
+func TestDrainedMachineComesAgain(t *testing.T) {
+	s := newService(t, 1, 0, "-mesos-agent-gone", "1s")
+	c := s.subscribe("admin", s.token, frameworkInfo)
+	away := func(a *simulated) {
+		a.body.Close()
+		for end := time.Now().Add(30 * time.Second); at(s.operate(200, `{"type":"GET_AGENTS"}`), "get_agents", "agents") != nil; time.Sleep(50 * time.Millisecond) {
+			if time.Now().After(end) {
+				t.Fatal("the agent is not removed")
+			}
+		}
+		c.next("FAILURE")
+	}
+	a := s.simulate("n1", scalar("cpus", "4"))
+	a.next("REGISTERED")
+	s.operate(200, agentCall("DRAIN_AGENT", "n1", ""))
+	away(a)
+	a = s.simulate("n1", scalar("cpus", "4"))
+	a.next("REGISTERED")
+	if s.agentField("n1", "drain_info", "state") != "DRAINED" || s.agentField("n1", "active") == true {
+		t.Errorf("%v", s.operate(200, `{"type":"GET_AGENTS"}`))
+	}
+	c.call(202, `{"type":"REVIVE"}`)
+	c.none("OFFERS", time.Second)
+	away(a)
+	s.operate(200, agentCall("REACTIVATE_AGENT", "n1", "")) // while it is away
+	s.operate(400, agentCall("REACTIVATE_AGENT", "n1", ""))
+	s.simulate("n1", scalar("cpus", "4")).next("REGISTERED")
+	c.offer()
+}
+
 // DEACTIVATE_AGENT holds across a restart of the agent, and its tasks go on.
 func TestDeactivate(t *testing.T) {
 	s := newService(t, 1, 0)

@@ -55,9 +55,22 @@ func (o *Operator) deactivateAgent(ctx context.Context, c *api.Call, call codec.
 	})
 }
 
-// reactivateAgent ends a deactivation or a drain. An agent without a link is activated when it comes again.
+// reactivateAgent ends a deactivation or a drain, also of an agent that was removed as it stayed away.
 func (o *Operator) reactivateAgent(ctx context.Context, c *api.Call, call codec.Message) error {
 	id := call.Text("reactivate_agent.agent_id.value")
+	isAway := false
+	if err := mayAppend(c, server.Line{"event": "activate_agent", "agent": id}); err != nil {
+		return err
+	}
+	if err := o.server.CatchUp(ctx); err != nil {
+		return err
+	}
+	if o.state.Read(func() { isAway = o.state.Agents[id] == nil && o.state.IsDeactivated(id) }); isAway {
+		_, err := o.server.AppendFor(ctx, id, func() (*mesos.Note, []server.Line, error) {
+			return &mesos.Note{Kind: mesos.NoteReactivate, Agent: id}, nil, nil
+		})
+		return err
+	}
 	return o.agentCall(ctx, c, id, "activate_agent", func(a mesos.Agent) (*mesos.Note, error) {
 		switch {
 		case a.ID != "" && !a.IsDeactivated:

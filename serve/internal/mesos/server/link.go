@@ -112,7 +112,7 @@ func (s *Server) registerMessage(n *mesos.Note, total resources.Bundle) (m *mess
 		if a == nil || totalOf(a.Info).Text() != total.Text() {
 			m.add("set_agent", "agent", n.Agent, "total", total.Text()) // it changes nothing but for an agent that was there
 		}
-		if a != nil && a.IsDeactivated {
+		if s.state.IsDeactivated(n.Agent) {
 			last = "deactivate_agent"
 		}
 	})

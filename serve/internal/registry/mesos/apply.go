@@ -194,6 +194,7 @@ func (s *State) removeAgent(id string) {
 	delete(s.Agents, id)
 	if a != nil {
 		defer s.changed(Change{Kind: AgentRemoved, Agent: *a})
+		s.keep(a)
 	}
 	if a != nil && a.IsConnected {
 		s.publish(Event{Kind: EventEnd, Stream: a.Stream, Message: "the agent was removed"})

@@ -24,6 +24,7 @@ const (
 	NoteDeactivate = "deactivate"  // an operator deactivates an agent
 	NoteDrain      = "drain"       // an operator drains an agent
 	NoteGone       = "gone"        // an agent is removed for good
+	NoteReactivate = "reactivate"  // an agent that is away is not to be deactivated when it comes again
 )
 
 // Note is what a message says beside its lines.

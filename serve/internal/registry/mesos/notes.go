@@ -25,7 +25,7 @@ func (s *State) apply(n *Note, answers []string) {
 			a.IsConnected, a.Left = false, s.at
 			s.publish(Event{Kind: EventEnd, Stream: n.Stream})
 		}
-	case NoteDeactivate, NoteDrain, NoteGone:
+	case NoteDeactivate, NoteDrain, NoteGone, NoteReactivate:
 		s.operate(n, answers)
 	case NoteAck:
 		for _, ack := range n.Acks {
@@ -119,6 +119,7 @@ func (s *State) register(n *Note, answers []string) {
 	}
 	a.Info, a.Stream, a.Gateway, a.IsConnected, a.Left = n.Info, n.Stream, n.Gateway, true, 0
 	if isNew {
+		s.comeAgain(a)
 		s.changed(Change{Kind: AgentAdded, Agent: *a})
 	}
 	var tasks []TaskOf

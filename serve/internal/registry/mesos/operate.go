@@ -12,6 +12,7 @@ const (
 
 const (
 	maxGone      = 1000 // agents
+	maxKept      = 1000 // agents
 	defaultGrace = 3000 // milliseconds between SIGTERM and SIGKILL, Mesos' default
 )
 
@@ -30,6 +31,63 @@ type Gone struct {
 	At int64  `json:"at"`
 }
 
+// Kept is an agent that was removed, as it stayed away, while an operator had deactivated it: it is deactivated when it comes again.
+type Kept struct {
+	ID    string `json:"id"`
+	At    int64  `json:"at"`
+	Drain *Drain `json:"drain,omitempty"`
+}
+
+// IsDeactivated reports whether an operator deactivated an agent, which may be away.
+func (s *State) IsDeactivated(agent string) bool {
+	if a := s.Agents[agent]; a != nil {
+		return a.IsDeactivated
+	}
+	for _, one := range s.Kept {
+		if one.ID == agent {
+			return true
+		}
+	}
+	return false
+}
+
+// keep remembers what an operator did to an agent that is removed.
+func (s *State) keep(a *Agent) {
+	if !a.IsDeactivated || s.isGone {
+		return
+	}
+	if s.Kept = append(s.Kept, Kept{a.ID, s.at, a.Drain}); len(s.Kept) > maxKept {
+		s.Kept = append([]Kept(nil), s.Kept[len(s.Kept)-maxKept:]...)
+	}
+}
+
+// takeKept returns what was kept of an agent, and forgets it.
+func (s *State) takeKept(agent string) (found Kept, is bool) {
+	kept := s.Kept[:0:0]
+	for _, one := range s.Kept {
+		if one.ID == agent {
+			found, is = one, true
+		} else {
+			kept = append(kept, one)
+		}
+	}
+	s.Kept = kept
+	return found, is
+}
+
+// comeAgain deactivates an agent that was deactivated before it was removed. Its drain goes on.
+func (s *State) comeAgain(a *Agent) {
+	found, is := s.takeKept(a.ID)
+	if !is {
+		return
+	}
+	if a.IsDeactivated = true; found.Drain != nil {
+		drain := *found.Drain
+		drain.State, a.Drain = Draining, &drain
+		s.checkDrained(a.ID)
+	}
+}
+
 // IsGone reports whether an agent was marked gone, as long as that is known.
 func (s *State) IsGone(agent string) bool {
 	for _, one := range s.Gone {
@@ -42,6 +100,10 @@ func (s *State) IsGone(agent string) bool {
 
 // operate is the effect of an operator's note, when its last line was answered `ok`.
 func (s *State) operate(n *Note, answers []string) {
+	if n.Kind == NoteReactivate { // of an agent that is away
+		s.takeKept(n.Agent)
+		return
+	}
 	if len(answers) == 0 || answers[len(answers)-1] != "ok" {
 		return
 	}
@@ -63,6 +125,7 @@ func (s *State) operate(n *Note, answers []string) {
 
 // reactivate ends what an operator did to an agent, when it gets offers again.
 func (s *State) reactivate(agent string) {
+	s.takeKept(agent)
 	if a := s.Agents[agent]; a != nil {
 		a.IsDeactivated, a.Drain = false, nil
 	}

@@ -192,6 +192,45 @@ func TestKnownIsACopy(t *testing.T) {
 	}
 }
 
+// An agent that was deactivated, and is removed as it stays away, is deactivated when it comes again, unless it was reactivated meanwhile.
+func TestDeactivationIsKept(t *testing.T) {
+	register := func(l *list, last string) {
+		l.put(&Note{Kind: NoteAgent, Agent: "n1", Stream: "b", Info: []byte("x")}, line("add_agent", "agent", "n1"), line(last, "agent", "n1"))
+	}
+	for _, isReactivated := range []bool{false, true} {
+		l := newList()
+		l.begin(0)
+		l.put(&Note{Kind: NoteDrain, Agent: "n1"}, line("deactivate_agent", "agent", "n1"))
+		l.put(nil, line("remove_agent", "agent", "n1"))
+		if l.Agents["n1"] != nil || !l.IsDeactivated("n1") || l.IsDeactivated("n2") {
+			t.Fatalf("%+v %+v", l.Agents["n1"], l.Kept)
+		}
+		if isReactivated {
+			l.put(&Note{Kind: NoteReactivate, Agent: "n1"})
+			register(l, "activate_agent")
+		} else {
+			register(l, "deactivate_agent")
+		}
+		if a := l.Agents["n1"]; a.IsDeactivated == isReactivated || (l.drain() == Draining) == isReactivated || len(l.Kept) != 0 { // a status is not acknowledged
+			t.Errorf("%v: %+v %+v", isReactivated, a, l.Kept)
+		}
+	}
+	l := newList()
+	l.begin(0)
+	l.put(&Note{Kind: NoteDeactivate, Agent: "n1"}, line("deactivate_agent", "agent", "n1"))
+	l.put(&Note{Kind: NoteGone, Agent: "n1"}, line("remove_agent", "agent", "n1"))
+	if len(l.Kept) != 0 {
+		t.Errorf("%+v", l.Kept)
+	}
+	l.put(nil)
+	for k := 0; k < maxKept+5; k++ {
+		l.keep(&Agent{ID: fmt.Sprint(k), IsDeactivated: true})
+	}
+	if len(l.Kept) != maxKept {
+		t.Error(len(l.Kept))
+	}
+}
+
 // operate is something that operators do to an agent.
 func (w *world) operate(agent string) *registry.Message {
 	switch w.Intn(8) {
@@ -204,7 +243,7 @@ func (w *world) operate(agent string) *registry.Message {
 	case 6:
 		return w.message(&Note{Kind: NoteGone, Agent: agent}, line("remove_agent", "agent", agent))
 	}
-	return w.message(nil)
+	return w.message(&Note{Kind: NoteReactivate, Agent: agent})
 }
 
 // checkDrains checks that an agent is drained exactly while it has no task, and that those of one that is not are to be killed.

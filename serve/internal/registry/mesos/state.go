@@ -104,6 +104,7 @@ type rows struct {
 	Completed  []Completed           `json:"completed,omitempty"`
 	Removed    []Removed             `json:"removed,omitempty"`
 	Gone       []Gone                `json:"gone,omitempty"`
+	Kept       []Kept                `json:"kept,omitempty"`
 	Ended      map[string]int64      `json:"ended,omitempty"` // tasks, by their terminal states
 }
 

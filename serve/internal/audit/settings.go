@@ -79,9 +79,9 @@ func (s *Settings) Apply(r *Record, lines, replies [][]byte) {
 		if !is || registry.AnswerOf(replies[k]) != "ok" {
 			continue
 		}
-		object, name := registry.Fields(line), what.kind
+		name := what.kind
 		for _, field := range what.fields {
-			name += "\x00" + registry.Text(object, field)
+			name += "\x00" + registry.TextOf(line, field)
 		}
 		text := string(line)
 		if len(text) > maxText {

@@ -176,16 +176,23 @@ func (r *Registry) ResetRows(rows []byte, message, at int64) {
 	}
 }
 
-// Kind returns the name of a line's event. Most lines have it once, in its shortest form, and need not be parsed for it.
-func Kind(line []byte) string {
-	prefix := []byte(`"event":"`)
-	if bytes.Count(line, prefix[:7]) == 1 && bytes.IndexByte(line, '\\') < 0 {
-		if _, rest, is := bytes.Cut(line, prefix); is {
-			kind, _, _ := bytes.Cut(rest, []byte(`"`))
-			return string(kind)
+// Kind returns the name of a line's event.
+func Kind(line []byte) string { return TextOf(line, "event") }
+
+// TextOf returns a field of a line that is a text, or an empty text. Most lines have the field once, without escapes, and need not be parsed for it.
+func TextOf(line []byte, key string) string {
+	name := `"` + key + `"`
+	if bytes.Count(line, []byte(name)) == 1 && bytes.IndexByte(line, '\\') < 0 {
+		_, rest, _ := bytes.Cut(line, []byte(name))
+		rest = bytes.TrimLeft(rest, " ")
+		if len(rest) > 0 && rest[0] == ':' {
+			if rest = bytes.TrimLeft(rest[1:], " "); len(rest) > 0 && rest[0] == '"' {
+				text, _, _ := bytes.Cut(rest[1:], []byte(`"`))
+				return string(text)
+			}
 		}
 	}
-	return Text(Fields(line), "event")
+	return Text(Fields(line), key)
 }
 
 // Fields reads a line as the allocator does: exact keys, of equal ones the last. It is nil when the line is no object.

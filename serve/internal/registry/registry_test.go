@@ -20,6 +20,17 @@ func (c *counts) OfferMade(string)                   { c.made++ }
 func (c *counts) OfferEnded(string, string)          { c.ended++ }
 func (c *counts) FrameworkRemoved(string)            {}
 
+func TestTextOf(t *testing.T) {
+	for line, want := range map[string]string{
+		`{"agent":"n1","event":"add_agent"}`: "n1", `{"event":"add_agent", "agent" : "n1"}`: "n1", `{"event":"x","role":"agent"}`: "", `{"event":"x","role":"agent","agent":"n1"}`: "n1",
+		`{"agent":"a","agent":"b"}`: "b", `{"agent":"\u006e1"}`: "n1", `{"agent":7}`: "", `{"agent":["n1"]}`: "", `{}`: "", `x`: "", `{"agent`: "", `{"agent":`: "", "{\"agent\":\t\"n1\"}": "n1", `{"agent":""}`: "",
+	} {
+		if text := TextOf([]byte(line), "agent"); text != want {
+			t.Errorf("%s: %q, want %q", line, text, want)
+		}
+	}
+}
+
 func TestKind(t *testing.T) {
 	for line, want := range map[string]string{`{"event":"cycle"}`: "cycle", `{"event" : "cycle"}`: "cycle", `{"x":{"event":"a"},"event": "cycle"}`: "cycle", `{"event":"a","event":"cycle"}`: "cycle",
 		`{"\u0065vent":"cycle"}`: "cycle", `{"\u0065vent":"cycle","x":{"event":"accept"}}`: "cycle", `{"x":"\"event\":\"a\"","event":"cycle"}`: "cycle", `{"event":7}`: "", `"event":"`: "", "": ""} {

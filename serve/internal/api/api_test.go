@@ -15,6 +15,7 @@ import (
 
 	"gateway/internal/allocator"
 	"gateway/internal/audit"
+	"gateway/internal/auth"
 	"gateway/internal/disk"
 	"gateway/internal/limit"
 	"gateway/internal/metrics"
@@ -132,7 +133,7 @@ func TestSlowBodies(t *testing.T) {
 	s.inTime = time.Second
 	handler := http.HandlerFunc(func(w http.ResponseWriter, r *http.Request) {
 		limitTime(r, s.inTime)
-		_, release, err := (&request{server: s, w: w, r: r}).body()
+		_, release, err := (&request{server: s, w: w, r: r, by: &auth.Caller{Name: "a"}}).body()
 		if err == nil {
 			release()
 			return
@@ -178,7 +179,7 @@ func TestLargeBodiesWait(t *testing.T) {
 	s := New(metrics.New(), limit.New(limit.Rates{Burst: time.Second}), limit.NewSlots(1, 50*time.Millisecond))
 	body := func(size int) (func(), error) {
 		r := httptest.NewRequest("POST", "/drf/v1/events", strings.NewReader(strings.Repeat("x", size)))
-		text, release, err := (&request{server: s, w: httptest.NewRecorder(), r: r}).body()
+		text, release, err := (&request{server: s, w: httptest.NewRecorder(), r: r, by: &auth.Caller{Name: "a"}}).body()
 		if err == nil && len(text) != size {
 			t.Errorf("read %d of %d bytes", len(text), size)
 		}

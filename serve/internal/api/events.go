@@ -110,7 +110,7 @@ func (q *request) body() (body []byte, release func(), err error) {
 	release = func() {}
 	body, err = io.ReadAll(io.LimitReader(reader, smallBody))
 	if err == nil && len(body) == smallBody {
-		if release, err = q.server.slots.Take(q.r.Context()); err != nil {
+		if release, err = q.server.slots.Take(q.r.Context(), q.by.Name); err != nil {
 			return nil, nil, err
 		}
 		whole := bytes.NewBuffer(make([]byte, 0, sizeOf(q.r.ContentLength)))

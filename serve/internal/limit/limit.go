@@ -2,7 +2,6 @@
 package limit
 
 import (
-	"context"
 	"fmt"
 	"sync"
 	"time"
@@ -111,27 +110,4 @@ func (l *Limiter) Stream(name string) (release func(), err error) {
 		defer l.mu.Unlock()
 		u.streams--
 	}, nil
-}
-
-// Slots bounds how many large bodies are handled at once.
-type Slots struct {
-	free chan struct{}
-	wait time.Duration
-}
-
-// NewSlots returns some slots, for which callers wait at most a time.
-func NewSlots(count int, wait time.Duration) *Slots {
-	return &Slots{make(chan struct{}, count), wait}
-}
-
-// Take waits for a slot, which release gives back.
-func (s *Slots) Take(ctx context.Context) (release func(), err error) {
-	ctx, cancel := context.WithTimeout(ctx, s.wait)
-	defer cancel()
-	select {
-	case s.free <- struct{}{}:
-		return func() { <-s.free }, nil
-	case <-ctx.Done():
-		return nil, &Error{fmt.Sprintf("%d large bodies are handled already", cap(s.free)), time.Second}
-	}
 }

@@ -85,16 +85,40 @@ func TestStreams(t *testing.T) {
 
 func TestSlots(t *testing.T) {
 	s := NewSlots(1, 50*time.Millisecond)
-	release, err := s.Take(context.Background())
+	release, err := s.Take(context.Background(), "a")
 	if err != nil {
 		t.Fatal(err)
 	}
 	limited := (*Error)(nil)
-	if _, err := s.Take(context.Background()); !errors.As(err, &limited) {
+	if _, err := s.Take(context.Background(), "b"); !errors.As(err, &limited) {
 		t.Error(err)
 	}
 	release()
-	if _, err := s.Take(context.Background()); err != nil {
+	if _, err := s.Take(context.Background(), "b"); err != nil {
 		t.Error(err)
+	}
+}
+
+// A caller that gives nothing back leaves half of the slots to others.
+func TestSlotsOfOneCaller(t *testing.T) {
+	s := NewSlots(4, 50*time.Millisecond)
+	for k := 0; k < 4; k++ {
+		if _, err := s.Take(context.Background(), "slow"); (err == nil) != (k < 2) {
+			t.Errorf("slot %d of one caller: %v", k+1, err)
+		}
+	}
+	release, err := s.Take(context.Background(), "other")
+	if err != nil {
+		t.Fatal(err)
+	}
+	release()
+	for k := 0; k < 3; k++ {
+		if _, err := s.Take(context.Background(), "third"); (err == nil) != (k < 2) {
+			t.Errorf("slot %d of a third caller: %v", k+1, err)
+		}
+	}
+	limited := (*Error)(nil)
+	if _, err := s.Take(context.Background(), "other"); !errors.As(err, &limited) {
+		t.Error("all slots are taken:", err)
 	}
 }

@@ -449,3 +449,40 @@ func (s *service) written(path string, count int) (pids []int) {
 		}
 	}
 }
+
+// A framework that acknowledges nothing gets the first of many statuses, and the task's end frees what it held.
+func TestManyStatuses(t *testing.T) {
+	s := newService(t, 1, 1)
+	c := s.subscribe("admin", s.token, frameworkInfo)
+	offer, agent := c.offered()
+	c.call(202, launchCall(offer, agent, executed("t1", agent, "x", `{"executor_id":{"value":"e"},"command":{"value":"sleep 1000"}}`)))
+	s.pidOf("executors/*/pid")
+	tokens, _ := filepath.Glob(filepath.Join(s.folder, "a0", "executors", "*", "token"))
+	token, _ := os.ReadFile(tokens[0])
+	port, _ := os.ReadFile(filepath.Join(s.folder, "a0", "executor-port"))
+	s.urls[0] = "http://127.0.0.1:" + string(port)
+	ids := `"executor_id":{"value":"e"},"framework_id":{"value":"` + c.id + `"}`
+	l := s.listenAs("/api/v1/executor", `{"type":"SUBSCRIBE",`+ids+`,"subscribe":{}}`, "Bearer "+string(token))
+	l.next("SUBSCRIBED")
+	l.next("LAUNCH")
+	for k := 0; k < 80; k++ {
+		uuid, state := base64.StdEncoding.EncodeToString([]byte(fmt.Sprintf("uuid of 16 b %3d", k))), "TASK_RUNNING"
+		if k == 79 {
+			state = "TASK_FINISHED"
+		}
+		answer := s.request("/api/v1/executor", "", "", `{"type":"UPDATE",`+ids+`,"update":{"status":{"task_id":{"value":"t1"},"state":"`+state+`","source":"SOURCE_EXECUTOR","uuid":"`+uuid+`"}}}`, "Authorization", "Bearer "+string(token))
+		if answer.Body.Close(); answer.StatusCode != 202 {
+			t.Fatal(answer.Status)
+		}
+		l.next("ACKNOWLEDGED")
+	}
+	s.urls[0] = c.url
+	s.waitFree(0)
+	statuses := 0
+	for status := c.statusOf(); at(status, "state") == "TASK_RUNNING"; status = c.statusOf() {
+		statuses++
+	}
+	if statuses != 64 {
+		t.Errorf("%d statuses came before the end", statuses)
+	}
+}

@@ -6,6 +6,7 @@ import (
 	"bufio"
 	"bytes"
 	"context"
+	"errors"
 	"fmt"
 	"io"
 	"log"
@@ -166,7 +167,7 @@ func (a *Agent) post(ctx context.Context, url string, call codec.Message) (*http
 	if answer.StatusCode != http.StatusOK && answer.StatusCode != http.StatusAccepted {
 		text, _ := io.ReadAll(io.LimitReader(answer.Body, 1000))
 		answer.Body.Close()
-		return nil, fmt.Errorf("%s: %s", answer.Status, bytes.TrimSpace(text))
+		return nil, &httpError{answer.StatusCode, fmt.Sprintf("%s: %s", answer.Status, bytes.TrimSpace(text))}
 	}
 	return answer, nil
 }
@@ -282,13 +283,23 @@ func (a *Agent) find(key string) *task {
 	return a.tasks[key]
 }
 
-// report sends a status until a gateway acknowledges it; from then on the service repeats it.
+// report sends a status until a gateway acknowledges it; from then on the service repeats it. One that no gateway takes, as too many wait for
+// the framework, is skipped when the task has ended: its end does not wait.
 func (a *Agent) report(ctx context.Context, t *task, status codec.Message) bool {
-	return a.send(ctx, a.call("UPDATE").Set("framework_id.value", t.framework).Set("launch", t.launch).Set("status", status))
+	call := a.call("UPDATE").Set("framework_id.value", t.framework).Set("launch", t.launch).Set("status", status)
+	return a.sendUnless(ctx, call, func(err error) bool {
+		refused := (*httpError)(nil)
+		return errors.As(err, &refused) && refused.status == http.StatusTooManyRequests && !isTerminal(status.Enum("state")) && t.isOver()
+	})
 }
 
 // send sends a call until a gateway takes it, and reports whether one did.
 func (a *Agent) send(ctx context.Context, call codec.Message) bool {
+	return a.sendUnless(ctx, call, func(error) bool { return false })
+}
+
+// sendUnless sends a call until a gateway takes it, or it is to be skipped because of an error. It returns false when the context ends before.
+func (a *Agent) sendUnless(ctx context.Context, call codec.Message, isSkipped func(error) bool) bool {
 	for wait := 50 * time.Millisecond; ; {
 		one, cancel := context.WithTimeout(ctx, 25*time.Second)
 		answer, err := a.post(one, a.url(), call)
@@ -297,7 +308,7 @@ func (a *Agent) send(ctx context.Context, call codec.Message) bool {
 			answer.Body.Close()
 		}
 		cancel()
-		if err == nil {
+		if err == nil || isSkipped(err) {
 			return true
 		}
 		if wait *= 2; wait > 2*time.Second {
@@ -307,6 +318,22 @@ func (a *Agent) send(ctx context.Context, call codec.Message) bool {
 		case <-time.After(wait):
 		case <-ctx.Done():
 			return false
+		}
+	}
+}
+
+// collect removes folders of tasks and of executors that ended some time ago.
+func (a *Agent) collect(ctx context.Context) {
+	for ctx.Err() == nil {
+		paths, _ := filepath.Glob(filepath.Join(a.config.Folder, "*", "*", "done"))
+		for _, path := range paths {
+			if about, err := os.Stat(path); err == nil && time.Since(about.ModTime()) > a.config.Keep {
+				os.RemoveAll(filepath.Dir(path))
+			}
+		}
+		select {
+		case <-time.After(time.Minute):
+		case <-ctx.Done():
 		}
 	}
 }

@@ -169,6 +169,8 @@ func validate(call codec.Message) error {
 		return fmt.Errorf("ExecutorID in Call: %s does not match ExecutorID in TaskStatus: %s", executor, status.Text("executor_id.value"))
 	case status.Enum("source") != "SOURCE_EXECUTOR" || !status.Has("source"):
 		return fmt.Errorf("Received Call from executor %s of framework %s with invalid source, expecting 'SOURCE_EXECUTOR'", executor, framework)
+	case !strings.HasPrefix(status.Enum("state"), "TASK_"):
+		return fmt.Errorf("Received the unknown state %s from executor %s of framework %s", status.Enum("state"), executor, framework)
 	case status.Enum("state") == "TASK_STAGING":
 		return fmt.Errorf("Received TASK_STAGING from executor %s of framework %s which is not allowed", executor, framework)
 	}

@@ -78,6 +78,15 @@ func (t *task) has(capability string) bool {
 	return false
 }
 
+// isOver reports whether the end of a task is known, if not yet reported.
+func (t *task) isOver() bool {
+	if t.isRunBy {
+		_, isOver := t.hasUpdates()
+		return isOver
+	}
+	return t.exists("exit")
+}
+
 // takeUp adds the task of a folder, unless its end is acknowledged.
 func (a *Agent) takeUp(folder string) error {
 	text, err := os.ReadFile(filepath.Join(folder, "task"))
@@ -372,20 +381,4 @@ func (t *task) endState(e exit) codec.Message {
 		return t.status("end", "TASK_FINISHED").Set("message", "Command "+e.text())
 	}
 	return t.status("end", "TASK_FAILED").Set("reason", "REASON_COMMAND_EXECUTOR_FAILED").Set("message", "Command "+e.text())
-}
-
-// collect removes folders of tasks and of executors that ended some time ago.
-func (a *Agent) collect(ctx context.Context) {
-	for ctx.Err() == nil {
-		paths, _ := filepath.Glob(filepath.Join(a.config.Folder, "*", "*", "done"))
-		for _, path := range paths {
-			if about, err := os.Stat(path); err == nil && time.Since(about.ModTime()) > a.config.Keep {
-				os.RemoveAll(filepath.Dir(path))
-			}
-		}
-		select {
-		case <-time.After(time.Minute):
-		case <-ctx.Done():
-		}
-	}
 }

@@ -176,4 +176,6 @@ func TestAgentLibrary(t *testing.T) {
 			}
 		}
 	}
+	c.call(202, `{"type":"KILL","kill":{"task_id":{"value":"t1"}}}`) // it would outlive the test
+	c.acknowledge("TASK_KILLED")
 }

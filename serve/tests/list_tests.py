@@ -102,6 +102,16 @@ def one_agent_has_its_tasks_and_offers(browser, room):
 
 
 @test
+def an_agent_drains_until_its_tasks_have_ended(browser, room):
+    ended = {"row": "mesos_task", "framework": "site", "id": "uuid-0001", "task": "done.1", "agent": "n4", "state": "TASK_FINISHED", "holds": ["gone"]}
+    own = StandIn([{**row, "active": False} if row["row"] == "agent" else row for row in stand_in.small_rows()], details=[ended])
+    open_list(browser, own, "agents")
+    browser.wait("n4 has nothing but a task that has ended", lambda: [row[:2] + row[5:6] for row in listed(browser, "agents")] == [
+        ["n1", "draining", "2"], ["n2", "inactive", "0"], ["n3", "draining", "1"], ["n4", "inactive", "1"]])
+    own.end()
+
+
+@test
 def who_is_silent_and_since_when(browser, room):
     at = 1795860000000
     own = StandIn(stand_in.small_rows(), details=[{"row": "silent", "agent": "n4", "since": at - 300_000}, {"row": "silent", "agent": "n2"},

@@ -75,7 +75,7 @@ function detailsOf(rows) {
 function stateOf(a) {
   if (a.silent !== undefined) return "silent";
   if (a.link && !a.link.connected) return "no link";
-  return a.active ? "active" : a.tasks.length ? "draining" : "inactive";
+  return a.active ? "active" : a.tasks.some(t => t.use) ? "draining" : "inactive"; // a task of Mesos that has ended uses nothing
 }
 export const silentSince = a => a.silent ?? (a.link && !a.link.connected ? a.link.since || 0 : undefined);
 

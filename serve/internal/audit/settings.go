@@ -38,7 +38,7 @@ var abouts = map[string]about{
 	"reserve": {"reservation", []string{"agent", "role"}}, "unreserve": {"reservation", []string{"agent", "role"}},
 	"activate_agent": {"active", []string{"agent"}}, "deactivate_agent": {"active", []string{"agent"}},
 	"add_agent": {"agent", []string{"agent"}}, "set_agent": {"agent", []string{"agent"}}, "remove_agent": {"agent", []string{"agent"}},
-	"add_framework": {"framework", []string{"framework"}}, "remove_framework": {"framework", []string{"framework"}},
+	"add_framework": {"framework", []string{"framework"}}, "set_framework": {"framework", []string{"framework"}}, "remove_framework": {"framework", []string{"framework"}},
 }
 
 const (

@@ -15,6 +15,7 @@ func TestJudge(t *testing.T) {
 	site := &Caller{Name: "site", Rights: []string{"framework:site", "role:web"}}
 	rack := &Caller{Name: "rack", Rights: []string{"agent:rack1-*", "agent:one"}}
 	ops := &Caller{Name: "ops", Rights: []string{"operate"}}
+	web := &Caller{Name: "web", Rights: []string{"role:web", "operate"}}
 	for _, c := range []struct {
 		by    *Caller
 		line  string
@@ -30,6 +31,15 @@ func TestJudge(t *testing.T) {
 		{site, `{"event":"add_framework","framework":"site","roles":["webx"]}`, "", false},
 		{site, `{"event":"add_framework","framework":"site","roles":["web"],"roles":["ops"]}`, "", false},
 		{site, `{"event":"add_framework","framework":"site","roles":[["web"]]}`, "", false},
+		{site, `{"roles":["web","web/x"],"event":"set_framework","framework":"site"}`, `{"event":"set_framework","framework":"site","roles":["web","web/x"]}`, false},
+		{site, `{"event":"set_framework","framework":"site","roles":["web","ops"]}`, "", false}, // each role of the list needs its right
+		{site, `{"event":"set_framework","framework":"site","roles":["webx"]}`, "", false},
+		{site, `{"event":"set_framework","framework":"site","roles":["web"],"roles":["ops"]}`, "", false},
+		{site, `{"event":"set_framework","framework":"site","roles":"web"}`, "", false},
+		{site, `{"event":"set_framework","framework":"site"}`, "", false},
+		{site, `{"event":"set_framework","framework":"other","roles":["web"]}`, "", false},
+		{web, `{"event":"set_framework","framework":"site","roles":["web"]}`, "", false}, // the role's right alone is not enough
+		{ops, `{"event":"set_framework","framework":"site","roles":["web"]}`, "", false},
 		{site, `{"event":"remove_framework","framework":"site"}`, `{"event":"remove_framework","framework":"site"}`, false},
 		{site, `{"event":"cycle"}`, "", false},
 		{site, `{"event":"report"}`, "", false},

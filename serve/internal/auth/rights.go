@@ -44,7 +44,8 @@ type rule struct{ named, right string }
 var rules = map[string]rule{
 	"add_agent": {"agent", "operate"}, "set_agent": {"agent", "operate"}, "remove_agent": {"agent", "operate"},
 	"activate_agent": {"agent", "operate"}, "deactivate_agent": {"agent", "operate"},
-	"add_framework": {"framework", "admin"}, "remove_framework": {"framework", "operate"}, "suppress": {"framework", "admin"}, "revive": {"framework", "admin"},
+	"add_framework": {"framework", "admin"}, "set_framework": {"framework", "admin"}, "remove_framework": {"framework", "operate"},
+	"suppress": {"framework", "admin"}, "revive": {"framework", "admin"},
 	"accept": {"framework", "admin"}, "decline": {"framework", "admin"}, "finish": {"framework", "admin"},
 	"rescind": {"", "operate"}, "reserve": {"", "operate"}, "unreserve": {"", "operate"}, "set_weight": {"", "operate"}, "set_limit": {"", "operate"},
 	"cycle": {"", "clock"}, "report": {"", "admin"},
@@ -103,7 +104,7 @@ func (c *Caller) mayDo(kind string, object map[string]json.RawMessage) bool {
 			object[key], _ = encode(registry.Text(object, key))
 		}
 	}
-	if kind == "add_framework" {
+	if kind == "add_framework" || kind == "set_framework" {
 		var roles []string
 		if json.Unmarshal(object["roles"], &roles) != nil {
 			return false

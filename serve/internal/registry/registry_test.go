@@ -51,7 +51,7 @@ func (h *history) message(number int64) *Message {
 	for n := 1 + h.Intn(3); n > 0; n-- {
 		agent, framework, offer := fmt.Sprintf("n%d", h.Intn(4)), fmt.Sprintf("f%d", h.Intn(3)), uint64(h.Intn(int(h.next)+2))
 		line, reply := "", `{"ok":true}`
-		switch h.Intn(9) {
+		switch h.Intn(10) {
 		case 0:
 			var made []string
 			for k := h.Intn(3); k > 0; k-- {
@@ -75,6 +75,8 @@ func (h *history) message(number int64) *Message {
 			line = `{"event":"set_weight","role":"web","weight":"2"}`
 		case 8:
 			line, reply = fmt.Sprintf(`{"event":"remove_framework","framework":"%s"}`, framework), `{"name":"UnknownFramework","refused":3}`
+		case 9: // what exists stays as it is
+			line = fmt.Sprintf(`{"event":"set_framework","framework":"%s","roles":["web","ops"]}`, framework)
 		}
 		m.Lines, m.Replies = append(m.Lines, []byte(line)), append(m.Replies, []byte(reply+"\n"))
 	}

@@ -5,8 +5,8 @@ import {call} from "./gateway.js";
 import {cut, plain, plural, stamp, visible} from "./text.js";
 
 const fields = ["event", "agent", "framework", "role", "task", "name"];
-const kinds = ["set_limit", "set_weight", "reserve", "unreserve", "add_agent", "set_agent", "activate_agent", "deactivate_agent", "remove_agent", "add_framework", "remove_framework",
-  "accept", "decline", "rescind", "finish", "suppress", "revive", "cycle"];
+const kinds = ["set_limit", "set_weight", "reserve", "unreserve", "add_agent", "set_agent", "activate_agent", "deactivate_agent", "remove_agent", "add_framework", "set_framework",
+  "remove_framework", "accept", "decline", "rescind", "finish", "suppress", "revive", "cycle"];
 let asked = 0;
 
 // The lines that were asked for in words, or how many events of each kind there are.

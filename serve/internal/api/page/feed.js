@@ -13,6 +13,7 @@ const words = {
   activate_agent: e => `Agent ${e.agent} is active`,
   deactivate_agent: e => `Agent ${e.agent} is inactive`,
   add_framework: e => `Framework ${e.framework} registered in ${e.roles.join(", ")}`,
+  set_framework: e => `Framework ${e.framework} is now in ${e.roles.join(", ")}`,
   remove_framework: e => `Framework ${e.framework} left`,
   set_weight: e => `The weight of ${e.role} is ${e.weight}`,
   set_limit: e => pieces(e.limit).length ? `The limit of ${e.role} is ${bundle(e.limit)}` : `${e.role} has no limit`,

@@ -51,9 +51,9 @@ func TestCommands(t *testing.T) {
 		{`{"value":"true","uris":[{"value":"hdfs://x/y"}]}`, "TASK_FAILED", "is not supported: expected file, http or https"},
 		{`{"value":"(sleep 1000 & echo $! > ` + out + `.pid)"}`, "TASK_FINISHED", "exited with status 0"},
 	} {
-		offer := c.next("OFFERS")
-		agent, task := at(offer, "offers", "offers", 0, "agent_id", "value").(string), fmt.Sprintf("t%d", k)
-		c.call(202, launchCall(at(offer, "offers", "offers", 0, "id", "value").(string), agent, taskInfo(task, agent, "1", `,"command":`+one.command)))
+		offer, agent := c.offered()
+		task := fmt.Sprintf("t%d", k)
+		c.call(202, launchCall(offer, agent, taskInfo(task, agent, "1", `,"command":`+one.command)))
 		status := c.outcome(task)
 		if message, _ := at(status, "message").(string); at(status, "state") != one.state || !strings.Contains(message, one.message) {
 			t.Errorf("%s: %v", one.command, status)

@@ -149,3 +149,24 @@ func TestOutputIsRotated(t *testing.T) {
 	}
 	s.waitFree(0)
 }
+
+// A task whose folder cannot be made, as when the disk is full, is said to have failed.
+func TestNoRoomForATask(t *testing.T) {
+	s := newService(t, 1, 1)
+	c := s.subscribe("admin", s.token, frameworkInfo)
+	offer := c.next("OFFERS")
+	agent := at(offer, "offers", "offers", 0, "agent_id", "value").(string)
+	folder := filepath.Join(s.folder, "a0", "tasks")
+	if err := os.RemoveAll(folder); err != nil {
+		t.Fatal(err)
+	}
+	if err := os.WriteFile(folder, nil, 0o600); err != nil {
+		t.Fatal(err)
+	}
+	c.call(202, launchCall(at(offer, "offers", "offers", 0, "id", "value").(string), agent, taskInfo("t1", agent, "1", `,"command":{"value":"true"}`)))
+	status := c.outcome("t1")
+	if message, _ := at(status, "message").(string); at(status, "state") != "TASK_FAILED" || !strings.Contains(message, "the task was not started") {
+		t.Errorf("%v", status)
+	}
+	s.waitFree(0)
+}

@@ -206,11 +206,18 @@ func (a *Agent) kill(one codec.Message) {
 	}
 }
 
-// reject reports the end of a task that does not run. It keeps its folder, so it is not started later.
+// reject reports the end of a task that does not run. It keeps its folder, so it is not started later. Where there is no room for the folder of a
+// command, the report alone says that it ended.
 func (a *Agent) reject(one codec.Message, state, reason, message string) {
 	t, err := a.add(one)
 	if err != nil {
 		log.Printf("task %s: %v", one.Text("task_info.task_id.value"), err)
+		if !one.Has("executor") {
+			t = newTask(filepath.Join(a.config.Folder, "tasks", keyOf(one)), one)
+			a.mu.Lock()
+			a.tasks[t.key] = t
+			a.mu.Unlock()
+		}
 	}
 	isNew := t != nil
 	if t == nil {

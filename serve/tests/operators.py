@@ -245,6 +245,12 @@ def archived(gateway):
     return gateway.status()["archive"]
 
 
+def newest_header(folder):
+    name = max(name for name in os.listdir(folder) if name.endswith(".segment"))
+    with open(os.path.join(folder, name), encoding="utf-8") as file:
+        return json.loads(file.readline())
+
+
 def test_archive(programs):
     """The archive goes on over kills of the gateway and of its allocator, epochs and pruning; it is checked by drf, and answers what the journal no longer has."""
     with Fleet("alone", programs.gateway, programs.drf, "-cycle", "100ms", "-epoch-every", "400", "-archive-segment", "8KiB", "-archive-every", "1s", save_every=40) as fleet:
@@ -262,7 +268,7 @@ def test_archive(programs):
             else:
                 g.kill_drf()
             g.until_ready()
-        assert wait(lambda: archived(g)["messages"] >= 250 and g.status()["epoch"] >= 1, 30), g.status()
+        assert wait(lambda: archived(g)["messages"] >= 250 and g.status()["epoch"] >= 1 and newest_header(folder)["epoch"] >= 1, 30), g.status()
         status = archived(g)
         assert status["fault"] == "" and status["gaps"] == 0 and figure(g, "drf_archive_failing") == 0 and figure(g, "drf_archive_messages") >= 250, status
         kept = int(g.ask("/drf/v1/journal")[2]["Drf-From"])

@@ -129,6 +129,15 @@ func TestGap(t *testing.T) {
 	if r := f.verify(); len(r.Gaps) != 1 || r.To.Messages != 60 {
 		t.Errorf("%+v", r)
 	}
+	f.fill(5) // these are read, and pruned before their segment ends
+	f.step()
+	f.source.pruned = 63
+	f.fill(15)
+	f.step()
+	f.step()
+	if r := f.verify(); fmt.Sprint(r.Gaps) != "[{10 26} {60 64}]" || r.To.Messages != 80 || f.a.Status().Gaps != 1 {
+		t.Errorf("%+v %+v", r, f.a.Status())
+	}
 }
 
 // Segments are removed by size and by age, the oldest first, so that the first one that is kept begins with a state.

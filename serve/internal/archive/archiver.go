@@ -63,7 +63,7 @@ type Archiver struct {
 	write  func(path string, text []byte) error
 	wake   chan struct{}
 	unlock func()         // the folder; nil while it is not open
-	last   string         // the last archived record, to compare with the list's
+	last   *audit.Record  // that is archived, until it is compared with the list's
 	open   []audit.Record // of the segment that is not written yet
 	size   int64          // of their lines and records
 
@@ -158,6 +158,9 @@ func (a *Archiver) setFault(err error) {
 	a.status.Fault = text
 }
 
+// errPruned reports that lines of the open segment were pruned. It is empty then.
+var errPruned = errors.New("lines were pruned before they were archived")
+
 // step archives what came since the last one.
 func (a *Archiver) step(ctx context.Context) error {
 	if a.unlock == nil {
@@ -170,7 +173,7 @@ func (a *Archiver) step(ctx context.Context) error {
 	}
 	for ctx.Err() == nil {
 		if a.isDue() {
-			if err := a.close(ctx); err != nil {
+			if err := a.close(ctx); err != nil && !errors.Is(err, errPruned) {
 				return err
 			}
 		}
@@ -180,18 +183,21 @@ func (a *Archiver) step(ctx context.Context) error {
 		}
 		if len(records) == 0 {
 			if len(a.open) > 0 && a.now().UnixMilli()-a.open[0].At >= a.config.Every.Milliseconds() {
-				return a.close(ctx)
+				if err := a.close(ctx); err != nil && !errors.Is(err, errPruned) {
+					return err
+				}
 			}
 			return nil
 		}
 		for _, r := range records {
-			isGap := r.Message != a.seen()+1
-			if isGap && len(a.open) > 0 || a.isDue() {
-				if err := a.close(ctx); err != nil {
+			if r.Message != a.seen()+1 && len(a.open) > 0 || a.isDue() {
+				if err := a.close(ctx); errors.Is(err, errPruned) {
+					break // what is kept is read again
+				} else if err != nil {
 					return err
 				}
 			}
-			if isGap && a.Status().Messages > 0 {
+			if r.Message != a.seen()+1 && a.Status().Messages > 0 {
 				a.countGap(r.Message)
 			}
 			if len(a.open) == 0 {
@@ -239,17 +245,17 @@ func (a *Archiver) checkList() error {
 	if last, is := a.source.Last(); is && last < s.Messages {
 		return fmt.Errorf("the archive has %d messages, and the list has %d: %s", s.Messages, last, advice)
 	}
-	if a.last == "" {
+	if a.last == nil {
 		return nil
 	}
 	records, err := a.source.Records(s.Messages-1, 1)
 	if err != nil || len(records) == 0 || records[0].Message != s.Messages {
 		return err
 	}
-	if encodeRecord(records[0]) != a.last {
+	if r := records[0]; r.At != a.last.At || r.Line != a.last.Line || r.Byte != a.last.Byte || r.Bytes != a.last.Bytes || r.Name != a.last.Name {
 		return fmt.Errorf("message %d of the list is not the one in the archive: %s", s.Messages, advice)
 	}
-	a.last = ""
+	a.last = nil
 	return nil
 }
 

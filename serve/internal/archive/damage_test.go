@@ -33,8 +33,17 @@ func TestFlippedBytes(t *testing.T) {
 			}
 		}
 		for at := range right {
-			put(at, right[at]^1<<(at%8))
-			damage := f.damage()
+			flipped := append([]byte(nil), right...)
+			flipped[at] ^= 1 << (at % 8)
+			damage := (*DamageError)(nil)
+			if _, err := decode(Name(number), flipped); !errors.As(err, &damage) {
+				t.Fatalf("segment %d, byte %d: %v", number, at, err)
+			}
+			if at%10 != 0 { // the folder is verified for some: that takes longer
+				continue
+			}
+			put(at, flipped[at])
+			damage = f.damage()
 			if damage == nil || damage.Name != Name(number) {
 				t.Fatalf("segment %d, byte %d: %v", number, at, damage)
 			}

@@ -74,7 +74,7 @@ func (a *Archiver) readFolder() error {
 		}
 		segments, status.Bytes = append(segments, one), status.Bytes+one.size
 	}
-	a.last = ""
+	a.last = nil
 	if n > 0 {
 		if numbers[n-1] < known.Segment {
 			return fmt.Errorf("the archive has lost segments: the last one is %d, and segment %d was written: move %s away, and a new archive begins", numbers[n-1], known.Segment, folder)
@@ -84,8 +84,11 @@ func (a *Archiver) readFolder() error {
 			return fmt.Errorf("the archive cannot be continued: %w: move %s away, and a new archive begins", err, folder)
 		}
 		status.Segment, status.Sha256, status.Messages, status.At, needs = s.Segment, s.Sha256, s.To.Messages, s.LastAt, s.To
-		if lines := strings.SplitAfter(string(s.AuditText), "\n"); len(lines) > 1 {
-			a.last = lines[len(lines)-2]
+		if lines := strings.Split(string(s.AuditText), "\n"); len(lines) > 1 {
+			a.last = &audit.Record{}
+			if err := json.Unmarshal([]byte(lines[len(lines)-2]), a.last); err != nil {
+				return fmt.Errorf("the archive cannot be continued: the last record of %s: %w", Name(s.Segment), err)
+			}
 		}
 	}
 	a.mu.Lock()
@@ -127,7 +130,7 @@ func (a *Archiver) close(ctx context.Context) error {
 	s, err := a.segment(ctx)
 	if _, isWhole := a.source.Last(); errors.Is(err, audit.ErrNotKept) && isWhole { // the lines were pruned meanwhile: a gap
 		a.open, a.size = nil, 0
-		return nil
+		return errPruned
 	}
 	if err != nil {
 		return err
@@ -143,14 +146,12 @@ func (a *Archiver) close(ctx context.Context) error {
 		os.Remove(path + part) // it would take space
 		return err
 	}
-	line := encodeRecord(a.open[len(a.open)-1])
-	a.open, a.size, a.last = nil, 0, ""
+	a.last, a.open, a.size = &a.open[len(a.open)-1], nil, 0
 	a.mu.Lock()
-	a.segments = append(a.segments, kept{s.Header, int64(len(text)), s.headerSize()})
+	a.segments = append(a.segments, kept{s.Header, int64(len(text)), s.head})
 	a.status.Segment, a.status.Sha256, a.status.Messages, a.status.At = s.Segment, s.Sha256, s.To.Messages, s.LastAt
 	a.status.Bytes, a.needs = a.status.Bytes+int64(len(text)), s.To
 	a.mu.Unlock()
-	a.last = line
 	known, _ := json.Marshal(archived{s.Segment, s.Sha256})
 	if err := disk.WriteFile(a.knownPath(), known); err != nil {
 		return err

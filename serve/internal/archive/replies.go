@@ -62,7 +62,7 @@ func (r *Replies) Add(ctx context.Context, s *Segment) error {
 			return err
 		}
 	}
-	r.run.segments = append(r.run.segments, checkedPart{Name(s.Segment), r.run.lines + 1, s.headerSize() + s.State + s.Audit, s.To.Messages - s.From.Messages, s.From.Lines + 1})
+	r.run.segments = append(r.run.segments, checkedPart{Name(s.Segment), r.run.lines + 1, s.head + s.State + s.Audit, s.To.Messages - s.From.Messages, s.From.Lines + 1})
 	r.run.lines += int64(bytes.Count(s.JournalText, []byte("\n")))
 	r.run.in.Write(s.JournalText) // a program that has ended says why in End
 	return nil

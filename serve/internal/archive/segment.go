@@ -52,6 +52,8 @@ type Segment struct {
 	Header
 	Sha256                            string // of its whole file
 	StateText, AuditText, JournalText []byte
+
+	head int64 // bytes of its first line
 }
 
 // Name returns the name of the file of a segment.
@@ -94,6 +96,7 @@ func (s *Segment) encode() []byte {
 	body := append(append(append([]byte(nil), s.StateText...), s.AuditText...), s.JournalText...)
 	s.Archive, s.State, s.Audit, s.Journal, s.Chunks = format, int64(len(s.StateText)), int64(len(s.AuditText)), int64(len(s.JournalText)), chunksOf(body)
 	head, _ := json.Marshal(s.Header) // it has numbers and digests alone
+	s.head = int64(len(head) + 1)
 	text := append(append(head, '\n'), body...)
 	text = append(text, trailer(text)...)
 	s.Sha256 = digest(text)
@@ -113,6 +116,7 @@ func decode(name string, text []byte) (*Segment, error) {
 	if s.Archive != format {
 		return nil, damaged(0, "the format %d is not known", s.Archive)
 	}
+	s.head = int64(len(head) + 1)
 	size, last := s.State+s.Audit+s.Journal, len(trailer(nil))
 	if s.State < 0 || s.Audit < 0 || s.Journal < 0 || size != int64(len(rest)-last) {
 		return nil, damaged(0, "the header says that %d bytes and a last line follow, and there are %d bytes", size, len(rest))

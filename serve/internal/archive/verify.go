@@ -78,7 +78,7 @@ func (s *Segment) check(previous *Segment) error {
 			return damaged(0, "it begins after message %d, and the one before it has messages up to %d", s.From.Messages, previous.To.Messages)
 		}
 	}
-	now, at := s.From, s.headerSize()+s.State
+	now, at := s.From, s.head+s.State
 	for _, line := range bytes.SplitAfter(s.AuditText, []byte("\n")) {
 		if len(line) == 0 {
 			break
@@ -96,10 +96,4 @@ func (s *Segment) check(previous *Segment) error {
 		return damaged(at, "its part of the journal has %d lines, and its records have %d events", lines, s.To.Lines-s.From.Lines)
 	}
 	return nil
-}
-
-// headerSize returns the number of bytes before the state.
-func (s *Segment) headerSize() int64 {
-	head, _ := json.Marshal(s.Header)
-	return int64(len(head) + 1)
 }

@@ -163,7 +163,7 @@ func TestPages(t *testing.T) {
 	if len(w.log.marks) < 4 {
 		t.Fatalf("%d parts", len(w.log.marks))
 	}
-	for _, f := range []Filter{{Limit: 7}, {Limit: 1000}, {Limit: 2000}, {Limit: 30, Event: "finish", Fields: map[string]string{"framework": "f3"}}} {
+	for _, f := range []Filter{{Limit: 70}, {Limit: 1000}, {Limit: 2000}, {Limit: 30, Event: "finish", Fields: map[string]string{"framework": "f3"}}} {
 		var all []int64
 		for calls := 0; ; calls++ {
 			page := w.search(f)

@@ -3,6 +3,7 @@
 """    run.py [--only TEXT] [--long]        each test is reported as `ok NAME` or `FAILED NAME: why`"""
 import argparse
 import os
+import signal
 import sys
 import tempfile
 import time
@@ -35,13 +36,16 @@ def main():
             if not isinstance(error, AssertionError):
                 traceback.print_exc(file=sys.stdout)
 
-    with tempfile.TemporaryDirectory(prefix="durzhanok-packaging-") as folder:
-        package = Package(os.path.join(folder, "built"))
-        run("the package is built", package.build)
-        for test in files.TESTS + (clean.TESTS if words.long else []):
-            name = test.__name__.removeprefix("test_").replace("_", " ")
-            if words.only in name:
-                run(name, test, package)
+    signal.signal(signal.SIGTERM, lambda *_: sys.exit(1))  # so that what was started is ended
+    try:
+        with tempfile.TemporaryDirectory(prefix="durzhanok-packaging-") as folder:
+            package = Package(os.path.join(folder, "built"))
+            run("the package is built", package.build)
+            for test in files.TESTS + (clean.TESTS if words.long else []):
+                name = test.__name__.removeprefix("test_").replace("_", " ")
+                if words.only in name:
+                    run(name, test, package)
+    finally:
         clean.close()
     print(f"packaging: {counts['ok']} passed, {counts['FAILED']} failed")
     sys.exit(counts["FAILED"] > 0)

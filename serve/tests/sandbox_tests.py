@@ -12,7 +12,7 @@ from action_tests import lines, press
 from chromium import equal, holds, test
 from fleet import free_port
 
-COMMAND = "echo to stderr >&2; mkdir made; i=0; while [ $i -lt 100000 ]; do echo line $i '<b>'; i=$((i+1)); sleep 0.2; done"
+COMMAND = "echo to stderr >&2; mkdir made; i=0; while [ $i -lt 1500 ]; do echo line $i '<b>'; i=$((i+1)); sleep 0.2; done"
 
 
 class Scheduler:

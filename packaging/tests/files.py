@@ -113,12 +113,18 @@ def test_manual_pages_have_no_warning(package):
         assert f"Durzhanok {version()}" in done.stdout and "@" not in page_of(package, name, section), f"{name} has no version or no date"
 
 
+def flags_of(part):
+    """The lines of a section of a page that begin the description of a flag."""
+    return re.findall(r"^\.TP\n(\..*)", part, flags=re.M)
+
+
 def test_manual_pages_have_the_flags_of_the_help(package):
     for name, section in PAGES.items():
         text = page_of(package, name, section)
         options = text.replace("\\-", "-").split(".SH OPTIONS")[1].split(".SH EXIT STATUS")[0]
         synopsis = text.replace("\\-", "-").split(".SH SYNOPSIS")[1].split(".SH DESCRIPTION")[0]
         tags = re.findall(r"^\.TP\n(\..*)", options, flags=re.M) + synopsis.splitlines()
+        equal(f"{name}: described twice in a section", [part for part in re.split(r"^\.S[SH]", options, flags=re.M) if len(flags_of(part)) > len(set(flags_of(part)))], [])
         flags = {flag for tag in tags for flag in re.findall(r'(?<![A-Za-z-])--?[A-Za-z][a-z-]*', tag)}
         equal(f"{name}: in the page, not in the help", flags - help_of(package, name, with_commands=True), set())
         equal(f"{name}: in the help, not in the page", help_of(package, name, with_commands=True) - flags, set())

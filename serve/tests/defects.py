@@ -172,24 +172,34 @@ def test_removed_member(programs):
         time.sleep(6)  # etcd changes its members only when they were connected for five seconds
 
         def etcdctl(*words):
-            # A call that meets an election of the leader times out, and is tried again: it may have been applied.
-            for _ in range(5):
-                done = subprocess.run(["etcdctl", "--endpoints", "unix://" + os.path.join(one.folder, "etcd.sock"), *words], capture_output=True, text=True, check=False, env={**os.environ, "ETCDCTL_API": "3"})
-                if done.returncode == 0 or "already exist" in done.stderr:
-                    return done.stdout
-                if "timed out" not in done.stderr:
-                    break
-                time.sleep(1)
-            raise AssertionError(done)
+            return subprocess.run(["etcdctl", "--endpoints", "unix://" + os.path.join(one.folder, "etcd.sock"), *words], capture_output=True, text=True, check=False, env={**os.environ, "ETCDCTL_API": "3"})
 
-        member = next(line.split(",")[0] for line in etcdctl("member", "list").splitlines() if ", g2," in line)
-        etcdctl("member", "remove", member)
-        assert wait(lambda: "it was removed" in third.ask("/healthz", name=None)[1], 20), third.log()
+        def peers():
+            """The ID of each member by the URL of its peers, or None while etcd does not answer."""
+            done = etcdctl("member", "list")
+            return {line.split(", ")[3]: line.split(", ")[0] for line in done.stdout.splitlines()} if done.returncode == 0 else None
+
+        def change(is_done, *words):
+            """Changes the members. A call that fails, as during an election, may have been applied: the list of members says so."""
+            told = []
+
+            def changed():
+                told.append(etcdctl("member", *words))
+                found = peers()
+                return found is not None and is_done(found)
+
+            assert wait(changed, 90, 1), told
+
+        found = wait(peers, 60, 1)
+        assert found, one.log()
+        old, new = third.words[third.words.index("-members") + 1].rpartition("g2=")[2], f"http://127.0.0.1:{free_port()}"
+        change(lambda found: old not in found, "remove", found[old])
+        assert wait(lambda: "it was removed" in third.ask("/healthz", name=None)[1], 40), third.log()
         status, answer, _ = third.ask("/drf/v1/state")
         assert status == 503 and "it was removed" in answer and "it was removed" in third.log(), (status, answer)
         ends_in_time(third)
-        etcdctl("member", "add", "g2", f"--peer-urls=http://127.0.0.1:{free_port()}")
-        assert one.send(rescind(2)) == [{"name": "UnknownOffer", "refused": 7}]
+        change(lambda found: new in found, "add", "g2", f"--peer-urls={new}")
+        assert wait(lambda: one.ask("/drf/v1/events", json.dumps(rescind(2)))[:2] == (200, '{"name":"UnknownOffer","refused":7}\n'), 40), one.log()
 
 
 def test_applied(programs):

@@ -204,9 +204,13 @@ def test_settings(programs):
         assert wait(lambda: all(len(members(g, "gateways")) == 2 for g in fleet.gateways)), one.status()
         one.send({"event": "set_limit", "role": "eng", "limit": "cpus:1"}, AGENT, {"event": "deactivate_agent", "agent": "n1"}, name="ops")
         other.send({"event": "set_limit", "role": "eng", "limit": "x"}, name="admin")  # refused: it sets nothing
-        for n in range(150):
-            one.send({"event": "set_weight", "role": f"r{n % 3}", "weight": "2"})
-        assert wait(lambda: one.status()["state"] >= 4, 20), one.status()
+
+        def has_four_snapshots():  # one is due at most each 250 ms, so how many messages this takes depends on how fast they are sent
+            for n in range(20):
+                one.send({"event": "set_weight", "role": f"r{n % 3}", "weight": "2"})
+            return one.status()["state"] >= 4
+
+        assert wait(has_four_snapshots, 60), one.status()
         assert audit(one, "event=set_limit")["records"] == []  # its message is pruned
         found, = settings(one, "event=set_limit&role=eng")
         assert (found["name"], found["address"], found["message"], found["line"], found["text"]) == ("ops", "127.0.0.1", 1, 1, '{"event":"set_limit","limit":"cpus:1","role":"eng"}'), found
@@ -271,9 +275,10 @@ def test_archive(programs):
         assert wait(lambda: archived(g)["messages"] >= 250 and g.status()["epoch"] >= 1 and newest_header(folder)["epoch"] >= 1, 30), g.status()
         status = archived(g)
         assert status["fault"] == "" and status["gaps"] == 0 and figure(g, "drf_archive_failing") == 0 and figure(g, "drf_archive_messages") >= 250, status
-        kept = int(g.ask("/drf/v1/journal")[2]["Drf-From"])
         first, = audit(g, "event=set_limit&role=r1&name=ops")["records"]
-        assert kept > first["byte"] + first["bytes"], "the journal still has it"
+        # the message is pruned at the snapshot after the next one, which cycles make due
+        assert wait(lambda: int(g.ask("/drf/v1/journal")[2]["Drf-From"]) > first["byte"] + first["bytes"], 60), "the journal still has it"
+        assert audit(g, "event=set_limit&role=r1&name=ops")["records"] == [first]
         assert first["matches"][0]["text"] == '{"event":"set_limit","limit":"cpus:1","role":"r1"}' and first["address"] == "127.0.0.1", first
         numbers, before = [], ""
         while True:

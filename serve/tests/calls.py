@@ -12,7 +12,7 @@ import time
 import urllib.request
 import uuid
 
-from fleet import Fleet, NotRun, make_certificate, wait
+from fleet import Fleet, NotRun, make_certificate, mostly_waits, wait
 
 AGENT = {"event": "add_agent", "agent": "n1", "total": "cpus:4;mem:4096"}
 SITE = {"event": "add_framework", "framework": "site", "roles": ["web"]}
@@ -288,6 +288,7 @@ def test_cycles_once(programs):
         assert one.ask("/drf/v1/events", '{"event": "rescind", "offer": 1}\n', Idempotency_Key="again")[1] == '{"ok":true}\n'
 
 
+@mostly_waits
 def test_time_outs(programs):
     words = ["-cycle", "500ms", "-offer-timeout", "2s", "-agent-timeout", "2s", "-agent-removal", "2s", "-framework-timeout", "2s"]
     with Fleet("outer", programs.gateway, programs.drf, *words) as fleet:
@@ -298,8 +299,8 @@ def test_time_outs(programs):
         assert json.loads(one.ask("/drf/v1/agents/n1/alive", "", name="rack")[1]) == {"was_alive": False}
         assert json.loads(other.ask("/drf/v1/agents/n1/alive", "", name="rack")[1]) == {"was_alive": True}
         assert json.loads(one.ask("/drf/v1/frameworks/site/alive", "", name="site")[1]) == {"was_alive": False}
-        wait(lambda: '"remove_framework"' in one.ask("/drf/v1/journal")[1], 30)
-        wait(lambda: '"remove_agent"' in one.ask("/drf/v1/journal")[1], 30)
+        wait(lambda: '"remove_framework"' in one.ask("/drf/v1/journal")[1], 60)
+        wait(lambda: '"remove_agent"' in one.ask("/drf/v1/journal")[1], 60)
         fleet.agreed()
         lines = one.ask("/drf/v1/journal")[1].splitlines()
         pairs = list(zip(lines[::2], lines[1::2]))

@@ -10,7 +10,7 @@ import threading
 import time
 
 from calls import AGENT, SITE, listen, read_stream
-from fleet import Fleet, free_port, make_certificate, wait
+from fleet import Fleet, free_port, make_certificate, mostly_waits, wait
 
 
 def rescind(number):
@@ -29,6 +29,7 @@ def beat(gateway, path, name, stop, found):
         stop.wait(0.4)
 
 
+@mostly_waits
 def test_stale_lease(programs):
     """A framework that left and registered again is not removed when the lease of its former session ends."""
     with Fleet("alone", programs.gateway, programs.drf, "-cycle", "0", "-framework-timeout", "2s") as fleet:
@@ -41,6 +42,7 @@ def test_stale_lease(programs):
         assert g.ask("/drf/v1/journal")[1].count("remove_framework") == 1
 
 
+@mostly_waits
 def test_pause(programs):
     """Agents and frameworks that kept sending heartbeats are there after the service was stopped for longer than their time-outs."""
     words = ["-cycle", "0", "-agent-timeout", "3s", "-agent-removal", "2s", "-framework-timeout", "3s"]
@@ -64,6 +66,7 @@ def test_pause(programs):
         assert wait(lambda: "remove_agent" in g.ask("/drf/v1/journal")[1] and "remove_framework" in g.ask("/drf/v1/journal")[1], 40), "who is silent stays"
 
 
+@mostly_waits
 def test_pause_of_one(programs):
     """While one of two gateways is stopped, the other does not end those who send their heartbeats to it."""
     with Fleet("outer", programs.gateway, programs.drf, "-cycle", "0", "-framework-timeout", "2s") as fleet:
@@ -262,6 +265,7 @@ def test_bodies(programs):
         return f"{most[0] - before} MiB"
 
 
+@mostly_waits
 def test_heartbeats_of_the_unknown(programs):
     """Heartbeats of agents that nobody registered become no events."""
     with Fleet("alone", programs.gateway, programs.drf, "-cycle", "0", "-agent-timeout", "1s", "-agent-removal", "1s") as fleet:

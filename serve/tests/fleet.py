@@ -7,6 +7,7 @@ import socket
 import subprocess
 import sys
 import tempfile
+import threading
 import time
 import urllib.error
 import urllib.request
@@ -14,21 +15,28 @@ import urllib.request
 HERE = os.path.dirname(os.path.realpath(__file__))
 SERVE = os.path.dirname(HERE)
 RIGHTS = {"admin": ["admin"], "eye": ["read"], "site": ["framework:site", "role:web"], "rack": ["agent:n*"], "ops": ["operate", "clock"]}
-taken_ports = set()
+taken_ports, taking = set(), threading.Lock()
 
 
 class NotRun(Exception):
     """Why a test cannot be run here."""
 
 
+def mostly_waits(test):
+    """Marks a test that mostly waits for time to pass. Such tests run at the same time, in threads."""
+    test.mostly_waits = True
+    return test
+
+
 def free_port():
-    while True:
-        with socket.socket() as s:
-            s.bind(("127.0.0.1", 0))
-            port = s.getsockname()[1]
-        if port not in taken_ports:
-            taken_ports.add(port)
-            return port
+    with taking:
+        while True:
+            with socket.socket() as s:
+                s.bind(("127.0.0.1", 0))
+                port = s.getsockname()[1]
+            if port not in taken_ports:
+                taken_ports.add(port)
+                return port
 
 
 def wait(what, limit=30, pause=0.05):

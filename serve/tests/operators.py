@@ -12,7 +12,7 @@ import threading
 import time
 
 from faults import small_disk
-from fleet import SERVE, Fleet, NotRun, wait
+from fleet import SERVE, Fleet, NotRun, mostly_waits, wait
 
 AGENT = {"event": "add_agent", "agent": "n1", "total": "cpus:4;mem:4096"}
 
@@ -97,6 +97,7 @@ def members(gateway, kind):
     return {one["name"]: one for one in gateway.status()["members"][kind]}
 
 
+@mostly_waits
 def test_members(programs):
     """Each gateway says of each gateway and etcd member how far it is, and which of them is silent; while it is cut off too."""
     with Fleet("three", programs.gateway, programs.drf, "-cycle", "0", "-etcd-quota", "128MiB") as fleet:
@@ -319,6 +320,7 @@ def test_archive(programs):
         assert code == 3, told
 
 
+@mostly_waits
 def test_archive_on_a_full_disk(programs):
     """While the archive's disk is full or read-only the service goes on; then what came meanwhile is archived, without a gap."""
     outer = tempfile.mkdtemp(prefix="serve-test-")

@@ -5,9 +5,37 @@ import argparse
 import sys
 import time
 import traceback
+from concurrent.futures import ThreadPoolExecutor
 
 from fleet import NotRun
 from programs import find_programs
+
+
+def name_of(test):
+    return getattr(test, "name", test.__name__.removeprefix("test_"))
+
+
+def outcome(test, programs):
+    """Runs a test, and returns whether it passed, or None where it cannot run here, and what to print."""
+    name, begun = name_of(test), time.time()
+    try:
+        told = test(programs)
+        return True, f"ok {name} ({time.time() - begun:.1f} s){': ' + told if told else ''}"
+    except NotRun as why:
+        return None, f"not run: {name}: {why}"
+    except Exception:  # a test that fails in whatever way has failed
+        return False, f"FAILED {name}\n{traceback.format_exc()}"
+
+
+def outcomes(chosen, programs):
+    """Yields the outcome of each test: first of those that mostly wait, which run at the same time, then of the others, one after another."""
+    waiting = [test for test in chosen if getattr(test, "mostly_waits", False)]
+    if waiting:
+        with ThreadPoolExecutor(len(waiting)) as pool:
+            yield from pool.map(lambda test: outcome(test, programs), waiting)
+    for test in chosen:
+        if test not in waiting:
+            yield outcome(test, programs)
 
 
 def main():
@@ -23,21 +51,12 @@ def main():
     import operators
     import scale
     programs = find_programs()
+    every = calls.TESTS + conversion.TESTS + defects.TESTS + operators.TESTS + faults.tests(options.long) + mesos_chaos.tests(options.long) + (scale.TESTS if options.long else [])
     passed = failed = 0
-    for test in calls.TESTS + conversion.TESTS + defects.TESTS + operators.TESTS + faults.tests(options.long) + mesos_chaos.tests(options.long) + (scale.TESTS if options.long else []):
-        name = getattr(test, "name", test.__name__.removeprefix("test_"))
-        if not any(part in name for part in options.only.split(",")):
-            continue
-        begun = time.time()
-        try:
-            told = test(programs)
-            print(f"ok {name} ({time.time() - begun:.1f} s){': ' + told if told else ''}", flush=True)
-            passed += 1
-        except NotRun as why:
-            print(f"not run: {name}: {why}", flush=True)
-        except Exception:  # a test that fails in whatever way has failed
-            print(f"FAILED {name}\n{traceback.format_exc()}", flush=True)
-            failed += 1
+    for has_passed, told in outcomes([test for test in every if any(part in name_of(test) for part in options.only.split(","))], programs):
+        print(told, flush=True)
+        passed += has_passed is True
+        failed += has_passed is False
     print(f"tests of calls and faults: {passed} passed, {failed} failed")
     sys.exit(failed > 0)
 

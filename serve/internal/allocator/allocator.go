@@ -42,6 +42,7 @@ type Allocator struct {
 	mu       sync.Mutex
 	pid      int
 	restarts int
+	events   []string // newer ones that the program knows
 }
 
 // New returns an allocator. Run must be called for it to answer. Fail is called when the gateway must stop.

@@ -7,6 +7,7 @@ import (
 	"bytes"
 	"context"
 	"fmt"
+	"log"
 	"os"
 	"os/exec"
 	"time"
@@ -77,12 +78,16 @@ func (c *child) close() {
 func (a *Allocator) generation(ctx context.Context, from oplog.Snapshot, revision int64) error {
 	ctx, cancel := context.WithCancel(ctx)
 	defer cancel()
+	events, err := probe(ctx, a.config.Program)
+	if err != nil { // then none is used
+		log.Print(err)
+	}
 	c, err := startChild(ctx, a.config.Program, append([]string{"run", "--ask", "--echo"}, a.snapshots.arguments(from)...)...)
 	if err != nil {
 		return err
 	}
 	a.mu.Lock()
-	a.pid = c.pid
+	a.pid, a.events = c.pid, events
 	a.mu.Unlock()
 	a.waiting.Store(0)
 	pipeline, ends := make(chan *inFlight, maxInFlight), make(chan error, 3)

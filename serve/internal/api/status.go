@@ -71,7 +71,7 @@ func (service *Service) Status() (s Status) {
 // Report returns what this gateway reports to the others.
 func (service *Service) Report() members.Gateway {
 	s := service.Status()
-	return members.Gateway{Name: s.Name, Version: s.Version, Drf: s.Allocator.Sha256, Started: s.Started, Ready: s.Ready, Fault: s.Fault,
+	return members.Gateway{Name: s.Name, Version: s.Version, Drf: s.Allocator.Sha256, Events: service.Allocator.Events(), Started: s.Started, Ready: s.Ready, Fault: s.Fault,
 		ClockFault: s.ClockFault, ClockOffsetMS: s.ClockOffsetMS, Messages: s.Messages, Lag: s.Lag}
 }
 

@@ -18,17 +18,18 @@ import (
 
 // Gateway is what a gateway reports of itself, and what the one that is asked makes of it.
 type Gateway struct {
-	Name          string `json:"name"`
-	Version       string `json:"version"`
-	Drf           string `json:"drf"`     // SHA-256 of its allocator's program
-	Started       int64  `json:"started"` // in milliseconds, as At
-	At            int64  `json:"at"`      // when it reported this, by its own clock
-	Ready         bool   `json:"ready"`
-	Fault         string `json:"fault"`
-	ClockFault    string `json:"clock_fault"`
-	ClockOffsetMS int64  `json:"clock_offset_ms"` // how far its clock is ahead of the gateways' median
-	Messages      int64  `json:"messages"`        // that it has applied
-	Lag           int64  `json:"lag"`             // messages that it has not applied, or that another gateway applied before
+	Name          string   `json:"name"`
+	Version       string   `json:"version"`
+	Drf           string   `json:"drf"`              // SHA-256 of its allocator's program
+	Events        []string `json:"events,omitempty"` // newer ones that this program knows
+	Started       int64    `json:"started"`          // in milliseconds, as At
+	At            int64    `json:"at"`               // when it reported this, by its own clock
+	Ready         bool     `json:"ready"`
+	Fault         string   `json:"fault"`
+	ClockFault    string   `json:"clock_fault"`
+	ClockOffsetMS int64    `json:"clock_offset_ms"` // how far its clock is ahead of the gateways' median
+	Messages      int64    `json:"messages"`        // that it has applied
+	Lag           int64    `json:"lag"`             // messages that it has not applied, or that another gateway applied before
 
 	Etcd *etcd.MemberStatus `json:"etcd,omitempty"` // the member inside its process
 
@@ -181,6 +182,32 @@ func (t *Table) AllReport() bool {
 		}
 	}
 	return true
+}
+
+// AllKnow reports whether the allocator of each gateway that runs knows an event. One that does not would reply otherwise than the others.
+func (t *Table) AllKnow(event string) bool {
+	names := t.running()
+	if own := t.own(); !own.knows(event) {
+		return false
+	}
+	t.mu.Lock()
+	defer t.mu.Unlock()
+	for _, name := range names {
+		r, is := t.records[name]
+		if !is || time.Since(r.seen) > liveFor || !r.knows(event) {
+			return false
+		}
+	}
+	return true
+}
+
+func (g *Gateway) knows(event string) bool {
+	for _, one := range g.Events {
+		if one == event {
+			return true
+		}
+	}
+	return false
 }
 
 // Lag returns the messages that this gateway has not applied, or that another gateway applied before.

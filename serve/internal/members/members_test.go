@@ -17,6 +17,40 @@ func tableOf(cluster *etcd.Cluster, name string, messages *int64, running ...str
 	return New(cluster, "drf/members/", name, func() Gateway { return Gateway{Version: "1", Ready: true, Messages: *messages} }, func() []string { return running })
 }
 
+// One gateway that does not know an event, or has not said so, is enough for it not to be used.
+func TestAllKnow(t *testing.T) {
+	cluster, ctx, now := etcdtest.Start(t, 1<<30), context.Background(), time.Now()
+	known := map[string][]string{"a": {"set_framework"}, "b": nil}
+	table := func(name string, running ...string) *Table {
+		return New(cluster, "drf/members/", name, func() Gateway { return Gateway{Events: known[name]} }, func() []string { return running })
+	}
+	a, b := table("a", "b"), table("b", "a")
+	check := func(what string, want bool, asked ...*Table) {
+		t.Helper()
+		for _, one := range asked {
+			if err := one.report(ctx, now); err != nil {
+				t.Fatal(err)
+			}
+		}
+		for _, one := range asked {
+			if one.AllKnow("set_framework") != want || one.AllKnow("other") {
+				t.Errorf("%s: %s says %v", what, one.name, !want)
+			}
+		}
+	}
+	check("b has not reported", false, a)
+	check("b does not know it", false, b, a)
+	known["b"] = []string{"another", "set_framework"}
+	check("both know it", true, b, a, b)
+	known["a"] = nil
+	check("a no longer knows it", false, a, b)
+	check("a runs alone", false, table("a"))
+	known["a"] = []string{"set_framework"}
+	check("a runs alone and knows it", true, table("a"))
+	now = now.Add(-time.Minute)
+	check("b's last report is old", false, table("a", "b"))
+}
+
 func (t *Table) find(test *testing.T, name string, now time.Time) Gateway {
 	test.Helper()
 	for _, g := range t.list(now).Gateways {

@@ -29,6 +29,7 @@ func (c *client) outcome(task string) interface{} {
 }
 
 func TestCommands(t *testing.T) {
+	t.Parallel()
 	s := newService(t, 1, 1)
 	c := s.subscribe("admin", s.token, frameworkInfo)
 	out := filepath.Join(s.folder, "out")

@@ -41,6 +41,7 @@ func (c *client) expect(state, reason string, values object) {
 }
 
 func TestHealthChecks(t *testing.T) {
+	t.Parallel()
 	s := newService(t, 1, 1)
 	file := filepath.Join(s.folder, "healthy")
 	code := int32(503)
@@ -59,12 +60,13 @@ func TestHealthChecks(t *testing.T) {
 		name, check           string
 		becomeWell, becomeIll func()
 	}{
+		// first, before another test takes the port
+		{"tcp", `"type":"TCP","tcp":{"port":` + fmt.Sprint(tcpPort) + `}`,
+			func() { listener, _ = net.Listen("tcp", fmt.Sprintf("127.0.0.1:%d", tcpPort)) }, func() { listener.Close() }},
 		{"command", `"type":"COMMAND","command":{"value":"test -n \"$GREETING\" && test -e ` + file + ` && pwd | grep -q sandbox"}`,
 			func() { os.WriteFile(file, nil, 0o600) }, func() { os.Remove(file) }},
 		{"http", `"type":"HTTP","http":{"port":` + port(web.Listener.Addr()) + `,"path":"/health"}`,
 			func() { atomic.StoreInt32(&code, 399) }, func() { atomic.StoreInt32(&code, 404) }},
-		{"tcp", `"type":"TCP","tcp":{"port":` + fmt.Sprint(tcpPort) + `}`,
-			func() { listener, _ = net.Listen("tcp", fmt.Sprintf("127.0.0.1:%d", tcpPort)) }, func() { listener.Close() }},
 	} {
 		t.Run(one.name, func(t *testing.T) {
 			c := s.subscribe("admin", s.token, frameworkInfo)

@@ -10,6 +10,7 @@ import (
 )
 
 func TestLoad(t *testing.T) {
+	t.Parallel()
 	s := newService(t, 1, 0)
 	program := filepath.Join(s.folder, "load")
 	if text, err := exec.Command("go", "build", "-o", program, "gateway/tests/load/mesos").CombinedOutput(); err != nil {

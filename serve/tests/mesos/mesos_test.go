@@ -186,6 +186,7 @@ func TestAgentIsGone(t *testing.T) {
 
 // The time for which an agent may be away begins again with the service: while there was none, no agent could come.
 func TestTimesBeginAgain(t *testing.T) {
+	t.Parallel()
 	s := newService(t, 1, 0, "-mesos-agent-gone", "8s")
 	a := s.simulate("n1", scalar("cpus", "1"))
 	a.next("REGISTERED")

@@ -119,6 +119,7 @@ def test_full_etcd(programs):
         return f"{sent} MiB of events through a store of 64 MiB; {answers.count(200)} of {len(answers)} batches were taken"
 
 
+@mostly_waits
 def test_cut_off(programs):
     """A gateway that no majority answers says so within some seconds, and ends its streams; it comes back by itself."""
     with Fleet("three", programs.gateway, programs.drf, "-cycle", "0") as fleet:
@@ -167,6 +168,7 @@ def test_no_majority(programs):
         fleet.__exit__(None, None, None)
 
 
+@mostly_waits
 def test_removed_member(programs):
     """A member that was removed says so, answers 503, and ends at SIGTERM; a new one can be added at once."""
     with Fleet("three", programs.gateway, programs.drf, "-cycle", "0") as fleet:

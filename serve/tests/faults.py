@@ -13,7 +13,7 @@ import time
 
 from calls import AGENT, SITE
 from chaos import chaos
-from fleet import Fleet, NotRun, wait
+from fleet import Fleet, NotRun, mostly_waits, wait
 
 
 def ended(gateway, text, limit=20):
@@ -134,6 +134,7 @@ def test_list_lost_its_end(programs):
         ended(g, "messages that were answered are lost")
 
 
+@mostly_waits
 def test_lost_majority(programs):
     with Fleet("outer", programs.gateway, programs.drf, "-cycle", "0", "-clock-bound", "4s") as fleet:
         one, other = fleet.gateways

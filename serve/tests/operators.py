@@ -277,8 +277,12 @@ def test_archive(programs):
         status = archived(g)
         assert status["fault"] == "" and status["gaps"] == 0 and figure(g, "drf_archive_failing") == 0 and figure(g, "drf_archive_messages") >= 250, status
         first, = audit(g, "event=set_limit&role=r1&name=ops")["records"]
-        # the message is pruned at the snapshot after the next one, which cycles make due
-        assert wait(lambda: int(g.ask("/drf/v1/journal")[2]["Drf-From"]) > first["byte"] + first["bytes"], 60), "the journal still has it"
+
+        def is_pruned():  # at a snapshot after the one that follows it, which needs more messages
+            g.send(*limits(1))
+            return int(g.ask("/drf/v1/journal")[2]["Drf-From"]) > first["byte"] + first["bytes"]
+
+        assert wait(is_pruned, 60), "the journal still has it"
         assert audit(g, "event=set_limit&role=r1&name=ops")["records"] == [first]
         assert first["matches"][0]["text"] == '{"event":"set_limit","limit":"cpus:1","role":"r1"}' and first["address"] == "127.0.0.1", first
         numbers, before = [], ""

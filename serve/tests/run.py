@@ -31,7 +31,7 @@ def outcomes(chosen, programs):
     """Yields the outcome of each test: first of those that mostly wait, which run at the same time, then of the others, one after another."""
     waiting = [test for test in chosen if getattr(test, "mostly_waits", False)]
     if waiting:
-        with ThreadPoolExecutor(len(waiting)) as pool:
+        with ThreadPoolExecutor(8) as pool:
             yield from pool.map(lambda test: outcome(test, programs), waiting)
     for test in chosen:
         if test not in waiting:

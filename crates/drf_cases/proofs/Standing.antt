@@ -4,7 +4,7 @@ use Rattle.std.proofs.Common.{refl, ap}
 use Rattle.drf_rows.specs.Step.{refusal_of, effect, reply_to}
 use Rattle.drf_row_laws.specs.FrameLaws.{only_changed, step_keeps}
 use Rattle.drf_rows.specs.declared.event.Event.{Event}
-use Rattle.drf_rows.specs.declared.event.Event.TheVariants.{RemoveAgent, RemoveFramework, Accept, Decline, Revive, SetWeight, SetLimit, Cycle}
+use Rattle.drf_rows.specs.declared.event.Event.TheVariants.{RemoveAgent, SetFramework, RemoveFramework, Accept, Decline, Revive, SetWeight, SetLimit, Cycle}
 use Rattle.drf_rows.specs.declared.rows.Rows.{Rows}
 use Rattle.drf_cases.specs.FullCases.{FullRefusesAll}
 use Rattle.drf_cases.specs.Untouched.{TouchesNoFilter, SetsNoLimit, SetsNoWeight, HasNoMoment, IsNoCycle, FiltersStand, LimitsStand, WeightsStand, ClockStands, NumberStands}
@@ -27,6 +27,7 @@ limits_stand limits rows event spared =
 
 filters_kept : (rows : Rows) (event : Event) → TouchesNoFilter event → (effect rows event).filters ≡ rows.filters
 filters_kept rows (RemoveAgent agent) spared = absurd spared
+filters_kept rows (SetFramework framework roles) spared = absurd spared
 filters_kept rows (RemoveFramework framework) spared = absurd spared
 filters_kept rows (Accept a) spared = absurd spared
 filters_kept rows (Decline d) spared = absurd spared

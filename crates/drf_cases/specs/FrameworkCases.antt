@@ -1,10 +1,12 @@
 -- Frameworks and their clients: each case in which they are refused.
-use Rattle.std.specs.Prelude.{[], ◌∷◌, codes}
+use Rattle.std.specs.Prelude.{List, [], ◌∷◌, codes}
 use Rattle.drf_role.specs.Path.{Path}
-use Rattle.drf_rows.specs.declared.event.Event.TheVariants.{AddFramework, RemoveFramework, Suppress, Revive}
-use Rattle.drf_rows.specs.declared.reply.Refusal.TheVariants.{UnknownFramework, KnownFramework, NotInRole, Empty, TooMany}
+use Rattle.drf_rows.specs.declared.event.Event.{Event}
+use Rattle.drf_rows.specs.declared.event.Event.TheVariants.{AddAgent, AddFramework, SetFramework, RemoveFramework, Finish, Suppress, Revive, Cycle}
+use Rattle.drf_rows.specs.declared.reply.Refusal.TheVariants.{UnknownFramework, KnownFramework, NotInRole, Empty, TooMany, RoleInUse}
 use Rattle.drf_rows.specs.declared.reply.Reply.TheVariants.{Done, Refused}
-use Rattle.drf_worked.specs.Examples.{framework_in}
+use Rattle.drf_worked.specs.Examples.{cpus, framework_in, offer}
+use Rattle.drf_worked.specs.LifeExamples.{one, accept}
 use Rattle.drf_worked.specs.OrderExamples.{role_a, role_b}
 use Rattle.drf_cases.specs.Told.{Told}
 
@@ -38,4 +40,34 @@ frameworks_told =
     ∷ (AddFramework (codes "f3") (role_c ∷ role_d ∷ []), Refused TooMany)
     ∷ (framework_in (codes "f3") (codes "c"), Done)
     ∷ (RemoveFramework (codes "f1"), Refused UnknownFramework)
+    ∷ []
+
+-- whose roles change: without roles, to too many roles or clients, each bound passed alone, and while an offer or a task is in a role that is left.
+-- The same list again is taken, and so is a list without a role in which another framework holds something
+abbrev roles_set : List Path → Event
+roles_set roles = SetFramework (codes "f1") roles
+
+abbrev pub set_framework_told : Told
+set_framework_told =
+    (roles_set (role_a ∷ []), Refused UnknownFramework)
+    ∷ (framework_in (codes "f1") (codes "a"), Done)
+    ∷ (roles_set [], Refused Empty)
+    ∷ (roles_set (role_a ∷ role_b ∷ role_c ∷ []), Refused TooMany)
+    ∷ (roles_set (role_a ∷ role_b ∷ role_a ∷ []), Done)
+    ∷ (roles_set (role_b ∷ role_a ∷ []), Done)
+    ∷ (framework_in (codes "f2") (codes "c"), Done)
+    ∷ (SetFramework (codes "f2") (role_c ∷ role_d ∷ []), Refused TooMany)
+    ∷ (SetFramework (codes "f2") (role_d ∷ []), Done)
+    ∷ (AddAgent (codes "n1") (cpus 1000 ∷ []), Done)
+    ∷ (Cycle 0, one (offer 1 (codes "f1") (codes "a") (codes "n1") (cpus 1000 ∷ [])))
+    ∷ (roles_set (role_b ∷ role_c ∷ role_d ∷ []), Refused TooMany)
+    ∷ (roles_set (role_b ∷ []), Refused RoleInUse)
+    ∷ (roles_set (role_a ∷ []), Done)
+    ∷ (accept (codes "f1") 1 (codes "t") (cpus 1000 ∷ []), Done)
+    ∷ (roles_set (role_b ∷ role_c ∷ []), Refused RoleInUse)
+    ∷ (SetFramework (codes "f2") (role_a ∷ []), Done)
+    ∷ (SetFramework (codes "f2") (role_b ∷ []), Done)
+    ∷ (Finish (codes "f1") (codes "t"), Done)
+    ∷ (roles_set (role_b ∷ []), Done)
+    ∷ (Suppress (codes "f1") role_a, Refused NotInRole)
     ∷ []

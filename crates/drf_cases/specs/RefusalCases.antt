@@ -3,7 +3,7 @@ use Rattle.std.specs.Prelude.{ℕ, List, [], ◌∷◌, codes, map}
 use Rattle.drf_role.specs.Text.{Text}
 use Rattle.drf_rows.specs.Refusal.{refusal_name, refusal_number}
 use Rattle.drf_rows.specs.declared.reply.Refusal.{Refusal}
-use Rattle.drf_rows.specs.declared.reply.Refusal.TheVariants.{HistoryFull, BadMoment, UnknownAgent, KnownAgent, UnknownFramework, KnownFramework, UnknownOffer, NotYours, UnknownTask, KnownTask, NotInRole, DefaultRole, Empty, NotUnreserved, NotCovered, OverLimit, BadWeight, TooLarge, TooMany}
+use Rattle.drf_rows.specs.declared.reply.Refusal.TheVariants.{HistoryFull, BadMoment, UnknownAgent, KnownAgent, UnknownFramework, KnownFramework, UnknownOffer, NotYours, UnknownTask, KnownTask, NotInRole, DefaultRole, Empty, NotUnreserved, NotCovered, OverLimit, BadWeight, TooLarge, TooMany, RoleInUse}
 
 -- each of them once
 abbrev every_refusal : List Refusal
@@ -27,6 +27,7 @@ every_refusal =
     ∷ BadWeight
     ∷ TooLarge
     ∷ TooMany
+    ∷ RoleInUse
     ∷ []
 
 -- as the definition has them
@@ -55,4 +56,5 @@ refusals_documented =
     ∷ (17, codes "BadWeight")
     ∷ (18, codes "TooLarge")
     ∷ (19, codes "TooMany")
+    ∷ (20, codes "RoleInUse")
     ∷ []

@@ -3,7 +3,7 @@ use Rattle.std.specs.Prelude.{◌≡◌, ⊤}
 use Rattle.drf_rows.specs.LimitNumbers.{LimitNumbers}
 use Rattle.drf_rows.specs.Step.{rows_after}
 use Rattle.drf_rows.specs.declared.event.Event.{Event}
-use Rattle.drf_rows.specs.declared.event.Event.TheVariants.{RemoveAgent, RemoveFramework, Accept, Decline, Revive, SetWeight, SetLimit, Cycle}
+use Rattle.drf_rows.specs.declared.event.Event.TheVariants.{RemoveAgent, SetFramework, RemoveFramework, Accept, Decline, Revive, SetWeight, SetLimit, Cycle}
 use Rattle.drf_rows.specs.declared.rows.Rows.{Rows}
 
 abbrev pub SetsNoWeight : Event → Type 0
@@ -24,9 +24,10 @@ LimitsStand = (limits : LimitNumbers) (rows : Rows) (event : Event) → SetsNoLi
 
 -- ---- filters, the clock and the next number
 
--- it neither sets a filter, as an accept or a decline may, nor ends some, as a revival and the removal of an agent or a framework do
+-- it neither sets a filter, as an accept or a decline may, nor ends some, as a revival, other roles and the removal of an agent or a framework do
 abbrev pub TouchesNoFilter : Event → Type 0
 TouchesNoFilter (RemoveAgent agent) = ⊥
+TouchesNoFilter (SetFramework framework roles) = ⊥
 TouchesNoFilter (RemoveFramework framework) = ⊥
 TouchesNoFilter (Accept a) = ⊥
 TouchesNoFilter (Decline d) = ⊥

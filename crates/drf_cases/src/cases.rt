@@ -5,7 +5,7 @@ ghost use Rattle.std.specs.Prelude.{◌≡◌, [], ◌∷◌, codes};
 ghost use Rattle.drf_worked.specs.Examples.{mem, not_offered, offered_whole, replies_with};
 ghost use Rattle.drf_worked.specs.OrderExamples.{served};
 ghost use Rattle.drf_cases.specs.AgentCases.{agents_told};
-ghost use Rattle.drf_cases.specs.FrameworkCases.{frameworks_told};
+ghost use Rattle.drf_cases.specs.FrameworkCases.{frameworks_told, set_framework_told};
 ghost use Rattle.drf_cases.specs.FullCases.{FullRefusesAll, full_told, one_event};
 ghost use Rattle.drf_cases.specs.OfferCases.{offers_told};
 ghost use Rattle.drf_cases.specs.RefusalCases.{refusals_documented, refusals_told};
@@ -24,6 +24,11 @@ pub fn agents_cases()
 /// be suppressed, and who is not may revive.
 pub fn frameworks_cases()
     ensures { IsRun few frameworks_told }
+{}
+
+/// Roles of a framework that change: of no framework, to no roles, to too many roles or clients, away from a role with an offer or a task.
+pub fn set_framework_cases()
+    ensures { IsRun few set_framework_told }
 {}
 
 /// Offers, tasks and cycles: a moment too late, who is unknown, what is unknown or another's, tasks that are known, empty or too much, and a filter too many.
@@ -63,7 +68,7 @@ pub fn refusals_cases()
 {}
 
 /// Weights and limits of roles stand until they are set, whoever comes or goes. So do filters but over an accept or a decline, which may set one, a
-/// revival, and the removal of an agent or a framework, the clock until a moment is told, and the number of the next offer until a cycle.
+/// revival, a change of roles, and the removal of an agent or a framework, the clock until a moment is told, and the number of the next offer until a cycle.
 pub fn untouched_law()
     ensures weights { WeightsStand }
     ensures limits { LimitsStand }

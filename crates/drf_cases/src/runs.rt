@@ -10,6 +10,7 @@ ghost use Rattle.drf_rows.specs.Report.{report_of};
 ghost use Rattle.drf_worked.specs.ReportExamples.{tree_at_work, tree_report, one_weighted, weighted_report, nothing_there, nothing_report, reserved_held, reserved_report, two_reports, two_reports_replies};
 ghost use Rattle.drf_worked.specs.LifeExamples.{a_task, a_task_replies, two_tasks, two_tasks_replies, a_filter, a_filter_replies, a_clock, a_clock_replies, a_year, a_year_replies, one_filter, two_filters, two_filters_replies, taking_part, taking_part_replies, refused, refused_replies};
 ghost use Rattle.drf_worked.specs.FilterExamples.{whose_filter, whose_filter_replies, a_rest, a_rest_replies, a_later_decline, a_later_decline_replies, at_the_limit, at_the_limit_replies, two_roles, two_roles_replies, one_role_revives, one_role_revives_replies, who_leaves, who_leaves_replies};
+ghost use Rattle.drf_worked.specs.RoleExamples.{roles_change, roles_change_replies, five_roles, frameworks_after, five_roles_rows};
 ghost use Rattle.drf_worked.specs.WeightExamples.{bounds, bounds_replies, replaced, weights_after, replaced_rows, one_weight, one_weight_replies, replies_by_weight, third_to};
 
 use drf_rows::{Refusal, Reply};
@@ -125,4 +126,11 @@ pub fn others_example()
     ensures roles { replies_to ceilings opening two_roles ≡ two_roles_replies }
     ensures frameworks { replies_to ceilings opening one_role_revives ≡ one_role_revives_replies }
     ensures left { replies_to ceilings opening who_leaves ≡ who_leaves_replies }
+{}
+
+/// A framework that takes a role is offered what is reserved for it, and a role in use is not left. A role that is taken again has no filter, and its
+/// offers are counted anew. Roles that stay come first, and new ones follow in the order of the list.
+pub fn role_changes_example()
+    ensures change { replies_to ceilings opening roles_change ≡ roles_change_replies }
+    ensures order { frameworks_after five_roles ≡ five_roles_rows }
 {}

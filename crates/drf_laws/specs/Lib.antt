@@ -12,5 +12,6 @@ pub mod TurnLaws
 pub mod KnownLaws
 pub mod FilterLaws
 pub mod RunLaws
+pub mod RoleChangeLaws
 pub mod BoundLaws
 pub mod laws

@@ -12,18 +12,20 @@ use Rattle.drf_rows.specs.Quota.{consumption}
 use Rattle.drf_rows.specs.Step.{opening, live_rows, rows_after, rows_after_all}
 use Rattle.drf_laws.specs.KeptLimitLaws.{IsGivenBundles, changes_totals}
 use Rattle.drf_rows.specs.declared.event.Event.{Event}
-use Rattle.drf_rows.specs.declared.event.Event.TheVariants.{AddAgent, SetAgent, AddFramework, SetWeight, SetLimit}
+use Rattle.drf_rows.specs.declared.event.Event.TheVariants.{AddAgent, SetAgent, AddFramework, SetFramework, SetWeight, SetLimit}
 use Rattle.drf_rows.specs.declared.rows.LimitRow.{LimitRow}
 use Rattle.drf_rows.specs.declared.rows.Rows.{Rows}
 
 -- ---- rows stay consistent
 
 -- the resources of an event are bundles, what it moves it moves to a role or from one, the framework that it registers has a
--- valid name and valid roles, and the role whose weight or limit it sets is valid: so it is of each event, by its type
+-- valid name and valid roles, the roles that a framework gets are valid, and so is the role whose weight or limit it sets: so it
+-- is of each event, by its type
 abbrev pub IsGiven : Event → Type 0
 IsGiven (AddAgent agent total) = IsBundle total
 IsGiven (SetAgent agent total) = IsBundle total
 IsGiven (AddFramework framework roles) = IsName framework × AllByRecursion IsRole roles
+IsGiven (SetFramework framework roles) = AllByRecursion IsRole roles
 IsGiven (SetWeight role weight) = IsRole role
 IsGiven (SetLimit role limit) = IsRole role
 IsGiven other = IsGivenBundles other

@@ -6,6 +6,9 @@ pub mod Welcome
 pub mod SameLive
 pub mod Endings
 pub mod Roles
+pub mod RoleChanges
+pub mod RoleCounts
+pub mod RolesSet
 pub mod Offers
 pub mod Turns
 pub mod Bounds

@@ -2,6 +2,7 @@
 
 ghost use Rattle.drf_row_laws.specs.Laws.{NoneBeforeItself, AtMostOneBefore, OneServingOrder, TooLittleIsNotGranted, FirstIsGrantedAll, CasesRise, LeastIsTold, RefusedChangesNothing, AcceptedIsCounted, RunsGoOn, LiveRowsReply, LiveRowsGoOn, LiveRowsRun, HeldIsReported, CountIsReported, TotalIsReported, AmountsAreAboveZero, SharesAreLowest, NodesRise, NodesBeginPaths};
 ghost use Rattle.drf_row_laws.specs.LifeLaws.{AcceptedStartsTasks, DeclinedAtOnceIsUndone, FinishedIsGivenBack, FiltersGoWithTheirOwner, OtherFiltersStay, SuppressionIsItsClients, SuppressedIsNotOffered, FilteredIsNotOffered, NumbersAreNew, OtherAgentsStay, OtherFrameworksStay, OtherHoldingsStay, EndedIsGone, RemovedIsGone, ActivityIsItsAgents, CycleOnlyOffers};
+ghost use Rattle.drf_laws.specs.RoleChangeLaws.{ListedRolesAreSet, OtherClientsStayRegistered, SameRolesChangeNothing, TakenAgainIsNew};
 ghost use Rattle.drf_row_laws.specs.WeightLaws.{RoleHasItsWeight, OthersKeepTheirWeight, EachHasOneRow, NoRoleHasTwoRows};
 
 /// Clients can be served in one order only, whatever they hold.
@@ -89,4 +90,14 @@ pub fn set_weight_law()
     ensures others { OthersKeepTheirWeight }
     ensures one_row { EachHasOneRow }
     ensures run { NoRoleHasTwoRows }
+{}
+
+/// An event that sets the roles of a framework has it registered in the listed roles alone, and no client of another framework comes
+/// or goes. A list of just the roles that it has, in any order, changes nothing of consistent rows. A role that is left and taken
+/// again is active, with no offer counted and no filter.
+pub fn set_framework_law()
+    ensures listed { ListedRolesAreSet }
+    ensures others { OtherClientsStayRegistered }
+    ensures same { SameRolesChangeNothing }
+    ensures again { TakenAgainIsNew }
 {}

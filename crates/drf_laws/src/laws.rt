@@ -74,7 +74,7 @@ fn recall_roles(roles: &[Role])
 }
 
 /// By its type, the resources of every event are bundles, what it moves it moves to a role or from one, the framework that it
-/// registers has a valid name and valid roles, and the role whose weight or limit it sets is valid.
+/// registers has a valid name and valid roles, the roles that a framework gets are valid, and so is the role whose weight or limit it sets.
 pub fn given_law(event: &Event)
     ensures { IsGiven event.now }
 {
@@ -84,6 +84,10 @@ pub fn given_law(event: &Event)
             framework.recall();
             recall_roles(roles.as_slice());
         }
+        Event::SetFramework {
+            framework: _,
+            roles,
+        } => recall_roles(roles.as_slice()),
         Event::SetWeight { role, weight: _ } | Event::SetLimit { role, limit: _ } => role.recall(),
         Event::Accept(accept) => {
             let _ = accept.tasks.as_slice();

@@ -6,8 +6,8 @@ mod laws;
 mod limits;
 
 pub use definition::{
-    life_law, live_rows_law, offers_law, others_law, report_law, serving_order_law, set_weight_law,
-    step_law, turn_law,
+    life_law, live_rows_law, offers_law, others_law, report_law, serving_order_law,
+    set_framework_law, set_weight_law, step_law, turn_law,
 };
 pub use laws::{
     bounded_runs_law, consistent_runs_law, event_law, given_law, kept_law, kept_limits_law,

@@ -13,7 +13,7 @@ use Rattle.drf_rows.specs.Cycle.{free_of, is_grantable, count_offer, new_offer, 
 use Rattle.drf_rows.specs.Offers.{offer_at, offer_accepted, offer_declined}
 use Rattle.drf_rows.specs.Step.{refusal_of, effect, rows_after}
 use Rattle.drf_rows.specs.declared.event.Event.{Event}
-use Rattle.drf_rows.specs.declared.event.Event.TheVariants.{AddAgent, RemoveAgent, ActivateAgent, DeactivateAgent, SetAgent, AddFramework, RemoveFramework, Accept, Decline, Rescind, Finish, Suppress, Revive, Reserve, Unreserve, SetWeight, SetLimit, Cycle, Report}
+use Rattle.drf_rows.specs.declared.event.Event.TheVariants.{AddAgent, RemoveAgent, ActivateAgent, DeactivateAgent, SetAgent, AddFramework, SetFramework, RemoveFramework, Accept, Decline, Rescind, Finish, Suppress, Revive, Reserve, Unreserve, SetWeight, SetLimit, Cycle, Report}
 use Rattle.drf_rows.specs.declared.reply.Refusal.{Refusal}
 use Rattle.drf_rows.specs.declared.rows.AgentRow.{AgentRow}
 use Rattle.drf_rows.specs.declared.rows.OfferRow.{OfferRow}
@@ -58,6 +58,7 @@ changed (ActivateAgent agent) = record no_table { agents = true }
 changed (DeactivateAgent agent) = record no_table { agents = true; offers = true }
 changed (SetAgent agent total) = record no_table { agents = true }
 changed (AddFramework framework roles) = record no_table { frameworks = true }
+changed (SetFramework framework roles) = record no_table { frameworks = true; filters = true }
 changed (RemoveFramework framework) = record no_table { frameworks = true; offers = true; tasks = true; filters = true }
 changed (Accept a) = record no_table { offers = true; tasks = true; filters = true; clock = true }
 changed (Decline d) = record no_table { offers = true; filters = true; clock = true }

@@ -11,6 +11,7 @@ pub mod RegistrationLaws
 pub mod EndingLaws
 pub mod OfferLaws
 pub mod MemberLaws
+pub mod RoleLaws
 pub mod TotalLaws
 pub mod WeightLaws
 pub mod TotalsLaws

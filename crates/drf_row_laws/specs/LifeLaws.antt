@@ -26,7 +26,7 @@ use Rattle.drf_rows.specs.declared.rows.TaskRow.{TaskRow}
 use Rattle.drf_rows.specs.declared.rows.Rows.{Rows}
 use Rattle.drf_rows.specs.declared.event.Accept as accepting
 use Rattle.drf_rows.specs.declared.event.Event.{Event}
-use Rattle.drf_rows.specs.declared.event.Event.TheVariants.{AddAgent, RemoveAgent, ActivateAgent, DeactivateAgent, SetAgent, AddFramework, RemoveFramework, Accept, Decline, Rescind, Finish, Suppress, Revive, Reserve, Unreserve, Cycle}
+use Rattle.drf_rows.specs.declared.event.Event.TheVariants.{AddAgent, RemoveAgent, ActivateAgent, DeactivateAgent, SetAgent, AddFramework, SetFramework, RemoveFramework, Accept, Decline, Rescind, Finish, Suppress, Revive, Reserve, Unreserve, Cycle}
 use Rattle.drf_rows.specs.declared.reply.OfferLine.{OfferLine}
 use Rattle.drf_rows.specs.declared.reply.Reply.{Reply}
 use Rattle.drf_rows.specs.declared.reply.Reply.TheVariants.{Offers}
@@ -191,9 +191,10 @@ is_about_agent (Reserve agent role resources) name = same_text name agent
 is_about_agent (Unreserve agent role resources) name = same_text name agent
 is_about_agent event name = false
 
--- the framework that an event registers, removes, suppresses in a role or makes revive there
+-- the framework that an event registers, removes, suppresses in a role or makes revive there, or whose roles it changes
 abbrev pub is_about_framework : Event → Text → Bool
 is_about_framework (AddFramework framework roles) name = same_text name framework
+is_about_framework (SetFramework framework roles) name = same_text name framework
 is_about_framework (RemoveFramework framework) name = same_text name framework
 is_about_framework (Suppress framework role) name = same_text name framework
 is_about_framework (Revive framework role) name = same_text name framework

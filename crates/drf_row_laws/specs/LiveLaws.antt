@@ -12,12 +12,13 @@ use Rattle.drf_row_laws.specs.FrameLaws.{by_offer, with_tables, all_tried_only, 
 use Rattle.drf_row_laws.specs.FilterLaws.{held_back-in_force, in_force-later, number_in_force-later, in_force-left, in_force-more}
 use Rattle.drf_rows.specs.Quota.{entitlement}
 use Rattle.drf_rows.specs.Cycle.{free_of, is_allocatable, grant, new_offer, with_offer, tried, all_tried, turn_order, turn, turns, at_moment, cycle}
+use Rattle.drf_rows.specs.Roles.{is_of_left}
 use Rattle.drf_rows.specs.Offers.{offer_at, left_of_offer, filtered_until, filter_of, filters_all, filters_rest, filters_with, are_many_filters, offer_accepted, offer_declined}
 use Rattle.drf_rows.specs.Tasks.{Start}
 use Rattle.drf_rows.specs.Report.{report_of}
 use Rattle.drf_rows.specs.Step.{live_rows, refusal_of, effect, answer, rows_after, rows_after_all, reply_to, replies_to}
 use Rattle.drf_rows.specs.declared.event.Event.{Event}
-use Rattle.drf_rows.specs.declared.event.Event.TheVariants.{RemoveAgent, RemoveFramework, Accept, Decline, Revive, Cycle}
+use Rattle.drf_rows.specs.declared.event.Event.TheVariants.{RemoveAgent, SetFramework, RemoveFramework, Accept, Decline, Revive, Cycle}
 use Rattle.drf_rows.specs.declared.reply.Refusal.{Refusal}
 use Rattle.drf_rows.specs.declared.reply.Reply.TheVariants.{Refused}
 use Rattle.drf_rows.specs.declared.rows.AgentRow.{AgentRow}
@@ -174,6 +175,8 @@ module _ (rows : Rows) (n : ℕ) where
   effect-live : (event : Event) → live_rows (record (effect (live_rows rows) event) { events = n }) ≡ live_rows (record (effect rows event) { events = n })
   unfolding effect
   effect-live (RemoveAgent agent) = live-leave (effect rows (RemoveAgent agent)) (λ f. not (is_on_agent agent f)) refl refl
+  effect-live (SetFramework framework roles) =
+      live-leave (effect rows (SetFramework framework roles)) (λ f. not (is_of_left framework roles f)) refl refl
   effect-live (RemoveFramework framework) = live-leave (effect rows (RemoveFramework framework)) (λ f. not (same_text f.framework framework)) refl refl
   effect-live (Accept a) = live-accepted a.at a.tasks a.refuse_ms (offer_at rows a.offer)
   effect-live (Decline d) = live-declined d.at d.refuse_ms (offer_at rows d.offer)

@@ -10,7 +10,7 @@ use Rattle.std.proofs.lemmas.List.Sums.{sum_by-append}
 use Rattle.std.proofs.Math.Seq.{drop-append_seam}
 use Rattle.drf_role.specs.Text.{Text, same_text}
 use Rattle.drf_role.specs.TextLaws.{same_itself}
-use Rattle.drf_role.specs.Path.{same_path}
+use Rattle.drf_role.specs.Path.{Path, same_path}
 use Rattle.drf_bundle.specs.declared.resource.Resource.{Resource}
 use Rattle.drf_rows.specs.Client.{Client}
 use Rattle.drf_rows.specs.Holdings.{of_offer}
@@ -22,12 +22,13 @@ use Rattle.drf_rows.specs.Offers.{offer_at, offer_accepted, offer_declined}
 use Rattle.drf_rows.specs.Tasks.{Start}
 use Rattle.drf_bundle.specs.Bundle.{relabel}
 use Rattle.drf_rows.specs.Totals.{total_at, exchanged}
+use Rattle.drf_rows.specs.Roles.{with_roles, roles_set_in}
 use Rattle.drf_rows.specs.Members.{distinct, new_client, active_at, suppressed_at, suppressed_in}
 use Rattle.drf_bundle.specs.ListLaws.{filter-again, none_left}
 use Rattle.drf_rows.specs.Step.{effect, new_offers}
 use Rattle.drf_row_laws.specs.LifeLaws.{is_cycle, other_agents, other_frameworks, OtherAgentsStay, OtherFrameworksStay, OthersStay, is_accept, other_offers, other_tasks, OtherHoldingsStay, EndedIsGone, RemovedIsGone, active_row, ActivityIsItsAgents, is_made_to, raised_row, with_counts, CycleOnlyOffers}
 use Rattle.drf_rows.specs.declared.event.Event.{Event}
-use Rattle.drf_rows.specs.declared.event.Event.TheVariants.{AddAgent, RemoveAgent, ActivateAgent, DeactivateAgent, SetAgent, AddFramework, RemoveFramework, Accept, Decline, Rescind, Finish, Suppress, Revive, Reserve, Unreserve, Cycle}
+use Rattle.drf_rows.specs.declared.event.Event.TheVariants.{AddAgent, RemoveAgent, ActivateAgent, DeactivateAgent, SetAgent, AddFramework, SetFramework, RemoveFramework, Accept, Decline, Rescind, Finish, Suppress, Revive, Reserve, Unreserve, Cycle}
 use Rattle.drf_rows.specs.declared.rows.AgentRow.{AgentRow}
 use Rattle.drf_rows.specs.declared.rows.ClientRow.{ClientRow}
 use Rattle.drf_rows.specs.declared.rows.FrameworkRow.{FrameworkRow}
@@ -211,12 +212,27 @@ frameworks_suppressed client suppressed frameworks =
         by true = own
         by false = own
 
+frameworks_set : (name : Text) (roles : List Path) (frameworks : List FrameworkRow)
+    → filter (λ f. not (same_text f.name name)) (map (roles_set_in name roles) frameworks) ≡ filter (λ f. not (same_text f.name name)) frameworks
+frameworks_set name roles frameworks = filter-changed (λ f. not (same_text f.name name)) (roles_set_in name roles) frameworks stays past
+  where
+    stays : (f : FrameworkRow) → not (same_text f.name name) ≡ true → roles_set_in name roles f ≡ f
+    stays f is = rw (not-true (same_text f.name name) is) refl
+
+    past : (f : FrameworkRow) → not (same_text f.name name) ≡ false → not (same_text (roles_set_in name roles f).name name) ≡ false
+    past f own = by (same_text f.name name)
+      where
+        by : (b : Bool) → not (same_text (if b then record f { clients = with_roles roles f.clients } else f).name name) ≡ false
+        by true = own
+        by false = own
+
 frameworks_left : (rows : Rows) (event : Event) → is_cycle event ≡ false
     → other_frameworks event (effect rows event).frameworks ≡ other_frameworks event rows.frameworks
 unfolding effect
 frameworks_left rows (AddFramework framework roles) no_cycle =
     filter-last (λ f. not (same_text f.name framework)) rows.frameworks
     (record { name = framework; clients = map new_client (distinct roles) }) (ap not (same_itself framework))
+frameworks_left rows (SetFramework framework roles) no_cycle = frameworks_set framework roles rows.frameworks
 frameworks_left rows (RemoveFramework framework) no_cycle = filter-again (λ f. not (same_text f.name framework)) rows.frameworks
 frameworks_left rows (Suppress framework role) no_cycle =
     frameworks_suppressed (record { role = role; framework = framework }) true rows.frameworks

@@ -15,6 +15,7 @@ pub mod Endings
 pub mod Ended
 pub mod Offers
 pub mod Members
+pub mod Roles
 pub mod Report
 pub mod Consistent
 pub mod Refusal

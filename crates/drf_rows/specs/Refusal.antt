@@ -2,7 +2,7 @@
 use Rattle.std.specs.Prelude.{ℕ, codes}
 use Rattle.drf_role.specs.Text.{Text}
 use Rattle.drf_rows.specs.declared.reply.Refusal.{Refusal}
-use Rattle.drf_rows.specs.declared.reply.Refusal.TheVariants.{HistoryFull, BadMoment, UnknownAgent, KnownAgent, UnknownFramework, KnownFramework, UnknownOffer, NotYours, UnknownTask, KnownTask, NotInRole, DefaultRole, Empty, NotUnreserved, NotCovered, OverLimit, BadWeight, TooLarge, TooMany}
+use Rattle.drf_rows.specs.declared.reply.Refusal.TheVariants.{HistoryFull, BadMoment, UnknownAgent, KnownAgent, UnknownFramework, KnownFramework, UnknownOffer, NotYours, UnknownTask, KnownTask, NotInRole, DefaultRole, Empty, NotUnreserved, NotCovered, OverLimit, BadWeight, TooLarge, TooMany, RoleInUse}
 
 -- the number of a refusal: of several whose cases hold, the one of the least number is answered
 abbrev pub refusal_number : Refusal → ℕ
@@ -25,6 +25,7 @@ refusal_number OverLimit = 16
 refusal_number BadWeight = 17
 refusal_number TooLarge = 18
 refusal_number TooMany = 19
+refusal_number RoleInUse = 20
 
 -- the name of a refusal
 abbrev pub refusal_name : Refusal → Text
@@ -47,3 +48,4 @@ refusal_name OverLimit = codes "OverLimit"
 refusal_name BadWeight = codes "BadWeight"
 refusal_name TooLarge = codes "TooLarge"
 refusal_name TooMany = codes "TooMany"
+refusal_name RoleInUse = codes "RoleInUse"

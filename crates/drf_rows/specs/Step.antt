@@ -10,6 +10,7 @@ use Rattle.drf_bundle.specs.declared.resource.Resource.{Resource}
 use Rattle.drf_rows.specs.LimitNumbers.{LimitNumbers}
 use Rattle.drf_rows.specs.Held.{cluster_total, clients_of, is_registered}
 use Rattle.drf_rows.specs.Members.{has_agent, has_framework, distinct, with_agent, with_framework, with_activity, with_suppression, agent_deactivated, revived, agent_removed, framework_removed}
+use Rattle.drf_rows.specs.Roles.{framework_set, is_role_in_use, too_many_roles}
 use Rattle.drf_rows.specs.Offers.{offer_at, has_offer, is_anothers, is_beyond, has_task, is_task_known, is_empty, filters_all, filters_rest, are_many_filters, offer_accepted, offer_declined}
 use Rattle.drf_rows.specs.Endings.{without_ended, one_offer, one_task}
 use Rattle.drf_rows.specs.Cycle.{at_moment, cycle}
@@ -27,12 +28,12 @@ use Rattle.drf_rows.specs.declared.event.Accept as accepting
 use Rattle.drf_rows.specs.declared.event.Decline as declining
 use Rattle.drf_rows.specs.declared.event.Event.{Event}
 use Rattle.drf_rows.specs.declared.event.Event.TheVariants as event
-use Rattle.drf_rows.specs.declared.event.Event.TheVariants.{AddAgent, RemoveAgent, ActivateAgent, DeactivateAgent, SetAgent, AddFramework, RemoveFramework, Accept, Decline, Rescind, Finish, Suppress, Revive, Reserve, Unreserve, SetWeight, SetLimit, Cycle}
+use Rattle.drf_rows.specs.declared.event.Event.TheVariants.{AddAgent, RemoveAgent, ActivateAgent, DeactivateAgent, SetAgent, AddFramework, SetFramework, RemoveFramework, Accept, Decline, Rescind, Finish, Suppress, Revive, Reserve, Unreserve, SetWeight, SetLimit, Cycle}
 use Rattle.drf_rows.specs.declared.reply.Reply.{Reply}
 use Rattle.drf_rows.specs.declared.reply.Reply.TheVariants as reply
 use Rattle.drf_rows.specs.declared.reply.Reply.TheVariants.{Done, Offers, Refused}
 use Rattle.drf_rows.specs.declared.reply.Refusal.{Refusal}
-use Rattle.drf_rows.specs.declared.reply.Refusal.TheVariants.{HistoryFull, BadMoment, UnknownAgent, KnownAgent, UnknownFramework, KnownFramework, UnknownOffer, NotYours, UnknownTask, KnownTask, NotInRole, DefaultRole, Empty, NotUnreserved, NotCovered, OverLimit, BadWeight, TooLarge, TooMany}
+use Rattle.drf_rows.specs.declared.reply.Refusal.TheVariants.{HistoryFull, BadMoment, UnknownAgent, KnownAgent, UnknownFramework, KnownFramework, UnknownOffer, NotYours, UnknownTask, KnownTask, NotInRole, DefaultRole, Empty, NotUnreserved, NotCovered, OverLimit, BadWeight, TooLarge, TooMany, RoleInUse}
 use Rattle.drf_rows.specs.declared.reply.OfferLine.{OfferLine}
 
 -- the rows of an allocator that has just been opened
@@ -119,6 +120,12 @@ own_cases_of limits rows (AddFramework framework roles) =
     ∷ (is_empty roles, Empty)
     ∷ (too_many_frameworks limits rows roles, TooMany)
     ∷ []
+own_cases_of limits rows (SetFramework framework roles) =
+    (not (has_framework rows framework), UnknownFramework)
+    ∷ (is_empty roles, Empty)
+    ∷ (too_many_roles limits rows framework roles, TooMany)
+    ∷ (is_role_in_use rows framework roles, RoleInUse)
+    ∷ []
 own_cases_of limits rows (RemoveFramework framework) = (not (has_framework rows framework), UnknownFramework) ∷ []
 own_cases_of limits rows (Accept a) =
     (nat_lt LATEST_MOMENT a.at, BadMoment)
@@ -192,6 +199,7 @@ effect rows (ActivateAgent agent) = record rows { agents = with_activity rows ag
 effect rows (DeactivateAgent agent) = agent_deactivated rows agent
 effect rows (SetAgent agent total) = record rows { agents = with_other_total rows agent total }
 effect rows (AddFramework framework roles) = record rows { frameworks = with_framework rows framework roles }
+effect rows (SetFramework framework roles) = framework_set rows framework roles
 effect rows (RemoveFramework framework) = framework_removed rows framework
 effect rows (Accept a) =
     option_map_or (λ o. offer_accepted (at_moment rows a.at) o a.tasks a.refuse_ms) (offer_at rows a.offer) rows

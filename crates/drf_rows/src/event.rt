@@ -84,6 +84,12 @@ pub enum Event {
         framework: Name,
         roles: Table<Role>,
     },
+    /// A framework has just these roles from now on. In a role that stays nothing changes for it; in a role that it leaves it
+    /// loses its filters, and holds nothing.
+    SetFramework {
+        framework: Name,
+        roles: Table<Role>,
+    },
     /// A framework leaves. What it held is free.
     RemoveFramework {
         framework: Name,
@@ -165,6 +171,10 @@ impl Event {
                 total: total.copy()?,
             }),
             Event::AddFramework { framework, roles } => Ok(Event::AddFramework {
+                framework: framework.copy()?,
+                roles: roles.copy()?,
+            }),
+            Event::SetFramework { framework, roles } => Ok(Event::SetFramework {
                 framework: framework.copy()?,
                 roles: roles.copy()?,
             }),

@@ -7,6 +7,7 @@ mod event;
 mod limits;
 mod reply;
 mod report;
+mod roles;
 mod rows;
 mod shared;
 mod table;
@@ -19,6 +20,7 @@ pub use event::{Accept, Decline, Event};
 pub use limits::{LARGEST_AMOUNT, LATEST_MOMENT, LONGEST_FILTER, Limits};
 pub use reply::{OfferLine, Refusal, Reply};
 pub use report::{NodeLine, Report};
+pub use roles::is_among;
 pub use rows::{
     AgentRow, ClientRow, FilterRow, FrameworkRow, LimitRow, OfferRow, Rows, TaskRow, WeightRow,
 };

@@ -48,6 +48,8 @@ pub enum Refusal {
     /// A limit would be passed: of agents, names of scalars, frameworks, roles of a framework, clients, filters in force,
     /// weights, limits, or scalars that one limit names.
     TooMany,
+    /// The framework holds an offer or a task in a role that it would leave.
+    RoleInUse,
 }
 
 impl Refusal {
@@ -77,6 +79,7 @@ impl Refusal {
             Refusal::BadWeight => 17,
             Refusal::TooLarge => 18,
             Refusal::TooMany => 19,
+            Refusal::RoleInUse => 20,
         }
     }
 
@@ -104,6 +107,7 @@ impl Refusal {
             Refusal::BadWeight => "BadWeight",
             Refusal::TooLarge => "TooLarge",
             Refusal::TooMany => "TooMany",
+            Refusal::RoleInUse => "RoleInUse",
         }
     }
 }

@@ -6,3 +6,4 @@ pub mod LifeExamples
 pub mod FilterExamples
 pub mod QuotaExamples
 pub mod PortExamples
+pub mod RoleExamples

@@ -30,13 +30,14 @@ use Rattle.drf_row_laws.specs.WeightLaws.{IsConsistent-weight_set}
 use Rattle.drf_rows.specs.declared.event.Accept as accepting
 use Rattle.drf_rows.specs.declared.event.Decline as declining
 use Rattle.drf_rows.specs.declared.event.Event.{Event}
-use Rattle.drf_rows.specs.declared.event.Event.TheVariants.{AddAgent, RemoveAgent, ActivateAgent, DeactivateAgent, SetAgent, AddFramework, RemoveFramework, Accept, Decline, Rescind, Finish, Suppress, Revive, Reserve, Unreserve, SetWeight, SetLimit, Cycle, Report}
+use Rattle.drf_rows.specs.declared.event.Event.TheVariants.{AddAgent, RemoveAgent, ActivateAgent, DeactivateAgent, SetAgent, AddFramework, SetFramework, RemoveFramework, Accept, Decline, Rescind, Finish, Suppress, Revive, Reserve, Unreserve, SetWeight, SetLimit, Cycle, Report}
 use Rattle.drf_rows.specs.declared.limits.TheConstants.{LARGEST_AMOUNT, LATEST_MOMENT}
 use Rattle.drf_rows.specs.declared.rows.FilterRow.{FilterRow}
 use Rattle.drf_rows.specs.declared.rows.OfferRow.{OfferRow}
 use Rattle.drf_rows.specs.declared.rows.Rows.{Rows}
 use Rattle.drf_laws.specs.RunLaws.{IsGiven}
 use Rattle.drf_laws.specs.laws.Roles.{distinct_apart, each-distinct, roles_of_new, uncounted_new}
+use Rattle.drf_laws.specs.laws.RoleChanges.{IsConsistent-roles_set}
 use Rattle.drf_laws.specs.laws.Kept.{consistent-clock}
 use Rattle.drf_row_laws.specs.OfferLaws.{offer_filter, same_offer, moment_early}
 use Rattle.drf_laws.specs.laws.Offers.{can_accept}
@@ -134,6 +135,8 @@ module _ (limits : LimitNumbers) (rows : Rows) (consistent : IsConsistent rows) 
   IsConsistent-effect (SetAgent agent total) given accepted = agent_set agent total given accepted
   IsConsistent-effect (AddFramework framework roles) given accepted =
       framework_added framework roles given.0 given.1 accepted
+  IsConsistent-effect (SetFramework framework roles) given accepted =
+      IsConsistent-roles_set rows framework roles consistent given (no_case_of limits rows (SetFramework framework roles) accepted).1.1.1.1.0
   IsConsistent-effect (RemoveFramework framework) given accepted = IsConsistent-framework_left rows framework consistent
   IsConsistent-effect (Accept a) given accepted =
       at_offer a.offer (λ o. offer_accepted (at_moment rows a.at) o a.tasks a.refuse_ms) (offer_taken a given accepted)

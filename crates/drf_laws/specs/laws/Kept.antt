@@ -14,6 +14,7 @@ use Rattle.drf_rows.specs.Held.{client_of, clients_in, clients_of, cluster_total
 use Rattle.drf_rows.specs.Cycle.{at_moment, cycle}
 use Rattle.drf_rows.specs.Step.{live_rows, refusal_of, effect, opening}
 use Rattle.drf_rows.specs.Members.{active_at, suppressed_at, suppressed_in, with_agent, with_framework, with_suppression, new_client, distinct}
+use Rattle.drf_rows.specs.Roles.{roles_set_in, with_framework_roles}
 use Rattle.drf_rows.specs.Totals.{total_at, exchanged}
 use Rattle.drf_bundle.specs.Bundle.{relabel}
 use Rattle.drf_row_laws.specs.FrameLaws.{only_changed}
@@ -21,7 +22,7 @@ use Rattle.drf_row_laws.specs.RegistrationLaws.{length-clients_of-framework_adde
 use Rattle.drf_rows.specs.Consistent.{IsConsistent, IsFilter, IsNumberedByEvents, IsAgent}
 use Rattle.drf_row_laws.specs.ConsistentLaws.{numbers_within}
 use Rattle.drf_rows.specs.declared.event.Event.{Event}
-use Rattle.drf_rows.specs.declared.event.Event.TheVariants.{AddAgent, RemoveAgent, ActivateAgent, DeactivateAgent, SetAgent, AddFramework, RemoveFramework, Suppress, Revive, Reserve, Unreserve, SetWeight, Cycle}
+use Rattle.drf_rows.specs.declared.event.Event.TheVariants.{AddAgent, RemoveAgent, ActivateAgent, DeactivateAgent, SetAgent, AddFramework, SetFramework, RemoveFramework, Suppress, Revive, Reserve, Unreserve, SetWeight, Cycle}
 use Rattle.drf_rows.specs.declared.rows.AgentRow.{AgentRow}
 use Rattle.drf_rows.specs.Filters.{is_in_force}
 use Rattle.drf_bundle.specs.ListLaws.{each_from, each_filter, length-filter_le}
@@ -32,7 +33,7 @@ use Rattle.drf_rows.specs.declared.rows.Rows.{Rows}
 use Rattle.drf_laws.specs.Kept.{AreFew, IsKept, IsCountable}
 use Rattle.drf_laws.specs.laws.Turns.{turns-clients, turns-next_offer}
 use Rattle.drf_laws.specs.laws.Bounds.{few_weights}
-use Rattle.drf_laws.specs.laws.Welcome.{room_for, welcome_agent, welcome_framework, welcome_weight}
+use Rattle.drf_laws.specs.laws.Welcome.{no_case_of, room_for, welcome_agent, welcome_framework, welcome_weight}
 use Rattle.drf_rows.specs.declared.limits.TheConstants.{LATEST_MOMENT}
 use Rattle.drf_bundle.specs.Quantities.{amount_of}
 use Rattle.drf_row_laws.specs.ReportedShares.{small_total}
@@ -107,6 +108,16 @@ module _ (limits : LimitNumbers) (rows : Rows) (few : AreFew limits rows) (numbe
         omega (arith, room, length-clients_of-framework_added rows f, length-map (distinct roles) new_client),
       )
 
+  roles_fit : (framework : Text) (roles : List Path) → refusal_of limits rows (SetFramework framework roles) ≡ None
+      → AreFewFrameworks (with_framework_roles rows framework roles)
+  roles_fit framework roles none =
+      let clients = length (clients_in (with_framework_roles rows framework roles)) in
+      let over = or_parts (nat_lt limits.roles (length (distinct roles))) (nat_lt limits.clients clients)
+      (no_case_of limits rows (SetFramework framework roles) none).1.1.1.0 in (
+        omega (arith, few.frameworks, length-map rows.frameworks (roles_set_in framework roles)),
+        ltb-false limits.clients clients over.1,
+      )
+
   suppressed_fit : (client : Client) (suppressed : Bool) → AreFewFrameworks (with_suppression rows client suppressed)
   suppressed_fit client suppressed = (
     omega (arith, few.frameworks, length-map rows.frameworks (suppressed_in client suppressed)),
@@ -116,6 +127,7 @@ module _ (limits : LimitNumbers) (rows : Rows) (few : AreFew limits rows) (numbe
   frameworks_after : (event : Event) → refusal_of limits rows event ≡ None → AreFewFrameworks (effect rows event).frameworks
   unfolding effect cycle
   frameworks_after (AddFramework framework roles) none = framework_fits framework roles none
+  frameworks_after (SetFramework framework roles) none = roles_fit framework roles none
   frameworks_after (RemoveFramework framework) none = (
     omega (arith, few.frameworks, length-filter_le (λ f. not (same_text f.name framework)) rows.frameworks),
     omega (arith, few.clients, length-clients-filter (λ f. not (same_text f.name framework)) rows.frameworks),

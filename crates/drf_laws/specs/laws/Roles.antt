@@ -94,7 +94,7 @@ all_pass_kept p (r ∷ rs) = elim (cases_Bool (p r)) [
   | inr goes ↦ rw goes (all_pass_kept p rs)
 ]
 
-apart-filter : (q : Path → Bool) (rs : List Path) → are_distinct_roles rs ≡ true → are_distinct_roles (filter q rs) ≡ true
+pub apart-filter : (q : Path → Bool) (rs : List Path) → are_distinct_roles rs ≡ true → are_distinct_roles (filter q rs) ≡ true
 apart-filter q [] apart = refl
 apart-filter q (r ∷ rs) apart =
     let parts = and_parts (list_all (is_other r) rs) (are_distinct_roles rs) apart in

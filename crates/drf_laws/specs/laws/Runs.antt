@@ -12,7 +12,7 @@ use Rattle.drf_row_laws.specs.LiveLaws.{rows_after-live}
 use Rattle.drf_row_laws.specs.RegistrationLaws.{IsConsistent-opening}
 use Rattle.drf_row_laws.specs.StepLaws.{rows_after-refused, rows_after-accepted}
 use Rattle.drf_rows.specs.declared.event.Event.{Event}
-use Rattle.drf_rows.specs.declared.event.Event.TheVariants.{AddAgent, SetAgent, AddFramework, SetWeight, SetLimit}
+use Rattle.drf_rows.specs.declared.event.Event.TheVariants.{AddAgent, SetAgent, AddFramework, SetFramework, SetWeight, SetLimit}
 use Rattle.drf_rows.specs.declared.reply.Refusal.{Refusal}
 use Rattle.drf_rows.specs.declared.rows.Rows.{Rows}
 use Rattle.drf_laws.specs.RunLaws.{IsGiven, AreGiven, StepsStayConsistent, RunsStayConsistent, AllRowsStayConsistent, RunsFromOpeningAreConsistent, NothingIsGrantedTwice, RunsFromOpeningKeepLimits, ConsistentRunsKeepLimits}
@@ -76,6 +76,7 @@ pub given_bundles : (event : Event) → IsGiven event → IsGivenBundles event
 given_bundles (AddAgent agent total) given = tt
 given_bundles (SetAgent agent total) given = tt
 given_bundles (AddFramework framework roles) given = tt
+given_bundles (SetFramework framework roles) given = tt
 given_bundles (SetWeight role weight) given = tt
 given_bundles (SetLimit role limit) given = tt
 given_bundles event given = given

@@ -15,6 +15,7 @@ use Rattle.drf_rows.specs.Cycle.{at_moment, cycle}
 use Rattle.drf_rows.specs.Filters.{is_of_client, is_on_agent, number_in_force}
 use Rattle.drf_rows.specs.Held.{cluster_total}
 use Rattle.drf_rows.specs.Members.{distinct, has_agent, new_client, with_agent}
+use Rattle.drf_rows.specs.Roles.{is_of_left}
 use Rattle.drf_rows.specs.Offers.{are_many_filters, filter_of, filters_with, is_empty, left_of_offer, offer_at, offer_accepted, offer_declined, filtered_until, filters_all, filters_rest}
 use Rattle.drf_rows.specs.Quota.{has_limit}
 use Rattle.drf_rows.specs.Step.{opening, new_offers, refusal_of, effect, rows_after, rows_after_all, too_many_names}
@@ -28,7 +29,7 @@ use Rattle.drf_row_laws.specs.TotalsLaws.{cluster_total-exchanged}
 use Rattle.drf_rows.specs.declared.event.Accept as accepting
 use Rattle.drf_rows.specs.declared.event.Decline as declining
 use Rattle.drf_rows.specs.declared.event.Event.{Event}
-use Rattle.drf_rows.specs.declared.event.Event.TheVariants.{AddAgent, RemoveAgent, ActivateAgent, DeactivateAgent, SetAgent, AddFramework, RemoveFramework, Accept, Decline, Suppress, Revive, Reserve, Unreserve, SetLimit, Cycle}
+use Rattle.drf_rows.specs.declared.event.Event.TheVariants.{AddAgent, RemoveAgent, ActivateAgent, DeactivateAgent, SetAgent, AddFramework, SetFramework, RemoveFramework, Accept, Decline, Suppress, Revive, Reserve, Unreserve, SetLimit, Cycle}
 use Rattle.drf_rows.specs.declared.reply.Refusal.{Refusal}
 use Rattle.drf_rows.specs.declared.rows.FilterRow.{FilterRow}
 use Rattle.drf_rows.specs.declared.rows.FrameworkRow.{FrameworkRow}
@@ -41,6 +42,7 @@ use Rattle.drf_laws.specs.RunLaws.{IsGiven, AreGiven}
 use Rattle.drf_laws.specs.laws.Welcome.{no_case_of, welcome_agent, welcome_framework}
 use Rattle.drf_laws.specs.laws.Kept.{countable_after, IsKept-opening}
 use Rattle.drf_laws.specs.laws.Bounds.{fewer_in_force, in_force_later, one_more_in_force, length-with, names-with, roles-suppressed, roles-counted, names-without_agent}
+use Rattle.drf_laws.specs.laws.RoleChanges.{roles-set}
 use Rattle.drf_laws.specs.laws.Runs.{IsConsistent-after}
 
 -- what is not said of the tables by `IsKept`
@@ -51,7 +53,7 @@ pub record AreBounded (most : LimitNumbers) (rows : Rows) : Type 0 where
   pub names : length (cluster_total rows.agents) ≤ most.scalar_names
   pub names_of_each : AllByRecursion (λ l. length l.limit ≤ most.scalar_names) rows.limits
 
-module _ (most : LimitNumbers) (rows : Rows) (bounded : AreBounded most rows) where
+module _ (most : LimitNumbers) (rows : Rows) (consistent : IsConsistent rows) (bounded : AreBounded most rows) where
   -- ---- the roles of a framework
 
   abbrev FewRoles : FrameworkRow → Type 0
@@ -64,6 +66,9 @@ module _ (most : LimitNumbers) (rows : Rows) (bounded : AreBounded most rows) wh
       let few = ltb-false most.roles (length (distinct roles)) (or_parts (nat_lt most.roles (length (distinct roles))) _ many.1).0 in
       each_append FewRoles rows.frameworks (record { name = framework; clients = map new_client (distinct roles) } ∷ []) bounded.roles
       (omega (arith, few, length-map (distinct roles) new_client), tt)
+  roles_after (SetFramework framework roles) accepted =
+      let over = or_parts (nat_lt most.roles (length (distinct roles))) _ (no_case_of most rows (SetFramework framework roles) accepted).1.1.1.0 in
+      roles-set most.roles rows framework roles consistent.frameworks (ltb-false most.roles (length (distinct roles)) over.0) bounded.roles
   roles_after (RemoveFramework framework) accepted = each_filter FewRoles (λ f. not (same_text f.name framework)) rows.frameworks bounded.roles
   roles_after (Suppress framework role) accepted =
       roles-suppressed most.roles (record { role = role; framework = framework }) true rows.frameworks bounded.roles
@@ -104,6 +109,7 @@ module _ (most : LimitNumbers) (rows : Rows) (bounded : AreBounded most rows) wh
   filters_after : (event : Event) → refusal_of most rows event ≡ None → FewFilters (effect rows event)
   unfolding effect
   filters_after (RemoveAgent agent) accepted = fewer_filters (λ f. not (is_on_agent agent f))
+  filters_after (SetFramework framework roles) accepted = fewer_filters (λ f. not (is_of_left framework roles f))
   filters_after (RemoveFramework framework) accepted = fewer_filters (λ f. not (same_text f.framework framework))
   filters_after (Accept a) accepted = filters-accepted a (offer_at rows a.offer) (no_case_of most rows (Accept a) accepted).1.1.1.1.1.1.1.1.0
   filters_after (Decline d) accepted = filters-declined d (offer_at rows d.offer) (no_case_of most rows (Decline d) accepted).1.1.1.1.1.0
@@ -134,31 +140,31 @@ module _ (most : LimitNumbers) (rows : Rows) (bounded : AreBounded most rows) wh
   names_as_before : (total : List Entry) → total ≡ cluster_total rows.agents → length total ≤ most.scalar_names
   names_as_before total same = omega (arith, ap length same, bounded.names)
 
-  names_after : IsConsistent rows → (event : Event) → IsGiven event → refusal_of most rows event ≡ None
+  names_after : (event : Event) → IsGiven event → refusal_of most rows event ≡ None
       → length (cluster_total (effect rows event).agents) ≤ most.scalar_names
   unfolding effect
-  names_after consistent (AddAgent agent total) given accepted =
+  names_after (AddAgent agent total) given accepted =
       let many = or_parts (nat_lt most.agents (length (with_agent rows agent total))) (too_many_names most (with_agent rows agent total))
       (welcome_agent most rows agent total accepted).few in
       ltb-false most.scalar_names (length (cluster_total (with_agent rows agent total))) many.1
-  names_after consistent (RemoveAgent agent) given accepted =
+  names_after (RemoveAgent agent) given accepted =
       let row = found_known rows agent (not-false (has_agent rows agent) (no_case_of most rows (RemoveAgent agent) accepted).1.0) in
       omega (arith, names-without_agent rows agent row.0 consistent row.1, bounded.names)
-  names_after consistent (ActivateAgent agent) given accepted = names_as_before _ (cluster_total-with_activity rows agent true)
-  names_after consistent (DeactivateAgent agent) given accepted = names_as_before _ (cluster_total-with_activity rows agent false)
-  names_after consistent (SetAgent agent total) given accepted =
+  names_after (ActivateAgent agent) given accepted = names_as_before _ (cluster_total-with_activity rows agent true)
+  names_after (DeactivateAgent agent) given accepted = names_as_before _ (cluster_total-with_activity rows agent false)
+  names_after (SetAgent agent total) given accepted =
       ltb-false most.scalar_names _ (no_case_of most rows (SetAgent agent total) accepted).1.1.1.1.0
-  names_after consistent (Reserve agent role resources) given accepted =
+  names_after (Reserve agent role resources) given accepted =
       let can = (can_move-reserve most rows agent role resources accepted).0 in
       names_as_before _
       (cluster_total-exchanged rows agent can.row consistent can.found resources (relabel role resources)
       (can_exchange-reserve rows agent role resources consistent given can))
-  names_after consistent (Unreserve agent role resources) given accepted =
+  names_after (Unreserve agent role resources) given accepted =
       let can = can_move-unreserve most rows agent role resources accepted in
       names_as_before _
       (cluster_total-exchanged rows agent can.row consistent can.found (relabel role resources) resources
       (can_exchange-unreserve rows agent role resources consistent given can))
-  names_after consistent event given accepted = names_as_before _ (ap (λ (r : Rows). cluster_total r.agents) (only_changed rows event))
+  names_after event given accepted = names_as_before _ (ap (λ (r : Rows). cluster_total r.agents) (only_changed rows event))
 
 -- ---- a step, and a run
 
@@ -174,7 +180,7 @@ stands_after limits rows event given stands = by (refusal_of limits rows event) 
         let is = sym (rows_after-accepted limits rows event accepted) in
         let kept = stands.kept in
         let counted = countable_after limits rows kept.few kept.numbered event accepted in
-        let limits_of_roles = limits_after limits rows stands.bounded event accepted in
+        let limits_of_roles = limits_after limits rows kept.consistent stands.bounded event accepted in
         record {
           kept = record {
             consistent = IsConsistent-after limits rows event kept.consistent given;
@@ -182,10 +188,10 @@ stands_after limits rows event given stands = by (refusal_of limits rows event) 
             numbered = subst IsNumberedByEvents is counted.numbered;
           };
           bounded = subst (AreBounded limits) is (record {
-            roles = roles_after limits rows stands.bounded event accepted;
-            filters = filters_after limits rows stands.bounded event accepted;
+            roles = roles_after limits rows kept.consistent stands.bounded event accepted;
+            filters = filters_after limits rows kept.consistent stands.bounded event accepted;
             limits = limits_of_roles.0;
-            names = names_after limits rows stands.bounded kept.consistent event given accepted;
+            names = names_after limits rows kept.consistent stands.bounded event given accepted;
             names_of_each = limits_of_roles.1;
           });
         }

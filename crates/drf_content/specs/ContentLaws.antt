@@ -1,6 +1,6 @@
--- What is proved of a sorter that holds what the rows say.
-use Rattle.std.specs.Prelude.{◌≡◌, ◌^◌, ◌<◌, ◌≤◌, false, List, [], length, map, not}
-use Rattle.drf_role.specs.Text.{Text}
+-- What is proved of a sorter that holds what the rows say, whatever the order in which its clients stand.
+use Rattle.std.specs.Prelude.{◌≡◌, ◌^◌, ◌<◌, ◌≤◌, false, List, [], length, map, find, not, Some}
+use Rattle.drf_role.specs.Text.{Text, same_text}
 use Rattle.drf_role.specs.Path.{Path, client_path}
 use Rattle.drf_bundle.specs.Quantities.{without_zeros}
 use Rattle.drf_bundle.specs.declared.quantities.Entry.{Entry}
@@ -9,6 +9,7 @@ use Rattle.drf_rows.specs.Consistent.{IsConsistent}
 use Rattle.drf_rows.specs.Cycle.{turn_order}
 use Rattle.drf_rows.specs.Held.{cluster_total}
 use Rattle.drf_rows.specs.Report.{report_of}
+use Rattle.drf_rows.specs.Roles.{framework_set}
 use Rattle.drf_rows.specs.declared.report.NodeLine.{NodeLine}
 use Rattle.drf_rows.specs.declared.report.Report.{Report}
 use Rattle.drf_rows.specs.declared.rows.ClientRow.{ClientRow}
@@ -18,31 +19,54 @@ use Rattle.drf_saved.specs.Saved.{begun, with_row}
 use Rattle.drf_saved.specs.declared.saved.Head.{Head}
 use Rattle.drf_saved.specs.declared.saved.SavedRow.{SavedRow}
 use Rattle.drf_saved.specs.declared.saved.SavedRow.TheVariants.{Framework}
-use Rattle.drf_sorter.specs.Content.{Content, IsSound, IsOrderOf, activated, charged, empty, has_client, with_change, with_client}
+use Rattle.drf_sorter.specs.Content.{Content, IsSame, IsSound, IsOrderOf, activated, charged, empty, has_client, with_change, with_client}
 use Rattle.drf_sorter.specs.Lines.{AreLinesOf}
 use Rattle.drf_content.specs.Content.{content_of}
+use Rattle.drf_content.specs.Registering.{AreKnown, AreNew, paths_joined, paths_left, with_all, without_all}
 use Rattle.drf_content.specs.Putting.{CanAllBeBack, IsNew, put_back, with_last, with_put}
 
 -- no more is held than there is, and all numbers fit
 abbrev pub ContentIsSound : Type 0
 ContentIsSound =
-    (rows : Rows) → IsConsistent rows → length rows.agents ≤ 4096 → rows.next_offer < 2 ^ 64
-    → IsSound (content_of rows)
+    (rows : Rows) (content : Content) → IsSame content (content_of rows)
+    → IsConsistent rows → length rows.agents ≤ 4096 → rows.next_offer < 2 ^ 64
+    → IsSound content
 
 -- the active clients in the sorter's order are served in that order
 abbrev pub OrderIsTheTurns : Type 0
 OrderIsTheTurns =
-    (rows : Rows) (paths : List Path) → IsConsistent rows → IsOrderOf (content_of rows) paths
+    (rows : Rows) (content : Content) (paths : List Path) → IsSame content (content_of rows)
+    → IsConsistent rows → IsOrderOf content paths
     → paths ≡ map path_of (turn_order rows)
 
 -- the cluster's total and the sorter's lines are the report
 abbrev pub LinesAreTheReports : Type 0
 LinesAreTheReports =
-    (rows : Rows) (total : List Entry) (lines : List NodeLine) → IsConsistent rows
+    (rows : Rows) (content : Content) (total : List Entry) (lines : List NodeLine) → IsSame content (content_of rows)
+    → IsConsistent rows
     → total ≡ without_zeros (cluster_total rows.agents)
-    → AreLinesOf (content_of rows) lines
+    → AreLinesOf content lines
     → let report : Report = record { total = total; nodes = lines } in
     report ≡ report_of rows
+
+-- ---- roles that change
+
+-- The clients that come are unknown, and those that go are known. With the former and without the latter the content is what the rows
+-- say once the framework has just these roles
+pub record FollowsRoles (rows : Rows) (content : Content) (framework : Text) (roles : List Path) (clients : List ClientRow) : Type 0 where
+  pub new : AreNew content (paths_joined framework roles clients)
+  pub known : AreKnown (with_all content (paths_joined framework roles clients)) (paths_left framework roles clients)
+  pub same : IsSame (without_all (with_all content (paths_joined framework roles clients)) (paths_left framework roles clients))
+      (content_of (framework_set rows framework roles))
+
+-- so it is, with the clients of the framework of that name
+abbrev pub RolesAreFollowed : Type 0
+RolesAreFollowed =
+    (rows : Rows) (content : Content) (framework : Text) (roles : List Path) (f : FrameworkRow)
+    → IsSame content (content_of rows)
+    → IsConsistent rows
+    → find (λ g. same_text g.name framework) rows.frameworks ≡ Some f
+    → FollowsRoles rows content framework roles f.clients
 
 -- ---- rows that are put back
 

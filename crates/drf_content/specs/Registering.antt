@@ -1,7 +1,8 @@
--- A framework that registers, or leaves: its clients are added to the sorter one by one, or removed.
-use Rattle.std.specs.Prelude.{◌≡◌, true, false, List, [], ◌∷◌, map, fold}
+-- A framework that registers, leaves, or gets other roles: its clients are added to the sorter one by one, or removed.
+use Rattle.std.specs.Prelude.{◌≡◌, true, false, not, List, [], ◌∷◌, map, fold, filter}
 use Rattle.drf_role.specs.Text.{Text}
 use Rattle.drf_role.specs.Path.{Path, client_path}
+use Rattle.drf_rows.specs.Roles.{is_among, clients_joined}
 use Rattle.drf_rows.specs.declared.rows.ClientRow.{ClientRow}
 use Rattle.drf_sorter.specs.Content.{Content, has_client, with_client, without_client}
 
@@ -26,3 +27,10 @@ without_all content paths = fold without_client content paths
 abbrev pub AreKnown : Content → List Path → Type 0
 AreKnown content [] = Unit {0}
 AreKnown content (path ∷ paths) = (has_client content path ≡ true) × AreKnown (without_client content path) paths
+
+-- the paths of the clients that come once a framework with these clients has just these roles, and of those that go
+abbrev pub paths_joined : Text → List Path → List ClientRow → List Path
+paths_joined framework roles clients = client_paths framework (clients_joined roles clients)
+
+abbrev pub paths_left : Text → List Path → List ClientRow → List Path
+paths_left framework roles clients = client_paths framework (filter (λ c. not (is_among roles c.role)) clients)

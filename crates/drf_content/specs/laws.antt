@@ -5,10 +5,12 @@ pub mod Offer
 pub mod Order
 pub mod Members
 pub mod Sound
+pub mod Same
 pub mod Ended
 pub mod Changed
 pub mod Removed
 pub mod Registered
+pub mod RolesSet
 pub mod Report
 pub mod Put
 pub mod Back

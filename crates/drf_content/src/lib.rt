@@ -3,4 +3,4 @@
 
 mod laws;
 
-pub use laws::{content_law, put_law};
+pub use laws::{content_law, put_law, roles_law};

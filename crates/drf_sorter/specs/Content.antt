@@ -24,6 +24,12 @@ pub record Content : Type 0 where
   pub total : List Entry
   pub weights : List WeightRow
 
+-- the same clients, in whichever order they stand, the same total and the same weights
+pub record IsSame (a b : Content) : Type 0 where
+  pub clients : IsPermutation a.clients b.clients
+  pub total : a.total ≡ b.total
+  pub weights : a.weights ≡ b.weights
+
 -- nothing yet
 abbrev pub empty : Content
 empty = record { clients = []; total = []; weights = [] }

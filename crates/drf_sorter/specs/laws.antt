@@ -7,3 +7,5 @@ pub mod SortedLaws
 pub mod LineLaws
 pub mod PassedLaws
 pub mod SpendLaws
+pub mod PermutationLaws
+pub mod SameLaws

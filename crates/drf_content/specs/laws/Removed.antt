@@ -29,7 +29,7 @@ use Rattle.drf_laws.specs.laws.Clients.{named, role_registered, one_named}
 -- ---- each is known when it is removed
 
 -- the framework's client in that role is known
-abbrev IsKnown : Content → Text → ClientRow → Type 0
+abbrev pub IsKnown : Content → Text → ClientRow → Type 0
 IsKnown content name c = has_client content (client_path c.role name) ≡ true
 
 -- another client stays known when one is removed
@@ -62,7 +62,7 @@ module _ (name : Text) where
         known_past content role cs parts.1 known.1,
       )
 
-  all_known : (content : Content) (cs : List ClientRow) → are_distinct_roles (map (λ c. c.role) cs) ≡ true
+  pub all_known : (content : Content) (cs : List ClientRow) → are_distinct_roles (map (λ c. c.role) cs) ≡ true
       → AllByRecursion (IsKnown content name) cs → AreKnown content (client_paths name cs)
   all_known content [] apart known = tt
   all_known content (c ∷ cs) apart known =
@@ -85,7 +85,7 @@ module _ (rows : Rows) (name : Text) (f : FrameworkRow) (right : AreFrameworks r
 -- ---- what is left when all of them are removed
 
 -- the path is one of those
-abbrev is_among : List Path → Path → Bool
+abbrev pub is_among : List Path → Path → Bool
 is_among paths path = list_any (λ p. same_path path p) paths
 
 left_twice : (p : Path) (ps : List Path) (cs : List Ranked)
@@ -100,7 +100,7 @@ left_twice p ps (c ∷ cs) = by (same_path c.path p) (left_twice p ps cs)
     by true same = same
     by false same = ap (λ (rs : List Ranked). cond (not (is_among ps c.path)) (c ∷ rs) rs) same
 
-left_all : (content : Content) (paths : List Path)
+pub left_all : (content : Content) (paths : List Path)
     → without_all content paths ≡ record content { clients = filter (λ c. not (is_among paths c.path)) content.clients }
 left_all content [] = λ i. record content { clients = all content.clients i }
   where
@@ -112,7 +112,7 @@ left_all content (p ∷ ps) =
 
 module _ (hs : List Holding) (name : Text) (f : FrameworkRow) where
   -- one client of some framework
-  among : (g : FrameworkRow) (c : ClientRow)
+  pub among : (g : FrameworkRow) (c : ClientRow)
       → is_among (client_paths name f.clients) (ranked hs g c).path ≡ (named name g && list_any (λ d. same_path c.role d.role) f.clients)
   among g c =
       ap (is_among (client_paths name f.clients)) (ranked-path hs g c)
@@ -125,7 +125,7 @@ module _ (hs : List Holding) (name : Text) (f : FrameworkRow) where
       each (d ∷ ds) = λ i. same_path-client_path c.role d.role g.name name i || each ds i
 
   -- those of other frameworks stay
-  others_stay : (g : FrameworkRow) (cs : List ClientRow) → named name g ≡ false
+  pub others_stay : (g : FrameworkRow) (cs : List ClientRow) → named name g ≡ false
       → filter (λ c. not (is_among (client_paths name f.clients) c.path)) (map (ranked hs g) cs) ≡ map (ranked hs g) cs
   others_stay g [] other = refl
   others_stay g (c ∷ cs) other =

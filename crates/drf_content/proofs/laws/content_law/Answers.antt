@@ -1,13 +1,11 @@
-use Rattle.drf_content.specs.laws.Order.{IsOrderOf-turn_order}
-use Rattle.drf_content.specs.laws.Report.{report_of-lines}
-use Rattle.drf_content.specs.laws.Sound.{IsSound-content_of}
+use Rattle.drf_content.specs.laws.Same.{lines_of_rows, order_of_rows, sound_of_rows}
 use Rattle.drf_content.proofs.laws.content_law.Goals as goal
 
 pub returns-clause-sound : goal.returns-clause-sound
-returns-clause-sound c = IsSound-content_of
+returns-clause-sound c = sound_of_rows
 
 pub returns-clause-order : goal.returns-clause-order
-returns-clause-order c = IsOrderOf-turn_order
+returns-clause-order c = order_of_rows
 
 pub returns-clause-lines : goal.returns-clause-lines
-returns-clause-lines c = report_of-lines
+returns-clause-lines c = lines_of_rows

@@ -1,0 +1,5 @@
+use Rattle.drf_content.specs.laws.RolesSet.{roles_are_followed}
+use Rattle.drf_content.proofs.laws.roles_law.Goals as goal
+
+pub returns : goal.returns
+returns c = roles_are_followed

@@ -1,6 +1,7 @@
 //! The filters of declined offers, and of what is left of accepted ones.
 ghost use Rattle.std.specs.Prelude.{◌≡◌, [], ◌∷◌, ◌++◌, length, take, IfOk, OnOk, OnErr};
 ghost use Rattle.drf_rows.specs.Filters.{is_held_back, in_force, number_in_force, filters_without_client, filters_without_agent, filters_without_framework};
+ghost use Rattle.drf_rows.specs.Roles.{filters_without_left};
 ghost use Rattle.drf_hash.specs.Slots.{filled};
 
 pub(crate) mod index;
@@ -145,6 +146,13 @@ impl FilterTable {
         ensures { self.new ≡ filters_without_framework framework.now self.old }
     {
         self.slots.drop_framework(framework);
+    }
+
+    /// Drops the filters of a framework in roles that are not among these. It never allocates.
+    pub fn drop_left(&mut self, framework: &Name, roles: &[Role])
+        ensures { self.new ≡ filters_without_left framework.now roles.now self.old }
+    {
+        self.slots.drop_left(framework, roles);
     }
 
     /// The filters in force at `now`, in milliseconds, copied.

@@ -9,6 +9,7 @@ mod limits;
 mod offers;
 mod registry;
 mod reservations;
+mod roles;
 mod room;
 mod tables;
 

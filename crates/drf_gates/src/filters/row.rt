@@ -7,11 +7,12 @@ ghost use Rattle.drf_gates.specs.filters.Index.{NoneEndsBefore};
 ghost use Rattle.drf_hash.specs.Slots.{filled};
 ghost use Rattle.drf_gates.specs.filters.Slots.{slot_passes};
 ghost use Rattle.drf_rows.specs.Filters.{is_in_force, is_of_client, is_on_agent, holds_back, in_force};
+ghost use Rattle.drf_rows.specs.Roles.{is_of_left};
 
 use drf_amount::Algebra;
 use drf_bundle::Bundle;
 use drf_role::{Name, Role};
-use drf_rows::{Copied, FilterRow};
+use drf_rows::{Copied, FilterRow, is_among};
 use std::alloc::AllocError;
 
 /// Whether the first bundle has all that the second has.
@@ -60,6 +61,23 @@ pub(crate) fn is_slot_of_client(slot: &Option<FilterRow>, role: &Role, framework
 {
     match slot {
         Some(row) => is_of_client(row, role, framework),
+        None => false,
+    }
+}
+
+/// Returns whether the filter is of the framework, in a role that is not among these.
+fn is_of_left(row: &FilterRow, framework: &Name, roles: &[Role]) -> bool
+    ensures { result ≡ is_of_left framework.now roles.now row.now }
+{
+    row.framework == *framework && !is_among(roles, &row.role)
+}
+
+/// Returns whether there is a filter of the framework in a role that is not among these.
+pub(crate) fn is_slot_of_left(slot: &Option<FilterRow>, framework: &Name, roles: &[Role]) -> bool
+    ensures { result ≡ slot_passes (is_of_left framework.now roles.now) slot.now }
+{
+    match slot {
+        Some(row) => is_of_left(row, framework, roles),
         None => false,
     }
 }

@@ -1,12 +1,13 @@
 //! Filters in the order in which they were added, with gaps where some were taken out.
 ghost use Rattle.std.specs.Prelude.{◌≡◌, ◌<◌, [], ◌∷◌, ◌++◌, None, length, set, OnOk, OnErr};
 ghost use Rattle.drf_rows.specs.Filters.{is_held_back, in_force, filters_without_client, filters_without_agent, filters_without_framework};
+ghost use Rattle.drf_rows.specs.Roles.{filters_without_left};
 ghost use Rattle.drf_gates.specs.filters.Slots.{filters_in, AreMarked, AreTidy, IsSlots, IsClosed};
 
 use crate::filters::index::{Index, Key, client_hash, pair_hash};
 use crate::filters::row::{
-    is_slot_of_client, is_slot_of_framework, is_slot_on_agent, is_slot_spent, keep_filled,
-    slot_holds_back,
+    is_slot_of_client, is_slot_of_framework, is_slot_of_left, is_slot_on_agent, is_slot_spent,
+    keep_filled, slot_holds_back,
 };
 use drf_bundle::Bundle;
 use drf_hash::NameHasher;
@@ -204,6 +205,22 @@ impl Slots {
         let mut few = FEW;
         for place in 0..self.rows.len() {
             if is_slot_of_framework(&self.rows[place], framework) {
+                few = self.leave(place, few);
+            }
+        }
+        self.chain_if_many(few);
+        self.close_gaps_if_many();
+    }
+
+    /// Takes out the filters of a framework in roles that are not among these.
+    pub(crate) fn drop_left(&mut self, framework: &Name, roles: &[Role])
+        requires { IsSlots self.old }
+        ensures slots { IsSlots self.new }
+        ensures others { filters_in self.new ≡ filters_without_left framework.now roles.now (filters_in self.old) }
+    {
+        let mut few = FEW;
+        for place in 0..self.rows.len() {
+            if is_slot_of_left(&self.rows[place], framework, roles) {
                 few = self.leave(place, few);
             }
         }

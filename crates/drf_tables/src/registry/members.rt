@@ -1,7 +1,7 @@
 //! Agents and frameworks that change, found by name.
 ghost use Rattle.std.specs.Prelude.{◌≡◌, ◌+◌, ◌<◌, ◌⊎◌, None, Some, filter, length, map, not, true, if◌then◌else◌};
 ghost use Rattle.std.specs.Map.{lookup};
-ghost use Rattle.std.specs.Option.{option_map};
+ghost use Rattle.std.specs.Option.{option_map, option_map_or};
 ghost use Rattle.std.specs.List.{list_any};
 ghost use Rattle.drf_role.specs.Path.{same_path};
 ghost use Rattle.drf_role.specs.Text.{same_text};
@@ -132,6 +132,38 @@ pub(crate) fn suppress(
 {
     if let Some(place) = frameworks.places.get(framework) {
         suppress_in(&mut frameworks.slots[*place], role, suppressed);
+    }
+}
+
+/// Replaces the clients of a framework, if there is one.
+fn put_clients_in(slot: &mut Option<(Name, Vec<ClientRow>)>, clients: Vec<ClientRow>)
+    ensures { slot.new ≡ option_map (λ e. (e.0, clients)) slot.old }
+{
+    if let Some(entry) = slot {
+        entry.1 = clients;
+    }
+}
+
+/// Replaces the clients of a framework, if it is registered.
+pub(crate) fn put_clients(
+    frameworks: &mut Registry<Vec<ClientRow>>,
+    framework: &Name,
+    clients: Vec<ClientRow>,
+)
+    ensures { frameworks.new.entries ≡ map (changed framework.now (λ _. clients)) frameworks.old.entries }
+{
+    if let Some(place) = frameworks.places.get(framework) {
+        put_clients_in(&mut frameworks.slots[*place], clients);
+    }
+}
+
+/// Returns how many clients a framework has.
+pub(crate) fn count_clients(frameworks: &Registry<Vec<ClientRow>>, framework: &Name) -> usize
+    ensures { result ≡ option_map_or (λ v. length v.items) (lookup (same_text framework.now) frameworks.now.entries) 0 }
+{
+    match frameworks.get(framework) {
+        Some(clients) => clients.len(),
+        None => 0,
     }
 }
 

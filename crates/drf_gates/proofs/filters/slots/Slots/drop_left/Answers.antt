@@ -1,0 +1,28 @@
+use Rattle.std.proofs.Common.{◌<◌, true, false, length, refl, sym, ◌∙◌, arith}
+use Rattle.drf_rows.specs.Roles.{is_of_left}
+use Rattle.drf_gates.proofs.filters.Held.{swept-start, swept-more, swept-all}
+use Rattle.drf_gates.proofs.filters.slots.Slots.drop_left.Goals.{then-is_slot_of_left, else-is_slot_of_left}
+use Rattle.drf_gates.proofs.filters.slots.Slots.drop_left.Goals as goal
+
+pub loop-place-init : goal.loop-place-init
+loop-place-init c = swept-start (is_of_left c.args.framework.now c.args.roles.now) c.args.self.now 8 c.requires
+
+pub loop-place-preserved : goal.loop-place-preserved
+loop-place-preserved c =
+    let swept = swept-more (is_of_left c.args.framework.now c.args.roles.now) c.args.self.now c.loop-place.self in
+    let within : c.loop-place.place < length c.args.self.now.rows.items = omega (arith, c.loop-place-test.true, c.len-place-end.ensures) in
+    let inv = c.loop-place.invariant in
+    elim c.if-is_slot_of_left.branch [
+      | then-is_slot_of_left w ↦
+          rw (w.self-is, w.few-is) (swept w.leave-few.new.self c.loop-place.place c.loop-place.few w.leave-few.result c.index.result.now true within inv c.index.ensures
+          (sym w.if-is_slot_of_left.true ∙ c.is_slot_of_left.ensures) w.leave-few.ensures.rows w.leave-few.ensures.marked w.leave-few.ensures.tidy)
+      | else-is_slot_of_left w ↦
+          rw (w.self-is, w.few-is) (swept c.loop-place.self c.loop-place.place c.loop-place.few c.loop-place.few c.index.result.now false within inv c.index.ensures
+          (sym w.if-is_slot_of_left.false ∙ c.is_slot_of_left.ensures) refl inv.marked inv.tidy)
+    ]
+
+pub returns-clause-others : goal.returns-clause-others
+returns-clause-others c =
+    c.close_gaps_if_many.ensures.same
+    ∙ c.chain_if_many.ensures.same
+    ∙ swept-all (is_of_left c.args.framework.now c.args.roles.now) c.args.self.now c.loop-place.self c.loop-place.place c.loop-place.few (omega (arith, c.loop-place-test.false, c.len-place-end.ensures)) c.loop-place.invariant

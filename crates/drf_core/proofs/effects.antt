@@ -7,3 +7,4 @@ pub mod Accepted
 pub mod Answered
 pub mod Known
 pub mod Once
+pub mod RolesSet

@@ -1,5 +1,5 @@
 -- How much an event may add to what a sorter owes.
-use Rattle.std.specs.Prelude.{ℕ, ◌+◌, ◌≤◌, Bool, true, false, IsTrue, List, [], ◌∷◌, ◌++◌, length, map, filter, sum_by}
+use Rattle.std.specs.Prelude.{ℕ, ◌+◌, ◌≤◌, Bool, true, false, not, IsTrue, List, [], ◌∷◌, ◌++◌, length, map, filter, sum_by}
 use Rattle.std.specs.Option.{option_map_or}
 use Rattle.drf_role.specs.Text.{same_text}
 use Rattle.drf_rows.specs.Client.{Client, path_of}
@@ -9,9 +9,10 @@ use Rattle.drf_rows.specs.Holdings.{of_offer, of_task}
 use Rattle.drf_rows.specs.LimitNumbers.{LimitNumbers}
 use Rattle.drf_rows.specs.Members.{distinct}
 use Rattle.drf_rows.specs.Report as report
-use Rattle.drf_rows.specs.Step.{effect, new_offers, refusal_of, rows_after}
+use Rattle.drf_rows.specs.Roles.{is_left}
+use Rattle.drf_rows.specs.Step.{effect, is_in_role, new_offers, refusal_of, rows_after}
 use Rattle.drf_rows.specs.declared.event.Event.{Event}
-use Rattle.drf_rows.specs.declared.event.Event.TheVariants.{AddAgent, RemoveAgent, DeactivateAgent, SetAgent, AddFramework, RemoveFramework, Accept, Decline, Rescind, Finish, Suppress, Revive, SetWeight, Cycle}
+use Rattle.drf_rows.specs.declared.event.Event.TheVariants.{AddAgent, RemoveAgent, DeactivateAgent, SetAgent, AddFramework, SetFramework, RemoveFramework, Accept, Decline, Rescind, Finish, Suppress, Revive, SetWeight, Cycle}
 use Rattle.drf_rows.specs.declared.rows.OfferRow.{OfferRow}
 use Rattle.drf_rows.specs.declared.rows.Rows.{Rows}
 use Rattle.drf_sorter.specs.Work.{Work, debt}
@@ -35,6 +36,9 @@ abbrev pub touched : Rows → Event → List Client
 touched rows (RemoveAgent agent) = losers rows (all_on agent)
 touched rows (DeactivateAgent agent) = losers rows (offers_on agent)
 touched rows (AddFramework framework roles) = map (λ role. record { role = role; framework = framework }) (distinct roles)
+touched rows (SetFramework framework roles) =
+    filter (is_left framework roles) (clients_of rows)
+    ++ map (λ role. record { role = role; framework = framework }) (filter (λ role. not (is_in_role rows framework role)) (distinct roles))
 touched rows (RemoveFramework framework) =
     losers rows (all_of framework) ++ filter (λ c. same_text c.framework framework) (clients_of rows)
 touched rows (Accept a) = losers rows (one_offer a.offer)
@@ -49,6 +53,7 @@ touched rows event = []
 -- keys may be made only where clients are put in order, and where they are new
 abbrev pub may_make_keys : Event → Bool
 may_make_keys (AddFramework framework roles) = true
+may_make_keys (SetFramework framework roles) = true
 may_make_keys (Cycle at) = true
 may_make_keys event = false
 

@@ -55,6 +55,7 @@ impl<S: Sorter> Core<S> {
     ghost use Rattle.drf_rows.specs.Step.{live_rows, refusal_of, reply_to, replies_to};
     ghost use Rattle.drf_core.specs.refusal.Cases.{early_refusal_of};
     ghost use Rattle.drf_rows.specs.Report.{report_of};
+    ghost use Rattle.drf_sorter.specs.Content.{IsSame as HoldsTheSame};
     ghost use Rattle.drf_content.specs.Content.{content_of};
     ghost use Rattle.drf_explain.specs.Each.{turns_by_agent};
     ghost use Rattle.drf_explain.specs.Explained.{explained};
@@ -89,7 +90,7 @@ impl<S: Sorter> Core<S> {
         tables: Tables,
         sorter: S,
     ) -> Result<Core<S>, AllocError>
-        requires content { S.content sorter ≡ content_of tables.rows }
+        requires content { HoldsTheSame (S.content sorter) (content_of tables.rows) }
         requires standing { IsStanding limits tables.rows }
         ensures limits { IfOk result (λ core. core.limits ≡ limits) }
         ensures rows { IfOk result (λ core. core.rows ≡ tables.rows) }
@@ -107,7 +108,7 @@ impl<S: Sorter> Core<S> {
     /// between everyone and a role, or a total is another. However it ends, nothing is granted twice. At `Ok`, a sorter whose work is
     /// counted owes no more for it than the nodes of the clients that it touches, and one for a weight; for `add_agent`,
     /// `remove_agent` and `set_agent` one more for each node of a report. However it ends, the count of keys has not fallen, and only a
-    /// `cycle` and an `add_framework` that are not refused raise it. At most 65,537 filters stand then, those that have run out among
+    /// `cycle`, an `add_framework` and a `set_framework` that are not refused raise it. At most 65,537 filters stand then, those that have run out among
     /// them: one more than may be in force.
     pub fn step(&mut self, event: Event) -> Result<Reply, AllocError>
         ensures reply { IfOk result (λ reply. reply ≡ reply_to self.old.limits self.old.rows event) }
@@ -178,8 +179,8 @@ impl<S: Sorter> Core<S> {
 
     /// Takes events in order, and appends their replies. At an `Err` it stands after the events whose replies it has appended, before one
     /// that no early refusal holds of, or for whose reply there is no room. At `Ok`, a sorter whose work is counted owes no more than for
-    /// each event alone. However it ends, nothing is granted twice, and the count of keys has not fallen, and has risen only where `cycle`
-    /// or `add_framework` is among the events.
+    /// each event alone. However it ends, nothing is granted twice, and the count of keys has not fallen, and has risen only where a
+    /// `cycle`, `add_framework` or `set_framework` is among the events.
     pub fn run(&mut self, events: &[Event], replies: &mut Vec<Reply>) -> Result<(), AllocError>
         ensures ok { OnOk result (IsAfterAll self.old self.new events.now) }
         ensures replies { OnOk result (replies.new.items ≡ replies.old.items ++ replies_to self.old.limits self.old.rows events.now) }
@@ -200,7 +201,7 @@ impl<S: Sorter> Core<S> {
 
     /// The sorter: the order of its clients, and its work.
     pub fn sorter(&self) -> &S
-        ensures content { S.content result.now ≡ content_of self.now.rows }
+        ensures content { HoldsTheSame (S.content result.now) (content_of self.now.rows) }
         ensures work { S.work result.now ≡ self.now.work }
     {
         self.cluster.sorter()

@@ -1,8 +1,9 @@
-//! The rows, and a sorter that holds what they say.
+//! The rows, and a sorter that holds what they say, its clients in any order.
 ghost use Rattle.std.specs.Prelude.{◌≡◌, ◌+◌, ◌<◌, ◌≤◌, ◌^◌, None, length, IfOk, OnErr};
 ghost use Rattle.drf_rows.specs.Consistent.{IsConsistent};
 ghost use Rattle.drf_rows.specs.Step.{opening, live_rows, refusal_of};
 ghost use Rattle.drf_content.specs.Content.{content_of};
+ghost use Rattle.drf_sorter.specs.Content.{IsSame};
 ghost use Rattle.drf_laws.specs.Kept.{AreFew};
 ghost use Rattle.drf_core.specs.Keeping.{IsStanding};
 ghost use Rattle.drf_core.specs.refusal.Cases.{early_refusal_of};
@@ -30,11 +31,12 @@ impl<S: Sorter> Model for Cluster<S> {
 
     ghost coded = { cluster_code };
 
+    ghost use Rattle.drf_sorter.specs.Content.{IsSame};
     ghost use Rattle.drf_content.specs.Content.{content_of};
 
     ghost view = { λ c. record { rows = c.tables.rows; counted = c.tables.counted; work = S.work c.sorter } };
 
-    ghost invariant = { λ c. S.content c.sorter ≡ content_of c.tables.rows };
+    ghost invariant = { λ c. IsSame (S.content c.sorter) (content_of c.tables.rows) };
 }
 
 impl<S: Sorter> Cluster<S> {
@@ -104,7 +106,7 @@ impl<S: Sorter> Cluster<S> {
 
     /// The sorter: the order of its clients, and its work.
     pub(crate) fn sorter(&self) -> &S
-        ensures content { S.content result.now ≡ content_of self.now.rows }
+        ensures content { IsSame (S.content result.now) (content_of self.now.rows) }
         ensures work { S.work result.now ≡ self.now.work }
     {
         &self.sorter

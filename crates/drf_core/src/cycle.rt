@@ -12,6 +12,7 @@ ghost use Rattle.drf_rows.specs.Client.{path_of};
 ghost use Rattle.drf_tables.specs.cycle.Drafts.{with_offers};
 ghost use Rattle.drf_tables.specs.Stored.{Stored};
 ghost use Rattle.drf_sorter.specs.Content.{Content};
+ghost use Rattle.drf_sorter.specs.Content.{IsSame};
 ghost use Rattle.drf_content.specs.Content.{content_of};
 ghost use Rattle.drf_core.specs.Copies.{copies_if};
 ghost use Rattle.drf_laws.specs.Kept.{IsKept};
@@ -290,7 +291,7 @@ fn offer_lines(alloc: Global, offers: &[OfferRow]) -> Result<Vec<OfferLine>, All
 /// Takes the charges of drafts back. It needs no memory.
 fn take_back<S: Sorter>(tables: &Tables, sorter: &mut S, offers: &mut Vec<OfferRow>)
     requires { IsDrafting (S.content sorter.old) tables.now.rows offers.old.items }
-    ensures content { S.content sorter.new ≡ content_of tables.now.rows }
+    ensures content { IsSame (S.content sorter.new) (content_of tables.now.rows) }
     ensures made { (S.work sorter.new).made ≡ (S.work sorter.old).made }
 {
     while let Some(offer) = offers.pop() {
@@ -323,7 +324,7 @@ fn offer_all<S: Sorter>(
     requires none { drafts.old.offers.items ≡ [] }
     requires nothing_left { drafts.old.lefts.items ≡ [] }
     ensures ok { OnOk result (tables.new.rows ≡ turns_of tables.old.rows) }
-    ensures sorted { OnOk result (S.content sorter.new ≡ content_of tables.new.rows) }
+    ensures sorted { OnOk result (IsSame (S.content sorter.new) (content_of tables.new.rows)) }
     ensures reply { IfOk result (λ stepped. stepped.reply ≡ Offers (map line_told (new_offers tables.old.rows (turns_of tables.old.rows)))) }
     ensures copies { IfOk result (λ stepped. stepped.copies ≡ copies_if copied stepped.reply) }
     ensures err { OnErr result (tables.new.rows ≡ tables.old.rows) }

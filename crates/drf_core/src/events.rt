@@ -72,6 +72,9 @@ impl<S: Sorter> Cluster<S> {
             Event::AddFramework { framework, roles } => {
                 self.add_framework(alloc, limits, framework, roles)
             }
+            Event::SetFramework { framework, roles } => {
+                self.set_framework(alloc, limits, &framework, roles.as_slice())
+            }
             Event::RemoveFramework { framework } => {
                 self.remove_framework(alloc, limits, &framework)
             }

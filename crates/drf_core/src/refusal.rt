@@ -5,11 +5,12 @@ ghost use Rattle.std.specs.Option.{option_copied, option_map_or};
 ghost use Rattle.drf_role.specs.Text.{same_text};
 ghost use Rattle.drf_rows.specs.Consistent.{IsConsistent};
 ghost use Rattle.drf_rows.specs.Step.{accept_is_too_much, decline_is_too_much, first_case, is_full, is_in_role, too_many_frameworks, too_many_limits, refusal_of};
+ghost use Rattle.drf_rows.specs.Roles.{too_many_roles};
 ghost use Rattle.drf_rows.specs.Members.{distinct, has_framework};
 ghost use Rattle.drf_rows.specs.Offers.{are_many_filters, has_task, is_beyond, is_empty, is_task_known, left_of_offer, offer_at};
 ghost use Rattle.drf_rows.specs.Tasks.{covers_all, uses};
 ghost use Rattle.drf_rows.specs.Weights.{is_weight, too_many_weights};
-ghost use Rattle.drf_rows.specs.declared.event.Event.TheVariants.{AddAgent, AddFramework, Rescind, Finish, SetWeight, SetLimit, Cycle};
+ghost use Rattle.drf_rows.specs.declared.event.Event.TheVariants.{AddAgent, AddFramework, SetFramework, Rescind, Finish, SetWeight, SetLimit, Cycle};
 ghost use Rattle.drf_rows.specs.declared.reply.Refusal.TheVariants.{HistoryFull, UnknownFramework, NotInRole, TooMany};
 ghost use Rattle.drf_core.specs.refusal.Accepting.{cases_of_tasks};
 ghost use Rattle.drf_laws.specs.Kept.{AreFew};
@@ -74,6 +75,22 @@ fn too_many_frameworks(limits: &Limits, tables: &Tables, roles: &Table<Role>) ->
     let frameworks = tables.framework_count() as u64 + 1;
     let clients = tables.client_count() as u64 + roles as u64;
     (limits.frameworks() < frameworks) | (limits.clients() < clients)
+}
+
+/// Returns whether the roles of a framework, or the clients of all frameworks, would be too many once it has these roles.
+fn too_many_roles(limits: &Limits, tables: &Tables, framework: &Name, roles: &Table<Role>) -> bool
+    requires few { AreFew limits.now tables.now.rows }
+    ensures { result ≡ too_many_roles limits.now tables.now.rows framework.now roles.now }
+{
+    tables.recall();
+    let Some(roles) = count_roles(roles.as_slice(), limits.roles() as usize) else {
+        return true;
+    };
+    if !tables.has_framework(framework) {
+        return limits.clients() < tables.client_count() as u64;
+    }
+    let others = tables.client_count() - tables.clients(framework).len();
+    limits.clients() < (others + roles) as u64
 }
 
 /// The weight is below a thousandth or above 1000.
@@ -255,6 +272,31 @@ fn refuse_framework(
         (tables.has_framework(framework), Refusal::KnownFramework),
         (roles.is_empty(), Refusal::Empty),
         (too_many_frameworks(limits, tables, roles), Refusal::TooMany),
+    ])
+}
+
+/// Returns why other roles of a framework are refused.
+fn refuse_roles(
+    limits: &Limits,
+    tables: &Tables,
+    framework: &Name,
+    roles: &Table<Role>,
+) -> Option<Refusal>
+    requires { AreFew limits.now tables.now.rows }
+    ensures { result ≡ refusal_of limits.now tables.now.rows (SetFramework framework.now roles.now) }
+{
+    first_case(&[
+        (is_full(limits, tables), Refusal::HistoryFull),
+        (!tables.has_framework(framework), Refusal::UnknownFramework),
+        (roles.is_empty(), Refusal::Empty),
+        (
+            too_many_roles(limits, tables, framework, roles),
+            Refusal::TooMany,
+        ),
+        (
+            tables.is_role_in_use(framework, roles.as_slice()),
+            Refusal::RoleInUse,
+        ),
     ])
 }
 
@@ -469,6 +511,7 @@ pub(crate) fn refuse_early(limits: &Limits, tables: &Tables, event: &Event) -> O
         Event::AddFramework { framework, roles } => {
             refuse_framework(limits, tables, framework, roles)
         }
+        Event::SetFramework { framework, roles } => refuse_roles(limits, tables, framework, roles),
         Event::RemoveFramework { framework } => refuse_unknown_framework(limits, tables, framework),
         Event::Accept(accept) => refuse_accept(limits, tables, accept),
         Event::Decline(decline) => refuse_decline(limits, tables, decline),

@@ -10,7 +10,7 @@ use Rattle.drf_rows.specs.LimitNumbers.{LimitNumbers}
 use Rattle.drf_rows.specs.Step.{refusal_of, effect, rows_after, rows_after_all, replies_to}
 use Rattle.drf_row_laws.specs.LifeLaws.{lines_told}
 use Rattle.drf_rows.specs.declared.event.Event.{Event}
-use Rattle.drf_rows.specs.declared.event.Event.TheVariants.{AddFramework, RemoveFramework, Accept, Decline, Finish, Suppress, Revive}
+use Rattle.drf_rows.specs.declared.event.Event.TheVariants.{AddFramework, SetFramework, RemoveFramework, Accept, Decline, Finish, Suppress, Revive}
 use Rattle.drf_rows.specs.declared.reply.OfferLine.{OfferLine}
 use Rattle.drf_rows.specs.declared.rows.OfferRow.{OfferRow}
 use Rattle.drf_rows.specs.declared.rows.Rows.{Rows}
@@ -105,8 +105,9 @@ events_of_other [] = []
 events_of_other (in_both event names ∷ steps) = with_names names event ∷ events_of_other steps
 events_of_other (comes framework roles ∷ steps) = AddFramework framework roles ∷ events_of_other steps
 
--- an event by which no framework goes, and none changes what it wants
+-- an event by which no framework goes or changes its roles, and none changes what it wants
 abbrev pub NobodyGoes : Event → Type 0
+NobodyGoes (SetFramework framework roles) = ⊥
 NobodyGoes (RemoveFramework framework) = ⊥
 NobodyGoes (Suppress framework role) = ⊥
 NobodyGoes (Revive framework role) = ⊥
@@ -131,7 +132,7 @@ offers_to_roles limits rows events = map to_role (flat_map lines_told (replies_t
 
 -- Two clusters that stand alike do so over runs that differ in names alone, and in frameworks that come to roles that take part without them; and each
 -- role is made the same offers in both: with limits, reservations and weights, and whatever agents come, go or change, and whoever comes in both, while
--- no framework goes, suppresses or revives.
+-- no framework goes, changes its roles, suppresses or revives.
 abbrev pub MoreFrameworksGainNothing : Type 0
 MoreFrameworksGainNothing =
     (limits : LimitNumbers) (rows other : Rows) (steps : List Step)

@@ -11,7 +11,7 @@ use Rattle.drf_rows.specs.Held.{active_clients, count_of}
 use Rattle.drf_rows.specs.LimitNumbers.{LimitNumbers}
 use Rattle.drf_rows.specs.Step.{refusal_of, rows_after, rows_after_all}
 use Rattle.drf_rows.specs.declared.event.Event.{Event}
-use Rattle.drf_rows.specs.declared.event.Event.TheVariants.{AddFramework, RemoveFramework, Suppress, Revive, Cycle}
+use Rattle.drf_rows.specs.declared.event.Event.TheVariants.{AddFramework, SetFramework, RemoveFramework, Suppress, Revive, Cycle}
 use Rattle.drf_rows.specs.declared.rows.AgentRow.{AgentRow}
 use Rattle.drf_rows.specs.declared.rows.Rows.{Rows}
 use Rattle.drf_laws.specs.RunLaws.{AreGiven}
@@ -46,9 +46,10 @@ passes_in limits node rows (event ∷ events) = passes_at limits node rows event
 abbrev pub lead_of : Rows → Path → Text → List Text → ℕ
 lead_of rows parent one others = sum_by (λ name. count_of rows (child parent one) + 1 - count_of rows (child parent name)) others
 
--- an event by which no framework comes or goes, and none changes what it wants
+-- an event by which no framework comes, goes or changes its roles, and none changes what it wants
 abbrev pub KeepsFrameworks : Event → Type 0
 KeepsFrameworks (AddFramework framework roles) = ⊥
+KeepsFrameworks (SetFramework framework roles) = ⊥
 KeepsFrameworks (RemoveFramework framework) = ⊥
 KeepsFrameworks (Suppress framework role) = ⊥
 KeepsFrameworks (Revive framework role) = ⊥

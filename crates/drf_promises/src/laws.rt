@@ -53,7 +53,7 @@ pub fn sums_law()
 {}
 
 /// So in runs. Where two clusters differ only in which frameworks of a role have what, and in how many there are, each role is made the same offers in
-/// both, event by event, whoever comes to roles that take part, while no filter is in force and no framework goes, suppresses or revives.
+/// both, event by event, whoever comes to roles that take part, while no filter is in force and no framework goes, changes its roles, suppresses or revives.
 pub fn more_frameworks_law()
     ensures itself { EachStandsAsItself }
     ensures more { OneMoreStandsAlike }

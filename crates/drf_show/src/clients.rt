@@ -7,7 +7,7 @@ ghost use Rattle.drf_role.specs.Text.{Text};
 ghost use Rattle.drf_rows.specs.Client.{path_of};
 ghost use Rattle.drf_rows.specs.Held.{client_of};
 ghost use Rattle.drf_rows.specs.declared.rows.FrameworkRow.{FrameworkRow};
-ghost use Rattle.drf_sorter.specs.Content.{IsSound, has_node};
+ghost use Rattle.drf_sorter.specs.Content.{IsSame, IsSound, has_node};
 ghost use Rattle.drf_content.specs.Content.{content_of};
 ghost use Rattle.drf_show.specs.Consuming.{IsFit};
 ghost use Rattle.drf_show.specs.Had.{AreSmall, KnowsClients, client_line_by, lines_by, parts_in, weighted_in};
@@ -141,7 +141,7 @@ pub(crate) fn client_lines<S: Sorter>(
     rows: &Rows,
 ) -> Result<Vec<ClientLine>, AllocError>
     requires fit { IsFit rows.now }
-    requires content { S.content sorter.now ≡ content_of rows.now }
+    requires content { IsSame (S.content sorter.now) (content_of rows.now) }
     ensures { IfOk result (λ lines. lines.items ≡ client_lines rows.now) }
 {
     let offered = Had::of_offers(alloc, key, rows.offers.as_slice())?;

@@ -5,6 +5,7 @@ ghost use Rattle.drf_rows.specs.Report.{report_of};
 ghost use Rattle.drf_rows.specs.Step.{live_rows};
 ghost use Rattle.drf_saved_laws.specs.SavedLaws.{IsSaveable};
 ghost use Rattle.drf_content.specs.Content.{content_of};
+ghost use Rattle.drf_sorter.specs.Content.{IsSame};
 ghost use Rattle.drf_show.specs.Consuming.{IsFit};
 ghost use Rattle.drf_show.specs.ShownText.{agent_table, behind, client_table, count_table, filter_table, head_table, limit_table, node_table, rows_text, shown, table_in};
 
@@ -72,7 +73,7 @@ fn push_clients<S: Sorter>(
     text: &mut Vec<u8>,
 ) -> Result<(), AllocError>
     requires fit { IsFit rows.now }
-    requires content { S.content sorter.now ≡ content_of rows.now }
+    requires content { IsSame (S.content sorter.now) (content_of rows.now) }
     ensures { OnOk result (text.new.items ≡ text.old.items ++ behind form (client_table rows.now)) }
 {
     let lines = client_lines(alloc, key, sorter, rows)?;
@@ -135,7 +136,7 @@ fn push_tables<S: Sorter>(
     text: &mut Vec<u8>,
 ) -> Result<(), AllocError>
     requires fit { IsFit rows.now }
-    requires content { S.content sorter.now ≡ content_of rows.now }
+    requires content { IsSame (S.content sorter.now) (content_of rows.now) }
     requires report { report.now ≡ report_of rows.now }
     ensures { OnOk result (text.new.items ≡ text.old.items ++ rows_text form limits.now rows.now) }
 {

@@ -1,5 +1,5 @@
 -- The turns of all agents, and the cycle that they are.
-use Rattle.std.proofs.Common.{◌≡◌, ℕ, zero, suc, ◌+◌, ◌*◌, ◌<◌, ◌≤◌, List, [], ◌∷◌, Option, Some, None, true, false, Bool, refl, sym, ap, ◌∙◌, length, cond, arith, drop, add-one}
+use Rattle.std.proofs.Common.{◌≡◌, ℕ, zero, suc, ◌+◌, ◌*◌, ◌<◌, ◌≤◌, List, [], ◌∷◌, Option, Some, None, true, false, Bool, refl, sym, ap, subst, ◌∙◌, length, cond, arith, drop, add-one}
 use Rattle.std.specs.Prelude.{◌^◌, ◌≢◌, is_some, max, slice_get, filter}
 use Rattle.std.specs.Option.{option_map_or}
 use Rattle.std.proofs.lemmas.Bool.{false≢true}
@@ -16,7 +16,7 @@ use Rattle.drf_rows.specs.declared.rows.Rows.{Rows}
 use Rattle.drf_tables.specs.cycle.Drafts.{with_offers}
 use Rattle.drf_tables.specs.Stored.{Stored}
 use Rattle.drf_core.specs.declared.cycle.Drafts.{Drafts}
-use Rattle.drf_sorter.specs.Content.{Content}
+use Rattle.drf_sorter.specs.Content.{Content, IsSame}
 use Rattle.drf_content.specs.Content.{content_of}
 use Rattle.drf_laws.specs.Kept.{IsKept}
 use Rattle.drf_core.specs.cycle.Drafting.{IsCycleAt, IsDrafting, turn_at, turns_of}
@@ -80,13 +80,13 @@ unfolding content_of
 content_of-clock rows clock = refl
 
 -- there are no drafts yet
-pub drafting-begins : (content : Content) (limits : LimitNumbers) (rows tables : Rows) (clock : ℕ) (offers : List OfferRow) → content ≡ content_of rows
+pub drafting-begins : (content : Content) (limits : LimitNumbers) (rows tables : Rows) (clock : ℕ) (offers : List OfferRow) → IsSame content (content_of rows)
     → IsKept limits rows → clock ≤ LATEST_MOMENT → tables ≡ record rows { clock = clock } → offers ≡ [] → IsDrafting content tables offers
 drafting-begins content limits rows tables clock offers sorted kept moment same none =
     let events : rows.events ≤ 4294967295 = omega (arith, kept.few.events, kept.few.ceilings.events.1) in
     let numbered : rows.next_offer ≤ 1 + rows.events * 2 ^ 24 = kept.numbered in
     rw (same, none) (record {
-      sorted = sorted ∙ sym (content_of-clock rows clock);
+      sorted = subst (IsSame content) (sym (content_of-clock rows clock)) sorted;
       consistent = consistent-clock rows clock kept.consistent moment;
       clients = tt;
       few_agents = omega (arith, kept.few.agents, kept.few.ceilings.agents.1);

@@ -1,5 +1,5 @@
 -- Drafts: what one more offer changes of a cycle that is not ended.
-use Rattle.std.proofs.Common.{◌≡◌, true, List, [], ◌∷◌, ◌++◌, refl, sym, ap, subst, ◌∙◌}
+use Rattle.std.proofs.Common.{◌≡◌, true, List, [], ◌∷◌, ◌++◌, refl, ap, subst, ◌∙◌}
 use Rattle.std.specs.List.{AllByRecursion}
 use Rattle.std.proofs.lemmas.Grind.{fold-append}
 use Rattle.drf_role.specs.Path.{Path}
@@ -11,7 +11,8 @@ use Rattle.drf_rows.specs.Held.{is_registered}
 use Rattle.drf_row_laws.specs.ConsistentLaws.{is_registered-counted}
 use Rattle.drf_rows.specs.declared.rows.OfferRow.{OfferRow}
 use Rattle.drf_rows.specs.declared.rows.Rows.{Rows}
-use Rattle.drf_sorter.specs.Content.{Content, with_change, charged, discharged, has_client, HasChargeAt}
+use Rattle.drf_sorter.specs.Content.{Content, IsSame, with_change, charged, discharged, has_client, HasChargeAt}
+use Rattle.drf_sorter.specs.laws.SameLaws.{HasChargeAt-same, IsSame-between, IsSame-sym, IsSame-with_change, has_client-same}
 use Rattle.drf_tables.specs.cycle.Drafts.{with_offers}
 use Rattle.drf_content.specs.Content.{content_of}
 use Rattle.drf_content.specs.laws.Offer.{content_of-with_offer, discharged-with_change, HasChargeAt-charged}
@@ -36,13 +37,15 @@ is_registered-with_offers rows (o ∷ os) client = is_registered-with_offers (wi
 -- ---- the last draft is taken back
 
 module _ (content : Content) (rows : Rows) (offers drafts : List OfferRow) (offer : OfferRow) (is : offers ≡ drafts ++ offer ∷ [])
-    (sorted : content ≡ content_of (with_offers rows offers))
+    (sorted : IsSame content (content_of (with_offers rows offers)))
     (clients : AllByRecursion (λ o. is_registered rows.frameworks (of_offer o).client ≡ true) offers) where
-  sorted_last : content ≡ content_of (with_offer (with_offers rows drafts) offer)
-  sorted_last = sorted ∙ ap (λ (os : List OfferRow). content_of (with_offers rows os)) is ∙ ap content_of (with_offers-push rows drafts offer)
+  sorted_last : IsSame content (content_of (with_offer (with_offers rows drafts) offer))
+  sorted_last =
+      subst (IsSame content)
+      (ap (λ (os : List OfferRow). content_of (with_offers rows os)) is ∙ ap content_of (with_offers-push rows drafts offer)) sorted
 
-  charged_last : content ≡ with_change (content_of (with_offers rows drafts)) (path_of (of_offer offer).client) (charged (quantities_of offer.bundle) 1)
-  charged_last = sorted_last ∙ content_of-with_offer (with_offers rows drafts) offer
+  charged_last : IsSame content (with_change (content_of (with_offers rows drafts)) (path_of (of_offer offer).client) (charged (quantities_of offer.bundle) 1))
+  charged_last = subst (IsSame content) (content_of-with_offer (with_offers rows drafts) offer) sorted_last
 
   each_front : (P : OfferRow → Type 0) (xs : List OfferRow) (x : OfferRow) → AllByRecursion P (xs ++ x ∷ []) → AllByRecursion P xs × P x
   each_front P [] x all = (tt, all.0)
@@ -58,16 +61,21 @@ module _ (content : Content) (rows : Rows) (offers drafts : List OfferRow) (offe
   has_client-last =
       let client : Client = (of_offer offer).client in
       let known = is_registered-with_offer (with_offers rows drafts) offer client ∙ is_registered-with_offers rows drafts client ∙ clients_front.1 in
-      ap (λ (c : Content). has_client c (path_of client)) sorted_last ∙ has_client-registered (with_offer (with_offers rows drafts) offer) client known
+      has_client-same content (content_of (with_offer (with_offers rows drafts) offer)) sorted_last (path_of client) ∙ has_client-registered (with_offer (with_offers rows drafts) offer) client known
 
   pub HasChargeAt-last : HasChargeAt content (path_of (of_offer offer).client) (quantities_of offer.bundle)
   HasChargeAt-last =
       let path : Path = path_of (of_offer offer).client in
-      subst (λ (c : Content). HasChargeAt c path (quantities_of offer.bundle)) (sym charged_last)
+      let told : Content = with_change (content_of (with_offers rows drafts)) path (charged (quantities_of offer.bundle) 1) in
+      HasChargeAt-same told content (IsSame-sym content told charged_last) path (quantities_of offer.bundle)
       (HasChargeAt-charged (content_of (with_offers rows drafts)) path (quantities_of offer.bundle))
 
-  pub sorted-taken_back : with_change content (path_of (of_offer offer).client) (discharged (quantities_of offer.bundle)) ≡ content_of (with_offers rows drafts)
-  sorted-taken_back =
+  pub sorted-taken_back : (after : Content) → after ≡ with_change content (path_of (of_offer offer).client) (discharged (quantities_of offer.bundle))
+      → IsSame after (content_of (with_offers rows drafts))
+  sorted-taken_back after changed =
       let path : Path = path_of (of_offer offer).client in
-      ap (λ (c : Content). with_change c path (discharged (quantities_of offer.bundle))) charged_last
-      ∙ discharged-with_change (content_of (with_offers rows drafts)) path (quantities_of offer.bundle)
+      let back = discharged (quantities_of offer.bundle) in
+      let told : Content = with_change (content_of (with_offers rows drafts)) path (charged (quantities_of offer.bundle) 1) in
+      IsSame-between after (with_change content path back) (with_change told path back) (content_of (with_offers rows drafts))
+      changed (IsSame-with_change content told charged_last path back)
+      (discharged-with_change (content_of (with_offers rows drafts)) path (quantities_of offer.bundle))

@@ -21,7 +21,8 @@ use Rattle.drf_rows.specs.declared.rows.AgentRow.{AgentRow}
 use Rattle.drf_rows.specs.declared.rows.LimitRow.{LimitRow}
 use Rattle.drf_rows.specs.declared.rows.OfferRow.{OfferRow}
 use Rattle.drf_rows.specs.declared.rows.Rows.{Rows}
-use Rattle.drf_sorter.specs.Content.{Content, with_change, charged, has_client, IsSound}
+use Rattle.drf_sorter.specs.Content.{Content, IsSame, with_change, charged, has_client, IsSound}
+use Rattle.drf_sorter.specs.laws.SameLaws.{IsSame-between, IsSame-sym, IsSame-with_change, IsSound-same, has_client-same}
 use Rattle.drf_tables.specs.cycle.Drafts.{with_offers}
 use Rattle.drf_tables.specs.declared.tables.Left.{Left}
 use Rattle.drf_content.specs.Content.{content_of}
@@ -61,11 +62,16 @@ module _ (content : Content) (rows : Rows) (offers : List OfferRow) (drafting : 
   consistent_after =
       IsConsistent-with_offer (with_offers rows offers) agent place client bundle drafting.consistent at_now known_now part_now.bundle_is part_now.small
 
-  charged_after : with_change content (path_of client) (charged (quantities_of bundle) 1)
-      ≡ content_of (with_offer (with_offers rows offers) (next_draft rows offers agent client bundle))
+  abbrev more : Content
+  more = with_change content (path_of client) (charged (quantities_of bundle) 1)
+
+  abbrev told_after : Content
+  told_after = content_of (with_offer (with_offers rows offers) (next_draft rows offers agent client bundle))
+
+  charged_after : IsSame more told_after
   charged_after =
-      ap (λ (c : Content). with_change c (path_of client) (charged (quantities_of bundle) 1)) drafting.sorted
-      ∙ sym (content_of-with_offer (with_offers rows offers) (next_draft rows offers agent client bundle))
+      subst (IsSame more) (sym (content_of-with_offer (with_offers rows offers) (next_draft rows offers agent client bundle)))
+      (IsSame-with_change content (content_of (with_offers rows offers)) drafting.sorted (path_of client) (charged (quantities_of bundle) 1))
 
   few_after : length (with_offer (with_offers rows offers) (next_draft rows offers agent client bundle)).agents ≤ 4096
   unfolding with_offer
@@ -82,11 +88,11 @@ module _ (content : Content) (rows : Rows) (offers : List OfferRow) (drafting : 
 
   pub has_client-now : has_client content (path_of client) ≡ true
   has_client-now =
-      ap (λ (c : Content). has_client c (path_of client)) drafting.sorted ∙ has_client-registered (with_offers rows offers) client known_now
+      has_client-same content (content_of (with_offers rows offers)) drafting.sorted (path_of client) ∙ has_client-registered (with_offers rows offers) client known_now
 
   pub sound_after : IsSound (with_change content (path_of client) (charged (quantities_of bundle) 1))
   sound_after =
-      subst IsSound (sym charged_after)
+      IsSound-same told_after more (IsSame-sym more told_after charged_after)
       (IsSound-content_of (with_offer (with_offers rows offers) (next_draft rows offers agent client bundle)) consistent_after few_after early_after)
 
   each_push : (P : OfferRow → Type 0) (xs : List OfferRow) (x : OfferRow) → AllByRecursion P xs → P x → AllByRecursion P (xs ++ x ∷ [])
@@ -99,7 +105,7 @@ module _ (content : Content) (rows : Rows) (offers : List OfferRow) (drafting : 
       let offer : OfferRow = next_draft rows offers agent client bundle in
       let push = with_offers-push rows offers offer in
       record {
-        sorted = charge ∙ charged_after ∙ ap content_of (sym push);
+        sorted = IsSame-between after more told_after (content_of (with_offers rows (offers ++ offer ∷ []))) charge charged_after (ap content_of (sym push));
         consistent = subst IsConsistent (sym push) consistent_after;
         clients = each_push (λ o. is_registered rows.frameworks (of_offer o).client ≡ true) offers offer drafting.clients known;
         few_agents = drafting.few_agents;

@@ -26,8 +26,10 @@ use Rattle.drf_core.specs.declared.cycle.Drafts.{Drafts}
 use Rattle.drf_core.specs.declared.cycle.free.Free.{Free}
 use Rattle.drf_core.specs.cycle.Drafting.{IsCycleAt, IsDrafting, IsFreeAt, IsRegisteredPath, IsTried, IsTurn, HasLeft, is_open_at, turn_at}
 use Rattle.drf_sorter.specs.Content.{Content, IsSound, IsOrderOf}
+use Rattle.drf_sorter.specs.laws.SameLaws.{IsOrderOf-same, IsSame-sym, IsSound-same}
 use Rattle.drf_tables.specs.cycle.DraftLaws.{agents-with_offers, next-with_offers}
 use Rattle.drf_core.proofs.drafting.Drafts.{is_registered-with_offers}
+use Rattle.drf_content.specs.Content.{content_of}
 use Rattle.drf_content.specs.laws.Sound.{IsSound-content_of}
 use Rattle.drf_content.specs.laws.Order.{IsOrderOf-turn_order}
 use Rattle.drf_laws.specs.laws.Turns.{turn_order-registered, free_of-all_tried_other}
@@ -236,14 +238,15 @@ pub record IsOrdered (rows : Rows) (offers : List OfferRow) (paths : List Path) 
 module _ (content : Content) (rows : Rows) (offers : List OfferRow) (drafting : IsDrafting content rows offers) where
   pub sound_now : length offers < 2 ^ 63 → IsSound content
   sound_now few =
-      subst IsSound (sym drafting.sorted)
+      IsSound-same (content_of (with_offers rows offers)) content (IsSame-sym content (content_of (with_offers rows offers)) drafting.sorted)
       (IsSound-content_of (with_offers rows offers) drafting.consistent
       (rw (agents-with_offers rows offers) drafting.few_agents)
       (let low_number : rows.next_offer ≤ 2 ^ 57 = drafting.low_number in omega (arith, next-with_offers rows offers)))
 
   pub ordered_from : (paths : List Path) → IsOrderOf content paths → IsOrdered rows offers paths
   ordered_from paths order =
-      let same = IsOrderOf-turn_order (with_offers rows offers) paths drafting.consistent (subst (λ (c : Content). IsOrderOf c paths) drafting.sorted order) in
+      let same = IsOrderOf-turn_order (with_offers rows offers) paths drafting.consistent
+      (IsOrderOf-same content (content_of (with_offers rows offers)) drafting.sorted paths order) in
       record {
         same = same;
         known = each_from (λ c. is_registered (with_offers rows offers).frameworks c ≡ true) (λ c. is_registered rows.frameworks c ≡ true) (turn_order (with_offers rows offers))

@@ -20,7 +20,8 @@ use Rattle.drf_rows.specs.declared.event.Event.TheVariants.{Accept, Decline}
 use Rattle.drf_rows.specs.declared.rows.FilterRow.{FilterRow}
 use Rattle.drf_rows.specs.declared.rows.OfferRow.{OfferRow}
 use Rattle.drf_rows.specs.declared.rows.Rows.{Rows}
-use Rattle.drf_sorter.specs.Content.{Content, has_client, with_change, refunded, HoldsAt}
+use Rattle.drf_sorter.specs.Content.{Content, IsSame, has_client, with_change, refunded, HoldsAt}
+use Rattle.drf_sorter.specs.laws.SameLaws.{HoldsAt-same, IsSame-between, IsSame-sym, IsSame-with_change}
 use Rattle.drf_content.specs.Content.{content_of}
 use Rattle.drf_content.specs.laws.Ended.{GaveBack, content_of-gave_back, HoldsAt-gave_back}
 use Rattle.drf_core.proofs.effects.Ended.{known-client}
@@ -28,7 +29,7 @@ use Rattle.drf_core.proofs.effects.Ended.{known-client}
 -- ---- it is accepted
 
 module _ (rows : Rows) (number : ℕ) (o : OfferRow) (starts : List Start) (at refuse_ms : ℕ) (content : Content) (path : Path) (quantities : List Entry)
-    (right : IsConsistent rows) (sorted : content ≡ content_of rows) (found : offer_at rows number ≡ Some o)
+    (right : IsConsistent rows) (sorted : IsSame content (content_of rows)) (found : offer_at rows number ≡ Some o)
     (bundles : AllByRecursion IsBundle (uses starts)) (can : CanStart rows o starts)
     (joined : path ≡ client_path o.role o.framework) (told : quantities ≡ quantities_of (left_of_offer o starts)) where
   abbrev new : Rows
@@ -49,24 +50,25 @@ module _ (rows : Rows) (number : ℕ) (o : OfferRow) (starts : List Start) (at r
   known-accepted = known-client rows o.role o.framework content path sorted joined (held-offer_at rows number o right found).client
 
   pub held-accepted : HoldsAt content path quantities
-  held-accepted = subst (λ (k : Content). HoldsAt k path quantities) (sym sorted) (HoldsAt-gave_back rows new path quantities gave)
+  held-accepted =
+      HoldsAt-same (content_of rows) content (IsSame-sym content (content_of rows) sorted) path quantities
+      (HoldsAt-gave_back rows new path quantities gave)
 
   pub sorted-accepted : (tables : Rows) (after : Content) → tables ≡ offer_accepted (at_moment rows at) o starts refuse_ms
       → after ≡ with_change content path (refunded quantities)
-      → after ≡ content_of tables
+      → IsSame after (content_of tables)
   sorted-accepted tables after same changed =
-      changed
-      ∙ ap (λ (k : Content). with_change k path (refunded quantities)) sorted
-      ∙ content_of-gave_back rows new path quantities gave
-      ∙ sym (ap content_of same)
+      IsSame-between after (with_change content path (refunded quantities)) (with_change (content_of rows) path (refunded quantities)) (content_of tables)
+      changed (IsSame-with_change content (content_of rows) sorted path (refunded quantities))
+      (content_of-gave_back rows new path quantities gave ∙ sym (ap content_of same))
 
 -- ---- it is declined
 
 -- the sorter knows neither filters nor the clock
 pub sorted-declined : (rows tables : Rows) (filters : List FilterRow) (moment : ℕ) (content : Content)
-    → content ≡ content_of rows → tables ≡ record rows { filters = filters; clock = moment } → content ≡ content_of tables
+    → IsSame content (content_of rows) → tables ≡ record rows { filters = filters; clock = moment } → IsSame content (content_of tables)
 unfolding content_of
-sorted-declined rows tables filters moment content sorted same = sorted ∙ sym (ap content_of same)
+sorted-declined rows tables filters moment content sorted same = subst (IsSame content) (sym (ap content_of same)) sorted
 
 pub rows_declined : (rows middle tables : Rows) (number : ℕ) (o : OfferRow) (at refuse_ms : ℕ) → offer_at rows number ≡ Some o
     → middle ≡ record (at_moment rows at) { filters = filters_with (at_moment rows at) (filters_all refuse_ms) o o.bundle refuse_ms }

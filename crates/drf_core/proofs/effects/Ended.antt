@@ -18,7 +18,8 @@ use Rattle.drf_rows.specs.Step.{effect}
 use Rattle.drf_rows.specs.declared.event.Event.TheVariants.{RemoveAgent, ActivateAgent, DeactivateAgent, RemoveFramework, Suppress, Revive}
 use Rattle.drf_rows.specs.declared.rows.FrameworkRow.{FrameworkRow}
 use Rattle.drf_rows.specs.declared.rows.Rows.{Rows}
-use Rattle.drf_sorter.specs.Content.{Content, has_client, with_change, refunded, HoldsAt}
+use Rattle.drf_sorter.specs.Content.{Content, IsSame, has_client, with_change, refunded, HoldsAt}
+use Rattle.drf_sorter.specs.laws.SameLaws.{HoldsAt-same, IsSame-between, IsSame-sym, IsSame-with_change, IsSame-with_total, has_client-same}
 use Rattle.drf_sorter.specs.Content as sorter
 use Rattle.drf_tables.specs.offers.Ended.{HasEnded}
 use Rattle.drf_rows.specs.Client.{path_of}
@@ -30,11 +31,12 @@ use Rattle.drf_content.specs.laws.Ended.{GaveBack, content_of-gave_back, HoldsAt
 use Rattle.drf_content.specs.laws.Changed.{content_of-filters, content_of-activity, content_of-suppression, content_of-agent_removed}
 use Rattle.drf_content.specs.laws.Members.{has_client-registered}
 use Rattle.drf_content.specs.laws.Removed.{AreKnown-removing, content_of-framework_removed}
+use Rattle.drf_content.specs.laws.Same.{AreKnown-same, IsSame-without_all}
 use Rattle.drf_laws.specs.laws.Endings.{ended_twice}
 
 -- ---- one holding ended
 
-module _ (old new : Rows) (ending : Ending) (taken : Taken) (ended : HasEnded old new ending taken) (content : Content) (sorted : content ≡ content_of old) where
+module _ (old new : Rows) (ending : Ending) (taken : Taken) (ended : HasEnded old new ending taken) (content : Content) (sorted : IsSame content (content_of old)) where
   abbrev its_path : Path
   its_path = path_of (holding_of taken).client
 
@@ -47,17 +49,19 @@ module _ (old new : Rows) (ending : Ending) (taken : Taken) (ended : HasEnded ol
   }
 
   pub known-ended : has_client content its_path ≡ true
-  known-ended = ap (λ (k : Content). has_client k its_path) sorted ∙ has_client-registered old (holding_of taken).client ended.registered
+  known-ended = has_client-same content (content_of old) sorted its_path ∙ has_client-registered old (holding_of taken).client ended.registered
 
   pub held-ended : HoldsAt content its_path (quantities_of taken.bundle)
   held-ended =
-      subst (λ (k : Content). HoldsAt k its_path (quantities_of taken.bundle)) (sym sorted)
+      HoldsAt-same (content_of old) content (IsSame-sym content (content_of old) sorted) its_path (quantities_of taken.bundle)
       (HoldsAt-gave_back old new its_path (quantities_of taken.bundle) gave)
 
-  pub sorted-ended : with_change content its_path (refunded (quantities_of taken.bundle)) ≡ content_of new
-  sorted-ended =
-      ap (λ (k : Content). with_change k its_path (refunded (quantities_of taken.bundle))) sorted
-      ∙ content_of-gave_back old new its_path (quantities_of taken.bundle) gave
+  pub sorted-ended : (after : Content) → after ≡ with_change content its_path (refunded (quantities_of taken.bundle)) → IsSame after (content_of new)
+  sorted-ended after changed =
+      let back = refunded (quantities_of taken.bundle) in
+      IsSame-between after (with_change content its_path back) (with_change (content_of old) its_path back) (content_of new)
+      changed (IsSame-with_change content (content_of old) sorted its_path back)
+      (content_of-gave_back old new its_path (quantities_of taken.bundle) gave)
 
 -- ---- all that ends has ended
 
@@ -69,9 +73,9 @@ nothing_left rows middle ending same =
 -- ---- agents
 
 pub sorted-activity : (rows tables : Rows) (name : Text) (active : Bool) (content : Content)
-    → content ≡ content_of rows → tables ≡ record rows { agents = with_activity rows name active } → content ≡ content_of tables
+    → IsSame content (content_of rows) → tables ≡ record rows { agents = with_activity rows name active } → IsSame content (content_of tables)
 sorted-activity rows tables name active content sorted set =
-    sorted ∙ sym (ap content_of set ∙ content_of-activity rows name active)
+    subst (IsSame content) (sym (ap content_of set ∙ content_of-activity rows name active)) sorted
 
 pub effect-activated : (rows tables : Rows) (name : Text) → tables ≡ record rows { agents = with_activity rows name true }
     → tables ≡ effect rows (ActivateAgent name)
@@ -94,15 +98,16 @@ effect-departed rows middle tables name ended removed =
     ∙ (λ i. record (twice i) { agents = filter (λ a. not (same_text a.name name)) rows.agents; filters = filters_without_agent name rows.filters })
 
 pub sorted-departed : (middle tables : Rows) (name : Text) (content after : Content) (total : List Entry)
-    → content ≡ content_of middle → without_ended middle (all_on name) ≡ middle
+    → IsSame content (content_of middle) → without_ended middle (all_on name) ≡ middle
     → tables ≡ agent_removed middle name
     → after ≡ record content { total = total }
     → total ≡ cluster_total (filter (λ a. not (same_text a.name name)) middle.agents)
-    → after ≡ content_of tables
+    → IsSame after (content_of tables)
 sorted-departed middle tables name content after total sorted nothing removed set sum =
-    set
-    ∙ (λ i. record (sorted i) { total = sum i })
-    ∙ sym (ap content_of removed ∙ content_of-agent_removed middle name nothing)
+    IsSame-between after (record content { total = total }) (record (content_of middle) { total = total }) (content_of tables)
+    set (IsSame-with_total content (content_of middle) sorted total)
+    ((λ i. record (content_of middle) { total = sum i })
+    ∙ sym (ap content_of removed ∙ content_of-agent_removed middle name nothing))
 
 -- ---- frameworks
 
@@ -123,22 +128,25 @@ one_found p (x ∷ xs) some = elim (cases_Bool (p x)) [
 -- its clients can be removed from the sorter
 pub AreKnown-ended : (middle : Rows) (name : Text) (f : FrameworkRow) (content : Content) (paths : List Path)
     → AreFrameworks middle.frameworks → find (λ f. same_text f.name name) middle.frameworks ≡ Some f
-    → content ≡ content_of middle → paths ≡ client_paths name f.clients
+    → IsSame content (content_of middle) → paths ≡ client_paths name f.clients
     → AreKnown content paths
-AreKnown-ended middle name f content paths right found sorted same = rw (sorted, same) (AreKnown-removing middle name f right found)
+AreKnown-ended middle name f content paths right found sorted same =
+    rw same (AreKnown-same (content_of middle) content (client_paths name f.clients) (IsSame-sym content (content_of middle) sorted)
+    (AreKnown-removing middle name f right found))
 
 pub sorted-left : (middle tables : Rows) (name : Text) (f : FrameworkRow) (content after : Content) (paths : List Path)
     → AreFrameworks middle.frameworks → find (λ f. same_text f.name name) middle.frameworks ≡ Some f
-    → content ≡ content_of middle → without_ended middle (all_of name) ≡ middle
+    → IsSame content (content_of middle) → without_ended middle (all_of name) ≡ middle
     → tables ≡ framework_removed middle name
     → after ≡ without_all content paths
     → paths ≡ client_paths name f.clients
-    → after ≡ content_of tables
+    → IsSame after (content_of tables)
 sorted-left middle tables name f content after paths right found sorted nothing removed taken told =
-    taken
-    ∙ (λ i. without_all (sorted i) (told i))
+    IsSame-between after (without_all content paths) (without_all (content_of middle) paths) (content_of tables)
+    taken (IsSame-without_all content (content_of middle) paths sorted)
+    (ap (without_all (content_of middle)) told
     ∙ content_of-framework_removed middle name f right found nothing
-    ∙ sym (ap content_of removed)
+    ∙ sym (ap content_of removed))
 
 pub effect-left : (rows middle tables : Rows) (name : Text) → middle ≡ without_ended rows (all_of name)
     → tables ≡ framework_removed middle name → tables ≡ effect rows (RemoveFramework name)
@@ -152,21 +160,22 @@ effect-left rows middle tables name ended removed =
 -- ---- clients
 
 pub known-client : (rows : Rows) (role : Path) (framework : Text) (content : Content) (path : Path)
-    → content ≡ content_of rows → path ≡ client_path role framework
+    → IsSame content (content_of rows) → path ≡ client_path role framework
     → is_registered rows.frameworks (record { role = role; framework = framework }) ≡ true
     → has_client content path ≡ true
 known-client rows role framework content path sorted is known =
-    (λ i. has_client (sorted i) (is i)) ∙ has_client-registered rows (record { role = role; framework = framework }) known
+    has_client-same content (content_of rows) sorted path ∙ ap (has_client (content_of rows)) is ∙ has_client-registered rows (record { role = role; framework = framework }) known
 
 pub sorted-suppressed : (rows tables : Rows) (role : Path) (framework : Text) (content after : Content) (path : Path)
-    → content ≡ content_of rows → path ≡ client_path role framework
+    → IsSame content (content_of rows) → path ≡ client_path role framework
     → tables ≡ record rows { frameworks = with_suppression rows (record { role = role; framework = framework }) true }
     → after ≡ with_change content path (sorter.activated false)
-    → after ≡ content_of tables
+    → IsSame after (content_of tables)
 sorted-suppressed rows tables role framework content after path sorted is set changed =
-    changed
-    ∙ (λ i. with_change (sorted i) (is i) (sorter.activated false))
-    ∙ sym (ap content_of set ∙ content_of-suppression rows (record { role = role; framework = framework }) true)
+    IsSame-between after (with_change content path (sorter.activated false)) (with_change (content_of rows) path (sorter.activated false)) (content_of tables)
+    changed (IsSame-with_change content (content_of rows) sorted path (sorter.activated false))
+    (ap (λ (p : Path). with_change (content_of rows) p (sorter.activated false)) is
+    ∙ sym (ap content_of set ∙ content_of-suppression rows (record { role = role; framework = framework }) true))
 
 pub effect-suppressed : (rows tables : Rows) (role : Path) (framework : Text)
     → tables ≡ record rows { frameworks = with_suppression rows (record { role = role; framework = framework }) true }
@@ -175,17 +184,18 @@ unfolding effect
 effect-suppressed rows tables role framework set = set
 
 pub sorted-revived : (rows tables : Rows) (role : Path) (framework : Text) (content after : Content) (path : Path)
-    → content ≡ content_of rows → path ≡ client_path role framework
+    → IsSame content (content_of rows) → path ≡ client_path role framework
     → tables ≡ revived rows (record { role = role; framework = framework })
     → after ≡ with_change content path (sorter.activated true)
-    → after ≡ content_of tables
+    → IsSame after (content_of tables)
 sorted-revived rows tables role framework content after path sorted is set changed =
     let client : Client = record { role = role; framework = framework } in
-    changed
-    ∙ (λ i. with_change (sorted i) (is i) (sorter.activated true))
+    IsSame-between after (with_change content path (sorter.activated true)) (with_change (content_of rows) path (sorter.activated true)) (content_of tables)
+    changed (IsSame-with_change content (content_of rows) sorted path (sorter.activated true))
+    (ap (λ (p : Path). with_change (content_of rows) p (sorter.activated true)) is
     ∙ sym (content_of-suppression rows client false)
     ∙ sym (content_of-filters (record rows { frameworks = with_suppression rows client false }) (filters_without_client client rows.filters))
-    ∙ sym (ap content_of set)
+    ∙ sym (ap content_of set))
 
 pub effect-revived : (rows tables : Rows) (role : Path) (framework : Text)
     → tables ≡ revived rows (record { role = role; framework = framework }) → tables ≡ effect rows (Revive framework role)

@@ -24,7 +24,8 @@ use Rattle.drf_rows.specs.declared.event.Event.TheVariants.{SetAgent, Reserve, U
 use Rattle.drf_rows.specs.declared.rows.AgentRow.{AgentRow}
 use Rattle.drf_rows.specs.declared.rows.LimitRow.{LimitRow}
 use Rattle.drf_rows.specs.declared.rows.Rows.{Rows}
-use Rattle.drf_sorter.specs.Content.{Content}
+use Rattle.drf_sorter.specs.Content.{Content, IsSame}
+use Rattle.drf_sorter.specs.laws.SameLaws.{IsSame-between, IsSame-with_total}
 use Rattle.drf_tables.specs.registry.Changing.{CanExchangeOn, CanHaveTotal}
 use Rattle.drf_content.specs.Content.{content_of}
 use Rattle.drf_core.specs.refusal.Cases.{early_cases_of, late_cases_of}
@@ -116,15 +117,16 @@ content_of-other_total rows name a total consistent found right =
     λ i. record { clients = (content_of rows).clients; total = sym same i; weights = rows.weights }
 
 pub sorted-total : (rows tables : Rows) (agent : Text) (total : List Resource) (sum : List Entry) (before after : Content)
-    → before ≡ content_of rows → IsConsistent rows → CanHaveTotal rows agent total
+    → IsSame before (content_of rows) → IsConsistent rows → CanHaveTotal rows agent total
     → tables ≡ record rows { agents = with_other_total rows agent total }
     → sum ≡ plus (cluster_total (filter (λ b. not (same_text b.name agent)) rows.agents)) (quantities_of total)
     → after ≡ record before { total = sum }
-    → after ≡ content_of tables
+    → IsSame after (content_of tables)
 sorted-total rows tables agent total sum before after sorted consistent can same is set =
-    set
-    ∙ (λ i. record (sorted i) { total = is i })
-    ∙ sym (ap content_of same ∙ content_of-other_total rows agent can.row total consistent can.found (record { total = can.bundle; small = can.small }))
+    IsSame-between after (record before { total = sum }) (record (content_of rows) { total = sum }) (content_of tables)
+    set (IsSame-with_total before (content_of rows) sorted sum)
+    ((λ i. record (content_of rows) { total = is i })
+    ∙ sym (ap content_of same ∙ content_of-other_total rows agent can.row total consistent can.found (record { total = can.bundle; small = can.small })))
 
 pub effect-total : (rows tables : Rows) (agent : Text) (total : List Resource)
     → tables ≡ record rows { agents = with_other_total rows agent total } → tables ≡ effect rows (SetAgent agent total)

@@ -4,6 +4,7 @@ use Rattle.drf_role.specs.Text.{Text}
 use Rattle.drf_role.specs.Path.{Path}
 use Rattle.drf_bundle.specs.Quantities.{plus}
 use Rattle.drf_bundle.specs.Bundle.{quantities_of}
+use Rattle.drf_bundle.specs.declared.quantities.Entry.{Entry}
 use Rattle.drf_bundle.specs.declared.resource.Resource.{Resource}
 use Rattle.drf_rows.specs.Held.{cluster_total}
 use Rattle.drf_rows.specs.Step.{effect}
@@ -12,23 +13,26 @@ use Rattle.drf_rows.specs.Consistent.{IsConsistent}
 use Rattle.drf_rows.specs.declared.event.Event.TheVariants.{AddAgent, AddFramework, Report}
 use Rattle.drf_rows.specs.declared.rows.ClientRow.{ClientRow}
 use Rattle.drf_rows.specs.declared.rows.Rows.{Rows}
-use Rattle.drf_sorter.specs.Content.{Content}
+use Rattle.drf_sorter.specs.Content.{Content, IsSame}
+use Rattle.drf_sorter.specs.laws.SameLaws.{IsSame-between, IsSame-with_total}
 use Rattle.drf_content.specs.Content.{content_of}
 use Rattle.drf_content.specs.Registering.{client_paths, with_all}
 use Rattle.drf_content.specs.laws.Members.{content_of-with_agent}
 use Rattle.drf_content.specs.laws.Registered.{content_of-registered}
+use Rattle.drf_content.specs.laws.Same.{IsSame-with_all}
 
 -- ---- one more agent
 
 pub sorted-agent : (rows tables : Rows) (agent : Text) (total : List Resource) (before after : Content)
-    → before ≡ content_of rows
+    → IsSame before (content_of rows)
     → tables ≡ record rows { agents = with_agent rows agent total }
     → after ≡ record before { total = plus (cluster_total rows.agents) (quantities_of total) }
-    → after ≡ content_of tables
+    → IsSame after (content_of tables)
 sorted-agent rows tables agent total before after sorted same set =
-    set
-    ∙ ap (λ (c : Content). record c { total = plus (cluster_total rows.agents) (quantities_of total) }) sorted
-    ∙ sym (ap content_of same ∙ content_of-with_agent rows agent total)
+    let sum : List Entry = plus (cluster_total rows.agents) (quantities_of total) in
+    IsSame-between after (record before { total = sum }) (record (content_of rows) { total = sum }) (content_of tables)
+    set (IsSame-with_total before (content_of rows) sorted sum)
+    (sym (ap content_of same ∙ content_of-with_agent rows agent total))
 
 pub effect-agent : (rows tables : Rows) (agent : Text) (total : List Resource)
     → tables ≡ record rows { agents = with_agent rows agent total } → tables ≡ effect rows (AddAgent agent total)
@@ -46,18 +50,18 @@ effect-framework rows tables framework roles clients made same =
     same ∙ (λ i. record rows { frameworks = rows.frameworks ++ record { name = framework; clients = made i } ∷ [] })
 
 pub sorted-framework : (rows tables : Rows) (framework : Text) (roles : List Path) (before after : Content)
-    → before ≡ content_of rows
+    → IsSame before (content_of rows)
     → IsConsistent rows
     → has_framework rows framework ≡ false
     → tables ≡ effect rows (AddFramework framework roles)
     → after ≡ with_all before (client_paths framework (map new_client (distinct roles)))
-    → after ≡ content_of tables
+    → IsSame after (content_of tables)
 unfolding effect
 sorted-framework rows tables framework roles before after sorted right new same added =
-    added
-    ∙ ap (λ (c : Content). with_all c (client_paths framework (map new_client (distinct roles)))) sorted
-    ∙ content_of-registered rows framework right new (distinct roles)
-    ∙ sym (ap content_of same)
+    let paths : List Path = client_paths framework (map new_client (distinct roles)) in
+    IsSame-between after (with_all before paths) (with_all (content_of rows) paths) (content_of tables)
+    added (IsSame-with_all before (content_of rows) paths sorted)
+    (content_of-registered rows framework right new (distinct roles) ∙ sym (ap content_of same))
 
 -- ---- a report
 

@@ -1,11 +1,12 @@
 -- What the tables and the sorter hold once a weight is set.
-use Rattle.std.proofs.Common.{◌≡◌, ℕ, sym, ap, ◌∙◌}
+use Rattle.std.proofs.Common.{◌≡◌, ℕ, sym, ap}
 use Rattle.drf_role.specs.Path.{Path}
 use Rattle.drf_rows.specs.Step.{effect}
 use Rattle.drf_rows.specs.Weights.{weights_with}
 use Rattle.drf_rows.specs.declared.event.Event.TheVariants.{SetWeight}
 use Rattle.drf_rows.specs.declared.rows.Rows.{Rows}
-use Rattle.drf_sorter.specs.Content.{Content, with_weight}
+use Rattle.drf_sorter.specs.Content.{Content, IsSame, with_weight}
+use Rattle.drf_sorter.specs.laws.SameLaws.{IsSame-between, IsSame-with_weight}
 use Rattle.drf_content.specs.Content.{content_of}
 
 pub effect-weight : (rows tables : Rows) (role : Path) (weight : ℕ)
@@ -14,10 +15,11 @@ unfolding effect
 effect-weight rows tables role weight same = same
 
 pub sorted-weight : (rows tables : Rows) (role : Path) (weight : ℕ) (before after : Content)
-    → before ≡ content_of rows
+    → IsSame before (content_of rows)
     → tables ≡ record rows { weights = weights_with rows.weights role weight }
     → after ≡ with_weight before role weight
-    → after ≡ content_of tables
+    → IsSame after (content_of tables)
 unfolding content_of
 sorted-weight rows tables role weight before after sorted same set =
-    set ∙ ap (λ (c : Content). with_weight c role weight) sorted ∙ sym (ap content_of same)
+    IsSame-between after (with_weight before role weight) (with_weight (content_of rows) role weight) (content_of tables)
+    set (IsSame-with_weight before (content_of rows) sorted role weight) (sym (ap content_of same))

@@ -10,6 +10,7 @@ use Rattle.drf_rows.specs.Cycle.{at_moment}
 use Rattle.drf_rows.specs.Filters.{is_of_client, is_on_agent, number_in_force}
 use Rattle.drf_rows.specs.LimitNumbers.{LimitNumbers, IsWithinCeilings}
 use Rattle.drf_rows.specs.Offers.{filters_all, filters_rest, filter_of, filtered_until, filters_with, left_of_offer, offer_accepted, offer_at, offer_declined}
+use Rattle.drf_rows.specs.Roles.{is_of_left}
 use Rattle.drf_rows.specs.Step.{effect, live_rows}
 use Rattle.drf_row_laws.specs.FilterLaws.{number_in_force-later}
 use Rattle.drf_bundle.specs.ListLaws.{length-filter_le}
@@ -17,7 +18,7 @@ use Rattle.drf_row_laws.specs.OthersLaws.{cycle_only_offers}
 use Rattle.drf_rows.specs.declared.event.Accept as accepting
 use Rattle.drf_rows.specs.declared.event.Decline as declining
 use Rattle.drf_rows.specs.declared.event.Event.{Event}
-use Rattle.drf_rows.specs.declared.event.Event.TheVariants.{RemoveAgent, RemoveFramework, Accept, Decline, Revive, Cycle}
+use Rattle.drf_rows.specs.declared.event.Event.TheVariants.{RemoveAgent, SetFramework, RemoveFramework, Accept, Decline, Revive, Cycle}
 use Rattle.drf_rows.specs.declared.rows.FilterRow.{FilterRow}
 use Rattle.drf_rows.specs.declared.rows.OfferRow.{OfferRow}
 use Rattle.drf_rows.specs.declared.rows.Rows.{Rows}
@@ -66,6 +67,7 @@ filters-declined rows d (Some o) = one_more (at_moment rows d.at) (filters_all d
 pub one_filter_more : (rows : Rows) (event : Event) → length (effect rows event).filters ≤ length rows.filters + 1
 unfolding effect
 one_filter_more rows (RemoveAgent agent) = left rows (λ f. not (is_on_agent agent f))
+one_filter_more rows (SetFramework framework roles) = left rows (λ f. not (is_of_left framework roles f))
 one_filter_more rows (RemoveFramework framework) = left rows (λ f. not (same_text f.framework framework))
 one_filter_more rows (Accept a) = filters-accepted rows a (offer_at rows a.offer)
 one_filter_more rows (Decline d) = filters-declined rows d (offer_at rows d.offer)

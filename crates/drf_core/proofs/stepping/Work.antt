@@ -1,5 +1,5 @@
 -- How much of what a sorter may owe more each step takes.
-use Rattle.std.proofs.Common.{◌≡◌, ℕ, ◌+◌, ◌≤◌, ◌<◌, Bool, true, List, [], ◌∷◌, ◌++◌, Some, length, map, drop, refl, sym, ap, subst, ◌∙◌, inl, inr, arith}
+use Rattle.std.proofs.Common.{◌≡◌, ℕ, ◌+◌, ◌≤◌, ◌<◌, Bool, true, List, [], ◌∷◌, ◌++◌, Some, length, map, drop, refl, sym, ap, ◌∙◌, inl, inr, arith}
 use Rattle.std.specs.Prelude.{filter, find, flat_map, slice_get, sum_by}
 use Rattle.std.specs.Cmp.Lexicographic.{bytes_decides}
 use Rattle.std.proofs.lemmas.Bool.{cases_Bool}
@@ -20,13 +20,13 @@ use Rattle.drf_rows.specs.declared.rows.FrameworkRow.{FrameworkRow}
 use Rattle.drf_rows.specs.declared.rows.OfferRow.{OfferRow}
 use Rattle.drf_rows.specs.declared.rows.TaskRow.{TaskRow}
 use Rattle.drf_rows.specs.declared.rows.Rows.{Rows}
-use Rattle.drf_sorter.specs.Content.{Content, HasNodes}
+use Rattle.drf_sorter.specs.Content.{Content, HasNodes, IsSame}
 use Rattle.drf_tables.specs.offers.Ended.{HasEnded}
 use Rattle.drf_holdings.specs.Stored.{holding_of}
 use Rattle.drf_holdings.specs.declared.holdings.Taken.{Taken}
 use Rattle.drf_content.specs.Content.{content_of}
 use Rattle.drf_content.specs.Registering.{client_paths}
-use Rattle.drf_content.specs.laws.Report.{HasNodes-content_of}
+use Rattle.drf_content.specs.laws.Same.{nodes_of_rows}
 use Rattle.drf_core.specs.Working.{nodes_of, offered_to, losers}
 use Rattle.drf_core.proofs.drafting.Cycle.{begins_at}
 
@@ -175,6 +175,5 @@ nodes_of-offer rows number o found =
 -- ---- another total
 
 -- each node of a sorter of the rows is one of a report
-pub has_nodes : (rows : Rows) (content : Content) → content ≡ content_of rows → HasNodes content (report.nodes_of rows)
-has_nodes rows content sorted =
-    subst (λ (k : Content). HasNodes k (report.nodes_of rows)) (sym sorted) (HasNodes-content_of rows)
+pub has_nodes : (rows : Rows) (content : Content) → IsSame content (content_of rows) → HasNodes content (report.nodes_of rows)
+has_nodes rows content sorted = nodes_of_rows rows content sorted

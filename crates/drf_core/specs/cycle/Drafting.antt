@@ -15,7 +15,7 @@ use Rattle.drf_rows.specs.Quota.{unreserved_in}
 use Rattle.drf_rows.specs.declared.rows.AgentRow.{AgentRow}
 use Rattle.drf_rows.specs.declared.rows.OfferRow.{OfferRow}
 use Rattle.drf_rows.specs.declared.rows.Rows.{Rows}
-use Rattle.drf_sorter.specs.Content.{Content}
+use Rattle.drf_sorter.specs.Content.{Content, IsSame}
 use Rattle.drf_tables.specs.cycle.Drafts.{with_offers, frees_of, frees_after}
 use Rattle.drf_tables.specs.Stored.{Stored}
 use Rattle.drf_tables.specs.declared.tables.Left.{Left}
@@ -26,7 +26,7 @@ use Rattle.drf_core.specs.declared.cycle.free.Free.{Free}
 
 -- the sorter knows the drafts, and the rows with them are consistent
 pub record IsDrafting (content : Content) (rows : Rows) (offers : List OfferRow) : Type 0 where
-  pub sorted : content ≡ content_of (with_offers rows offers)
+  pub sorted : IsSame content (content_of (with_offers rows offers))
   pub consistent : IsConsistent (with_offers rows offers)
   pub clients : AllByRecursion (λ o. is_registered rows.frameworks (of_offer o).client ≡ true) offers
   pub few_agents : length rows.agents ≤ 4096

@@ -15,6 +15,7 @@ ghost use Rattle.drf_explain.specs.declared.finding.Finding.{Finding};
 ghost use Rattle.drf_explain.specs.Explained.{explained, told_of_agents};
 ghost use Rattle.drf_explain.specs.Gates.{AreGatesOf};
 ghost use Rattle.drf_tables.specs.cycle.Drafts.{with_offers};
+ghost use Rattle.drf_sorter.specs.Content.{IsSame};
 ghost use Rattle.drf_content.specs.Content.{content_of};
 ghost use Rattle.drf_core.specs.cycle.Drafting.{IsCycleAt, turn_at};
 ghost use Rattle.drf_core.specs.cycle.Entitling.{IsQuotaOf};
@@ -297,7 +298,7 @@ fn begin<S: Sorter>(
     sorter: &S,
     at: u64,
 ) -> Result<(Rows, Drafts), AllocError>
-    requires sorted { S.content sorter.now ≡ content_of tables.old.rows }
+    requires sorted { IsSame (S.content sorter.now) (content_of tables.old.rows) }
     requires kept { IsKept limits.now tables.old.rows }
     requires early { at ≤ LATEST_MOMENT }
     ensures moment { OnOk result (tables.new.rows ≡ at_moment tables.old.rows at) }
@@ -327,7 +328,7 @@ fn explain<S: Sorter>(
     sorter: &mut S,
     at: u64,
 ) -> Result<Vec<Finding>, AllocError>
-    requires sorted { S.content sorter.old ≡ content_of tables.old.rows }
+    requires sorted { IsSame (S.content sorter.old) (content_of tables.old.rows) }
     requires kept { IsKept limits.now tables.old.rows }
     requires early { at ≤ LATEST_MOMENT }
     ensures { IfOk result (λ findings. findings.items ≡ explained tables.old.rows at) }
@@ -380,7 +381,7 @@ fn begin_telling<S: Sorter>(
     sorter: S,
     at: u64,
 ) -> Result<Telling<S>, AllocError>
-    requires sorted { S.content sorter ≡ content_of tables.rows }
+    requires sorted { IsSame (S.content sorter) (content_of tables.rows) }
     requires kept { IsKept limits.now tables.rows }
     requires early { at ≤ LATEST_MOMENT }
     ensures { IfOk result (λ telling. telling ≡ turns_by_agent tables.rows at) }

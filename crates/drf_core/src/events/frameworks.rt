@@ -1,16 +1,17 @@
-//! Frameworks register, are served or not, and leave.
-ghost use Rattle.std.specs.Prelude.{◌≡◌, None, true, map, sum_by, length, IfOk, OnOk, OnErr};
+//! Frameworks register, are served or not, change their roles, and leave.
+ghost use Rattle.std.specs.Prelude.{◌≡◌, ◌++◌, None, true, filter, map, not, sum_by, length, IfOk, OnOk, OnErr};
 ghost use Rattle.drf_rows.specs.Members.{distinct, has_framework, new_client};
+ghost use Rattle.drf_rows.specs.Roles.{clients_joined, clients_kept, has_role, with_roles};
 ghost use Rattle.drf_rows.specs.Step.{refusal_of, effect, is_in_role};
-ghost use Rattle.drf_rows.specs.declared.event.Event.TheVariants.{AddFramework, RemoveFramework, Suppress, Revive};
+ghost use Rattle.drf_rows.specs.declared.event.Event.TheVariants.{AddFramework, SetFramework, RemoveFramework, Suppress, Revive};
 ghost use Rattle.drf_laws.specs.Kept.{IsKept};
 ghost use Rattle.drf_sorter.specs.Work.{Defers, DefersOnOk, SpendsOnOk};
 ghost use Rattle.drf_core.specs.Working.{nodes_of, touched};
-ghost use Rattle.drf_content.specs.Registering.{AreKnown, AreNew, client_paths, with_all, without_all};
+ghost use Rattle.drf_content.specs.Registering.{AreKnown, AreNew, client_paths, paths_joined, paths_left, with_all, without_all};
 
 use crate::cluster::Cluster;
 use drf_role::{ClientPath, Name, Role};
-use drf_rows::{ClientRow, Limits, Table};
+use drf_rows::{ClientRow, Copied, Limits, Table, copy_all, is_among};
 use drf_sorter::Sorter;
 use drf_tables::Ending;
 use std::alloc::{AllocError, Global};
@@ -90,6 +91,166 @@ fn remove_clients<S: Sorter>(sorter: &mut S, paths: &[ClientPath])
     }
 }
 
+/// Returns whether one of the clients has the role.
+fn has_role(clients: &[ClientRow], role: &Role) -> bool
+    ensures { result ≡ has_role clients.now role.now }
+{
+    clients.iter().any(|client| client.role == *role)
+}
+
+/// Returns the roles of a list that no client has, each once.
+fn new_roles(
+    alloc: Global,
+    roles: Vec<Role>,
+    clients: &[ClientRow],
+) -> Result<Vec<Role>, AllocError>
+    ensures { IfOk result (λ kept. kept.items ≡ filter (λ role. not (has_role clients.now role)) roles.items) }
+{
+    let mut kept = Vec::new(alloc);
+    for role in roles {
+        if has_role(clients, &role) {
+            continue;
+        }
+        kept.push(role)?;
+    }
+    Ok(kept)
+}
+
+/// Returns copies of the clients whose roles are among these.
+fn kept_clients(
+    alloc: Global,
+    roles: &[Role],
+    clients: &[ClientRow],
+) -> Result<Vec<ClientRow>, AllocError>
+    ensures { IfOk result (λ kept. kept.items ≡ clients_kept roles.now clients.now) }
+{
+    let mut kept = Vec::new(alloc);
+    for client in clients {
+        if is_among(roles, &client.role) {
+            kept.push(client.copy()?)?;
+        }
+    }
+    Ok(kept)
+}
+
+/// Returns the paths of the clients whose roles are not among these.
+fn left_paths(
+    alloc: Global,
+    framework: &Name,
+    roles: &[Role],
+    clients: &[ClientRow],
+) -> Result<Vec<ClientPath>, AllocError>
+    ensures { IfOk result (λ paths. paths.items ≡ paths_left framework.now roles.now clients.now) }
+{
+    let mut paths = Vec::new(alloc);
+    for client in clients {
+        if is_among(roles, &client.role) {
+            continue;
+        }
+        paths.push(ClientPath::new(alloc, &client.role, framework)?)?;
+    }
+    Ok(paths)
+}
+
+/// Adds copies of clients after others.
+fn push_clients(kept: &mut Vec<ClientRow>, clients: &[ClientRow]) -> Result<(), AllocError>
+    ensures { OnOk result (kept.new.items ≡ kept.old.items ++ clients.now) }
+{
+    for client in clients {
+        kept.push(client.copy()?)?;
+    }
+    Ok(())
+}
+
+/// Returns the clients of a framework in roles that it had not, by a list of roles.
+fn joined_clients(
+    alloc: Global,
+    roles: &[Role],
+    clients: &[ClientRow],
+) -> Result<Table<ClientRow>, AllocError>
+    ensures { IfOk result (λ joined. joined ≡ clients_joined roles.now clients.now) }
+{
+    let roles = distinct_roles(alloc, copy_all(alloc, roles)?)?;
+    let roles = new_roles(alloc, roles, clients)?;
+    new_clients(alloc, roles)
+}
+
+/// Returns the clients that a framework has once it has just these roles.
+fn clients_then(
+    alloc: Global,
+    roles: &[Role],
+    clients: &[ClientRow],
+) -> Result<Table<ClientRow>, AllocError>
+    ensures { IfOk result (λ then. then ≡ with_roles roles.now clients.now) }
+{
+    let joined = joined_clients(alloc, roles, clients)?;
+    let mut then = kept_clients(alloc, roles, clients)?;
+    push_clients(&mut then, joined.as_slice())?;
+    Ok(Table::from_vec(then))
+}
+
+/// Returns the paths of the clients in roles that a framework had not.
+fn joined_paths(
+    alloc: Global,
+    framework: &Name,
+    roles: &[Role],
+    clients: &[ClientRow],
+) -> Result<Vec<ClientPath>, AllocError>
+    ensures { IfOk result (λ paths. paths.items ≡ paths_joined framework.now roles.now clients.now) }
+{
+    let joined = joined_clients(alloc, roles, clients)?;
+    client_paths(alloc, framework, joined.as_slice())
+}
+
+/// What changes with the roles of a framework: the clients that it has then, and the paths of those that come and of those that go.
+struct RoleChange {
+    clients: Table<ClientRow>,
+    joined: Vec<ClientPath>,
+    left: Vec<ClientPath>,
+}
+
+impl RoleChange {
+    /// Computes the change of a framework with these clients that is to have just these roles.
+    fn new(
+        alloc: Global,
+        framework: &Name,
+        roles: &[Role],
+        clients: &[ClientRow],
+    ) -> Result<RoleChange, AllocError>
+        ensures clients { IfOk result (λ change. change.clients ≡ with_roles roles.now clients.now) }
+        ensures joined { IfOk result (λ change. change.joined.items ≡ paths_joined framework.now roles.now clients.now) }
+        ensures left { IfOk result (λ change. change.left.items ≡ paths_left framework.now roles.now clients.now) }
+    {
+        Ok(RoleChange {
+            clients: clients_then(alloc, roles, clients)?,
+            joined: joined_paths(alloc, framework, roles, clients)?,
+            left: left_paths(alloc, framework, roles, clients)?,
+        })
+    }
+
+    /// The clients.
+    fn into_clients(self) -> Table<ClientRow>
+        ensures { result ≡ self.clients }
+    {
+        let RoleChange {
+            clients,
+            joined: _joined,
+            left: _left,
+        } = self;
+        clients
+    }
+}
+
+impl Drop for RoleChange {
+    fn drop(self) {
+        let RoleChange {
+            clients: _clients,
+            joined: _joined,
+            left: _left,
+        } = self;
+    }
+}
+
 impl<S: Sorter> Cluster<S> {
     /// A framework registers.
     pub(crate) fn add_framework(
@@ -111,6 +272,28 @@ impl<S: Sorter> Cluster<S> {
         let named = self.tables.reserve_framework(framework)?;
         add_clients(&mut self.sorter, &paths)?;
         self.tables.add_framework(named, clients);
+        Ok(())
+    }
+
+    /// A framework has just these roles from now on.
+    pub(crate) fn set_framework(
+        &mut self,
+        alloc: Global,
+        limits: &Limits,
+        framework: &Name,
+        roles: &[Role],
+    ) -> Result<(), AllocError>
+        requires kept { IsKept limits.now self.old.rows }
+        requires welcome { refusal_of limits.now self.old.rows (SetFramework framework.now roles.now) ≡ None }
+        ensures ok { OnOk result (self.new.rows ≡ effect self.old.rows (SetFramework framework.now roles.now)) }
+        ensures spends { SpendsOnOk S.COUNTED result self.old.work self.new.work (nodes_of (touched self.old.rows (SetFramework framework.now roles.now))) }
+        ensures err { OnErr result (self.new.rows ≡ self.old.rows) }
+    {
+        let change = RoleChange::new(alloc, framework, roles, self.tables.clients(framework))?;
+        add_clients(&mut self.sorter, &change.joined)?;
+        remove_clients(&mut self.sorter, &change.left);
+        self.tables
+            .set_framework(framework, roles, change.into_clients());
         Ok(())
     }
 

@@ -32,7 +32,7 @@ use Rattle.drf_row_laws.specs.LifeLaws.{lines_told}
 use Rattle.drf_bundle.specs.ListLaws.{each_filter}
 use Rattle.drf_row_laws.specs.StepLaws.{reply_to-accepted, reply_to-refused, rows_after-accepted, rows_after-refused}
 use Rattle.drf_rows.specs.declared.event.Event.{Event}
-use Rattle.drf_rows.specs.declared.event.Event.TheVariants.{AddAgent, RemoveAgent, ActivateAgent, DeactivateAgent, SetAgent, AddFramework, RemoveFramework, Accept, Decline, Rescind, Finish, Suppress, Revive, Reserve, Unreserve, SetWeight, SetLimit, Cycle, Report}
+use Rattle.drf_rows.specs.declared.event.Event.TheVariants.{AddAgent, RemoveAgent, ActivateAgent, DeactivateAgent, SetAgent, AddFramework, SetFramework, RemoveFramework, Accept, Decline, Rescind, Finish, Suppress, Revive, Reserve, Unreserve, SetWeight, SetLimit, Cycle, Report}
 use Rattle.drf_rows.specs.declared.reply.OfferLine.{OfferLine}
 use Rattle.drf_rows.specs.declared.reply.Refusal.{Refusal}
 use Rattle.drf_rows.specs.declared.reply.Reply.{Reply}
@@ -430,6 +430,7 @@ module _ (limits : LimitNumbers) (rows other : Rows) (consistent : IsConsistent 
   effect-alike (SetAgent agent total) names keeps accepted finishes none =
       agents_changed rows other alike _ _ (λ i. map (total_at agent (λ old. total)) (alike.agents i))
   effect-alike (AddFramework framework roles) names keeps accepted finishes none = comes-both rows other alike framework roles
+  effect-alike (SetFramework framework roles) names keeps accepted finishes none = absurd keeps
   effect-alike (RemoveFramework framework) names keeps accepted finishes none = absurd keeps
   effect-alike (Accept a) names keeps accepted finishes none =
       after_accept rows other alike a.at a.refuse_ms names a.tasks (offer_at rows a.offer) (offer_at other a.offer) (offer_at-alike rows other alike a.offer) none

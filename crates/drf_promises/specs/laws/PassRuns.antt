@@ -15,7 +15,7 @@ use Rattle.drf_rows.specs.Step.{refusal_of, effect, rows_after, rows_after_all}
 use Rattle.drf_row_laws.specs.FrameLaws.{only_changed}
 use Rattle.drf_row_laws.specs.StepLaws.{rows_after-accepted, rows_after-refused}
 use Rattle.drf_rows.specs.declared.event.Event.{Event}
-use Rattle.drf_rows.specs.declared.event.Event.TheVariants.{AddFramework, RemoveFramework, Suppress, Revive, Cycle}
+use Rattle.drf_rows.specs.declared.event.Event.TheVariants.{AddFramework, SetFramework, RemoveFramework, Suppress, Revive, Cycle}
 use Rattle.drf_rows.specs.declared.reply.Refusal.{Refusal}
 use Rattle.drf_rows.specs.declared.rows.AgentRow.{AgentRow}
 use Rattle.drf_rows.specs.declared.rows.FrameworkRow.{FrameworkRow}
@@ -105,6 +105,7 @@ module _ (limits : LimitNumbers) (rows : Rows) (consistent : IsConsistent rows) 
       (sym (ap (λ (r : Option Refusal). option_map_or (λ refusal. 0) r (passes_in_turns its (at_moment rows at) (active_agents rows))) accepted))
       (goes_cycle at accepted)
   goes_effect (AddFramework framework roles) keeps accepted = absurd keeps
+  goes_effect (SetFramework framework roles) keeps accepted = absurd keeps
   goes_effect (RemoveFramework framework) keeps accepted = absurd keeps
   goes_effect (Suppress framework role) keeps accepted = absurd keeps
   goes_effect (Revive framework role) keeps accepted = absurd keeps

@@ -3,6 +3,7 @@ use Rattle.drf_rows.specs.Step.{line_told, new_offers}
 use Rattle.drf_rows.specs.declared.reply.Reply.TheVariants.{Offers}
 use Rattle.drf_rows.specs.declared.rows.Rows.{Rows}
 use Rattle.drf_rows.specs.declared.rows.OfferRow.{OfferRow}
+use Rattle.drf_sorter.specs.laws.SameLaws.{IsSame-between}
 use Rattle.drf_sorter.specs.laws.SpendLaws.{spends-on_ok, spends-within}
 use Rattle.drf_core.specs.cycle.Drafting.{IsDrafting, turns_of}
 use Rattle.drf_core.specs.Working.{nodes_of, offered_to}
@@ -79,10 +80,9 @@ returns-then-idle-clause-ok g c =
 
 pub returns-then-idle-clause-sorted : goal.returns-then-idle-clause-sorted
 returns-then-idle-clause-sorted g c =
-    c.is_idle.ensures.content
-    ∙ c.requires.drafting.sorted
-    ∙ ap (λ (os : List OfferRow). content_of (with_offers c.args.tables.now.rows os)) c.requires.none
-    ∙ ap content_of (sym (c.count_consumption.ensures.same ∙ c.settle.ensures.same))
+    IsSame-between _ _ _ _ c.is_idle.ensures.content c.requires.drafting.sorted
+    (ap (λ (os : List OfferRow). content_of (with_offers c.args.tables.now.rows os)) c.requires.none
+    ∙ ap content_of (sym (c.count_consumption.ensures.same ∙ c.settle.ensures.same)))
 
 pub returns-then-idle-clause-reply : goal.returns-then-idle-clause-reply
 returns-then-idle-clause-reply g c =

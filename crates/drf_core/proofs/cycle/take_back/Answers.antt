@@ -18,10 +18,11 @@ undo_charge-requires-clause-charged g c =
 pub loop-offer-preserved : goal.loop-offer-preserved
 loop-offer-preserved g c =
     let content = g.S.Sorter.content c.loop-offer.sorter in
-    let taken = sorted-taken_back content c.args.tables.now.rows c.loop-offer.offers.items c.pop.new.self.items c.in-Some.offer c.in-Some.ensures.items c.loop-offer.invariant.sorted c.loop-offer.invariant.clients in
+    let taken = sorted-taken_back content c.args.tables.now.rows c.loop-offer.offers.items c.pop.new.self.items c.in-Some.offer c.in-Some.ensures.items c.loop-offer.invariant.sorted c.loop-offer.invariant.clients
+    (g.S.Sorter.content c.undo_charge.new.self) in
     let front = clients_front content c.args.tables.now.rows c.loop-offer.offers.items c.pop.new.self.items c.in-Some.offer c.in-Some.ensures.items c.loop-offer.invariant.sorted c.loop-offer.invariant.clients in
     record {
-      sorted = c.undo_charge.ensures.content ∙ (λ i. with_change content (c.from_parts-client.ensures i) (discharged (c.quantities.ensures.value i))) ∙ taken;
+      sorted = taken (c.undo_charge.ensures.content ∙ (λ i. with_change content (c.from_parts-client.ensures i) (discharged (c.quantities.ensures.value i))));
       clients = front.0;
       made = omega (arith, c.loop-offer.invariant.made, c.undo_charge.ensures.spends.made);
     }

@@ -3,13 +3,14 @@ use Rattle.std.specs.List.{AllByRecursion}
 use Rattle.drf_rows.specs.Holdings.{of_offer}
 use Rattle.drf_rows.specs.Held.{is_registered}
 use Rattle.drf_tables.specs.cycle.Drafts.{with_offers}
+use Rattle.drf_sorter.specs.Content.{IsSame}
 use Rattle.drf_content.specs.Content.{content_of}
 use Rattle.drf_core.proofs.cycle.take_back.Given as goal
 
 -- the sorter knows the drafts that are left, each of a registered client
 abbrev pub invariant-loop-offer : goal.invariant-loop-offer
 invariant-loop-offer g l = record {
-  sorted : g.S.Sorter.content l.sorter ≡ content_of (with_offers l.tables.rows l.offers.items);
+  sorted : IsSame (g.S.Sorter.content l.sorter) (content_of (with_offers l.tables.rows l.offers.items));
   clients : AllByRecursion (λ o. is_registered l.tables.rows.frameworks (of_offer o).client ≡ true) l.offers.items;
   made : (g.S.Sorter.work l.sorter).made ≡ (g.S.Sorter.work l.initial.sorter).made;
 }

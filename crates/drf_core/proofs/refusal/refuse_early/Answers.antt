@@ -24,6 +24,10 @@ pub returns-in-SetAgent : goal.returns-in-SetAgent
 unfolding early_refusal_of refusal_of
 returns-in-SetAgent c = c.refuse_unknown_agent-in-SetAgent.ensures ∙ ap (early_refusal_of c.args.limits.now c.args.tables.now.rows) (sym c.in-SetAgent.is)
 
+pub returns-in-SetFramework : goal.returns-in-SetFramework
+unfolding early_refusal_of refusal_of
+returns-in-SetFramework c = c.refuse_roles.ensures ∙ ap (early_refusal_of c.args.limits.now c.args.tables.now.rows) (sym c.in-SetFramework.is)
+
 pub returns-in-AddFramework : goal.returns-in-AddFramework
 unfolding early_refusal_of refusal_of
 returns-in-AddFramework c = c.refuse_framework.ensures ∙ ap (early_refusal_of c.args.limits.now c.args.tables.now.rows) (sym c.in-AddFramework.is)

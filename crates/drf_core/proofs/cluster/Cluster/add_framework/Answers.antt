@@ -14,7 +14,10 @@ use Rattle.drf_sorter.specs.Content.{Content}
 use Rattle.drf_sorter.specs.laws.SpendLaws.{spends-at_ok, spends-on_ok, spends-within}
 use Rattle.drf_content.specs.Registering.{AreNew, client_paths, with_all}
 use Rattle.drf_laws.specs.laws.Roles.{distinct_apart, roles_of_new, uncounted_new}
+use Rattle.drf_sorter.specs.laws.SameLaws.{IsSame-sym}
+use Rattle.drf_content.specs.Content.{content_of}
 use Rattle.drf_content.specs.laws.Registered.{AreNew-registering}
+use Rattle.drf_content.specs.laws.Same.{AreNew-same}
 use Rattle.drf_laws.specs.laws.Welcome.{welcome_framework}
 use Rattle.drf_core.proofs.effects.Registered.{sorted-framework, effect-framework}
 use Rattle.drf_core.proofs.stepping.Work.{nodes_of-new}
@@ -28,8 +31,10 @@ add_clients-requires g c =
     let made = c.as_slice.ensures ∙ c.in_ok-clients.ensures ∙ ap (map new_client) c.in_ok-roles.ensures in
     let paths : client_paths c.args.framework (map new_client (distinct c.args.roles)) ≡ c.deref.result.now
     = ap (client_paths c.args.framework) (sym made) ∙ sym c.in_ok-paths.ensures ∙ sym c.deref.ensures.value in
-    subst (AreNew (g.S.Sorter.content c.self.inside.sorter)) paths
-    (subst (λ (k : Content). AreNew k (client_paths c.args.framework (map new_client (distinct c.args.roles)))) (sym c.self.invariant)
+    let content : Content = g.S.Sorter.content c.self.inside.sorter in
+    subst (AreNew content) paths
+    (AreNew-same (content_of rows) content (client_paths c.args.framework (map new_client (distinct c.args.roles)))
+    (IsSame-sym content (content_of rows) c.self.invariant)
     (AreNew-registering rows c.args.framework kept.consistent welcome.new c.args.roles))
 
 pub add_framework-requires-clause-new : goal.add_framework-requires-clause-new

@@ -1,9 +1,10 @@
-use Rattle.std.proofs.Common.{◌≡◌, List, map, ap, sym, ◌∙◌, arith}
+use Rattle.std.proofs.Common.{◌≡◌, List, map, ap, subst, sym, ◌∙◌, arith}
 use Rattle.std.specs.Prelude.{max}
 use Rattle.drf_rows.specs.Step.{line_told, new_offers, effect}
 use Rattle.drf_rows.specs.declared.event.Event.TheVariants.{Cycle}
 use Rattle.drf_rows.specs.declared.reply.Reply.TheVariants.{Offers}
 use Rattle.drf_rows.specs.declared.rows.Rows.{Rows}
+use Rattle.drf_sorter.specs.Content.{IsSame}
 use Rattle.drf_content.specs.Content.{content_of}
 use Rattle.drf_rows.specs.declared.rows.OfferRow.{OfferRow}
 use Rattle.drf_core.specs.cycle.Drafting.{turns_of}
@@ -34,7 +35,8 @@ invariant_of-self g c = c.in-Ok.ensures.sorted
 
 pub invariant_of-self-in-Err : goal.invariant_of-self-in-Err
 invariant_of-self-in-Err g c =
-    c.take_back.ensures.content ∙ sym (ap content_of c.set_clock-in-Err.ensures ∙ content_of-clock c.offer_all.new.tables.rows c.clock-before.result)
+    subst (IsSame _) (sym (ap content_of c.set_clock-in-Err.ensures ∙ content_of-clock c.offer_all.new.tables.rows c.clock-before.result))
+    c.take_back.ensures.content
 
 pub returns-clause-err : goal.returns-clause-err
 returns-clause-err g c =

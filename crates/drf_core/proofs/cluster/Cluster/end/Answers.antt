@@ -22,10 +22,10 @@ pub loop-taken-preserved : goal.loop-taken-preserved
 loop-taken-preserved g c =
     let content = g.S.Sorter.content c.loop-taken.self-inside.sorter in
     record {
-      sorted = c.refund.ensures.content
-          ∙ (λ i. with_change content (c.from_parts-client.ensures i) (refunded (c.quantities.ensures.value i)))
-          ∙ sorted-ended c.loop-taken.self-inside.tables.rows c.end.new.self.rows (ending_of c.args.ending) c.in-Some.taken c.in-Some.ensures.some
-          content c.loop-taken.invariant.sorted;
+      sorted =
+          sorted-ended c.loop-taken.self-inside.tables.rows c.end.new.self.rows (ending_of c.args.ending) c.in-Some.taken c.in-Some.ensures.some
+          content c.loop-taken.invariant.sorted (g.S.Sorter.content c.refund.new.self)
+          (c.refund.ensures.content ∙ (λ i. with_change content (c.from_parts-client.ensures i) (refunded (c.quantities.ensures.value i))));
       work = λ counted. omega (
         arith,
         c.refund.ensures.spends.work counted,
@@ -43,10 +43,9 @@ loop-taken-preserved g c =
 pub invariant_of-self : goal.invariant_of-self
 invariant_of-self g c =
     let content = g.S.Sorter.content c.loop-taken.self-inside.sorter in
-    c.refund.ensures.content
-    ∙ (λ i. with_change content (c.from_parts-client.ensures i) (refunded (c.quantities.ensures.value i)))
-    ∙ sorted-ended c.loop-taken.self-inside.tables.rows c.end.new.self.rows (ending_of c.args.ending) c.in-Some.taken c.in-Some.ensures.some
-    content c.loop-taken.invariant.sorted
+    sorted-ended c.loop-taken.self-inside.tables.rows c.end.new.self.rows (ending_of c.args.ending) c.in-Some.taken c.in-Some.ensures.some
+    content c.loop-taken.invariant.sorted (g.S.Sorter.content c.refund.new.self)
+    (c.refund.ensures.content ∙ (λ i. with_change content (c.from_parts-client.ensures i) (refunded (c.quantities.ensures.value i))))
 
 pub returns-then-is_one-clause-rows : goal.returns-then-is_one-clause-rows
 returns-then-is_one-clause-rows g c =

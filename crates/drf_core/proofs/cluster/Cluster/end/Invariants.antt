@@ -4,6 +4,7 @@ use Rattle.drf_rows.specs.Endings.{without_ended}
 use Rattle.drf_rows.specs.Ended.{ending_of}
 use Rattle.drf_tables.specs.offers.Ended.{left_to_end}
 use Rattle.drf_sorter.specs.Work.{debt}
+use Rattle.drf_sorter.specs.Content.{IsSame}
 use Rattle.drf_content.specs.Content.{content_of}
 use Rattle.drf_core.specs.Working.{losers, nodes_of}
 use Rattle.drf_core.proofs.cluster.Cluster.end.Given as goal
@@ -11,7 +12,7 @@ use Rattle.drf_core.proofs.cluster.Cluster.end.Given as goal
 -- what ended was given back, and the rest is still to end
 abbrev pub invariant-loop-taken : goal.invariant-loop-taken
 invariant-loop-taken g l = record {
-  sorted : g.S.Sorter.content l.self-inside.sorter ≡ content_of l.self-inside.tables.rows;
+  sorted : IsSame (g.S.Sorter.content l.self-inside.sorter) (content_of l.self-inside.tables.rows);
   work : IsTrue g.S.Sorter.COUNTED → debt (g.S.Sorter.work l.self-inside.sorter) + nodes_of (losers l.self-inside.tables.rows (ending_of l.ending))
       ≤ debt (g.S.Sorter.work l.initial.self-inside.sorter) + nodes_of (losers l.initial.self-inside.tables.rows (ending_of l.ending));
   later : without_ended l.self-inside.tables.rows (ending_of l.ending) ≡ without_ended l.initial.self-inside.tables.rows (ending_of l.ending);

@@ -1,6 +1,7 @@
 use Rattle.std.proofs.Common.{◌≡◌, ◌≤◌, None, length, subst, sym, ap, ◌∙◌}
 use Rattle.std.proofs.lemmas.Result.{on_err_weaker}
 use Rattle.drf_rows.specs.declared.rows.Rows.{Rows}
+use Rattle.drf_sorter.specs.Content.{IsSame}
 use Rattle.drf_content.specs.Content.{content_of}
 use Rattle.drf_content.specs.laws.Changed.{content_of-filters}
 use Rattle.drf_core.specs.Cluster.{ClusterState}
@@ -19,8 +20,8 @@ refusal-requires-clause-few g c =
 
 pub invariant_of-self : goal.invariant_of-self
 invariant_of-self g c =
-    c.self.invariant ∙ sym (ap content_of (c.refusal.ensures.same ∙ c.forget_spent.ensures.others)
-    ∙ content_of-filters c.self.inside.tables.rows c.forget_spent.new.self.rows.filters)
+    subst (IsSame _) (sym (ap content_of (c.refusal.ensures.same ∙ c.forget_spent.ensures.others)
+    ∙ content_of-filters c.self.inside.tables.rows c.forget_spent.new.self.rows.filters)) c.self.invariant
 
 pub returns-clause-standing : goal.returns-clause-standing
 returns-clause-standing g c =

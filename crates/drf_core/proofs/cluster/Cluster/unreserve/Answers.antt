@@ -1,7 +1,8 @@
-use Rattle.std.proofs.Common.{◌≡◌, ap, sym, ◌∙◌}
+use Rattle.std.proofs.Common.{◌≡◌, ap, subst, sym, ◌∙◌}
 use Rattle.drf_rows.specs.Step.{effect}
 use Rattle.drf_rows.specs.declared.event.Event.TheVariants.{Unreserve}
 use Rattle.drf_rows.specs.declared.rows.Rows.{Rows}
+use Rattle.drf_sorter.specs.Content.{IsSame}
 use Rattle.drf_content.specs.Content.{content_of}
 use Rattle.drf_core.proofs.effects.Moved.{unreserved-unreserve, exchange-unreserve, effect-unreserved, content_of-unreserved}
 use Rattle.drf_core.proofs.cluster.Cluster.unreserve.Goals as goal
@@ -21,10 +22,9 @@ invariant_of-self-2 g c =
     let same : c.exchange.new.self.rows ≡ effect rows (Unreserve c.args.agent.now c.args.role.now c.args.resources.now) =
     effect-unreserved rows c.exchange.new.self.rows c.args.agent.now c.args.role.now c.args.resources.now c.in_ok-moved.moved
     c.in_ok-moved.ensures.moved c.in_ok-exchange.ensures.ok in
-    c.self.invariant
-    ∙ sym (ap content_of same
+    subst (IsSame _) (sym (ap content_of same
     ∙ content_of-unreserved c.args.limits.now rows c.args.agent.now c.args.role.now c.args.resources.now
-    (rw (← c.self.view_is) at c.requires.welcome) (rw (← c.self.view_is) at c.requires.consistent) c.reserved.ensures.asked)
+    (rw (← c.self.view_is) at c.requires.welcome) (rw (← c.self.view_is) at c.requires.consistent) c.reserved.ensures.asked)) c.self.invariant
 
 pub returns-clause-ok : goal.returns-clause-ok
 returns-clause-ok g c =

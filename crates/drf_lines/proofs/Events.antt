@@ -14,10 +14,10 @@ use Rattle.drf_rows.specs.Tasks.{Start, IsTaskList}
 use Rattle.drf_rows.specs.declared.event.Accept as accepting
 use Rattle.drf_rows.specs.declared.event.Decline as declining
 use Rattle.drf_rows.specs.declared.event.Event.{Event}
-use Rattle.drf_rows.specs.declared.event.Event.TheVariants.{AddAgent, RemoveAgent, ActivateAgent, DeactivateAgent, SetAgent, AddFramework, RemoveFramework, Accept, Decline, Rescind, Finish, Suppress, Revive, Reserve, Unreserve, SetWeight, SetLimit, Cycle, Report}
+use Rattle.drf_rows.specs.declared.event.Event.TheVariants.{AddAgent, RemoveAgent, ActivateAgent, DeactivateAgent, SetAgent, AddFramework, SetFramework, RemoveFramework, Accept, Decline, Rescind, Finish, Suppress, Revive, Reserve, Unreserve, SetWeight, SetLimit, Cycle, Report}
 use Rattle.drf_text.specs.Written.{bundle_text, amount_text, quantities_text}
 use Rattle.drf_lines.specs.AgentEvents.{its_total, agent_of}
-use Rattle.drf_lines.specs.FrameworkEvents.{framework_event, role_value, framework_of, its_client}
+use Rattle.drf_lines.specs.FrameworkEvents.{its_roles, role_value, framework_of, its_client}
 use Rattle.drf_lines.specs.OfferEvents.{usual_refusal, accept_event, accept_value, decline_event, decline_value, rescind_event, finish_event}
 use Rattle.drf_lines.specs.TaskTexts.{each_in, task_text, values_in, is_few, if_few, values_at, one_text, several_texts, task_texts, start_in, starts_in, start_text, task_value}
 use Rattle.drf_lines.specs.ReservationEvents.{its_reservation}
@@ -72,12 +72,19 @@ texts_found : (roles : List (List (List ℕ))) → texts_of (items_of (map role_
 texts_found [] = refl
 texts_found (role ∷ roles) = ap (option_map (λ texts. text_of role ∷ texts)) (texts_found roles)
 
-pub framework_read : (framework : List ℕ) (roles : List (List (List ℕ))) → name_in framework ≡ Ok framework
+pub add_framework_read : (framework : List ℕ) (roles : List (List (List ℕ))) → name_in framework ≡ Ok framework
     → roles_in (map text_of roles) ≡ Ok roles
     → IsSpelled (AddFramework framework roles)
-unfolding event_in framework_event keys has_members text_at texts_at
-framework_read framework roles name each =
-    spelled (AddFramework framework roles) (roles_printed framework roles) (rw (texts_found roles, name, each) refl)
+unfolding event_in its_roles keys has_members text_at texts_at
+add_framework_read framework roles name each =
+    spelled (AddFramework framework roles) (roles_printed (codes "add_framework") framework roles) (rw (texts_found roles, name, each) refl)
+
+pub set_framework_read : (framework : List ℕ) (roles : List (List (List ℕ))) → name_in framework ≡ Ok framework
+    → roles_in (map text_of roles) ≡ Ok roles
+    → IsSpelled (SetFramework framework roles)
+unfolding event_in its_roles keys has_members text_at texts_at
+set_framework_read framework roles name each =
+    spelled (SetFramework framework roles) (roles_printed (codes "set_framework") framework roles) (rw (texts_found roles, name, each) refl)
 
 pub remove_framework_read : (framework : List ℕ) → name_in framework ≡ Ok framework
     → IsSpelled (RemoveFramework framework)

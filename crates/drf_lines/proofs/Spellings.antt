@@ -18,7 +18,7 @@ use Rattle.drf_bundle.specs.declared.quantities.Entry.{Entry}
 use Rattle.drf_bundle.specs.declared.resource.Resource.{Resource}
 use Rattle.drf_rows.specs.Tasks.{Start}
 use Rattle.drf_lines.specs.AgentEvents.{of_total, of_agent}
-use Rattle.drf_lines.specs.FrameworkEvents.{role_value, framework_value, of_framework, of_client}
+use Rattle.drf_lines.specs.FrameworkEvents.{role_value, of_roles, of_framework, of_client}
 use Rattle.drf_lines.specs.OfferEvents.{usual_refusal, answer_members, rescind_value, finish_value}
 use Rattle.drf_lines.specs.TaskTexts.{task_value, task_members, several_members, tasks_members}
 use Rattle.drf_lines.specs.ReservationEvents.{of_reservation}
@@ -95,8 +95,8 @@ roles_are_same : (roles : List (List (List ℕ)))
 roles_are_same [] = refl
 roles_are_same (role ∷ roles) = rw (roles_are_same roles) refl
 
-pub roles_printed : (framework : List ℕ) (roles : List (List (List ℕ))) → IsPrinted (framework_value framework roles)
-roles_printed framework roles = record {
+pub roles_printed : (event framework : List ℕ) (roles : List (List (List ℕ))) → IsPrinted (of_roles event framework roles)
+roles_printed event framework roles = record {
   numbers = (tt, (tt, (roles_have_numbers roles, tt)));
   shallow = omega (arith, roles_are_flat roles);
   same = rw (roles_are_same roles) refl;

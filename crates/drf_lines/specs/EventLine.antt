@@ -3,9 +3,9 @@ use Rattle.std.specs.Prelude.{ℕ, List, codes}
 use Rattle.serde_json.specs.Data.{Data, number, unsigned, string, object, member, no_members}
 use Rattle.serde_json.specs.Written.{compact_text}
 use Rattle.drf_rows.specs.declared.event.Event.{Event}
-use Rattle.drf_rows.specs.declared.event.Event.TheVariants.{AddAgent, RemoveAgent, ActivateAgent, DeactivateAgent, SetAgent, AddFramework, RemoveFramework, Accept, Decline, Rescind, Finish, Suppress, Revive, Reserve, Unreserve, SetWeight, SetLimit, Cycle, Report}
+use Rattle.drf_rows.specs.declared.event.Event.TheVariants.{AddAgent, RemoveAgent, ActivateAgent, DeactivateAgent, SetAgent, AddFramework, SetFramework, RemoveFramework, Accept, Decline, Rescind, Finish, Suppress, Revive, Reserve, Unreserve, SetWeight, SetLimit, Cycle, Report}
 use Rattle.drf_lines.specs.AgentEvents.{of_total, of_agent}
-use Rattle.drf_lines.specs.FrameworkEvents.{framework_value, of_framework, of_client}
+use Rattle.drf_lines.specs.FrameworkEvents.{of_roles, of_framework, of_client}
 use Rattle.drf_lines.specs.OfferEvents.{accept_value, decline_value, rescind_value, finish_value}
 use Rattle.drf_lines.specs.ReservationEvents.{of_reservation}
 use Rattle.drf_lines.specs.WeightEvents.{weight_value}
@@ -25,7 +25,8 @@ event_value (RemoveAgent agent) = of_agent (codes "remove_agent") agent
 event_value (ActivateAgent agent) = of_agent (codes "activate_agent") agent
 event_value (DeactivateAgent agent) = of_agent (codes "deactivate_agent") agent
 event_value (SetAgent agent total) = of_total (codes "set_agent") agent total
-event_value (AddFramework framework roles) = framework_value framework roles
+event_value (AddFramework framework roles) = of_roles (codes "add_framework") framework roles
+event_value (SetFramework framework roles) = of_roles (codes "set_framework") framework roles
 event_value (RemoveFramework framework) = of_framework (codes "remove_framework") framework
 event_value (Accept a) = accept_value a
 event_value (Decline d) = decline_value d

@@ -3,27 +3,25 @@ use Rattle.std.specs.Prelude.{ℕ, List, map, Result, Ok, codes}
 use Rattle.serde_json.specs.Data.{Data, string, array, object, member, no_members}
 use Rattle.serde_json.specs.View.{items_of}
 use Rattle.drf_role.specs.Parts.{text_of}
-use Rattle.drf_rows.specs.declared.event.Event.{Event}
-use Rattle.drf_rows.specs.declared.event.Event.TheVariants.{AddFramework}
 use Rattle.drf_lines.specs.declared.fault.LineFault.{LineFault}
 use Rattle.drf_lines.specs.Fault.{◌>>=◌}
 use Rattle.drf_lines.specs.Object.{keys, text_at, texts_at}
 use Rattle.drf_lines.specs.Words.{name_in, role_in, roles_in}
 
--- a framework registers
-unfoldable pub framework_event : Data → Result Event LineFault
-framework_event value =
+-- the framework and the roles of an event that has no other keys
+unfoldable pub its_roles : Data → Result (List ℕ × List (List (List ℕ))) LineFault
+its_roles value =
     keys 3 value >>= λ _. text_at (codes "framework") value >>= λ framework. texts_at (codes "roles") value >>= λ roles.
-    name_in framework >>= λ framework. roles_in roles >>= λ roles. Ok (AddFramework framework roles)
+    name_in framework >>= λ framework. roles_in roles >>= λ roles. Ok (framework, roles)
 
 -- a role as JSON
 abbrev pub role_value : List (List ℕ) → Data
 role_value role = string (text_of role)
 
 -- each role as often as it stands
-abbrev pub framework_value : List ℕ → List (List (List ℕ)) → Data
-framework_value framework roles = object (
-    member (codes "event") (string (codes "add_framework"))
+abbrev pub of_roles : List ℕ → List ℕ → List (List (List ℕ)) → Data
+of_roles event framework roles = object (
+    member (codes "event") (string event)
     (member (codes "framework") (string framework)
     (member (codes "roles") (array (items_of (map role_value roles)))
     no_members)))

@@ -8,13 +8,13 @@ use Rattle.serde_json.specs.Data.{Data}
 use Rattle.serde_json.specs.Read.{read}
 use Rattle.drf_role.specs.Text.{same_text}
 use Rattle.drf_rows.specs.declared.event.Event.{Event}
-use Rattle.drf_rows.specs.declared.event.Event.TheVariants.{AddAgent, RemoveAgent, ActivateAgent, DeactivateAgent, SetAgent, RemoveFramework, Suppress, Revive, Reserve, Unreserve, SetWeight, SetLimit, Cycle, Report}
+use Rattle.drf_rows.specs.declared.event.Event.TheVariants.{AddAgent, RemoveAgent, ActivateAgent, DeactivateAgent, SetAgent, AddFramework, SetFramework, RemoveFramework, Suppress, Revive, Reserve, Unreserve, SetWeight, SetLimit, Cycle, Report}
 use Rattle.drf_lines.specs.declared.fault.LineFault.{LineFault}
 use Rattle.drf_lines.specs.declared.fault.LineFault.TheVariants.{LineTooLong, NotJson, BadShape}
 use Rattle.drf_lines.specs.Fault.{◌>>=◌}
 use Rattle.drf_lines.specs.Object.{keys, text_at, number_at}
 use Rattle.drf_lines.specs.AgentEvents.{its_total, agent_of}
-use Rattle.drf_lines.specs.FrameworkEvents.{framework_event, framework_of, its_client}
+use Rattle.drf_lines.specs.FrameworkEvents.{its_roles, framework_of, its_client}
 use Rattle.drf_lines.specs.OfferEvents.{accept_event, decline_event, rescind_event, finish_event}
 use Rattle.drf_lines.specs.ReservationEvents.{its_reservation}
 use Rattle.drf_lines.specs.WeightEvents.{its_weight}
@@ -48,7 +48,8 @@ events =
     ∷ (codes "activate_agent", made ActivateAgent agent_of)
     ∷ (codes "deactivate_agent", made DeactivateAgent agent_of)
     ∷ (codes "set_agent", made (λ a. SetAgent a.0 a.1) its_total)
-    ∷ (codes "add_framework", framework_event)
+    ∷ (codes "add_framework", made (λ f. AddFramework f.0 f.1) its_roles)
+    ∷ (codes "set_framework", made (λ f. SetFramework f.0 f.1) its_roles)
     ∷ (codes "remove_framework", made RemoveFramework framework_of)
     ∷ (codes "suppress", made (λ c. Suppress c.0 c.1) its_client)
     ∷ (codes "revive", made (λ c. Revive c.0 c.1) its_client)

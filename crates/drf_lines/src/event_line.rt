@@ -8,7 +8,7 @@ ghost use Rattle.drf_lines.specs.Spelled.{IsSpelled};
 ghost use Rattle.drf_lines.specs.Written.{AppendsText};
 
 use crate::agents::{put_of_agent, put_of_total};
-use crate::frameworks::{put_add_framework, put_of_client, put_of_framework};
+use crate::frameworks::{put_of_client, put_of_framework, put_of_roles};
 use crate::limits::put_set_limit;
 use crate::member::{put, put_number};
 use crate::offers::{put_accept, put_decline, put_finish, put_rescind};
@@ -46,7 +46,10 @@ pub fn push_event(text: &mut Vec<u8>, event: &Event) -> Result<(), AllocError>
         Event::DeactivateAgent { agent } => put_of_agent(text, "deactivate_agent", agent),
         Event::SetAgent { agent, total } => put_of_total(text, "set_agent", agent, total),
         Event::AddFramework { framework, roles } => {
-            put_add_framework(text, framework, roles.as_slice())
+            put_of_roles(text, "add_framework", framework, roles.as_slice())
+        }
+        Event::SetFramework { framework, roles } => {
+            put_of_roles(text, "set_framework", framework, roles.as_slice())
         }
         Event::RemoveFramework { framework } => {
             put_of_framework(text, "remove_framework", framework)

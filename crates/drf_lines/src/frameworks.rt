@@ -4,14 +4,12 @@ ghost use Rattle.serde_json.specs.Data.{array};
 ghost use Rattle.serde_json.specs.View.{items_of};
 ghost use Rattle.serde_json.specs.Written.{compact_text};
 ghost use Rattle.drf_role.specs.Parts.{text_of};
-ghost use Rattle.drf_rows.specs.declared.event.Event.TheVariants.{AddFramework};
 ghost use Rattle.drf_saved.specs.declared.saved.SavedRow.TheVariants.{Framework};
 ghost use Rattle.drf_saved.specs.declared.saved.StateLine.TheVariants.{Row};
 ghost use Rattle.drf_lines.specs.Fault.{IsReadOf};
 ghost use Rattle.drf_lines.specs.LineValue.{line_view};
-ghost use Rattle.drf_lines.specs.FrameworkEvents.{framework_event, role_value, framework_value, framework_of, of_framework, its_client, of_client};
+ghost use Rattle.drf_lines.specs.FrameworkEvents.{its_roles, role_value, of_roles, framework_of, of_framework, its_client, of_client};
 ghost use Rattle.drf_lines.specs.FrameworkRows.{framework_row};
-ghost use Rattle.drf_lines.specs.Spelled.{IsSpelled};
 ghost use Rattle.drf_lines.specs.StateLine.{row_line};
 ghost use Rattle.drf_lines.specs.StateMeaning.{state_line_meaning};
 ghost use Rattle.drf_lines.specs.Words.{name_in, role_in, roles_in};
@@ -23,7 +21,7 @@ use crate::member::{put, put_byte, put_comma, put_name, put_role, put_text};
 use crate::object::{LineValue, keys, text_at, texts_at, values_at};
 use crate::words::KnownWords;
 use drf_role::{Name, Role};
-use drf_rows::{Event, FrameworkRow, Table};
+use drf_rows::{FrameworkRow, Table};
 use std::alloc::AllocError;
 
 /// Reads the roles of a framework, of which one may stand more than once.
@@ -38,17 +36,18 @@ fn read_roles(known: &mut KnownWords, texts: &[&str]) -> Result<Table<Role>, Lin
     Ok(Table::from_vec(roles))
 }
 
-#[tactic(auto, unfolding(crate::specs::FrameworkEvents::framework_event))]
-pub fn read_framework(known: &mut KnownWords, value: &LineValue<'_>) -> Result<Event, LineError>
-    ensures { IsReadOf result (framework_event (line_view value.now)) }
+/// Reads the framework and the roles of an event that has no other keys.
+#[tactic(auto, unfolding(crate::specs::FrameworkEvents::its_roles))]
+pub fn read_its_roles(
+    known: &mut KnownWords,
+    value: &LineValue<'_>,
+) -> Result<(Name, Table<Role>), LineError>
+    ensures { IsReadOf result (its_roles (line_view value.now)) }
 {
     keys(value, 3)?;
     let framework = text_at(value, "framework")?;
     let roles = texts_at(known.alloc, value, "roles")?;
-    Ok(Event::AddFramework {
-        framework: known.name(framework)?,
-        roles: read_roles(known, &roles)?,
-    })
+    Ok((known.name(framework)?, read_roles(known, &roles)?))
 }
 
 /// The roles as texts, each as often as it stands.
@@ -64,19 +63,18 @@ fn put_role_list(line: &mut Vec<u8>, roles: &[Role]) -> Result<(), AllocError>
     put_byte(line, b']')
 }
 
-pub fn put_add_framework(
+/// Adds an event of a framework with roles.
+pub fn put_of_roles(
     line: &mut Vec<u8>,
+    event: &str,
     framework: &Name,
     roles: &[Role],
 ) -> Result<(), AllocError>
-    ensures appends { AppendsText result line.old.items line.new.items (compact_text (framework_value framework.now roles.now)) }
-    ensures read { OnOk result (IsSpelled (AddFramework framework.now roles.now)) }
+    ensures appends { AppendsText result line.old.items line.new.items (compact_text (of_roles event.now framework.now roles.now)) }
+    ensures read { OnOk result ((name_in framework.now ≡ Ok framework.now) × (roles_in (map text_of roles.now) ≡ Ok roles.now)) }
 {
-    put_name(
-        line,
-        "{\"event\":\"add_framework\",\"framework\":\"",
-        framework,
-    )?;
+    put_text(line, "{\"event\":\"", event)?;
+    put_name(line, ",\"framework\":\"", framework)?;
     put(line, ",\"roles\":")?;
     put_role_list(line, roles)?;
     put_byte(line, b'}')

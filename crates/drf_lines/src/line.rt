@@ -16,7 +16,7 @@ ghost use Rattle.drf_lines.specs.Written.{KeepsFront};
 
 use crate::agents::{read_its_agent, read_its_total};
 use crate::fault::{LineError, LineFault};
-use crate::frameworks::{read_framework, read_its_client, read_its_framework};
+use crate::frameworks::{read_its_client, read_its_framework, read_its_roles};
 use crate::last_report::LastReport;
 use crate::limits::read_its_limit;
 use crate::object::{LineValue, keys, number_at, text_at};
@@ -148,7 +148,8 @@ fn read_object(known: &mut KnownWords, value: &LineValue<'_>) -> Result<Event, L
         "activate_agent" => made!(ActivateAgent { agent } of read_its_agent(known, value)),
         "deactivate_agent" => made!(DeactivateAgent { agent } of read_its_agent(known, value)),
         "set_agent" => made!(SetAgent { agent, total } of read_its_total(known, value)),
-        "add_framework" => read_framework(known, value),
+        "add_framework" => made!(AddFramework { framework, roles } of read_its_roles(known, value)),
+        "set_framework" => made!(SetFramework { framework, roles } of read_its_roles(known, value)),
         "remove_framework" =>
             made!(RemoveFramework { framework } of read_its_framework(known, value)),
         "suppress" => made!(Suppress { framework, role } of read_its_client(known, value)),

@@ -427,8 +427,8 @@ fn event_hint(alloc: Global, line: &str, word: &str) -> Result<Hint, AllocError>
             quote(&mut words, near.as_bytes())?;
         }
         None => {
-            say(&mut words, "none of ")?;
-            say_list(&mut words, false, EVENTS)?;
+            say(&mut words, "none of: ")?;
+            say(&mut words, EVENTS)?;
         }
     }
     let place = value_at(alloc, line, first_byte(line), "event")?;

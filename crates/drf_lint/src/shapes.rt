@@ -32,14 +32,14 @@ pub(crate) const OPTIONAL: &str = "refuse_ms";
 
 /// The words of all events.
 pub(crate) const EVENTS: &str =
-    "add_agent remove_agent activate_agent deactivate_agent set_agent add_framework remove_framework suppress revive accept decline rescind finish reserve unreserve set_weight set_limit cycle report";
+    "add_agent remove_agent activate_agent deactivate_agent set_agent add_framework set_framework remove_framework suppress revive accept decline rescind finish reserve unreserve set_weight set_limit cycle report";
 
 /// The keys of an event besides `event`, those of an accept of several tasks or of one.
 pub(crate) fn keys_of(event: &str, has_tasks: bool) -> Option<&'static str> {
     match event {
         "add_agent" | "set_agent" => Some("agent total"),
         "remove_agent" | "activate_agent" | "deactivate_agent" => Some("agent"),
-        "add_framework" => Some("framework roles"),
+        "add_framework" | "set_framework" => Some("framework roles"),
         "remove_framework" => Some("framework"),
         "suppress" | "revive" => Some("framework role"),
         "accept" if has_tasks => Some("tasks framework offer at refuse_ms"),

@@ -1,6 +1,9 @@
+use Rattle.std.proofs.Common.{ℕ, List, subst}
 use Rattle.std.proofs.lemmas.Result.{on_ok_weaker}
-use Rattle.drf_lines.proofs.Events.{add_agent_read, remove_agent_read, activate_agent_read, deactivate_agent_read, set_agent_read, remove_framework_read, suppress_read, revive_read, reserve_read, unreserve_read}
+use Rattle.drf_rows.specs.declared.event.Event.TheVariants.{AddFramework, SetFramework}
+use Rattle.drf_lines.proofs.Events.{add_agent_read, remove_agent_read, activate_agent_read, deactivate_agent_read, set_agent_read, add_framework_read, set_framework_read, remove_framework_read, suppress_read, revive_read, reserve_read, unreserve_read}
 use Rattle.drf_lines.specs.EventLine.{event_line}
+use Rattle.drf_lines.specs.Spelled.{IsSpelled}
 use Rattle.drf_lines.proofs.event_line.push_event.Goals as goal
 
 pub returns-in-AddAgent-clause-read : goal.returns-in-AddAgent-clause-read
@@ -24,6 +27,18 @@ pub returns-in-SetAgent-clause-read : goal.returns-in-SetAgent-clause-read
 returns-in-SetAgent-clause-read c =
     rw c.in-SetAgent.is (on_ok_weaker c.put_of_total-in-SetAgent.result
     (λ read. set_agent_read c.in-SetAgent.agent c.in-SetAgent.total read.0 read.1) c.put_of_total-in-SetAgent.ensures.read)
+
+pub returns-in-AddFramework-clause-read : goal.returns-in-AddFramework-clause-read
+returns-in-AddFramework-clause-read c =
+    rw c.in-AddFramework.is (on_ok_weaker c.put_of_roles.result
+    (λ read. subst (λ (rs : List (List (List ℕ))). IsSpelled (AddFramework c.in-AddFramework.framework rs)) c.as_slice.ensures
+    (add_framework_read c.in-AddFramework.framework c.as_slice.result.now read.0 read.1)) c.put_of_roles.ensures.read)
+
+pub returns-in-SetFramework-clause-read : goal.returns-in-SetFramework-clause-read
+returns-in-SetFramework-clause-read c =
+    rw c.in-SetFramework.is (on_ok_weaker c.put_of_roles-in-SetFramework.result
+    (λ read. subst (λ (rs : List (List (List ℕ))). IsSpelled (SetFramework c.in-SetFramework.framework rs)) c.as_slice-in-SetFramework.ensures
+    (set_framework_read c.in-SetFramework.framework c.as_slice-in-SetFramework.result.now read.0 read.1)) c.put_of_roles-in-SetFramework.ensures.read)
 
 pub returns-in-RemoveFramework-clause-read : goal.returns-in-RemoveFramework-clause-read
 returns-in-RemoveFramework-clause-read c =

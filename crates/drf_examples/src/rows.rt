@@ -29,7 +29,7 @@ fn limits_of(limit: &str, number: u64) -> Option<Limits> {
         most("agents", full.agents()),
         full.frameworks(),
         full.roles(),
-        full.clients(),
+        most("clients", full.clients()),
         most("filters", full.filters()),
         full.weights(),
         most("limits", full.limits()),

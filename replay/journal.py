@@ -134,6 +134,7 @@ class Journal:
         self.agents, self.frameworks = list(state.agents), set(state.frameworks)
         self._running, self._offers, self._ended = {}, {}, 0
         self._on_agent, self._of_framework, self._totals = defaultdict(dict), defaultdict(dict), {}
+        self._roles = {}
         # The state's tasks have no start in the journal.
         self._clock, self._cycles = state.clock, 0
         self.start = None
@@ -181,8 +182,17 @@ class Journal:
             self._run(row["framework"], row["task"], task)
             self.account.change(row["role"], self.start, task.bundle.scalars, task.bundle.scalars, 1)
 
+    def _set_roles(self, framework, roles, place):
+        """Registers a framework in the roles that it had not. In a role that it leaves, it has nothing waiting."""
+        had = self._roles[framework]
+        self._register(framework, [it for it in roles if it not in had], place)
+        self._roles[framework] = set(roles)
+        for role in had.difference(roles):
+            self.clients[framework, role].log.append(("left", self._clock, None, 0))
+
     def _register(self, framework, roles, place):
         self.frameworks.add(framework)
+        self._roles[framework] = set(roles)
         for role in roles:
             client = self.clients.setdefault((framework, role), Client(framework, role))
             client.is_suppressed = False
@@ -279,6 +289,8 @@ class Journal:
                 self._lose([it for it in self._on_agent.get(event["agent"], {}) if not isinstance(it, tuple)])
             case "add_framework":
                 self._register(event["framework"], event["roles"], (at, self._cycles, EVENT, number + 0.5))
+            case "set_framework":
+                self._set_roles(event["framework"], event["roles"], (at, self._cycles, EVENT, number + 0.5))
             case "remove_framework":
                 self._lose(self._of_framework.get(event["framework"], {}))
             case "suppress":

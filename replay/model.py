@@ -86,7 +86,7 @@ class Replay:
         self.starts, self.until, self.ends = [None] * count, [journal.end] * count, [None] * count
         self.refused, self.retried = Counter(), 0
         self.account = Account(journal.start, journal.end)
-        self.on_agent, self.of_framework = defaultdict(dict), defaultdict(dict)
+        self.on_agent, self.of_framework, self.roles_of = defaultdict(dict), defaultdict(dict), {}
         self.actors, self.totals, self.named = {}, {}, {}
         self.heap, self.serial, self.at, self.waiting_suppressed = [], 0, journal.start, set()
         self.prefix = unused_prefix([row["task"] for row in journal.state.tasks])
@@ -250,6 +250,7 @@ class Replay:
             self.take_offer(offer, (at, phase, count), phase)
 
     def register(self, framework, roles):
+        self.roles_of[framework] = set(roles)
         for role in roles:
             actor = self.actors.setdefault((framework, role), Actor(framework, role))
             actor.is_suppressed = actor.wants_suppress = False
@@ -309,14 +310,24 @@ class Replay:
                 self.lose([it for it in self.on_agent.get(event["agent"], ()) if it.number is not None])
             case "add_framework":
                 self.register(event["framework"], event["roles"])
+            case "set_framework":
+                framework, had = event["framework"], self.roles_of[event["framework"]]
+                self.register(framework, [it for it in event["roles"] if it not in had])
+                self.roles_of[framework] = set(event["roles"])
+                for role in had.difference(event["roles"]):
+                    self.give_up(self.actors[framework, role])
             case "remove_framework":
                 framework = event["framework"]
                 self.lose(self.of_framework.get(framework, ()))
                 for (name, _), actor in self.actors.items():
                     if name == framework:
-                        for task in actor.queue:
-                            self.until[task.index] = at
-                        actor.queue.clear()
+                        self.give_up(actor)
+
+    def give_up(self, actor):
+        """Ends the waiting of an actor's tasks: it gets no more offers."""
+        for task in actor.queue:
+            self.until[task.index] = self.at
+        actor.queue.clear()
 
     def begin(self):
         """Takes in the state, and applies what the policy says of the start."""

@@ -83,6 +83,8 @@ class Policy:
             if framework in self.roles:
                 if kind == "add_framework":
                     return {**event, "roles": self.roles[framework]}
+                if kind == "set_framework":
+                    return None
                 if "role" in event:
                     return {**event, "role": self.role_of(framework, event["role"])}
         elif "agent" in event:

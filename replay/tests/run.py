@@ -158,6 +158,36 @@ def test_hand_latest(room):
     assert (it["after"]["waiting_ms"]["median"], it["after"]["waiting_ms"]["p95"]) == (10_000, 20_000), it
 
 
+# A framework that leaves the role a for d, beside one in c, and one machine for one task at a time. What has no time of its own happens at the next time of the
+# journal: f1 is in d from 3000 on. The cycle at 3000 offers n1 to c, whose name comes first, so that f1's task in d waits from 3000 to 5000. f2's waited from 0.
+def test_roles_that_change(room):
+    lines = [
+        {"event": "add_agent", "agent": "n1", "total": "cpus:1"},
+        {"event": "add_framework", "framework": "f1", "roles": ["a"]},
+        {"event": "add_framework", "framework": "f2", "roles": ["c"]},
+        {"event": "cycle", "at": 0},
+        {"event": "accept", "framework": "f1", "offer": 1, "task": "t1", "use": "cpus:1", "at": 0, "refuse_ms": 0},
+        {"event": "cycle", "at": 2000},
+        {"event": "finish", "framework": "f1", "task": "t1"},
+        {"event": "set_framework", "framework": "f1", "roles": ["d"]},
+        {"event": "cycle", "at": 3000},
+        {"event": "accept", "framework": "f2", "offer": 2, "task": "u1", "use": "cpus:1", "at": 3000, "refuse_ms": 0},
+        {"event": "cycle", "at": 4000},
+        {"event": "finish", "framework": "f2", "task": "u1"},
+        {"event": "cycle", "at": 5000},
+        {"event": "accept", "framework": "f1", "offer": 3, "task": "t2", "use": "cpus:1", "at": 5000, "refuse_ms": 0},
+        {"event": "cycle", "at": 6000},
+        {"event": "finish", "framework": "f1", "task": "t2"},
+        {"event": "cycle", "at": 7000},
+    ]
+    report = room.report(room.write("roles.journal", echo(events(*lines))))
+    for name, waited in (("a", 0), ("c", 3000), ("d", 2000)):
+        for case in ("journal", "before"):
+            it = role_in(report, name)[case]
+            assert (it["tasks"], it["started"], it["finished"], it["lost"]) == (1, 1, 1, 0), (name, case, it)
+            assert it["waiting_ms"]["median"] == waited, (name, case, it)
+
+
 # Two teams with a task each, and one machine for one task at a time. a and b have arrived at 0. With equal weights the name decides: a starts
 # at 0, b at 1000 when a's task ends. With a limit of cpus:0 for a, b is offered n1 at 0 and starts at 0; a never starts, and has waited
 # for 2000 ms at the end.

@@ -1,6 +1,7 @@
 #!/usr/bin/env python3
 """Outside the proof. Plays random events, refused ones among them, on `drf run` and on a slow allocator that follows docs/REFERENCE.md and docs/CONCEPTS.md
-literally: lists of rows, sums over all of them, and exact fractions. Each reply must be the same, byte for byte.
+literally: lists of rows, sums over all of them, and exact fractions. Each reply must be the same, byte for byte, and so must the state that `drf save` writes in
+the end.
 
     bench/sweeps/random_events.py [PROGRAM [LISTS [SEED]]]      200 lists of 150 events if nothing else is said
 
@@ -15,6 +16,7 @@ from fractions import Fraction
 LISTS, EVENTS = 200, 150
 AGENTS, FRAMEWORKS = ["n1", "n2", "n3"], ["f1", "f2", "f3"]
 ROLES = ["a", "b", "a/x", "a/y", "c", "*"]
+MORE_ROLES = ROLES + ["d", "e", "f", "g"]
 SCALARS = ["cpus", "mem"]
 LONGEST = 365 * 24 * 3600 * 1000
 
@@ -210,7 +212,7 @@ class Slow:
         agent["total"] = e["total"]
 
     def add_framework(self, e):
-        refuse([(self.framework(e["framework"]), 6, "KnownFramework"), (not e["roles"], 13, "Empty")])
+        refuse([(self.framework(e["framework"]), 6, "KnownFramework"), (not e["roles"], 13, "Empty"), (len(set(e["roles"])) > 8, 19, "TooMany")])
         self.frameworks.append({"name": e["framework"], "clients": [{"role": r, "count": 0, "suppressed": False} for r in dict.fromkeys(e["roles"])]})
 
     def set_framework(self, e):
@@ -317,6 +319,15 @@ class Slow:
         } for node in sorted(names, key=lambda node: [part.encode() for part in node.split("/")])]
         return {"nodes": nodes, "total": text_of({(name, ""): n for name, n in self.total().items() if n})}
 
+    def rows(self):
+        """The frameworks and the filters in force, as lines of a saved state without their last keys."""
+        clients = [[{"count": c["count"], "role": c["role"], "suppressed": c["suppressed"]} for c in f["clients"]] for f in self.frameworks]
+        made = [{"clients": its, "framework": f["name"], "row": "framework"} for f, its in zip(self.frameworks, clients)]
+        for f in self.in_force(self.clock):
+            text = text_of(f["bundle"])
+            made.append({"agent": f["agent"], "framework": f["framework"], "resources": text, "role": f["role"], "row": "filter", "until": f["until"]})
+        return [json.dumps(row, separators=(",", ":")) for row in made]
+
     def step(self, event):
         try:
             return getattr(self, event["event"])(event) or {"ok": True}
@@ -335,6 +346,13 @@ def amounts(chance, reserved):
     return made
 
 
+def roles_of(chance):
+    """A list of roles, in which one may stand more than once. A few lists have more different roles than a framework may have."""
+    if chance.random() < 0.05:
+        return [chance.choice(MORE_ROLES) for _ in range(16)]
+    return [chance.choice(ROLES) for _ in range(chance.choice([0, 1, 1, 2, 2, 3]))]
+
+
 def event_of(chance, slow):
     """A random event, which mostly names what there is. Agents and frameworks come first."""
     early = len(slow.agents) < 2 or len(slow.frameworks) < 2
@@ -348,7 +366,7 @@ def event_of(chance, slow):
     at = slow.clock + chance.choice([0, 0, 1, 1000]) if chance.random() < 0.97 else 2**62 + 1
     refuse_ms = chance.choice([0, 500, 1500, 5000])
     everything = {
-        "agent": chance.choice(AGENTS), "role": chance.choice(ROLES), "framework": framework, "roles": [chance.choice(ROLES) for _ in range(chance.choice([0, 1, 1, 2, 2, 3]))],
+        "agent": chance.choice(AGENTS), "role": chance.choice(ROLES), "framework": framework, "roles": roles_of(chance),
         "offer": offer["number"], "at": at, "refuse_ms": refuse_ms, "task": chance.choice(["t", "u", "v"]), "total": amounts(chance, True),
         "resources": amounts(chance, chance.random() < 0.1), "weight": chance.choice([0, 1, 500, 1000, 3000, 1000000]), "limit": by_name(amounts(chance, False)),
         "use": {key: n for key, n in offer["bundle"].items() if chance.random() < 0.7} if chance.random() < 0.9 else amounts(chance, True),
@@ -388,11 +406,14 @@ def play(program, seed):
         event = event_of(chance, slow)
         lines.append(line_of(event))
         expected.append(json.dumps(slow.step(event), separators=(",", ":")))
-    told = subprocess.run([program, "run"], input="\n".join(lines) + "\n", capture_output=True, text=True, check=True).stdout.splitlines()
+    text = "\n".join(lines) + "\n"
+    told = subprocess.run([program, "run"], input=text, capture_output=True, text=True, check=True).stdout.splitlines()
     for place, reply in enumerate(expected):
         if place >= len(told) or told[place] != reply:
             return lines[: place + 1], told[place : place + 1], reply
-    return None
+    saved = subprocess.run([program, "save"], input=text, capture_output=True, text=True, check=True).stdout.splitlines()
+    rows = [row for row in saved if '"row":"framework"' in row or '"row":"filter"' in row]
+    return None if rows == slow.rows() else (lines, rows, slow.rows())
 
 
 def main(words):
@@ -404,7 +425,7 @@ def main(words):
         found = play(program, seed + number)
         if found:
             print("\n".join(found[0]))
-            sys.exit(f"random_events.py: seed {seed + number}: the last line is answered {found[1]}, but the definition answers {found[2]}")
+            sys.exit(f"random_events.py: seed {seed + number}: after the last line drf has {found[1]}, but the definition has {found[2]}")
     print(f"ok {lists} random lists of {EVENTS} events")
 
 

@@ -75,7 +75,7 @@ def lists_are_searched_filtered_and_sorted(browser, room):
     browser.one("#agents-list option[value='with offers']").click()
     equal("with offers", browser.texts(NAMES), ["n2"])
     own.show([row for row in rows if row.get("offer") != 8])
-    browser.wait("a search stays when the cluster changes", lambda: browser.texts(NAMES) == [], 8)
+    browser.wait("a search stays when the cluster changes", lambda: browser.texts(NAMES) == [])
     own.end()
 
 
@@ -128,7 +128,7 @@ def who_is_silent_and_since_when(browser, room):
     browser.wait("one", lambda: browser.text("#agent-title") == "n4")
     holds("the date and the zone", "about " in browser.text("#agent .facts-list") and browser.run("return new Date(%d).getFullYear()" % at) == 2026 and "2026" in browser.text("#agent .facts-list"))
     own.detail()
-    browser.wait("it is back", lambda: browser.text("#agent .state") == "inactive", 8)
+    browser.wait("it is back", lambda: browser.text("#agent .state") == "inactive")
     own.end()
 
 

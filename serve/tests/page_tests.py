@@ -118,7 +118,7 @@ def a_change_comes_within_seconds(browser, room):
     rows = [row for row in stand_in.small_rows() if row.get("offer") != 8]
     own.show(rows)
     own.tell('{"event":"rescind","offer":8}', '{"ok":true}')
-    browser.wait("the new share", lambda: ["web", "10.0%", "–", "5.0%", "10%", "0%"] in browser.run(ROW), 5)
+    browser.wait("the new share", lambda: ["web", "10.0%", "–", "5.0%", "10%", "0%"] in browser.run(ROW), 20)
     equal("the event", browser.texts("#feed li span")[0], "Offer 8 rescinded")
     equal("offers", browser.text("#n-offers"), "0")
     own.end()

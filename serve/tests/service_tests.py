@@ -50,10 +50,10 @@ def live_rows_come_in(browser, room):
     browser.wait("the tree", lambda: {"web", "search", "etl"} <= set(browser.texts("#tree .label")))
     browser.wait("health", lambda: browser.text("#health") == "Live")
     service.client().send(event("add_framework", framework="late", roles=["late/role"]))
-    browser.wait("the event", lambda: "Framework late registered in late/role" in browser.texts("#feed li span"), 5)
-    browser.wait("the row", lambda: "late" in browser.texts("#tree .role .label"), 5)
+    browser.wait("the event", lambda: "Framework late registered in late/role" in browser.texts("#feed li span"), 20)
+    browser.wait("the row", lambda: "late" in browser.texts("#tree .role .label"), 20)
     service.client().send(event("remove_framework", framework="late"))
-    browser.wait("it is gone", lambda: "late" not in browser.texts("#tree .role .label"), 5)
+    browser.wait("it is gone", lambda: "late" not in browser.texts("#tree .role .label"), 20)
     equal("console", browser.console(), [])
 
 
@@ -273,7 +273,7 @@ def the_example_sends_heartbeats(browser, room):
     time.sleep(4)
     holds("it stands while it is alive", service.get("/drf/v1/report")["nodes"])
     beat.set()
-    browser.wait("it leaves when it is silent", lambda: not service.get("/drf/v1/report")["nodes"], 15)
+    browser.wait("it leaves when it is silent", lambda: not service.get("/drf/v1/report")["nodes"])
     service.end()
 
 

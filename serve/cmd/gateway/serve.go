@@ -307,6 +307,7 @@ func (g *gateway) build(list *oplog.Log, journal *allocator.Journal) (*api.Servi
 	list.KeepSenders, service.Archive = service.Members.AllReport, archiver
 	mesosConfig := g.mesos
 	mesosConfig.Name, mesosConfig.Folder, mesosConfig.Address, mesosConfig.Alone = g.etcd.Name, g.data, g.options.listen, g.etcd.IsAlone()
+	mesosConfig.CanSetFramework = func() bool { return service.Members.AllKnow(allocator.SetFramework) }
 	mesosCalls := mesosserver.New(mesosConfig, list, a, state, mesosState, streams, mayAppend)
 	service.Mounts = mesosCalls.Mounts()
 	service.Details = []api.DetailSource{silentDetails(sessions), mesosCalls.Details}

@@ -146,7 +146,7 @@ func TestAccessors(t *testing.T) {
 
 // The name of a call that the type does not have is known, so that it can be refused by its name.
 func TestNames(t *testing.T) {
-	for text, want := range map[string]string{`{"type":"REVIVE"}`: "REVIVE", `{"type":"UPDATE_FRAMEWORK"}`: "UPDATE_FRAMEWORK", `{"type":17}`: "17", `{"type":0}`: "UNKNOWN", `{}`: "", `{"type":""}`: "", `{"type":null}`: ""} {
+	for text, want := range map[string]string{`{"type":"REVIVE"}`: "REVIVE", `{"type":"UPDATE_FRAMEWORK"}`: "UPDATE_FRAMEWORK", `{"type":"RECONCILE_OPERATIONS"}`: "RECONCILE_OPERATIONS", `{"type":17}`: "UPDATE_FRAMEWORK", `{"type":99}`: "99", `{"type":0}`: "UNKNOWN", `{}`: "", `{"type":""}`: "", `{"type":null}`: ""} {
 		m, err := ReadJSON(call, []byte(text))
 		if name, is := m.Name("type"); err != nil || is != (want != "") || is && name != want {
 			t.Errorf("%s: %q %v %v", text, name, is, err)

@@ -18,6 +18,7 @@ var newer = []string{
 	"mesos.master.Response.Type.GET_OPERATIONS", "mesos.master.Response.GetOperations.", "mesos.master.Response.get_operations",
 	"mesos.master.Response.GetAgents.Agent.drain_info", "mesos.master.Response.GetAgents.Agent.deactivated", "mesos.master.Response.GetAgents.Agent.estimated_drain_start_time",
 	"mesos.master.Event.Type.HEARTBEAT", "mesos.master.Event.Subscribed.heartbeat_interval_seconds",
+	"mesos.scheduler.Call.Type.UPDATE_FRAMEWORK", "mesos.scheduler.Call.UpdateFramework.", "mesos.scheduler.Call.update_framework",
 	"mesos.quota.QuotaConfig.", "mesos.quota.QuotaStatus.configs",
 }
 

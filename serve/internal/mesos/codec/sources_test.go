@@ -86,7 +86,7 @@ func mesosGoFiles(t *testing.T, names ...string) *protoregistry.Files {
 	return theirs
 }
 
-// No number is from memory: each field and each value has the number, type and default that Debian's mesos-go has, and none is missing.
+// Each field and each value has the number, type and default that Debian's mesos-go has, but those of newer calls, and none is missing.
 func TestNumbersAreThoseOfMesosGo(t *testing.T) {
 	names := []string{"mesos.proto", "scheduler/scheduler.proto", "executor/executor.proto"}
 	theirs := mesosGoFiles(t, names...)
@@ -101,7 +101,7 @@ func TestNumbersAreThoseOfMesosGo(t *testing.T) {
 		}
 		have, want := numbers(our), numbers(their)
 		for key, value := range have {
-			if want[key] != value {
+			if want[key] != value && (want[key] != "" || !isOf(newer, key)) {
 				t.Errorf("%s: %q, and in mesos-go %q", key, value, want[key])
 			}
 			delete(want, key)

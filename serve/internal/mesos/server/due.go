@@ -27,7 +27,7 @@ func (s *Server) Run(ctx context.Context) {
 			if s.since.IsZero() {
 				s.since = time.Now()
 			}
-			s.doAll(ctx, s.dueNow())
+			s.doAll(ctx, append(s.dueNow(), s.dueRoles()...))
 		}
 		select {
 		case <-time.After(500 * time.Millisecond):

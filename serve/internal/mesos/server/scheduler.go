@@ -44,7 +44,8 @@ type handler func(s *Server, ctx context.Context, f *framework, call codec.Messa
 var handlers = map[string]handler{
 	"TEARDOWN": (*Server).teardown, "ACCEPT": (*Server).accept, "DECLINE": (*Server).decline, "REVIVE": (*Server).revive, "SUPPRESS": (*Server).suppress,
 	"KILL": (*Server).kill, "SHUTDOWN": (*Server).shutdown, "ACKNOWLEDGE": (*Server).acknowledge, "RECONCILE": (*Server).reconcile, "MESSAGE": (*Server).message,
-	"REQUEST": func(*Server, context.Context, *framework, codec.Message) error { return nil }, // Mesos' own allocator ignores it too
+	"UPDATE_FRAMEWORK": (*Server).updateFramework,
+	"REQUEST":          func(*Server, context.Context, *framework, codec.Message) error { return nil }, // Mesos' own allocator ignores it too
 }
 
 // bodies are the fields that calls need.
@@ -79,7 +80,7 @@ func validate(call codec.Message, principal string) (kind string, err error) {
 
 // framework is a framework that calls.
 type framework struct {
-	id string
+	id, stream string
 	mesos.Subscription
 	by *auth.Caller
 }
@@ -116,6 +117,10 @@ func (s *Server) scheduler(c *api.Call) error {
 	if err := answer(s, ctx, f, call); err != nil {
 		return err
 	}
+	if kind == "UPDATE_FRAMEWORK" {
+		c.W.WriteHeader(http.StatusOK)
+		return nil
+	}
 	c.W.WriteHeader(http.StatusAccepted)
 	return nil
 }
@@ -141,5 +146,5 @@ func (s *Server) caller(c *api.Call, call codec.Message) (*framework, error) {
 	case stream != found.Stream:
 		return nil, api.Refuse(http.StatusBadRequest, "The stream ID '%s' included in this request didn't match the stream ID currently associated with framework ID '%s'", stream, id)
 	}
-	return &framework{id, found.Subscription, c.By()}, nil
+	return &framework{id, stream, found.Subscription, c.By()}, nil
 }

@@ -34,6 +34,8 @@ type Config struct {
 	MaxRefuse    time.Duration // for which an offer may be refused
 	Silence      time.Duration // after which a stream ends whose caller's machine acknowledges nothing
 
+	CanSetFramework func() bool // the allocator of each gateway that runs knows the event
+
 	MaxFrameworks int   // of one principal, or 0 for no limit
 	MaxBytes      int64 // of the state, for the frameworks of one principal, or 0 for no limit
 }
@@ -57,7 +59,8 @@ type Server struct {
 	budget    *budget
 	acks      chan mesos.Ack
 	silent    map[string]time.Time // owners of streams that do not run, and since when
-	since     time.Time            // when this gateway became ready, or zero while it is not
+	pauses    pauses
+	since     time.Time // when this gateway became ready, or zero while it is not
 
 	namesLock sync.Mutex
 	names     named // for Details
@@ -66,7 +69,7 @@ type Server struct {
 // New returns a server. Run must be called for it to do what is due.
 func New(config Config, log *oplog.Log, allocator *allocator.Allocator, registry *registry.Registry, state *mesos.State, streams *Streams, ready func() error) *Server {
 	s := &Server{config: config, log: log, allocator: allocator, registry: registry, state: state, streams: streams, ready: ready,
-		acks: make(chan mesos.Ack, 4096), silent: map[string]time.Time{}}
+		acks: make(chan mesos.Ack, 4096), silent: map[string]time.Time{}, pauses: pauses{until: map[string]time.Time{}}}
 	s.session = config.Name + "/" + random(8)
 	s.ids.prefix = uuid()
 	s.budget = &budget{max: config.MaxBytes, held: map[string]*held{}, count: func(principal string) (bytes int64) {

@@ -13,6 +13,7 @@ import (
 	"time"
 
 	"gateway/internal/api"
+	"gateway/internal/auth"
 	"gateway/internal/mesos/codec"
 	"gateway/internal/mesos/resources"
 	"gateway/internal/registry/mesos"
@@ -24,20 +25,27 @@ const (
 )
 
 // refusedSubscription is why a SUBSCRIBE is refused. As by Mesos, its stream has an ERROR event alone: an error status would be tried again.
-type refusedSubscription struct{ reason string }
+type refusedSubscription struct {
+	status int // of other calls
+	reason string
+}
 
 func (r *refusedSubscription) Error() string { return r.reason }
 
 func refuseSubscription(format string, values ...interface{}) error {
-	return &refusedSubscription{fmt.Sprintf(format, values...)}
+	return &refusedSubscription{http.StatusBadRequest, fmt.Sprintf(format, values...)}
 }
 
 // subscription reads a SUBSCRIBE. The texts are Mesos' where it has one.
 func (s *Server) subscription(c *api.Call, call codec.Message) (id string, sub mesos.Subscription, suppressed map[string]bool, err error) {
-	info := call.Sub("subscribe.framework_info")
+	return readSubscription(c.By(), call.Sub("subscribe.framework_info"), call.Texts("subscribe.suppressed_roles"))
+}
+
+// readSubscription reads a FrameworkInfo, and which roles get no offers.
+func readSubscription(by *auth.Caller, info codec.Message, without []string) (id string, sub mesos.Subscription, suppressed map[string]bool, err error) {
 	id = info.Text("id.value")
 	failover := info.Float("failover_timeout")
-	sub = mesos.Subscription{Principal: c.By().Name, User: info.Text("user"), FailoverMS: int64(failover * 1000)}
+	sub = mesos.Subscription{Principal: by.Name, User: info.Text("user"), FailoverMS: int64(failover * 1000)}
 	for _, one := range info.List("capabilities") {
 		sub.Capabilities = append(sub.Capabilities, one.Enum("type"))
 	}
@@ -51,12 +59,12 @@ func (s *Server) subscription(c *api.Call, call codec.Message) (id string, sub m
 		return id, sub, nil, err
 	}
 	for _, role := range sub.Roles {
-		if !c.By().Has("role", role) {
-			return id, sub, nil, refuseSubscription("Not authorized to use role '%s': the principal '%s' needs the right role:%s", role, c.By().Name, role)
+		if !by.Has("role", role) {
+			return id, sub, nil, &refusedSubscription{http.StatusForbidden, fmt.Sprintf("Not authorized to use role '%s': the principal '%s' needs the right role:%s", role, by.Name, role)}
 		}
 	}
 	suppressed = map[string]bool{}
-	for _, role := range call.Texts("subscribe.suppressed_roles") {
+	for _, role := range without {
 		if suppressed[role] = true; !contains(sub.Roles, role) {
 			return id, sub, nil, refuseSubscription("Suppressed role '%s' is not contained in the list of roles", role)
 		}
@@ -156,20 +164,39 @@ func (s *Server) stream(c *api.Call, form codec.Form, call codec.Message) error 
 	case more > 0 && !s.budget.take(sub.Principal, more):
 		return refuseSubscription("%s", s.overBudget(sub.Principal))
 	}
-	one := s.streams.add(uuid())
-	defer s.streams.remove(one)
-	answers, err := s.putGuarded(c.R.Context(), guardOf("framework", id), func() (*message, error) {
-		return s.subscribeMessage(id, one.id, sub, suppressed)
-	})
+	one, err := s.putSubscription(c.R.Context(), id, sub, suppressed)
 	if err != nil {
 		return err
 	}
-	if one.isRefused() {
-		return refuseSubscription("the allocator did not take the framework '%s': %s", id, strings.Join(answers, ", "))
-	}
+	defer s.streams.remove(one)
 	setHeaders(c, form, one.id)
 	s.run(c, form, one, id)
 	return nil
+}
+
+// putSubscription appends a subscription, until no offer comes in a role that it leaves, and returns its stream.
+func (s *Server) putSubscription(ctx context.Context, id string, sub mesos.Subscription, suppressed map[string]bool) (*stream, error) {
+	for try := 1; ; try++ {
+		one, leaving := s.streams.add(uuid()), []string(nil)
+		answers, err := s.putGuarded(ctx, guardOf("framework", id), func() (m *message, err error) {
+			m, leaving, err = s.subscribeMessage(id, one.id, sub, suppressed)
+			return m, err
+		})
+		if err == nil && !one.isRefused() {
+			return one, nil
+		}
+		s.streams.remove(one)
+		if err == nil && contains(answers, "RoleInUse") && try < roleTries {
+			continue
+		}
+		if err == nil {
+			err = s.restoreRoles(ctx, id, leaving)
+		}
+		if err == nil {
+			err = refuseSubscription("the allocator did not take the framework '%s': %s", id, strings.Join(answers, ", "))
+		}
+		return nil, err
+	}
 }
 
 func setHeaders(c *api.Call, form codec.Form, stream string) {
@@ -196,7 +223,8 @@ func (s *Server) nameCluster(ctx context.Context) error {
 
 // subscribeMessage builds the message of a subscription. A framework that comes again keeps its name, and as by Mesos its user and whether it
 // checkpoints.
-func (s *Server) subscribeMessage(id, stream string, sub mesos.Subscription, suppressed map[string]bool) (m *message, err error) {
+func (s *Server) subscribeMessage(id, stream string, sub mesos.Subscription, suppressed map[string]bool) (m *message, leaving []string, err error) {
+	canSet := s.config.CanSetFramework()
 	m = &message{note: &mesos.Note{Kind: mesos.NoteSubscribe, Framework: id, Stream: stream, Gateway: s.session, Subscription: &sub}}
 	s.state.Read(func() {
 		f := s.state.Frameworks[id]
@@ -207,8 +235,8 @@ func (s *Server) subscribeMessage(id, stream string, sub mesos.Subscription, sup
 			m.add("add_framework", "framework", sub.Name, "roles", sub.Roles)
 		case f.Principal != sub.Principal:
 			err = refuseSubscription("Framework '%s' is another principal's than '%s'", id, sub.Principal)
-		case strings.Join(f.Roles, " ") != strings.Join(sub.Roles, " "):
-			err = refuseSubscription("Framework '%s' is subscribed with the roles [%s] and cannot change them to [%s]: this allocator does not have `set_framework` yet", id, strings.Join(f.Roles, " "), strings.Join(sub.Roles, " "))
+		default:
+			leaving, err = s.changeRoles(m, f, sub.Roles, canSet)
 		}
 		if f != nil {
 			old, info := codec.MustReadProtobuf("mesos.FrameworkInfo", f.Info), codec.MustReadProtobuf("mesos.FrameworkInfo", sub.Info)
@@ -217,15 +245,9 @@ func (s *Server) subscribeMessage(id, stream string, sub mesos.Subscription, sup
 			}
 			sub.Name, sub.User, sub.Info = f.Name, f.User, info.Set("user", f.User).Protobuf()
 		}
-		for _, role := range sub.Roles {
-			if suppressed[role] {
-				m.add("suppress", "framework", sub.Name, "role", role)
-			} else if f != nil {
-				m.add("revive", "framework", sub.Name, "role", role)
-			}
-		}
+		m.setSuppressed(sub.Name, sub.Roles, suppressed, f == nil)
 	})
-	return m, err
+	return m, leaving, err
 }
 
 // overBudget says that a principal may keep nothing more in the state.

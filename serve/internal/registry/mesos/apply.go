@@ -60,6 +60,8 @@ func (s *State) follow(kind string, line, reply []byte, isOK bool) {
 		name := registry.Text(registry.Fields(line), "agent")
 		s.endOffers(func(o Offer) bool { return o.Agent == name })
 		s.removeAgent(name)
+	case kind == "set_framework":
+		s.setRoles(line)
 	case kind == "remove_framework":
 		s.removeFramework(registry.Text(registry.Fields(line), "framework"))
 	}

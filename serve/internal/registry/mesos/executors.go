@@ -15,6 +15,7 @@ type Executor struct {
 	Info     []byte `json:"info"`   // ExecutorInfo
 	User     string `json:"user,omitempty"`
 	Holds    []Hold `json:"holds,omitempty"`
+	Role     string `json:"role,omitempty"`   // that it has its resources in
 	IsEnding bool   `json:"ending,omitempty"` // it is to be shut down
 }
 
@@ -72,7 +73,7 @@ func (s *State) useExecutor(f *Framework, l *Launch) int64 {
 	if f.Executors == nil {
 		f.Executors = map[string]*Executor{}
 	}
-	f.Executors[key] = &Executor{ID: l.Executor, Agent: l.Agent, Number: s.number, Info: l.ExecutorInfo, User: l.User, Holds: l.ExecutorHolds}
+	f.Executors[key] = &Executor{ID: l.Executor, Agent: l.Agent, Number: s.number, Info: l.ExecutorInfo, User: l.User, Holds: l.ExecutorHolds, Role: l.Role}
 	return s.number
 }
 

@@ -4,6 +4,7 @@ package mesos
 
 import (
 	"crypto/sha256"
+	"encoding/json"
 	"fmt"
 	"reflect"
 	"sort"
@@ -59,6 +60,15 @@ func define(messages []*registry.Message) (rows []string) {
 		executors = kept
 	}
 	isFramework, ofName, knowsKilling := map[string]bool{}, map[string]string{}, map[string]bool{}
+	roles, stream := map[string]map[string]bool{}, map[string]string{}
+	hasAll := func(sub *Subscription) bool {
+		for _, role := range sub.Roles {
+			if !roles[sub.Name][role] {
+				return false
+			}
+		}
+		return true
+	}
 	for _, m := range messages {
 		n, _ := decode(m.Note)
 		for k, line := range m.Lines {
@@ -67,6 +77,10 @@ func define(messages []*registry.Message) (rows []string) {
 			}
 			fields := registry.Fields(line)
 			switch registry.Kind(line) {
+			case "add_framework", "set_framework":
+				var list []string
+				json.Unmarshal(fields["roles"], &list)
+				roles[registry.Text(fields, "framework")] = setOf(list)
 			case "remove_framework":
 				id := ofName[registry.Text(fields, "framework")]
 				isFramework[id] = false
@@ -89,8 +103,17 @@ func define(messages []*registry.Message) (rows []string) {
 		}
 		switch n.Kind {
 		case NoteSubscribe:
-			if isFramework[n.Framework] || registry.AnswerOf(m.Replies[0]) == "ok" {
+			if (isFramework[n.Framework] || registry.AnswerOf(m.Replies[0]) == "ok") && hasAll(n.Subscription) {
+				stream[n.Framework] = n.Stream
 				isFramework[n.Framework], ofName[n.Subscription.Name], knowsKilling[n.Framework] = true, n.Framework, n.Subscription.Has("TASK_KILLING_STATE")
+			}
+		case NoteUpdate:
+			if isFramework[n.Framework] && stream[n.Framework] == n.Stream && hasAll(n.Subscription) {
+				knowsKilling[n.Framework] = n.Subscription.Has("TASK_KILLING_STATE")
+			}
+		case NoteLeave:
+			if stream[n.Framework] == n.Stream {
+				stream[n.Framework] = ""
 			}
 		case NoteAccept:
 			for _, l := range n.Launches {
@@ -210,6 +233,9 @@ func (w *world) check(s *State) error {
 	if !reflect.DeepEqual(w.offers, s.Offers) {
 		return fmt.Errorf("the offers %v are not the allocator's %v", s.Offers, w.offers)
 	}
+	if err := w.checkRoles(s); err != nil {
+		return err
+	}
 	if err := checkDrains(s); err != nil {
 		return err
 	}
@@ -246,7 +272,7 @@ func (c *streams) publish(e Event) {
 // Random messages of gateways whose knowledge may be old, with restarts from snapshots on the way.
 func TestFoldIsAsDefined(t *testing.T) {
 	const seeds, steps = 200, 500
-	launched, ended, executors := 0, 0, 0
+	launched, ended, executors, left := 0, 0, 0, 0
 	for seed := int64(1); seed <= seeds; seed++ {
 		w, c := newWorld(seed), &streams{first: map[string]bool{}, ended: map[string]bool{}}
 		s := New(c.publish)
@@ -288,10 +314,10 @@ func TestFoldIsAsDefined(t *testing.T) {
 				executors++
 			}
 		}
-		ended += len(s.Completed)
+		ended, left = ended+len(s.Completed), left+w.left
 	}
-	if launched < 10000 || ended < 1000 || executors < 1000 {
-		t.Errorf("only %d launches, %d ends and %d ends of executors", launched, ended, executors)
+	if launched < 10000 || ended < 1000 || executors < 1000 || left < 1000 {
+		t.Errorf("only %d launches, %d ends, %d ends of executors and %d roles that were left", launched, ended, executors, left)
 	}
 }
 

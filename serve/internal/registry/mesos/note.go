@@ -9,6 +9,7 @@ import "encoding/json"
 const (
 	NoteCluster    = "cluster"     // names the cluster, once
 	NoteSubscribe  = "subscribe"   // a framework subscribes, for the first time or again
+	NoteUpdate     = "update"      // a framework changes its description, while it is subscribed
 	NoteLeave      = "leave"       // a framework's stream ended
 	NoteAccept     = "accept"      // offers were accepted
 	NoteKill       = "kill"        // a task is to be killed

@@ -38,6 +38,8 @@ func (s *State) apply(n *Note, answers []string) {
 		return
 	}
 	switch n.Kind {
+	case NoteUpdate:
+		s.updateFramework(f, n)
 	case NoteLeave:
 		if f.IsConnected && f.Stream == n.Stream {
 			s.publish(Event{Kind: EventEnd, Stream: n.Stream})
@@ -78,13 +80,18 @@ func (s *State) subscribe(n *Note, answers []string) {
 		return
 	case f == nil:
 		f = &Framework{ID: n.Framework, Registered: s.at, Tasks: map[string]*Task{}}
+		f.Roles = n.Subscription.Roles
 		s.Frameworks[f.ID], s.IDs[n.Subscription.Name], change = f, f.ID, FrameworkAdded
+	case !f.canTake(n.Subscription):
+		s.publish(Event{Kind: EventEnd, Stream: n.Stream, Message: "the allocator did not take the roles of the framework"})
+		return
 	default:
 		if f.Reregistered = s.at; f.IsConnected {
 			s.publish(Event{Kind: EventEnd, Stream: f.Stream, Message: "Framework failed over"})
 		}
 	}
-	f.Subscription, f.Stream, f.Gateway, f.IsConnected, f.IsOurs, f.Left = *n.Subscription, n.Stream, n.Gateway, true, false, 0
+	f.take(n.Subscription)
+	f.Stream, f.Gateway, f.IsConnected, f.IsOurs, f.Left = n.Stream, n.Gateway, true, false, 0
 	s.changed(Change{Kind: change, Framework: *f})
 	s.toFramework(f, Event{Kind: "SUBSCRIBED"})
 	var offers []OfferOf

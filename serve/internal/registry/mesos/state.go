@@ -29,6 +29,7 @@ type Framework struct {
 	Tasks        map[string]*Task `json:"tasks,omitempty"`
 
 	Executors map[string]*Executor `json:"executors,omitempty"` // custom ones, by ExecutorKey
+	Held      []string             `json:"held,omitempty"`      // roles in the allocator, where they are not those of the subscription
 }
 
 // Task is a task that runs, or whose last status is not acknowledged.

@@ -21,10 +21,11 @@ type world struct {
 	frameworks map[string]bool
 	agents     map[string]bool   // and whether each is active
 	tasks      map[string]string // by FRAMEWORK/TASK, and the agent of each
+	roleModel
 }
 
 func newWorld(seed int64) *world {
-	return &world{Rand: rand.New(rand.NewSource(seed)), offers: map[uint64]Offer{}, frameworks: map[string]bool{}, agents: map[string]bool{}, tasks: map[string]string{}}
+	return &world{Rand: rand.New(rand.NewSource(seed)), offers: map[uint64]Offer{}, frameworks: map[string]bool{}, agents: map[string]bool{}, tasks: map[string]string{}, roleModel: newRoleModel()}
 }
 
 func line(event string, fields ...interface{}) string {
@@ -46,6 +47,7 @@ func (w *world) answer(text string) string {
 		Event, Agent, Framework, Task string
 		Offer                         uint64
 		Tasks                         []struct{ Task string }
+		Roles                         []string
 	}
 	json.Unmarshal([]byte(text), &l)
 	o, isOffer := w.offers[l.Offer]
@@ -61,6 +63,7 @@ func (w *world) answer(text string) string {
 		for key, agent := range w.tasks {
 			if is(key, agent) {
 				delete(w.tasks, key)
+				delete(w.taskRole, key)
 			}
 		}
 	}
@@ -71,7 +74,7 @@ func (w *world) answer(text string) string {
 			for _, agent := range sortedKeys(w.agents) {
 				if w.agents[agent] && w.Intn(3) == 0 {
 					w.next++
-					one := Offer{agent, framework, w.next, "cpus:1", "web"}
+					one := Offer{agent, framework, w.next, "cpus:1", w.roleOf(framework)}
 					w.offers[w.next], made = one, append(made, one)
 				}
 			}
@@ -88,7 +91,7 @@ func (w *world) answer(text string) string {
 			return refused
 		}
 		for _, t := range l.Tasks {
-			w.tasks[l.Framework+"/"+t.Task] = o.Agent
+			w.tasks[l.Framework+"/"+t.Task], w.taskRole[l.Framework+"/"+t.Task] = o.Agent, o.Role
 		}
 		delete(w.offers, l.Offer)
 	case "decline", "rescind":
@@ -101,16 +104,21 @@ func (w *world) answer(text string) string {
 			return refused
 		}
 		delete(w.tasks, l.Framework+"/"+l.Task)
+		delete(w.taskRole, l.Framework+"/"+l.Task)
 	case "add_framework":
 		if w.frameworks[l.Framework] {
 			return refused
 		}
 		w.frameworks[l.Framework] = true
+		w.roles[l.Framework] = setOf(l.Roles)
+	case "set_framework":
+		return w.setFramework(l.Framework, l.Roles)
 	case "remove_framework":
 		if !w.frameworks[l.Framework] {
 			return refused
 		}
 		delete(w.frameworks, l.Framework)
+		delete(w.roles, l.Framework)
 		dropOffers(func(o Offer) bool { return o.Framework == l.Framework })
 		dropTasks(func(key, _ string) bool { return strings.HasPrefix(key, l.Framework+"/") })
 	case "add_agent":
@@ -149,6 +157,7 @@ func (w *world) message(n *Note, lines ...string) *registry.Message {
 	}
 	if n != nil {
 		m.Note = n.Encode()
+		w.expect(n)
 	}
 	return m
 }
@@ -157,9 +166,9 @@ func (w *world) message(n *Note, lines ...string) *registry.Message {
 func (w *world) random(seen *State) *registry.Message {
 	framework, agent, stream := fmt.Sprintf("f%d", w.Intn(3)), fmt.Sprintf("a%d", w.Intn(3)), fmt.Sprintf("s%d", w.Int63())
 	f := seen.Frameworks[framework]
-	switch w.Intn(15) {
+	switch w.Intn(16) {
 	case 0:
-		sub := &Subscription{Name: "x." + framework, Roles: []string{"web"}, Info: []byte(framework)}
+		sub := &Subscription{Name: "x." + framework, Roles: w.someRoles(), Info: []byte(framework)}
 		if w.Intn(2) == 0 {
 			sub.Capabilities = []string{"PARTITION_AWARE"}
 		}
@@ -170,7 +179,7 @@ func (w *world) random(seen *State) *registry.Message {
 		if !w.frameworks[sub.Name] { // which the guard ensures
 			return w.message(n, line("add_framework", "framework", sub.Name, "roles", sub.Roles))
 		}
-		return w.message(n, line("revive", "framework", sub.Name, "role", "web"))
+		return w.message(n, append(w.changeRoles(seen, f, sub), line("revive", "framework", sub.Name, "role", sub.Roles[0]))...)
 	case 1:
 		return w.message(&Note{Kind: NoteAgent, Agent: agent, Stream: stream, Gateway: "g", Info: []byte(agent)}, line("add_agent", "agent", agent), line("activate_agent", "agent", agent))
 	case 2, 3:
@@ -225,6 +234,8 @@ func (w *world) random(seen *State) *registry.Message {
 		return w.message(&Note{Kind: kind, Framework: framework, Task: fmt.Sprintf("t%d", w.Intn(9)), Agent: agent, Executor: "e1"})
 	case 14:
 		return w.operate(agent)
+	case 15:
+		return w.updateRoles(seen, f)
 	}
 	return w.message(nil)
 }
@@ -237,7 +248,7 @@ func (w *world) accept(seen *State, f *Framework) *registry.Message {
 	}
 	var chosen []Offer
 	for _, o := range offers {
-		if o.Agent == offers[0].Agent && len(chosen) < 2 {
+		if o.Agent == offers[0].Agent && o.Role == offers[0].Role && len(chosen) < 2 {
 			chosen = append(chosen, o)
 		}
 	}
@@ -247,7 +258,7 @@ func (w *world) accept(seen *State, f *Framework) *registry.Message {
 		used[k] = map[string]bool{}
 	}
 	for k := w.Intn(4); k > 0; k-- {
-		l := Launch{Task: fmt.Sprintf("t%d", w.Intn(9)), Agent: chosen[0].Agent, Executor: fmt.Sprintf("e%d", w.Intn(2)), Info: []byte("i")}
+		l := Launch{Task: fmt.Sprintf("t%d", w.Intn(9)), Agent: chosen[0].Agent, Executor: fmt.Sprintf("e%d", w.Intn(2)), Info: []byte("i"), Role: chosen[0].Role}
 		for at := range chosen {
 			if at == 0 || w.Intn(2) == 0 {
 				name := fmt.Sprintf("%s.%d", l.Task, chosen[at].Offer)

@@ -26,7 +26,7 @@ export const refusals = {
   BadWeight: "the weight is not from 0.001 to 1000",
   TooLarge: "the agent would have more of a scalar than the capacity",
   TooMany: "a table would exceed its capacity",
-  RoleInUse: "the framework has an offer or a task in a role that it would leave",
+  RoleInUse: "the framework holds an offer or a task in a role that it would leave",
   NotJson: "the line is not JSON",
   BadShape: "the event is unknown, a key is missing or unknown, or a value has another type",
   BadText: "a text is not the name, role, resources, limit or weight that its key requires",

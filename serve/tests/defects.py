@@ -295,6 +295,31 @@ def test_limits(programs):
         assert wait(lambda: g.ask("/drf/v1/events", json.dumps(rescind(1)), name="ops")[0] == 200, 5, 0.5)
 
 
+def test_keys_of_one_caller(programs):
+    """A framework that uses up half of -max-kept-keys gets 429, in the list and pruned; its batches without a key and other callers do not."""
+    with Fleet("alone", programs.gateway, programs.drf, "-cycle", "0", "-max-kept-keys", "40", save_every=10) as fleet:
+        g = fleet.gateways[0]
+
+        def send(name, event, key=None):
+            return g.ask("/drf/v1/events", json.dumps(event) + "\n", name=name, **({"Idempotency_Key": key} if key else {}))
+
+        revive, activate, used, tried = {"event": "revive", "framework": "site"}, {"event": "activate_agent", "agent": "n0"}, [], 0
+        until = time.time() + 60
+        while len(used) < 20 and time.time() < until:  # while messages are pruned, some keys count twice for a moment
+            tried += 1
+            status = send("site", revive, f"k{tried}")[0]
+            assert status in (200, 429), status
+            used += [f"k{tried}"] if status == 200 else []
+            time.sleep(0 if status == 200 else 1)
+        assert len(used) == 20, used
+        for when in ("now", "later"):
+            status, text, headers = send("site", revive, "more-" + when)
+            assert status == 429 and "-max-kept-keys" in text and int(headers["Retry-After"]) >= 1 and headers["Drf-Applied"] == "no", (when, status, text, headers)
+            assert send("site", revive)[0] == 200 and send("rack", activate, when)[0] == 200 and send("ops", rescind(1), when)[0] == 200, when
+            assert send("site", revive, used[0])[0] in (200, 410), when
+            assert wait(lambda: send("ops", rescind(1))[0] == 200 and g.status()["kept_keys"] >= 20, 60, 0.1), g.status()
+
+
 def test_private_folder(programs):
     """A data folder that others can read is made private; a path that is too long for a socket is reported."""
     fleet = Fleet("alone", programs.gateway, programs.drf, "-cycle", "0")

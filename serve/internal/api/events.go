@@ -153,7 +153,7 @@ func (q *request) batch(key string, body []byte) (*oplog.Batch, error) {
 	if err := q.server.limiter.Batch(q.by.Name, len(body), count); err != nil {
 		return nil, err
 	}
-	b := &oplog.Batch{Key: key, Sender: oplog.SenderOf(q.r.Context())}
+	b := &oplog.Batch{Key: key, Sender: oplog.SenderOf(q.r.Context()), Limited: !q.by.Has("operate", "")}
 	touches := map[string]bool{}
 	for number, rest, more := 1, body, true; more; number++ {
 		var line []byte

@@ -52,6 +52,7 @@ type Batch struct {
 	Touches    []string    // names that the transaction writes, for the conditions of others: see Untouched
 	Sender     Sender      // who sent it, or empty: a gateway
 	Internal   bool        // it may use the space that is reserved for pruning
+	Limited    bool        // its owner may have half of the keys that can be kept
 
 	text   []byte // each line after a line feed
 	stamps []int  // where timestamps are inserted

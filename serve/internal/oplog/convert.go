@@ -196,7 +196,8 @@ func (l *Log) convertKept(ctx context.Context) error {
 			if err != nil || broken != nil || len(sum) < 8 {
 				return &FatalError{fmt.Errorf("the kept key %s is damaged", kv.Key)}
 			}
-			e := keptEntry{key: digestOf(kv.Key[len(prefix):]), at: old.At, message: old.Message}
+			key := kv.Key[len(prefix):]
+			e := keptEntry{key: digestOf(key), at: old.At, message: old.Message, owner: numberOf(ownerOf(string(key)))}
 			copy(e.body[:], sum)
 			entries = append(entries, e)
 		}

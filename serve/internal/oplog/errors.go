@@ -39,7 +39,7 @@ func (*TooLargeError) Error() string { return "the batch is larger than etcd tak
 // FullError reports that the store has no room for another batch at present, or no more keys can be kept. The batch was not appended.
 type FullError struct {
 	What string
-	Keys bool // the number of kept keys is at its limit
+	Keys bool // the number of kept keys is at its limit, or that of the caller's
 }
 
 func (e *FullError) Error() string { return e.What }

@@ -23,6 +23,7 @@ type keptEntry struct {
 	body    [8]byte  // digest of its note and lines
 	at      int64
 	message int64
+	owner   ownerNumber // whose key it is, or 0: an older gateway pruned the message
 }
 
 const (
@@ -40,7 +41,7 @@ func digestOf(text []byte) (digest [16]byte) {
 }
 
 func newEntry(m *Message, number int64) keptEntry {
-	e := keptEntry{key: digestOf([]byte(m.Key)), at: m.At, message: number}
+	e := keptEntry{key: digestOf([]byte(m.Key)), at: m.At, message: number, owner: numberOf(ownerOf(m.Key))}
 	sum := sha256.New()
 	sum.Write(m.Note)
 	sum.Write(m.Text)
@@ -63,7 +64,7 @@ func encodeSegment(entries []keptEntry) []byte {
 	for _, e := range entries {
 		text = append(append(text, e.key[:]...), e.body[:]...)
 		text = binary.BigEndian.AppendUint64(text, uint64(e.at))
-		text = binary.BigEndian.AppendUint64(text, uint64(e.message))
+		text = binary.BigEndian.AppendUint64(text, uint64(e.owner)<<messageBits|uint64(e.message))
 	}
 	return text
 }
@@ -77,8 +78,13 @@ func (s segment) entry(k int) (e keptEntry) {
 	text := s[k*entrySize : (k+1)*entrySize]
 	copy(e.key[:], text)
 	copy(e.body[:], text[16:])
-	e.at, e.message = int64(binary.BigEndian.Uint64(text[24:])), int64(binary.BigEndian.Uint64(text[32:]))
+	e.at, e.message = int64(binary.BigEndian.Uint64(text[24:])), int64(binary.BigEndian.Uint64(text[32:])&(1<<messageBits-1))
+	e.owner = s.owner(k)
 	return e
+}
+
+func (s segment) owner(k int) ownerNumber {
+	return ownerNumber(binary.BigEndian.Uint64(s[k*entrySize+32:]) >> messageBits)
 }
 
 func (s segment) find(key [16]byte) (keptEntry, bool) {
@@ -106,6 +112,7 @@ type keptSet struct {
 	segments map[string]segment
 	table    []uint64 // open addressing over the first 8 bytes of the digests, so that a new key costs one look
 	entries  int
+	owned    map[ownerNumber]int // entries of each owner
 }
 
 func (s *keptSet) count() int { return s.entries }
@@ -123,9 +130,10 @@ func (s *keptSet) index() {
 	for size < s.entries+s.entries/2 {
 		size *= 2
 	}
-	s.table = make([]uint64, size)
+	s.table, s.owned = make([]uint64, size), map[ownerNumber]int{}
 	for _, one := range s.segments {
 		for k := 0; k < one.count(); k++ {
+			s.owned[one.owner(k)]++
 			tag := tagOf(one[k*entrySize:])
 			for at := tag; ; at++ {
 				slot := &s.table[at&uint64(size-1)]

@@ -30,12 +30,13 @@ type Log struct {
 	cluster *etcd.Cluster
 	prefix  string
 	queue   chan *pending
+	owners  *owners
 }
 
 // New returns the list whose keys in etcd begin with a prefix. Run must be called for it to append.
 func New(cluster *etcd.Cluster, prefix string, clock *Clock, space *Space, maxKept int) *Log {
 	l := &Log{Clock: clock, Space: space, cluster: cluster, prefix: prefix, queue: make(chan *pending)}
-	l.Kept = newKept(cluster, prefix, maxKept)
+	l.Kept, l.owners = newKept(cluster, prefix, maxKept), newOwners()
 	return l
 }
 
@@ -68,9 +69,10 @@ func (l *Log) touched(name string) string { return l.prefix + "touched/" + name 
 // pending is a batch on its way into the list.
 type pending struct {
 	*Batch
-	done chan struct{}
-	at   Revision
-	err  error
+	done     chan struct{}
+	hasShare bool // it is counted among the keys of its owner
+	at       Revision
+	err      error
 }
 
 const (
@@ -187,12 +189,15 @@ func (l *Log) tryCommit(ctx context.Context, group []*pending, patience time.Dur
 	}
 	client, ctx, cancel := l.cluster.Ask(ctx, patience)
 	defer cancel()
+	if err := l.countOwners(ctx, client, kept, group); err != nil {
+		return err
+	}
 	at, keepsSenders := l.Clock.now().UnixMilli(), l.KeepSenders == nil || l.KeepSenders()
 	ops := make([]clientv3.Op, 0, len(group)+2)
 	for index, p := range group {
 		ours := l.messages(p.Key)
 		get := []clientv3.Op{clientv3.OpGet(ours)}
-		if p.err = l.check(kept, p.Batch); p.err != nil {
+		if p.err = l.check(kept, p); p.err != nil {
 			ops = append(ops, clientv3.OpTxn(nil, get, nil))
 			continue
 		}
@@ -229,9 +234,9 @@ func (l *Log) tryCommit(ctx context.Context, group []*pending, patience time.Dur
 }
 
 // check returns why a batch is not put now, whatever the list has: its key is that of a pruned message, or there is no room.
-func (l *Log) check(kept *keptSet, b *Batch) error {
+func (l *Log) check(kept *keptSet, b *pending) error {
 	if entry, is := kept.find(b.Key); is {
-		return entry.compare(b)
+		return entry.compare(b.Batch)
 	}
 	if b.Internal {
 		return nil
@@ -239,7 +244,15 @@ func (l *Log) check(kept *keptSet, b *Batch) error {
 	if !isAnonymous(b.Key) && kept.count() >= l.Kept.max {
 		return &FullError{What: fmt.Sprintf("%d idempotency keys are kept, which is -max-kept-keys: send this later, or without a key", kept.count()), Keys: true}
 	}
-	return l.Space.check()
+	if err := l.Space.check(); err != nil {
+		return err
+	}
+	if most := l.mostOfOne(); b.isLimited() && !b.hasShare {
+		if b.hasShare = l.owners.take(ownerOf(b.Key), most); !b.hasShare {
+			return &FullError{What: fmt.Sprintf("this caller has used %d idempotency keys that are still known, half of -max-kept-keys: send this later, or without a key", most), Keys: true}
+		}
+	}
+	return nil
 }
 
 // settle records what became of a batch. A message that the list still has decides before anything else.

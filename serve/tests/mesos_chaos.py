@@ -130,6 +130,10 @@ class Cluster:
     def finished(self, name):
         return len({status[0] for status in self.record(name)[1] if status[1] == "TASK_FINISHED"})
 
+    def is_agent_removed(self):
+        """Whether a task was lost because its agent was silent for too long."""
+        return any(status[2] == "REASON_AGENT_REMOVED" for s in self.schedulers for status in self.record(s.name)[1])
+
     def start_scheduler(self, n, tasks, name=None, command=None):
         node = self.schedulers[n]
         name = name or node.name
@@ -145,20 +149,22 @@ class Cluster:
 def disturb(cluster, tasks, seconds, chance):
     """Random failures, one after another, and the partition near the beginning. Returns how many of each kind there were."""
     counts, begun, cut, full = collections.Counter(), time.time(), [], []
-    partition = begun + 2
-    while time.time() < begun + seconds or sum(cluster.finished(s.name) for s in cluster.schedulers) < tasks:
+    partition, silent = begun + 2, None
+    while time.time() < begun + seconds or sum(cluster.finished(s.name) for s in cluster.schedulers) < tasks or not cluster.is_agent_removed():
         assert time.time() < begun + max(20 * seconds, 600), counts
         time.sleep(chance.uniform(0.2, 1.0))
         now = time.time()
         for node, until in [one for one in cut if one[1] < now]:
             node.set_link("up")
             cut.remove((node, until))
+            if node is silent and not cluster.is_agent_removed():  # it had no task, or its time began again with a gateway
+                partition = now
         for node, until in [one for one in full if one[1] < now]:
             node.free_disk()
             full.remove((node, until))
         if partition and now > partition:
-            partition = None
-            for node, length in ((chance.choice(cluster.gateways), 7), (chance.choice(cluster.agents), SILENCE + 5 + AGENT_GONE + 4)):  # a heartbeat comes every 5 s
+            partition, silent = None, chance.choice([node for node in cluster.agents if node not in [one[0] for one in cut]])
+            for node, length in ((chance.choice(cluster.gateways), 7), (silent, SILENCE + 5 + AGENT_GONE + 4)):  # a heartbeat comes every 5 s
                 if node not in [one[0] for one in cut]:
                     node.set_link("down")
                     cut.append((node, now + length))

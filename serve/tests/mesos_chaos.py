@@ -3,7 +3,7 @@
 """    mesos_chaos.py TASKS SECONDS [SEED]        GATEWAY, DRF and SCHEDULER name the programs; needs root, for `ip netns`
 
 Gateways, agents' programs and schedulers are killed and started again, links fail for seconds, disks of gateways are full, and a gateway and
-an agent are cut off for so long that the one loses its streams and the other its tasks. It goes on for the seconds, and until the tasks have finished. In the end each
+an agent are cut off for so long that the one loses its streams and the other its tasks. It goes on for the seconds, until the tasks have finished, and until an agent was removed. In the end each
 task id started at most once, each launch has a terminal status, the allocator holds exactly the tasks that run, and `drf check` calls the
 journals good.
 """

@@ -7,6 +7,8 @@ import (
 	"context"
 	"crypto/sha256"
 	"errors"
+	"fmt"
+	"net"
 	"os"
 	"path/filepath"
 	"strings"
@@ -50,9 +52,21 @@ func TestLoneMember(t *testing.T) {
 	}
 }
 
+// freeAddress returns an address on the loopback that was free a moment ago.
+func freeAddress(t *testing.T) string {
+	listener, err := net.Listen("tcp", "127.0.0.1:0")
+	if err != nil {
+		t.Fatal(err)
+	}
+	defer listener.Close()
+	return listener.Addr().String()
+}
+
 // A member that lacks a majority says so, and stops when it is told to.
 func TestMemberWithoutMajority(t *testing.T) {
-	c, err := Open(context.Background(), Config{Name: "a", Folder: t.TempDir(), Quota: 1 << 30, Members: "a=http://127.0.0.1:42380,b=http://127.0.0.1:42381,c=http://127.0.0.1:42382"})
+	// Nobody listens on the ports of the others.
+	members := fmt.Sprintf("a=http://%s,b=http://127.0.0.1:1,c=http://127.0.0.1:2", freeAddress(t))
+	c, err := Open(context.Background(), Config{Name: "a", Folder: t.TempDir(), Quota: 1 << 30, Members: members})
 	if err != nil {
 		t.Fatal(err)
 	}

@@ -103,7 +103,7 @@ class Debian:
         self.wait("the gateway is healthy", "python3 -c \"import urllib.request as u; u.urlopen('http://127.0.0.1:8450/healthz')\"")
 
     def give(self, file):
-        shutil.copy(file, os.path.join(self.root, "root"))
+        shutil.copy(file, os.path.join(self.root, "srv"))
 
     def write(self, path, text):
         with open(self.root + path, "w", encoding="utf-8") as file:
@@ -162,7 +162,7 @@ def matches(line, want):
 def follow(machine, text):
     """Does what a section says: a line that begins with FLAGS= becomes the last line of the file that the paragraph names, lines after `$` are commands, and
     what follows a command is what it prints. Commands run in one folder after another, as `cd` says."""
-    folder, count = "/root", 0
+    folder, count = "/srv", 0
     for paragraph, lines in blocks(text):
         if lines[0].startswith("FLAGS="):
             file = re.findall(r"`(/etc/[^`]*)`", paragraph)[-1]
@@ -269,7 +269,7 @@ def test_in_debian_an_upgrade_keeps_data_flags_and_tasks(package):
     task, before = start_sleeper(machine), messages(machine)
     flags, token = machine.read("/etc/default/durzhanok-agent"), machine.read(DATA + "/admin.token")
     old = list(map(machine.main_pid, UNITS))
-    machine.run(f"apt-get install -y /root/{os.path.basename(newer)}")
+    machine.run(f"apt-get install -y /srv/{os.path.basename(newer)}")
     equal("installed", machine.run("dpkg-query -W -f '${Version}' durzhanok"), version() + "+newer")
     machine.wait("both run", "systemctl is-active durzhanok-gateway durzhanok-agent")
     new = list(map(machine.main_pid, UNITS))
@@ -295,7 +295,7 @@ def test_in_debian_a_removal_keeps_data_and_ends_tasks(package):
 def test_in_debian_an_installation_after_a_removal_has_the_data(package):
     machine = debian()
     token = machine.read(DATA + "/admin.token")
-    machine.run(f"apt-get install -y /root/durzhanok_{version()}+newer_amd64.deb && systemctl start durzhanok-gateway")
+    machine.run(f"apt-get install -y /srv/durzhanok_{version()}+newer_amd64.deb && systemctl start durzhanok-gateway")
     equal("token", machine.read(DATA + "/admin.token"), token)
     machine.wait_until_healthy()
     assert messages(machine) > 0, "messages are lost"

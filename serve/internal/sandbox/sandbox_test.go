@@ -20,7 +20,7 @@ func newRoot(t *testing.T) (Root, string) {
 	if err != nil {
 		t.Fatal(err)
 	}
-	root := filepath.Join(folder, "work")
+	root := filepath.Join(folder, "agent")
 	box := filepath.Join(root, "tasks", "1", "sandbox")
 	for _, one := range []string{box, filepath.Join(box, "sub"), filepath.Join(root, "tasks", "2", "sandbox")} {
 		if err := os.MkdirAll(one, 0o755); err != nil {
@@ -94,7 +94,7 @@ func TestLinksDoNotLeadOut(t *testing.T) {
 			t.Errorf("%s: %v", path, entries)
 		}
 	}
-	for _, name := range []string{"", ".", "..", "../work/tasks/1/sandbox", "tasks/../tasks/1/sandbox", "/etc", "tasks/1/sandbox/", "tasks/./1/sandbox", "tasks/1/sandbox/../../2/sandbox"} {
+	for _, name := range []string{"", ".", "..", "../agent/tasks/1/sandbox", "tasks/../tasks/1/sandbox", "/etc", "tasks/1/sandbox/", "tasks/./1/sandbox", "tasks/1/sandbox/../../2/sandbox"} {
 		if file, err := r.Open(name, "stdout"); err == nil {
 			t.Errorf("the sandbox %q was opened: %s", name, file.Name())
 		}

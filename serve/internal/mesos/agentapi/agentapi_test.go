@@ -212,7 +212,7 @@ func TestFiles(t *testing.T) {
 func TestNothingOutsideIsShown(t *testing.T) {
 	s, folder := newServer(t)
 	box := folder + "/tasks/k-t2/sandbox"
-	for name, to := range map[string]string{"up": "../token", "far": "../../../secret", "root": "/", "passwd": "/etc/passwd", "self": "/proc/self/environ", "other": "../../k-t1/sandbox/stdout"} {
+	for name, to := range map[string]string{"up": "../token", "far": "../../../secret", "top": "/", "passwd": "/etc/passwd", "self": "/proc/self/environ", "other": "../../k-t1/sandbox/stdout"} {
 		if err := os.Symlink(to, box+"/"+name); err != nil {
 			t.Fatal(err)
 		}
@@ -222,7 +222,7 @@ func TestNothingOutsideIsShown(t *testing.T) {
 	virtual := "/frameworks/f/executors/t2/runs/latest"
 	var names []string
 	for _, base := range []string{box, virtual} {
-		for _, one := range []string{"/up", "/far", "/root/etc/passwd", "/passwd", "/self", "/other", "/../token", "/../../../secret", "/sub/../../token", "/../sandbox/../token", "/root"} {
+		for _, one := range []string{"/up", "/far", "/top/etc/passwd", "/passwd", "/self", "/other", "/../token", "/../../../secret", "/sub/../../token", "/../sandbox/../token", "/top"} {
 			names = append(names, base+one)
 		}
 	}

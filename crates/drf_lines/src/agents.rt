@@ -1,4 +1,4 @@
-//! The events and the rows of agents.
+//! Reads and writes the events of agents and the rows of agents.
 ghost use Rattle.std.specs.Prelude.{◌≡◌, Ok, OnOk};
 ghost use Rattle.serde_json.specs.Written.{compact_text};
 ghost use Rattle.drf_text.specs.Written.{bundle_text};
@@ -23,7 +23,7 @@ use drf_role::Name;
 use drf_rows::AgentRow;
 use std::alloc::AllocError;
 
-/// The agent and the total of an event that has no other keys.
+/// Reads the agent and the total of an event that has no other keys.
 #[tactic(auto, unfolding(crate::specs::AgentEvents::its_total))]
 pub fn read_its_total(
     known: &mut KnownWords,
@@ -37,7 +37,7 @@ pub fn read_its_total(
     Ok((known.name(agent)?, known.bundle(total)?))
 }
 
-/// An event of an agent and a total.
+/// Appends an event that consists of an agent and its total.
 pub fn put_of_total(
     line: &mut Vec<u8>,
     event: &str,
@@ -54,7 +54,7 @@ pub fn put_of_total(
     put_byte(line, b'}')
 }
 
-/// The agent of an event that has no other key.
+/// Reads the agent of an event that has no other key.
 #[tactic(auto, unfolding(crate::specs::AgentEvents::agent_of))]
 pub fn read_its_agent(known: &mut KnownWords, value: &LineValue<'_>) -> Result<Name, LineError>
     ensures { IsReadOf result (agent_of (line_view value.now)) }
@@ -64,7 +64,7 @@ pub fn read_its_agent(known: &mut KnownWords, value: &LineValue<'_>) -> Result<N
     known.name(agent)
 }
 
-/// An event of an agent alone.
+/// Appends an event that consists of an agent only.
 pub fn put_of_agent(line: &mut Vec<u8>, event: &str, agent: &Name) -> Result<(), AllocError>
     ensures appends { AppendsText result line.old.items line.new.items (compact_text (of_agent event.now agent.now)) }
     ensures read { OnOk result (name_in agent.now ≡ Ok agent.now) }
@@ -74,6 +74,7 @@ pub fn put_of_agent(line: &mut Vec<u8>, event: &str, agent: &Name) -> Result<(),
     put_byte(line, b'}')
 }
 
+/// Reads the row of an agent.
 #[tactic(auto, unfolding(crate::specs::AgentRows::agent_row))]
 pub fn read_agent_row(known: &mut KnownWords, value: &LineValue<'_>) -> Result<AgentRow, LineError>
     ensures { IsReadOf result (agent_row (line_view value.now)) }
@@ -89,7 +90,7 @@ pub fn read_agent_row(known: &mut KnownWords, value: &LineValue<'_>) -> Result<A
     })
 }
 
-/// Adds the line of an agent's row, as `push_row` does.
+/// Appends the line of an agent's row, as `push_row` does.
 pub fn push_agent_row(text: &mut Vec<u8>, row: &AgentRow) -> Result<(), AllocError>
     ensures appends { AppendsText result text.old.items text.new.items (row_line (Agent row.now)) }
     ensures read { OnOk result (state_line_meaning (row_line (Agent row.now)) ≡ Ok (Row (Agent row.now))) }

@@ -1,4 +1,4 @@
-//! The writer of the quantities above 0. Labels and amounts need no escape.
+//! Writes the quantities that are above 0. Names and amounts need no JSON escapes.
 ghost use Rattle.std.specs.Prelude.{◌≡◌, ◌∷◌, ◌++◌, ◌+◌, ◌<◌, List, [], IfOk, OnOk};
 ghost use Rattle.json.specs.Print.{escape};
 ghost use Rattle.drf_bundle.specs.declared.quantities.Entry.{Entry};
@@ -19,7 +19,7 @@ fn put_digit(line: &mut Vec<u8>, digit: u64) -> Result<(), AllocError>
     put_byte(line, b'0' + digit as u8)
 }
 
-/// Writes the decimals that are needed of a number of thousandths below 1.
+/// Appends `.` and the decimals of a number of thousandths below 1000 without trailing zeros; for 0 it appends nothing.
 fn put_decimals(line: &mut Vec<u8>, thousandths: u64) -> Result<(), AllocError>
     requires { thousandths < 1000 }
     ensures { AppendsText result line.old.items line.new.items (decimals_text thousandths) }
@@ -54,7 +54,8 @@ fn put_entry(line: &mut Vec<u8>, entry: &Entry) -> Result<(), AllocError>
     put_amount(line, entry.amount.thousandths())
 }
 
-/// Writes an entry above 0 behind those before it, if any, and tells whether one stands there now.
+/// Appends an entry if it is above 0, with `;` before it if `has_any`. Returns whether any entry has been written so
+/// far.
 fn put_next(line: &mut Vec<u8>, entry: &Entry, has_any: bool) -> Result<bool, AllocError>
     ensures ok { IfOk result (λ has_now. (left : List Entry) → line.new.items ++ left_amounts has_now left ≡ line.old.items ++ left_amounts has_any (entry.now ∷ left)) }
     ensures front { KeepsFront line.old.items line.new.items }
@@ -80,7 +81,7 @@ fn put_entries(line: &mut Vec<u8>, entries: &[Entry]) -> Result<(), AllocError>
     Ok(())
 }
 
-/// Writes what stands before the quantities above 0 with its first `"`, and them.
+/// Appends `before`, which ends with the opening quote, then the quantities above 0 and the closing quote.
 pub fn put_amounts(
     line: &mut Vec<u8>,
     before: &str,

@@ -1,4 +1,4 @@
-//! The clients in the row of a framework.
+//! Reads and writes the clients in the row of a framework.
 ghost use Rattle.std.specs.Prelude.{map, All, OnOk};
 ghost use Rattle.serde_json.specs.Data.{array};
 ghost use Rattle.serde_json.specs.View.{items_of};
@@ -16,7 +16,7 @@ use crate::words::KnownWords;
 use drf_rows::{ClientRow, Table};
 use std::alloc::{AllocError, Global};
 
-/// A client as it stands in a line.
+/// A client whose role is still the text that was in the line.
 #[derive(Clone, Copy)]
 pub struct ClientText<'a> {
     role: &'a str,
@@ -24,7 +24,7 @@ pub struct ClientText<'a> {
     suppressed: bool,
 }
 
-/// The client of an object of the three keys alone.
+/// Reads a client, with its role as text, from an object that has only the three keys.
 #[tactic(auto, unfolding(crate::specs::FrameworkRows::client_text))]
 fn client_text<'a>(value: &LineValue<'a>) -> Result<ClientText<'a>, LineError>
     ensures { IsReadAs (λ client. (client.role.now, client.count, client.suppressed)) result (client_text (line_view value.now)) }
@@ -40,7 +40,7 @@ fn client_text<'a>(value: &LineValue<'a>) -> Result<ClientText<'a>, LineError>
     })
 }
 
-/// The clients of some objects.
+/// Reads the clients, with their roles as texts, from objects.
 pub fn client_texts<'a>(
     alloc: Global,
     values: &[LineValue<'a>],
@@ -54,6 +54,7 @@ pub fn client_texts<'a>(
     Ok(Table::from_vec(clients))
 }
 
+/// Reads the role of a client.
 #[tactic(auto, unfolding(crate::specs::FrameworkRows::client_in))]
 fn read_client(known: &mut KnownWords, client: &ClientText) -> Result<ClientRow, LineError>
     ensures { IsReadOf result (client_in (client.now.role.now, client.now.count, client.now.suppressed)) }
@@ -65,7 +66,7 @@ fn read_client(known: &mut KnownWords, client: &ClientText) -> Result<ClientRow,
     })
 }
 
-/// Reads the clients of a framework.
+/// Reads the roles of the clients of a framework.
 pub fn read_clients(
     known: &mut KnownWords,
     texts: &[ClientText],
@@ -89,7 +90,7 @@ fn put_client(line: &mut Vec<u8>, client: &ClientRow) -> Result<(), AllocError>
     put_byte(line, b'}')
 }
 
-/// The clients as objects, in their order.
+/// Appends the clients as an array of objects, in their order.
 pub fn put_client_list(line: &mut Vec<u8>, clients: &[ClientRow]) -> Result<(), AllocError>
     ensures appends { AppendsText result line.old.items line.new.items (compact_text (array (items_of (map client_value clients.now)))) }
     ensures read { OnOk result (All IsClientRead clients.now) }

@@ -1,4 +1,4 @@
-//! The writer of an event's line.
+//! Writes the line of an event.
 ghost use Rattle.std.specs.Prelude.{◌≡◌, ◌≤◌, length, Ok, IfOk, OnOk};
 ghost use Rattle.serde_json.specs.Written.{compact_text};
 ghost use Rattle.drf_rows.specs.declared.event.Event.TheVariants.{Cycle, Report};
@@ -32,8 +32,8 @@ fn put_report_request(line: &mut Vec<u8>) -> Result<(), AllocError>
     put(line, "{\"event\":\"report\"}")
 }
 
-/// Adds the line that spells an event, without a line feed: compact JSON, the keys in order of bytes. At want of memory a part
-/// of it may stand behind what stood there.
+/// Appends the line of an event, without a line feed: compact JSON with its keys in byte order. If memory runs out, a
+/// part of the line may have been appended.
 #[tactic(auto, unfolding(crate::specs::EventLine::event_line))]
 pub fn push_event(text: &mut Vec<u8>, event: &Event) -> Result<(), AllocError>
     ensures appends { AppendsText result text.old.items text.new.items (event_line event.now) }
@@ -77,7 +77,8 @@ pub fn push_event(text: &mut Vec<u8>, event: &Event) -> Result<(), AllocError>
     }
 }
 
-/// The line that spells an event, without a line feed. Where it has at most 65,536 bytes, reading it gives the event.
+/// Returns the line of an event, without a line feed. Reading the line gives the event, if the line has at most 65,536
+/// bytes.
 pub fn write_event(alloc: Global, event: &Event) -> Result<Vec<u8>, AllocError>
     ensures line { IfOk result (λ line. line.items ≡ event_line event.now) }
     ensures read { IfOk result (λ line. length line.items ≤ 65536 → meaning_of line.items ≡ Ok event.now) }

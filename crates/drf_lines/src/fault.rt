@@ -1,4 +1,4 @@
-//! Faults of lines.
+//! The errors of lines.
 ghost use Rattle.std.specs.Prelude.{◌≡◌};
 
 use drf_role::{NameFault, RoleFault};
@@ -6,7 +6,7 @@ use std::alloc::{AllocError, AllocFailed};
 use std::error::Error;
 use std::fmt;
 
-/// Why a line is no event.
+/// Why a line is not an event.
 #[derive(Clone, Copy, Debug, PartialEq, Eq)]
 pub enum LineFault {
     /// It has more than 65,536 bytes.
@@ -19,7 +19,7 @@ pub enum LineFault {
 impl LineFault {
     ghost use Rattle.drf_lines.specs.Fault.{fault_number, fault_name};
 
-    /// The number that the fault is told by.
+    /// Returns the number with which the error is reported.
     pub fn number(self) -> u64
         ensures { result ≡ fault_number self }
     {
@@ -31,7 +31,7 @@ impl LineFault {
         }
     }
 
-    /// The name that the fault is told by.
+    /// Returns the name with which the error is reported.
     pub fn name(self) -> &'static str
         ensures { result.now ≡ fault_name self }
     {
@@ -44,7 +44,7 @@ impl LineFault {
     }
 }
 
-// Written out, since no contract says what a derived message is.
+// Written by hand, because no contract describes a derived message.
 impl fmt::Display for LineFault {
     ghost use Rattle.std.specs.Prelude.{Some};
     ghost use Rattle.drf_lines.specs.Fault.{fault_text};
@@ -63,7 +63,7 @@ impl fmt::Display for LineFault {
 
 impl Error for LineFault {}
 
-/// Why a line gave no event: it is none, or memory ran out.
+/// Why no event was read from a line: it is not an event, or memory ran out.
 #[derive(Clone, Copy, Debug, PartialEq, Eq)]
 pub enum LineError {
     Fault(LineFault),

@@ -1,4 +1,4 @@
-//! Writers of a fraction. Its digits need no escape.
+//! Writes fractions. Their digits need no JSON escapes.
 ghost use Rattle.std.specs.Prelude.{◌≡◌, ◌∷◌, ◌++◌, [], IfOk, string_bytes};
 ghost use Rattle.json.specs.Print.{escape};
 ghost use Rattle.drf_lines.specs.ReportLine.{fraction_text};
@@ -8,10 +8,10 @@ use crate::member::{put, put_byte};
 use itoa::{Buffer, write_digits};
 use std::alloc::{AllocError, Global};
 
-/// The most bytes of two numbers below 2^64 with `/` between them.
+/// The greatest length, in bytes, of a fraction whose two numbers are below 2^64.
 const SHORT_FRACTION: usize = 41;
 
-/// Writes a fraction of numbers below 2^64, and `"`.
+/// Appends a fraction whose two numbers are below 2^64, and the closing quote.
 fn put_short_fraction(line: &mut Vec<u8>, part: u64, whole: u64) -> Result<(), AllocError>
     ensures { AppendsText result line.old.items line.new.items (fraction_text (part, whole) ++ 34 ∷ []) }
 {
@@ -22,7 +22,7 @@ fn put_short_fraction(line: &mut Vec<u8>, part: u64, whole: u64) -> Result<(), A
     line.extend_from_slice(&text[start..])
 }
 
-/// Writes a fraction, and `"`.
+/// Appends a fraction, and the closing quote.
 fn put_long_fraction(line: &mut Vec<u8>, part: u128, whole: u128) -> Result<(), AllocError>
     ensures { AppendsText result line.old.items line.new.items (fraction_text (part, whole) ++ 34 ∷ []) }
 {
@@ -32,7 +32,7 @@ fn put_long_fraction(line: &mut Vec<u8>, part: u128, whole: u128) -> Result<(), 
     put_byte(line, b'"')
 }
 
-/// Writes what stands before a fraction with its first `"`, and the fraction.
+/// Appends `before`, which ends with the opening quote, then the fraction and the closing quote.
 pub fn put_fraction(
     line: &mut Vec<u8>,
     before: &str,
@@ -48,7 +48,7 @@ pub fn put_fraction(
     put_long_fraction(line, part, whole)
 }
 
-/// Writes a fraction alone.
+/// Returns a fraction as text, such as `3/10`.
 pub fn write_fraction(alloc: Global, fraction: (u128, u128)) -> Result<String, AllocError>
     ensures { IfOk result (λ text. string_bytes text ≡ fraction_text fraction) }
 {

@@ -1,4 +1,4 @@
-//! The events of frameworks and of their clients, and the rows of frameworks.
+//! Reads and writes the events of frameworks and of their clients, and the rows of frameworks.
 ghost use Rattle.std.specs.Prelude.{◌≡◌, map, Ok, OnOk};
 ghost use Rattle.serde_json.specs.Data.{array};
 ghost use Rattle.serde_json.specs.View.{items_of};
@@ -24,7 +24,7 @@ use drf_role::{Name, Role};
 use drf_rows::{FrameworkRow, Table};
 use std::alloc::AllocError;
 
-/// Reads the roles of a framework, of which one may stand more than once.
+/// Reads the roles of a framework. A role that is listed more than once is kept each time.
 fn read_roles(known: &mut KnownWords, texts: &[&str]) -> Result<Table<Role>, LineError>
     ensures { IsReadOf result (roles_in (map (λ text. text.now) texts.now)) }
 {
@@ -50,7 +50,7 @@ pub fn read_its_roles(
     Ok((known.name(framework)?, read_roles(known, &roles)?))
 }
 
-/// The roles as texts, each as often as it stands.
+/// Appends the roles as an array of strings, in their order and with duplicates.
 fn put_role_list(line: &mut Vec<u8>, roles: &[Role]) -> Result<(), AllocError>
     ensures appends { AppendsText result line.old.items line.new.items (compact_text (array (items_of (map role_value roles.now)))) }
     ensures read { OnOk result (roles_in (map text_of roles.now) ≡ Ok roles.now) }
@@ -63,7 +63,7 @@ fn put_role_list(line: &mut Vec<u8>, roles: &[Role]) -> Result<(), AllocError>
     put_byte(line, b']')
 }
 
-/// Adds an event of a framework with roles.
+/// Appends an event that consists of a framework and its roles.
 pub fn put_of_roles(
     line: &mut Vec<u8>,
     event: &str,
@@ -80,7 +80,7 @@ pub fn put_of_roles(
     put_byte(line, b'}')
 }
 
-/// The framework of an event that has no other key.
+/// Reads the framework of an event that has no other key.
 #[tactic(auto, unfolding(crate::specs::FrameworkEvents::framework_of))]
 pub fn read_its_framework(known: &mut KnownWords, value: &LineValue<'_>) -> Result<Name, LineError>
     ensures { IsReadOf result (framework_of (line_view value.now)) }
@@ -90,7 +90,7 @@ pub fn read_its_framework(known: &mut KnownWords, value: &LineValue<'_>) -> Resu
     known.name(framework)
 }
 
-/// An event of a framework alone.
+/// Appends an event that consists of a framework only.
 pub fn put_of_framework(line: &mut Vec<u8>, event: &str, framework: &Name) -> Result<(), AllocError>
     ensures appends { AppendsText result line.old.items line.new.items (compact_text (of_framework event.now framework.now)) }
     ensures read { OnOk result (name_in framework.now ≡ Ok framework.now) }
@@ -100,7 +100,7 @@ pub fn put_of_framework(line: &mut Vec<u8>, event: &str, framework: &Name) -> Re
     put_byte(line, b'}')
 }
 
-/// The framework and the role of an event that has no other keys.
+/// Reads the framework and the role of an event that has no other keys.
 #[tactic(auto, unfolding(crate::specs::FrameworkEvents::its_client))]
 pub fn read_its_client(
     known: &mut KnownWords,
@@ -114,7 +114,7 @@ pub fn read_its_client(
     Ok((known.name(framework)?, known.role(role)?))
 }
 
-/// An event of a framework in a role.
+/// Appends an event that consists of a framework and one of its roles.
 pub fn put_of_client(
     line: &mut Vec<u8>,
     event: &str,
@@ -130,6 +130,7 @@ pub fn put_of_client(
     put_byte(line, b'}')
 }
 
+/// Reads the row of a framework.
 #[tactic(auto, unfolding(crate::specs::FrameworkRows::framework_row))]
 pub fn read_framework_row(
     known: &mut KnownWords,
@@ -146,7 +147,7 @@ pub fn read_framework_row(
     })
 }
 
-/// Adds the line of a framework's row, as `push_row` does.
+/// Appends the line of a framework's row, as `push_row` does.
 pub fn push_framework_row(text: &mut Vec<u8>, row: &FrameworkRow) -> Result<(), AllocError>
     ensures appends { AppendsText result text.old.items text.new.items (row_line (Framework row.now)) }
     ensures read { OnOk result (state_line_meaning (row_line (Framework row.now)) ≡ Ok (Row (Framework row.now))) }

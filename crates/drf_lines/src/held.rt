@@ -1,4 +1,4 @@
-//! The rows of what a client has on an agent: offers, tasks and filters.
+//! Reads and writes the rows of what a client has on an agent: offers, tasks and filters.
 ghost use Rattle.std.specs.Prelude.{◌≡◌, Ok, OnOk};
 ghost use Rattle.drf_saved.specs.declared.saved.SavedRow.TheVariants.{Offer, Task, Filter};
 ghost use Rattle.drf_saved.specs.declared.saved.StateLine.TheVariants.{Row};
@@ -17,7 +17,7 @@ use drf_role::{Name, Role};
 use drf_rows::{FilterRow, OfferRow, TaskRow};
 use std::alloc::AllocError;
 
-/// Whose a row is, as it stands in a line.
+/// The agent, framework and role of a row, as the texts that were in the line.
 #[derive(Clone, Copy)]
 struct OwnerText<'a> {
     agent: &'a str,
@@ -50,6 +50,7 @@ fn read_owner(known: &mut KnownWords, owner: &OwnerText) -> Result<(Name, Name, 
     ))
 }
 
+/// Reads the row of an offer.
 #[tactic(auto, unfolding(crate::specs::HeldRows::offer_row))]
 pub fn read_offer_row(known: &mut KnownWords, value: &LineValue<'_>) -> Result<OfferRow, LineError>
     ensures { IsReadOf result (offer_row (line_view value.now)) }
@@ -68,6 +69,7 @@ pub fn read_offer_row(known: &mut KnownWords, value: &LineValue<'_>) -> Result<O
     })
 }
 
+/// Reads the row of a task.
 #[tactic(auto, unfolding(crate::specs::HeldRows::task_row))]
 pub fn read_task_row(known: &mut KnownWords, value: &LineValue<'_>) -> Result<TaskRow, LineError>
     ensures { IsReadOf result (task_row (line_view value.now)) }
@@ -86,6 +88,7 @@ pub fn read_task_row(known: &mut KnownWords, value: &LineValue<'_>) -> Result<Ta
     })
 }
 
+/// Reads the row of a filter.
 #[tactic(auto, unfolding(crate::specs::HeldRows::filter_row))]
 pub fn read_filter_row(
     known: &mut KnownWords,
@@ -107,7 +110,7 @@ pub fn read_filter_row(
     })
 }
 
-/// Adds the line of an offer's row, as `push_row` does.
+/// Appends the line of an offer's row, as `push_row` does.
 pub fn push_offer_row(text: &mut Vec<u8>, row: &OfferRow) -> Result<(), AllocError>
     ensures appends { AppendsText result text.old.items text.new.items (row_line (Offer row.now)) }
     ensures read { OnOk result (state_line_meaning (row_line (Offer row.now)) ≡ Ok (Row (Offer row.now))) }
@@ -121,7 +124,7 @@ pub fn push_offer_row(text: &mut Vec<u8>, row: &OfferRow) -> Result<(), AllocErr
     put(text, ",\"row\":\"offer\"}")
 }
 
-/// Adds the line of a task's row, as `push_row` does.
+/// Appends the line of a task's row, as `push_row` does.
 pub fn push_task_row(text: &mut Vec<u8>, row: &TaskRow) -> Result<(), AllocError>
     ensures appends { AppendsText result text.old.items text.new.items (row_line (Task row.now)) }
     ensures read { OnOk result (state_line_meaning (row_line (Task row.now)) ≡ Ok (Row (Task row.now))) }
@@ -135,7 +138,7 @@ pub fn push_task_row(text: &mut Vec<u8>, row: &TaskRow) -> Result<(), AllocError
     put_byte(text, b'}')
 }
 
-/// Adds the line of a filter's row, as `push_row` does.
+/// Appends the line of a filter's row, as `push_row` does.
 pub fn push_filter_row(text: &mut Vec<u8>, row: &FilterRow) -> Result<(), AllocError>
     ensures appends { AppendsText result text.old.items text.new.items (row_line (Filter row.now)) }
     ensures read { OnOk result (state_line_meaning (row_line (Filter row.now)) ≡ Ok (Row (Filter row.now))) }

@@ -1,4 +1,4 @@
-//! A bundle that was read before.
+//! A bundle that was read before, together with its text.
 ghost use Rattle.std.specs.Prelude.{◌≡◌, ◌≤◌, length, Ok, IfSome};
 ghost use Rattle.drf_lines.specs.Resources.{bundle_in};
 
@@ -7,7 +7,7 @@ use drf_bundle::Bundle;
 use std::alloc::{AllocError, Global};
 use std::marker::Model;
 
-/// A text with the bundle that it says.
+/// A text of at most 128 bytes, and the bundle that it means.
 #[derive(Drop)]
 pub struct KnownBundle {
     text: String,
@@ -27,7 +27,7 @@ impl Model for KnownBundle {
 }
 
 impl KnownBundle {
-    /// Of what was read.
+    /// Copies a text and the bundle that was read from it.
     pub fn new(alloc: Global, text: &str, bundle: &Bundle) -> Result<KnownBundle, AllocError>
         requires short { length text.now ≤ 128 }
         requires bundle { bundle_in text.now ≡ Ok bundle.now }
@@ -37,7 +37,7 @@ impl KnownBundle {
         Ok(KnownBundle { text, bundle })
     }
 
-    /// The bundle, if the text is the same.
+    /// Returns a copy of the bundle if its text is the given one, or `None` if it is not or memory runs out.
     pub fn of(&self, text: &str) -> Option<Bundle>
         ensures { IfSome result (λ bundle. bundle_in text.now ≡ Ok bundle) }
     {

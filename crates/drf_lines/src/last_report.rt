@@ -1,4 +1,4 @@
-//! The report that was written last, with its text. Most nodes of the next one are as they were: of these the text is copied.
+//! Keeps the last report that was written, with its text, so that the text of unchanged nodes can be copied.
 ghost use Rattle.std.specs.Prelude.{◌≡◌, ◌++◌, [], map, IfSome, OnOk, OnErr};
 ghost use Rattle.serde_json.specs.Data.{array};
 ghost use Rattle.serde_json.specs.View.{items_of};
@@ -14,20 +14,20 @@ use drf_rows::{NodeLine, SharedTable};
 use std::alloc::AllocError;
 use std::marker::Model;
 
-/// How many nodes are kept at most.
+/// The greatest number of nodes that are kept.
 const MOST_NODES: usize = 8192;
 
-/// How many bytes of text are kept at most.
+/// The greatest length, in bytes, of the text that is kept.
 const MOST_TEXT: usize = 1_048_576;
 
-/// Where the text of a node begins and ends.
+/// The range of bytes where the text of a node is.
 #[derive(Clone, Copy)]
 struct Span {
     start: usize,
     end: usize,
 }
 
-/// Nodes that were written.
+/// Nodes that were written, with their text.
 #[derive(Drop)]
 struct WrittenNodes {
     nodes: SharedTable<NodeLine>,
@@ -37,7 +37,7 @@ struct WrittenNodes {
 }
 
 impl WrittenNodes {
-    /// The text of a node that is the one at the place.
+    /// Returns the text of the node at `place`, if this node is the same as the given one.
     fn text_at(&self, place: usize, node: &NodeLine) -> Option<&[u8]>
         ensures { IfSome result (λ text. text.now ≡ compact_text (node_value node.now)) }
     {
@@ -49,7 +49,7 @@ impl WrittenNodes {
         Some(&self.text[span.start..span.end])
     }
 
-    /// Whether the node at the place has that path.
+    /// Returns whether the node at `place` has that path.
     fn has_path(&self, place: usize, path: &NodePath) -> bool {
         match self.nodes.as_slice().get(place) {
             Some(kept) => is_same_path(&kept.path, path),
@@ -57,7 +57,7 @@ impl WrittenNodes {
         }
     }
 
-    /// The first place from this one on whose node is not before the path.
+    /// Returns the first index from `place` on whose node is not before the path, or the number of nodes.
     fn place_from(&self, place: usize, path: &NodePath) -> usize {
         let nodes = self.nodes.as_slice();
         for at in place..nodes.len() {
@@ -68,8 +68,8 @@ impl WrittenNodes {
         nodes.len()
     }
 
-    /// The text of a node, if it is as it was. Nodes come in order of path, so it is looked for from the place on, which becomes the one behind it,
-    /// or where it would stand.
+    /// Returns the text of a node if the kept report has the same node. Nodes come in the order of their paths, so the
+    /// search begins at `place`; then `place` is set to the index after the node, or to where the node would be.
     fn text_of(&self, place: &mut usize, node: &NodeLine) -> Option<&[u8]>
         ensures { IfSome result (λ text. text.now ≡ compact_text (node_value node.now)) }
     {
@@ -88,7 +88,7 @@ impl WrittenNodes {
     }
 }
 
-/// The report that was written last, or none. What it was is in no contract.
+/// The last report that was written, or nothing. No contract says which report is kept.
 pub struct LastReport {
     keeps: bool,
     written: Option<WrittenNodes>,
@@ -102,7 +102,7 @@ impl Model for LastReport {
     ghost view = { λ _. tt };
 }
 
-// Written out, so that the proof of whoever drops a report sees one call.
+// Written by hand, so that the proof of code that drops a report sees one call.
 impl Drop for LastReport {
     fn drop(self) {
         let LastReport {
@@ -113,7 +113,7 @@ impl Drop for LastReport {
 }
 
 impl LastReport {
-    /// None was written yet.
+    /// Creates a cache that is still empty.
     pub fn new() -> LastReport {
         LastReport {
             keeps: true,
@@ -121,7 +121,7 @@ impl LastReport {
         }
     }
 
-    /// None is kept.
+    /// Creates a cache that never keeps a report.
     pub fn none() -> LastReport {
         LastReport {
             keeps: false,
@@ -146,7 +146,7 @@ impl LastReport {
         }
     }
 
-    /// The nodes, one after another, and where the text of each lies.
+    /// Appends the nodes as an array, and collects the range of bytes of each node's text.
     fn put_list(
         &self,
         text: &mut Vec<u8>,
@@ -169,7 +169,7 @@ impl LastReport {
         put_byte(text, b']')
     }
 
-    /// Keeps nodes that were written, if their text is not too long.
+    /// Keeps the nodes that were written if their text is not too long, and otherwise keeps nothing.
     fn keep(&mut self, written: WrittenNodes) {
         self.written = if written.text.len() <= MOST_TEXT {
             Some(written)
@@ -178,7 +178,7 @@ impl LastReport {
         };
     }
 
-    /// How long the text is that is kept: the next one mostly needs as much room.
+    /// Returns the length of the text that is kept; the next report usually needs about as much.
     fn text_len(&self) -> usize {
         match &self.written {
             Some(written) => written.text.len(),
@@ -186,7 +186,7 @@ impl LastReport {
         }
     }
 
-    /// Writes the nodes, and keeps them with their text. An `Err` changes nothing of the line.
+    /// Appends the nodes and keeps them with their text. If memory runs out, the line is unchanged.
     fn put_and_keep(
         &mut self,
         line: &mut Vec<u8>,
@@ -205,7 +205,7 @@ impl LastReport {
         Ok(())
     }
 
-    /// Writes the nodes of a report. Where memory ends for what is kept, they are written without it.
+    /// Appends the nodes of a report. If there is no memory to keep them, they are written without being kept.
     pub fn put_nodes(
         &mut self,
         line: &mut Vec<u8>,

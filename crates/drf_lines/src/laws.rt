@@ -1,4 +1,5 @@
-//! What the lines of a state are, as laws, and some of them, computed from the definition. The functions do nothing.
+//! Theorems about the lines of a state, and examples that are computed from the definition. The functions do nothing;
+//! their contracts are the statements.
 ghost use Rattle.std.specs.Prelude.{◌≡◌, ℕ, List, [], ◌∷◌, true, false, Err, codes};
 ghost use Rattle.serde_json.specs.Data.{null, string, object, member, no_members};
 ghost use Rattle.drf_bundle.specs.declared.value.Value.TheVariants.{Scalar};
@@ -11,14 +12,14 @@ ghost use Rattle.drf_lines.specs.OneLine.{IsOneLine};
 ghost use Rattle.drf_lines.specs.StateLine.{row_value, head_line, row_line, end_line};
 ghost use Rattle.drf_lines.specs.StateMeaning.{state_line_in};
 
-/// No line of a state has a line feed in it.
+/// Proves that no line of a state contains a line feed.
 pub fn one_line_law()
     ensures head { (head : Head) → IsOneLine (head_line head) }
     ensures row { (row : SavedRow) → IsOneLine (row_line row) }
     ensures end { (rows : ℕ) (digest : List ℕ) → IsOneLine (end_line rows digest) }
 {}
 
-/// The lines of a small state.
+/// Proves the lines of a small state.
 pub fn state_lines_example()
     ensures head { head_line (record { clock = 2000; next_offer = 5; events = 11 }) ≡ codes "{\"clock\":2000,\"events\":11,\"next_offer\":5,\"row\":\"state\"}" }
     ensures agent { row_line (Agent (record { name = codes "n2"; total = record { label = codes "cpus"; role = codes "*" ∷ []; value = Scalar 2000 } ∷ record { label = codes "cpus"; role = codes "eng" ∷ []; value = Scalar 1000 } ∷ []; active = false })) ≡ codes "{\"active\":false,\"agent\":\"n2\",\"row\":\"agent\",\"total\":\"cpus:2;cpus(eng):1\"}" }
@@ -29,14 +30,14 @@ pub fn state_lines_example()
     ensures end { end_line 10 (codes "c937") ≡ codes "{\"row\":\"end\",\"rows\":10,\"sha256\":\"c937\"}" }
 {}
 
-/// The lines of what is held there.
+/// Proves the lines of an offer, a task and a filter.
 pub fn held_lines_example()
     ensures offer { row_line (Offer (record { number = 4; agent = codes "n1"; framework = codes "f2"; role = codes "ops" ∷ []; bundle = record { label = codes "cpus"; role = codes "*" ∷ []; value = Scalar 2000 } ∷ [] })) ≡ codes "{\"agent\":\"n1\",\"framework\":\"f2\",\"offer\":4,\"resources\":\"cpus:2\",\"role\":\"ops\",\"row\":\"offer\"}" }
     ensures task { row_line (Task (record { name = codes "t1"; agent = codes "n1"; framework = codes "f1"; role = codes "eng" ∷ []; bundle = record { label = codes "cpus"; role = codes "*" ∷ []; value = Scalar 1000 } ∷ [] })) ≡ codes "{\"agent\":\"n1\",\"framework\":\"f1\",\"role\":\"eng\",\"row\":\"task\",\"task\":\"t1\",\"use\":\"cpus:1\"}" }
     ensures filter { row_line (Filter (record { framework = codes "f1"; role = codes "eng" ∷ []; agent = codes "n1"; bundle = record { label = codes "cpus"; role = codes "*" ∷ []; value = Scalar 3000 } ∷ []; until = 6000 })) ≡ codes "{\"agent\":\"n1\",\"framework\":\"f1\",\"resources\":\"cpus:3\",\"role\":\"eng\",\"row\":\"filter\",\"until\":6000}" }
 {}
 
-/// An event is no line of a state, and shapes are looked at before any text.
+/// Proves that an event is not a line of a state, and that the shape of a line is checked before its texts.
 pub fn no_state_lines_example()
     ensures event { state_line_in report_request ≡ Err BadShape }
     ensures bad_name { state_line_in (row_value (Agent (record { name = codes "n/1"; total = []; active = true }))) ≡ Err BadText }

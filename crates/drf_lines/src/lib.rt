@@ -1,5 +1,5 @@
-//! The lines of a journal: an event is read from a line, and an event, a reply or a fault is written as one. The lines of a state: each
-//! row is read from one and written as one.
+//! Reads events and the rows of a saved state from lines of JSON, and writes events, replies, errors and rows as such
+//! lines.
 #![tactic(auto)]
 
 mod agents;

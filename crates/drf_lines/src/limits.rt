@@ -1,4 +1,4 @@
-//! The event and the rows of limits.
+//! Reads and writes the event `set_limit` and the rows of limits.
 ghost use Rattle.std.specs.Prelude.{◌≡◌, ◌∷◌, ◌++◌, [], Ok, OnOk};
 ghost use Rattle.json.specs.Print.{escape};
 ghost use Rattle.serde_json.specs.Written.{compact_text};
@@ -26,7 +26,7 @@ use drf_rows::LimitRow;
 use drf_text::write_quantities;
 use std::alloc::AllocError;
 
-/// The role and the limit of an event, or of a row, that has no other keys.
+/// Reads the role and the limit of an event, or of a row, that has no other keys.
 #[tactic(auto, unfolding(crate::specs::LimitEvents::its_limit))]
 pub fn read_its_limit(
     known: &mut KnownWords,
@@ -40,7 +40,8 @@ pub fn read_its_limit(
     Ok((known.role(role)?, read_quantities(known.alloc, limit)?))
 }
 
-/// Writes what stands before a limit with its first `"`, and the limit, amounts of 0 too. It is read as this limit.
+/// Appends `before`, which ends with the opening quote, then the limit, with its amounts of 0, and the closing quote.
+/// Reading the text of the limit gives this limit.
 fn put_limit(line: &mut Vec<u8>, before: &str, limit: &Quantities) -> Result<(), AllocError>
     ensures appends { AppendsText result line.old.items line.new.items (before.now ++ (escape (quantities_text limit.now) ++ 34 ∷ [])) }
     ensures read { OnOk result (quantities_in (quantities_text limit.now) ≡ Ok limit.now) }
@@ -50,6 +51,7 @@ fn put_limit(line: &mut Vec<u8>, before: &str, limit: &Quantities) -> Result<(),
     put_text(line, before, text.as_str())
 }
 
+/// Appends the event `set_limit`.
 pub fn put_set_limit(line: &mut Vec<u8>, role: &Role, limit: &Quantities) -> Result<(), AllocError>
     ensures appends { AppendsText result line.old.items line.new.items (compact_text (limit_value role.now limit.now)) }
     ensures read { OnOk result (IsSpelled (SetLimit role.now limit.now)) }
@@ -59,7 +61,7 @@ pub fn put_set_limit(line: &mut Vec<u8>, role: &Role, limit: &Quantities) -> Res
     put_byte(line, b'}')
 }
 
-/// Adds the line of a limit's row, as `push_row` does.
+/// Appends the line of a limit's row, as `push_row` does.
 pub fn push_limit_row(text: &mut Vec<u8>, row: &LimitRow) -> Result<(), AllocError>
     ensures appends { AppendsText result text.old.items text.new.items (row_line (Limit row.now)) }
     ensures read { OnOk result (state_line_meaning (row_line (Limit row.now)) ≡ Ok (Row (Limit row.now))) }

@@ -1,4 +1,4 @@
-//! The reader of a line.
+//! Reads lines as events or as rows of a state.
 ghost use Rattle.std.specs.Prelude.{◌≡◌, ◌≤◌, ◌++◌, [], length, Some, None, IsErrOf, IfOk, IfErr, OnOk};
 ghost use Rattle.std.specs.Option.{ok_or};
 ghost use Rattle.std.specs.Str.{IsUtf8};
@@ -34,7 +34,7 @@ use drf_saved::StateLine;
 use json::{Error, Reader, Scratch, Value};
 use std::alloc::{AllocError, Global};
 
-/// The next JSON value of a reader.
+/// Reads the next JSON value of a reader.
 fn next_value<'a>(arena: &'a Bump, reader: &mut Reader<'a>) -> Result<LineValue<'a>, LineError>
     ensures ok { IfOk result (λ found. value 127 reader.old ≡ Some (value_view found, reader.new)) }
     ensures err { IfErr result (λ error. IsRefused error (value 127 reader.old ≡ None)) }
@@ -46,7 +46,7 @@ fn next_value<'a>(arena: &'a Bump, reader: &mut Reader<'a>) -> Result<LineValue<
     }
 }
 
-/// The JSON value of a text in any form. Strings of it that have escapes are written to the scratch.
+/// Reads a text as a JSON value, in any form. Strings with escapes are decoded into the scratch space.
 fn any_value<'a>(
     arena: &'a Bump,
     scratch: &'a mut Scratch,
@@ -63,7 +63,7 @@ fn any_value<'a>(
     Ok(value)
 }
 
-/// The JSON value of a text in any form, whose numbers are in the range of a double.
+/// Reads a text as a JSON value, in any form. Fails with `NotJson` if a number is not in the range of a double.
 fn value_in_range<'a>(
     arena: &'a Bump,
     scratch: &'a mut Scratch,
@@ -78,7 +78,7 @@ fn value_in_range<'a>(
     Ok(value)
 }
 
-/// The JSON value of a text, whose numbers are in the range of a double. Most texts are in the usual form.
+/// Reads a text as a JSON value whose numbers are in the range of a double. Most texts take the fast path.
 fn text_value<'a>(
     arena: &'a Bump,
     scratch: &'a mut Scratch,
@@ -92,7 +92,8 @@ fn text_value<'a>(
     value_in_range(arena, scratch, text)
 }
 
-/// The JSON value of a line.
+/// Reads a line as a JSON value. Fails with `NotJson` if it is not UTF-8, not JSON, or has a number that is not in the
+/// range of a double.
 fn line_value<'a>(
     arena: &'a Bump,
     scratch: &'a mut Scratch,
@@ -124,7 +125,7 @@ fn read_report(value: &LineValue<'_>) -> Result<Event, LineError>
     Ok(Event::Report)
 }
 
-/// An event of the parts that were read.
+/// Makes an event from the parts that were read.
 macro_rules! made {
     ($event:ident { $($part:ident),+ } of $read:expr) => {{
         let ($($part),+) = $read?;
@@ -137,7 +138,7 @@ fn read_object(known: &mut KnownWords, value: &LineValue<'_>) -> Result<Event, L
     ensures { IsReadOf result (event_in (line_view value.now)) }
 {
     match text_at(value, "event")? {
-        // Most lines are of these, so that they are looked for first.
+        // The most frequent events are tested first.
         "finish" => read_finish(known, value),
         "accept" => read_accept(known, value),
         "decline" => read_decline(known, value),
@@ -165,14 +166,14 @@ fn read_object(known: &mut KnownWords, value: &LineValue<'_>) -> Result<Event, L
     }
 }
 
-/// How many bytes a line has at most, without its line feed.
+/// The greatest length of a line, in bytes and without its line feed.
 const LONGEST_LINE: usize = 65_536;
 
-/// An arena of more bytes is not kept for the next line.
+/// An arena with more bytes than this is not kept for the next line.
 const LARGE_ARENA: usize = 8_388_608;
 
-/// A reader of lines, one after another, and a writer of what they are answered. What a line needs to be read is kept for the next one, and so is
-/// the report that was written last.
+/// Reads lines and writes replies. It keeps its memory, the values that it has read, and the last report, so that the
+/// next lines are faster.
 pub struct LineReader {
     arena: Bump,
     scratch: Scratch,
@@ -180,7 +181,7 @@ pub struct LineReader {
     last: LastReport,
 }
 
-// Written out, so that the proof of whoever drops a reader sees one call.
+// Written by hand, so that the proof of code that drops a reader sees one call.
 impl Drop for LineReader {
     fn drop(self) {
         let LineReader {
@@ -193,7 +194,7 @@ impl Drop for LineReader {
 }
 
 impl LineReader {
-    /// A reader that has read nothing.
+    /// Creates a reader that has read nothing.
     pub fn new(alloc: Global) -> LineReader {
         LineReader::knowing(KnownWords::new(alloc))
     }
@@ -207,7 +208,7 @@ impl LineReader {
         }
     }
 
-    /// Gives back what a long line took.
+    /// Empties the arena, and frees it if it is large.
     fn empty_arena(&mut self) {
         if self.arena.allocated_bytes() > LARGE_ARENA {
             self.arena = Bump::new(self.known.alloc);
@@ -215,7 +216,9 @@ impl LineReader {
         let _ = self.arena.reset();
     }
 
-    /// Reads a line, which is an event or has a fault. All shapes are looked at before any text.
+    /// Reads a line as an event. The shape of a line is checked before its texts. Fails with `LineTooLong` if the line
+    /// has more than 65,536 bytes, with `NotJson`, `BadShape` or `BadText` if it is not an event, and with `Memory` if
+    /// memory runs out.
     pub fn read(&mut self, line: &[u8]) -> Result<Event, LineError>
         ensures read { IsReadOf result (meaning_of line.now) }
         ensures memory { IsErrOf result LineError.Memory → length line.now ≤ longest_line }
@@ -229,7 +232,8 @@ impl LineReader {
         read_object(&mut self.known, &value)
     }
 
-    /// Reads a line of a state, of any length, which is its numbers, a row or its end, or has a fault.
+    /// Reads a line of a state, of any length: the head, a row or the end. Fails with `NotJson`, `BadShape` or
+    /// `BadText` if it is none of these, and with `Memory` if memory runs out.
     pub fn read_state_line(&mut self, line: &[u8]) -> Result<StateLine, LineError>
         ensures read { IsReadOf result (state_line_meaning line.now) }
         ensures utf8 { IsErrOf result LineError.Memory → IsUtf8 line.now }
@@ -239,7 +243,8 @@ impl LineReader {
         read_state_object(&mut self.known, &value)
     }
 
-    /// Adds the line that tells a reply, as the function of this name does. Of nodes that are as in the report that was written last the text is copied.
+    /// Appends the line of a reply, as the function `push_reply` does. The text of the nodes that are the same as in
+    /// the last report is copied.
     pub fn push_reply(&mut self, text: &mut Vec<u8>, reply: &Reply) -> Result<(), AllocError>
         ensures ok { OnOk result (text.new.items ≡ text.old.items ++ reply_line reply.now) }
         ensures front { KeepsFront text.old.items text.new.items }
@@ -248,7 +253,7 @@ impl LineReader {
     }
 }
 
-/// Reads one line. Where several come, a `LineReader` is faster.
+/// Reads one line as an event; see `LineReader::read`. For several lines, a `LineReader` is faster.
 pub fn read_event(alloc: Global, line: &[u8]) -> Result<Event, LineError>
     ensures read { IsReadOf result (meaning_of line.now) }
     ensures memory { IsErrOf result LineError.Memory → length line.now ≤ longest_line }

@@ -1,4 +1,4 @@
-//! Members of an object that is being written. What stands before it stays, also where memory ends.
+//! Writes the members of a JSON object. If memory runs out, the line still begins with what it was before.
 ghost use Rattle.std.specs.Prelude.{◌≡◌, ◌<◌, ◌^◌, ◌∷◌, ◌++◌, [], true, Ok, IfOk, OnOk, decimal, nat_lt};
 ghost use Rattle.std.specs.List.{list_all};
 ghost use Rattle.json.specs.Print.{escape, quoted, token_text};
@@ -18,7 +18,7 @@ use itoa::Buffer;
 use json::Writer;
 use std::alloc::{AllocError, Global};
 
-/// The text as a JSON string.
+/// Returns the text as a JSON string.
 fn quoted(alloc: Global, text: &str) -> Result<Vec<u8>, AllocError>
     ensures { IfOk result (λ string. string.items ≡ quoted text.now) }
 {
@@ -27,14 +27,14 @@ fn quoted(alloc: Global, text: &str) -> Result<Vec<u8>, AllocError>
     Ok(out.into_inner())
 }
 
-/// Writes a text.
+/// Appends a text.
 pub fn put(line: &mut Vec<u8>, text: &str) -> Result<(), AllocError>
     ensures { AppendsText result line.old.items line.new.items text.now }
 {
     line.extend_from_slice(text.as_bytes())
 }
 
-/// Writes one character, as a closing bracket.
+/// Appends one ASCII character, such as a closing bracket.
 pub fn put_byte(line: &mut Vec<u8>, byte: u8) -> Result<(), AllocError>
     requires { byte < 128 }
     ensures { AppendsText result line.old.items line.new.items (byte ∷ []) }
@@ -43,7 +43,7 @@ pub fn put_byte(line: &mut Vec<u8>, byte: u8) -> Result<(), AllocError>
     Ok(())
 }
 
-/// Writes what stands behind the first `"` of a JSON string.
+/// Appends the rest of a JSON string after its opening quote, with escapes where they are needed.
 fn put_string(line: &mut Vec<u8>, text: &str) -> Result<(), AllocError>
     ensures { AppendsText result line.old.items line.new.items (escape text.now ++ 34 ∷ []) }
 {
@@ -55,7 +55,7 @@ fn put_string(line: &mut Vec<u8>, text: &str) -> Result<(), AllocError>
     line.extend_from_slice(&string[1..])
 }
 
-/// Writes what stands before a text with its first `"`, and the text.
+/// Appends `before`, which ends with the opening quote, then the text and the closing quote.
 pub fn put_text(line: &mut Vec<u8>, before: &str, text: &str) -> Result<(), AllocError>
     ensures { AppendsText result line.old.items line.new.items (before.now ++ (escape text.now ++ 34 ∷ [])) }
 {
@@ -63,7 +63,7 @@ pub fn put_text(line: &mut Vec<u8>, before: &str, text: &str) -> Result<(), Allo
     put_string(line, text)
 }
 
-/// The same, where no byte of the text needs an escape.
+/// Does the same as `put_text` for a text that needs no escapes.
 fn put_plain(line: &mut Vec<u8>, before: &str, text: &str) -> Result<(), AllocError>
     requires { list_all is_plain_byte text.now ≡ true }
     ensures { AppendsText result line.old.items line.new.items (before.now ++ (escape text.now ++ 34 ∷ [])) }
@@ -73,7 +73,7 @@ fn put_plain(line: &mut Vec<u8>, before: &str, text: &str) -> Result<(), AllocEr
     put_byte(line, b'"')
 }
 
-/// Writes what stands before a number, and the number.
+/// Appends `before`, and then the number.
 pub fn put_number(line: &mut Vec<u8>, before: &str, value: u64) -> Result<(), AllocError>
     ensures appends { AppendsText result line.old.items line.new.items (before.now ++ decimal value) }
     ensures small { value < 2 ^ 64 }
@@ -82,7 +82,7 @@ pub fn put_number(line: &mut Vec<u8>, before: &str, value: u64) -> Result<(), Al
     put(line, Buffer::new().format(value))
 }
 
-/// Writes what stands before a truth value, and the value.
+/// Appends `before`, and then the boolean.
 pub fn put_boolean(line: &mut Vec<u8>, before: &str, value: bool) -> Result<(), AllocError>
     ensures { AppendsText result line.old.items line.new.items (before.now ++ token_text (boolean value)) }
 {
@@ -93,7 +93,7 @@ pub fn put_boolean(line: &mut Vec<u8>, before: &str, value: bool) -> Result<(), 
     put(line, "false")
 }
 
-/// Writes the comma before an item, but not before the first.
+/// Appends a comma, unless `place` is 0 (the first item).
 pub fn put_comma(line: &mut Vec<u8>, place: usize) -> Result<(), AllocError>
     ensures { AppendsText result line.old.items line.new.items (comma_if (nat_lt 0 place)) }
 {
@@ -103,7 +103,8 @@ pub fn put_comma(line: &mut Vec<u8>, place: usize) -> Result<(), AllocError>
     put_byte(line, b',')
 }
 
-/// Writes what stands before a name with its first `"`, and the name. It is read as this name.
+/// Appends `before`, which ends with the opening quote, then the name and the closing quote. Reading the name gives
+/// this name.
 pub fn put_name(line: &mut Vec<u8>, before: &str, name: &Name) -> Result<(), AllocError>
     ensures appends { AppendsText result line.old.items line.new.items (before.now ++ (escape name.now ++ 34 ∷ [])) }
     ensures read { OnOk result (name_in name.now ≡ Ok name.now) }
@@ -112,7 +113,8 @@ pub fn put_name(line: &mut Vec<u8>, before: &str, name: &Name) -> Result<(), All
     put_plain(line, before, name.text())
 }
 
-/// Writes what stands before a role with its first `"`, and the role. It is read as this role.
+/// Appends `before`, which ends with the opening quote, then the role and the closing quote. Reading the role gives
+/// this role.
 pub fn put_role(line: &mut Vec<u8>, before: &str, role: &Role) -> Result<(), AllocError>
     ensures appends { AppendsText result line.old.items line.new.items (before.now ++ (escape (text_of role.now) ++ 34 ∷ [])) }
     ensures read { OnOk result (role_in (text_of role.now) ≡ Ok role.now) }
@@ -121,8 +123,8 @@ pub fn put_role(line: &mut Vec<u8>, before: &str, role: &Role) -> Result<(), All
     put_text(line, before, role.text())
 }
 
-/// Writes what stands before a bundle with its first `"`, and the bundle. It is read as this bundle. The text is for use in
-/// between.
+/// Appends `before`, which ends with the opening quote, then the bundle and the closing quote. Reading the text of the
+/// bundle gives this bundle. `text` is a buffer that is overwritten.
 pub fn put_bundle(
     line: &mut Vec<u8>,
     text: &mut String,

@@ -1,4 +1,4 @@
-//! The writer of a report's nodes.
+//! Writes the nodes of a report, and compares nodes.
 ghost use Rattle.std.specs.Prelude.{◌≡◌, map, IsTrue};
 ghost use Rattle.serde_json.specs.Data.{array};
 ghost use Rattle.serde_json.specs.View.{items_of};
@@ -14,14 +14,14 @@ use drf_role::NodePath;
 use drf_rows::NodeLine;
 use std::alloc::AllocError;
 
-/// Whether two entries are the same.
+/// Returns `true` only if the two entries are equal.
 fn is_same_entry(entry: &Entry, other: &Entry) -> bool
     ensures { IsTrue result → entry.now ≡ other.now }
 {
     entry.amount.thousandths() == other.amount.thousandths() && entry.label == other.label
 }
 
-/// Whether two lists of entries are the same.
+/// Returns `true` only if the two lists of entries are equal.
 fn are_same_entries(entries: &[Entry], others: &[Entry]) -> bool
     ensures { IsTrue result → entries.now ≡ others.now }
 {
@@ -36,14 +36,14 @@ fn are_same_entries(entries: &[Entry], others: &[Entry]) -> bool
     true
 }
 
-/// Whether two paths are the same.
+/// Returns `true` only if the two paths are equal.
 pub fn is_same_path(path: &NodePath, other: &NodePath) -> bool
     ensures { IsTrue result → path.now ≡ other.now }
 {
     path == other
 }
 
-/// Whether two nodes are the same. Their numbers are compared first.
+/// Returns `true` only if the two nodes are equal. Numbers are compared first, because this is cheap.
 pub fn is_same_node(node: &NodeLine, other: &NodeLine) -> bool
     ensures { IsTrue result → node.now ≡ other.now }
 {
@@ -56,6 +56,7 @@ pub fn is_same_node(node: &NodeLine, other: &NodeLine) -> bool
         && are_same_entries(node.held.entries(), other.held.entries())
 }
 
+/// Appends a node of a report as a JSON object.
 pub fn put_node(line: &mut Vec<u8>, node: &NodeLine) -> Result<(), AllocError>
     ensures { AppendsText result line.old.items line.new.items (compact_text (node_value node.now)) }
 {
@@ -67,7 +68,7 @@ pub fn put_node(line: &mut Vec<u8>, node: &NodeLine) -> Result<(), AllocError>
     put_byte(line, b'}')
 }
 
-/// The nodes, one after another.
+/// Appends the nodes as an array, in their order.
 pub fn put_node_list(line: &mut Vec<u8>, nodes: &[NodeLine]) -> Result<(), AllocError>
     ensures { AppendsText result line.old.items line.new.items (compact_text (array (items_of (map node_value nodes.now)))) }
 {

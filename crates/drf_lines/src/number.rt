@@ -1,4 +1,4 @@
-//! The numbers of a line.
+//! Reads the numbers of a line.
 ghost use Rattle.std.specs.Prelude.{◌≡◌, ◌<◌, ◌==◌, length, slice_index, is_some, true, false, Some, IfSome, IsTrue};
 ghost use Rattle.serde_json.specs.Data.{unsigned};
 ghost use Rattle.serde_json.specs.Find.{as_u64};
@@ -7,10 +7,10 @@ ghost use Rattle.drf_lines.specs.LineValue.{known_number, number_in};
 
 use fast_float::Numeral;
 
-/// So many digits are a number below 2^64, whichever they are.
+/// The greatest number of digits for which every number is below 2^64.
 pub(crate) const FEW_DIGITS: usize = 19;
 
-/// The whole number of a text that is a few digits alone, as most numbers of a line are.
+/// Returns the number if the text is 1 to 19 digits, as most numbers of a line are, and otherwise `None`.
 fn read_digits(text: &str) -> Option<u64>
     ensures { IfSome result (λ whole. number_of text.now ≡ Some (unsigned whole)) }
 {
@@ -35,14 +35,14 @@ fn has_minus(bytes: &[u8]) -> bool
     !bytes.is_empty() && bytes[0] == b'-'
 }
 
-/// The whole number below 2^64 that a number at or above 0 is.
+/// Returns a nonnegative number as an integer below 2^64, or `None` if it is not one.
 fn whole_above(numeral: &Numeral<'_>) -> Option<u64>
     ensures { result ≡ as_u64 (known_number (number_from false numeral.now)) }
 {
     numeral.to_u64()
 }
 
-/// The whole number below 2^64 that a number in any form is.
+/// Returns a number in any form as an integer below 2^64, or `None` if it is not one.
 fn whole_of_any(text: &str) -> Option<u64>
     ensures { result ≡ as_u64 (number_in text.now) }
 {
@@ -53,7 +53,7 @@ fn whole_of_any(text: &str) -> Option<u64>
     whole_above(&Numeral::scan(bytes))
 }
 
-/// The whole number below 2^64 that a number is.
+/// Returns a number as an integer below 2^64, or `None` if it is not one.
 pub fn whole_number(text: &str) -> Option<u64>
     ensures { result ≡ as_u64 (number_in text.now) }
 {
@@ -63,18 +63,18 @@ pub fn whole_number(text: &str) -> Option<u64>
     }
 }
 
-/// Whether a number at or above 0 is in the range of a double.
+/// Returns whether a number without a minus sign is in the range of a double.
 fn is_in_range_above(numeral: &Numeral<'_>) -> bool
     ensures { result ≡ is_some (number_from false numeral.now) }
 {
-    // A whole number of 64 bits is.
+    // Every integer below 2^64 is in range.
     if numeral.to_u64().is_some() {
         return true;
     }
     numeral.to_float::<f64>(false).is_finite()
 }
 
-/// Whether a number at or below 0 is in the range of a double.
+/// Returns whether a number with a minus sign, whose digits are given, is in the range of a double.
 fn is_in_range_below(numeral: &Numeral<'_>) -> bool
     ensures { result ≡ is_some (number_from true numeral.now) }
 {
@@ -86,7 +86,7 @@ fn is_in_range_below(numeral: &Numeral<'_>) -> bool
     numeral.to_float::<f64>(true).is_finite()
 }
 
-/// Whether a number in any form is in the range of a double.
+/// Returns whether a number in any form is in the range of a double.
 fn is_any_in_range(text: &str) -> bool
     ensures { result ≡ is_some (number_of text.now) }
 {
@@ -97,7 +97,7 @@ fn is_any_in_range(text: &str) -> bool
     is_in_range_above(&Numeral::scan(bytes))
 }
 
-/// Whether a number is in the range of a double.
+/// Returns whether a number is in the range of a double.
 pub fn is_number_in_range(text: &str) -> bool
     ensures { result ≡ is_some (number_of text.now) }
 {

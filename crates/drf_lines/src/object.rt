@@ -1,4 +1,4 @@
-//! What stands in a JSON object.
+//! Reads the members of a JSON object.
 ghost use Rattle.std.specs.Prelude.{◌≡◌, ◌≤◌, ◌==◌, IsTrue, length, map, slice_index, option_map, option_and_then};
 ghost use Rattle.std.specs.Str.{bytes_eq};
 ghost use Rattle.json.specs.Find.{get_member};
@@ -16,13 +16,14 @@ use bumpalo::Bump;
 use json::Value;
 use std::alloc::Global;
 
-/// The JSON value of a line, whose texts are borrowed. Its arrays and objects lie in an arena, which is emptied before the next line.
+/// The JSON value of a line. Its texts are borrowed from the line; its arrays and objects are in an arena, which is
+/// emptied before the next line.
 pub type LineValue<'a> = Value<'a, &'a Bump>;
 
-/// How many keys an object is asked for at most.
+/// The greatest number of keys that an event or a row has.
 const MOST_KEYS: usize = 8;
 
-/// Whether a key is one of some.
+/// Returns whether a key is one of the names.
 fn is_among(names: &[&str], key: &str) -> bool
     ensures { result ≡ is_among (map (λ name. name.now) names.now) key.now }
 {
@@ -34,7 +35,8 @@ fn is_among(names: &[&str], key: &str) -> bool
     false
 }
 
-/// Whether members have so many different keys. It stops where there is one more, since a line may have thousands of members.
+/// Returns whether the members have exactly `count` different keys. It stops at the first key too many, because a line
+/// may have thousands of members.
 fn has_keys(members: &[(&str, LineValue<'_>)], count: usize) -> bool
     requires { count ≤ 8 }
     ensures { result ≡ (member_count (members_of (members_view members.now) no_members) == count) }
@@ -54,7 +56,7 @@ fn has_keys(members: &[(&str, LineValue<'_>)], count: usize) -> bool
     found == count
 }
 
-/// The byte that a key begins with, 0 for the empty key.
+/// Returns the first byte of a key, or 0 if the key is empty.
 fn first_byte(key: &str) -> u8
     ensures { result ≡ slice_index key.now 0 }
 {
@@ -64,7 +66,7 @@ fn first_byte(key: &str) -> u8
     key.as_bytes()[0]
 }
 
-/// Whether each key begins with a byte of its own, as those of most lines do. They are different then.
+/// Returns `true` only if all keys begin with different bytes, and so are different. This holds for most lines.
 fn begin_apart(members: &[(&str, LineValue<'_>)]) -> bool
     ensures { IsTrue result → member_count (members_of (members_view members.now) no_members) ≡ length members.now }
 {
@@ -79,7 +81,7 @@ fn begin_apart(members: &[(&str, LineValue<'_>)]) -> bool
     true
 }
 
-/// The same, by first bytes alone where these tell the keys apart.
+/// Does the same as `has_keys`, but only counts the members if the first bytes of the keys differ.
 fn has_count(members: &[(&str, LineValue<'_>)], count: usize) -> bool
     requires { count ≤ 8 }
     ensures { result ≡ (member_count (members_of (members_view members.now) no_members) == count) }
@@ -90,7 +92,7 @@ fn has_count(members: &[(&str, LineValue<'_>)], count: usize) -> bool
     has_keys(members, count)
 }
 
-/// Whether the value is an object of that many members.
+/// Returns whether the value is an object with exactly `count` different keys.
 #[tactic(auto, unfolding(crate::specs::Object::has_members, crate::specs::LineValue::line_view))]
 fn has_members(value: &LineValue<'_>, count: usize) -> bool
     requires { count ≤ 8 }
@@ -102,7 +104,7 @@ fn has_members(value: &LineValue<'_>, count: usize) -> bool
     }
 }
 
-/// The object has so many keys.
+/// Fails with `BadShape` unless the value is an object with exactly `count` different keys.
 #[tactic(auto, unfolding(crate::specs::Object::keys))]
 pub fn keys(value: &LineValue<'_>, count: usize) -> Result<(), LineFault>
     requires { count ≤ 8 }
@@ -114,7 +116,7 @@ pub fn keys(value: &LineValue<'_>, count: usize) -> Result<(), LineFault>
     Ok(())
 }
 
-/// Whether two keys are the same. Most begin with different bytes.
+/// Returns whether two keys are equal. Most unequal keys differ in their first byte.
 fn is_key(key: &str, name: &str) -> bool
     ensures { result ≡ bytes_eq key.now name.now }
 {
@@ -124,7 +126,7 @@ fn is_key(key: &str, name: &str) -> bool
     key == name
 }
 
-/// The value of the last member of a name.
+/// Returns the value of the last member with that name.
 fn find_member<'v, 'a>(
     members: &'v [(&'a str, LineValue<'a>)],
     name: &str,
@@ -142,7 +144,7 @@ fn find_member<'v, 'a>(
     None
 }
 
-/// What stands under a key.
+/// Returns the value under a key, or `None` if the value is not an object with that key.
 #[tactic(auto, unfolding(crate::specs::LineValue::line_view))]
 pub fn find<'v, 'a>(value: &'v LineValue<'a>, key: &str) -> Option<&'v LineValue<'a>>
     ensures { option_map (λ found. line_view found.now) result ≡ get key.now (line_view value.now) }
@@ -153,7 +155,7 @@ pub fn find<'v, 'a>(value: &'v LineValue<'a>, key: &str) -> Option<&'v LineValue
     }
 }
 
-/// The text that a value is.
+/// Returns the text of a string.
 #[tactic(auto, unfolding(crate::specs::LineValue::line_view))]
 fn as_text<'a>(value: &LineValue<'a>) -> Option<&'a str>
     ensures { option_map (λ text. text.now) result ≡ as_str (line_view value.now) }
@@ -161,7 +163,7 @@ fn as_text<'a>(value: &LineValue<'a>) -> Option<&'a str>
     value.as_str()
 }
 
-/// The whole number that a value is.
+/// Returns the integer of a number, if it is one below 2^64.
 #[tactic(auto, unfolding(crate::specs::LineValue::line_view))]
 fn as_number(value: &LineValue<'_>) -> Option<u64>
     ensures { result ≡ number_of (line_view value.now) }
@@ -169,7 +171,7 @@ fn as_number(value: &LineValue<'_>) -> Option<u64>
     whole_number(value.as_number()?)
 }
 
-/// The truth value that a value is.
+/// Returns the value of a boolean.
 #[tactic(auto, unfolding(crate::specs::LineValue::line_view))]
 fn as_boolean(value: &LineValue<'_>) -> Option<bool>
     ensures { result ≡ as_bool (line_view value.now) }
@@ -177,7 +179,7 @@ fn as_boolean(value: &LineValue<'_>) -> Option<bool>
     value.as_bool()
 }
 
-/// The items of an array.
+/// Returns the items of an array.
 #[tactic(auto, unfolding(crate::specs::LineValue::line_view))]
 fn as_items<'v, 'a>(value: &'v LineValue<'a>) -> Option<&'v Vec<LineValue<'a>, &'a Bump>>
     ensures { option_map (λ items. items_seen items.now.items) result ≡ as_array (line_view value.now) }
@@ -188,7 +190,7 @@ fn as_items<'v, 'a>(value: &'v LineValue<'a>) -> Option<&'v Vec<LineValue<'a>, &
     }
 }
 
-/// The object has so many keys besides one that may be left out.
+/// Fails with `BadShape` unless the object has exactly `count` different keys, apart from the optional one.
 #[tactic(auto, unfolding(crate::specs::Object::keys_besides))]
 pub fn keys_besides(value: &LineValue<'_>, key: &str, count: u8) -> Result<(), LineFault>
     requires { count ≤ 7 }
@@ -207,6 +209,7 @@ fn find_text<'a>(value: &LineValue<'a>, key: &str) -> Option<&'a str>
     as_text(find(value, key)?)
 }
 
+/// Returns the text under a key. Fails with `BadShape` if there is no string.
 #[tactic(auto, unfolding(crate::specs::Object::text_at))]
 pub fn text_at<'a>(value: &LineValue<'a>, key: &str) -> Result<&'a str, LineFault>
     ensures { IsFoundAs (λ text. text.now) result (text_at key.now (line_view value.now)) }
@@ -220,6 +223,7 @@ fn find_number(value: &LineValue<'_>, key: &str) -> Option<u64>
     as_number(find(value, key)?)
 }
 
+/// Returns the number under a key. Fails with `BadShape` if there is no integer below 2^64.
 #[tactic(auto, unfolding(crate::specs::Object::number_at))]
 pub fn number_at(value: &LineValue<'_>, key: &str) -> Result<u64, LineFault>
     ensures { result ≡ number_at key.now (line_view value.now) }
@@ -233,6 +237,7 @@ fn find_boolean(value: &LineValue<'_>, key: &str) -> Option<bool>
     as_boolean(find(value, key)?)
 }
 
+/// Returns the boolean under a key. Fails with `BadShape` if there is no boolean.
 #[tactic(auto, unfolding(crate::specs::Object::boolean_at))]
 pub fn boolean_at(value: &LineValue<'_>, key: &str) -> Result<bool, LineFault>
     ensures { result ≡ boolean_at key.now (line_view value.now) }
@@ -240,7 +245,8 @@ pub fn boolean_at(value: &LineValue<'_>, key: &str) -> Result<bool, LineFault>
     find_boolean(value, key).ok_or(LineFault::BadShape)
 }
 
-/// The number under a key, or the usual one where the key is left out.
+/// Returns the number under a key, or the default if there is no such key. Fails with `BadShape` if the value there is
+/// not an integer below 2^64.
 #[tactic(auto, unfolding(crate::specs::Object::number_or))]
 pub fn number_or(value: &LineValue<'_>, key: &str, usual: u64) -> Result<u64, LineFault>
     ensures { result ≡ number_or usual key.now (line_view value.now) }
@@ -257,7 +263,7 @@ fn items_at<'v, 'a>(value: &'v LineValue<'a>, key: &str) -> Option<&'v Vec<LineV
     as_items(find(value, key)?)
 }
 
-/// The values of the array under a key.
+/// Returns the values of the array under a key. Fails with `BadShape` if there is no array.
 #[tactic(auto, unfolding(crate::specs::TaskTexts::values_at))]
 pub fn values_at<'v, 'a>(
     value: &'v LineValue<'a>,
@@ -271,7 +277,7 @@ pub fn values_at<'v, 'a>(
     }
 }
 
-/// The texts of the array under a key.
+/// Returns the texts of the array under a key. Fails with `BadShape` if there is no array, or an item is not a string.
 pub fn texts_at<'a>(
     alloc: Global,
     value: &LineValue<'a>,

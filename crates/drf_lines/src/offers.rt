@@ -1,4 +1,4 @@
-//! The events of offers, and of the tasks that come of them.
+//! Reads and writes the events `accept`, `decline`, `rescind` and `finish`.
 ghost use Rattle.std.specs.Prelude.{◌≡◌, ◌<◌, ◌^◌, ◌++◌, map, true, Ok, OnOk, codes, decimal};
 ghost use Rattle.serde_json.specs.Written.{compact_text, members_text};
 ghost use Rattle.drf_rows.specs.declared.event.Event.TheVariants.{Rescind, Finish};
@@ -19,9 +19,10 @@ use drf_role::Name;
 use drf_rows::{Accept, Decline, Event};
 use std::alloc::AllocError;
 
-/// For how many milliseconds an offer is refused where a line does not say.
+/// The default of `refuse_ms`, in milliseconds.
 const USUAL_REFUSAL: u64 = 5000;
 
+/// Reads an accept.
 #[tactic(auto, unfolding(crate::specs::OfferEvents::accept_event))]
 pub fn read_accept(known: &mut KnownWords, value: &LineValue<'_>) -> Result<Event, LineError>
     ensures { IsReadOf result (accept_event (line_view value.now)) }
@@ -40,6 +41,7 @@ pub fn read_accept(known: &mut KnownWords, value: &LineValue<'_>) -> Result<Even
     }))
 }
 
+/// Reads a decline.
 #[tactic(auto, unfolding(crate::specs::OfferEvents::decline_event))]
 pub fn read_decline(known: &mut KnownWords, value: &LineValue<'_>) -> Result<Event, LineError>
     ensures { IsReadOf result (decline_event (line_view value.now)) }
@@ -57,6 +59,7 @@ pub fn read_decline(known: &mut KnownWords, value: &LineValue<'_>) -> Result<Eve
     }))
 }
 
+/// Reads a rescind.
 #[tactic(auto, unfolding(crate::specs::OfferEvents::rescind_event))]
 pub fn read_rescind(value: &LineValue<'_>) -> Result<Event, LineError>
     ensures { IsReadOf result (rescind_event (line_view value.now)) }
@@ -66,6 +69,7 @@ pub fn read_rescind(value: &LineValue<'_>) -> Result<Event, LineError>
     Ok(Event::Rescind { offer })
 }
 
+/// Reads a finish.
 #[tactic(auto, unfolding(crate::specs::OfferEvents::finish_event))]
 pub fn read_finish(known: &mut KnownWords, value: &LineValue<'_>) -> Result<Event, LineError>
     ensures { IsReadOf result (finish_event (line_view value.now)) }
@@ -79,7 +83,7 @@ pub fn read_finish(known: &mut KnownWords, value: &LineValue<'_>) -> Result<Even
     })
 }
 
-/// Writes for how long an offer is refused, where that is not the usual time.
+/// Appends `refuse_ms`, unless it is the default.
 fn put_refusal(line: &mut Vec<u8>, refuse_ms: u64) -> Result<(), AllocError>
     ensures { AppendsMembers result line.old.items line.new.items (refusal_member refuse_ms) }
 {
@@ -89,7 +93,7 @@ fn put_refusal(line: &mut Vec<u8>, refuse_ms: u64) -> Result<(), AllocError>
     put_number(line, ",\"refuse_ms\":", refuse_ms)
 }
 
-/// Writes the opening bracket and the moment.
+/// Appends the opening brace and the timestamp `at`, in milliseconds.
 fn put_moment(line: &mut Vec<u8>, at: u64) -> Result<(), AllocError>
     ensures appends { AppendsText result line.old.items line.new.items (codes "{\"at\":" ++ decimal at) }
     ensures small { at < 2 ^ 64 }
@@ -97,7 +101,7 @@ fn put_moment(line: &mut Vec<u8>, at: u64) -> Result<(), AllocError>
     put_number(line, "{\"at\":", at)
 }
 
-/// Writes which offer is answered, and for how long it is refused.
+/// Appends the number of the offer, and `refuse_ms` unless it is the default.
 fn put_answered(line: &mut Vec<u8>, offer: u64, refuse_ms: u64) -> Result<(), AllocError>
     ensures appends { AppendsMembers result line.old.items line.new.items (offer_members offer refuse_ms) }
     ensures small { (offer < 2 ^ 64) × (refuse_ms < 2 ^ 64) }
@@ -106,7 +110,7 @@ fn put_answered(line: &mut Vec<u8>, offer: u64, refuse_ms: u64) -> Result<(), Al
     put_refusal(line, refuse_ms)
 }
 
-/// Writes several tasks as an array, and the closing bracket.
+/// Appends the tasks as an array, and the closing brace.
 fn put_several(
     line: &mut Vec<u8>,
     text: &mut String,
@@ -120,7 +124,7 @@ fn put_several(
     put_byte(line, b'}')
 }
 
-/// Writes the tasks of an accept, one with keys of its own, and the closing bracket.
+/// Appends the tasks of an accept and the closing brace. A single task has its own keys instead of an array.
 fn put_tasks(
     line: &mut Vec<u8>,
     text: &mut String,
@@ -135,6 +139,7 @@ fn put_tasks(
     }
 }
 
+/// Appends an accept.
 pub fn put_accept(line: &mut Vec<u8>, accept: &Accept) -> Result<(), AllocError>
     ensures appends { AppendsText result line.old.items line.new.items (compact_text (accept_value accept.now)) }
     ensures read { OnOk result (IsSpelled (Event.Accept accept.now)) }
@@ -153,6 +158,7 @@ pub fn put_accept(line: &mut Vec<u8>, accept: &Accept) -> Result<(), AllocError>
     put_tasks(line, &mut text, tasks.as_slice())
 }
 
+/// Appends a decline.
 pub fn put_decline(line: &mut Vec<u8>, decline: &Decline) -> Result<(), AllocError>
     ensures appends { AppendsText result line.old.items line.new.items (compact_text (decline_value decline.now)) }
     ensures read { OnOk result (IsSpelled (Event.Decline decline.now)) }
@@ -169,6 +175,7 @@ pub fn put_decline(line: &mut Vec<u8>, decline: &Decline) -> Result<(), AllocErr
     put_byte(line, b'}')
 }
 
+/// Appends a rescind.
 pub fn put_rescind(line: &mut Vec<u8>, offer: u64) -> Result<(), AllocError>
     ensures appends { AppendsText result line.old.items line.new.items (compact_text (rescind_value offer)) }
     ensures read { OnOk result (IsSpelled (Rescind offer)) }
@@ -177,6 +184,7 @@ pub fn put_rescind(line: &mut Vec<u8>, offer: u64) -> Result<(), AllocError>
     put_byte(line, b'}')
 }
 
+/// Appends a finish.
 pub fn put_finish(line: &mut Vec<u8>, framework: &Name, task: &Name) -> Result<(), AllocError>
     ensures appends { AppendsText result line.old.items line.new.items (compact_text (finish_value framework.now task.now)) }
     ensures read { OnOk result (IsSpelled (Finish framework.now task.now)) }

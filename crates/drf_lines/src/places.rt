@@ -1,14 +1,14 @@
-//! What texts said, by place: of those with one place the last.
+//! A cache with a fixed number of places: the hash of a text chooses its place, which keeps the last value put there.
 ghost use Rattle.std.specs.Prelude.{◌<◌};
 
 use std::alloc::{AllocError, Global};
 use std::hash::{FoldHasher, Hasher};
 use std::marker::Model;
 
-/// How many places there are.
+/// The number of places.
 const PLACES: usize = 2048;
 
-/// The place of a text.
+/// Returns the place of a text, which its hash chooses.
 pub(crate) fn place_of(text: &str) -> usize
     ensures { result < 2048 }
 {
@@ -17,7 +17,7 @@ pub(crate) fn place_of(text: &str) -> usize
     hasher.finish() as usize % PLACES
 }
 
-/// What came last at each place. Nothing stands behind the end.
+/// The last value of each place. The list grows when a place is first used.
 #[derive(Drop)]
 pub(crate) struct Places<T> {
     items: Vec<Option<T>>,
@@ -34,19 +34,19 @@ impl<T> Model for Places<T> {
 }
 
 impl<T: Drop> Places<T> {
-    /// Nothing is there.
+    /// Creates a cache that is empty.
     pub(crate) fn new(alloc: Global) -> Places<T> {
         Places {
             items: Vec::new(alloc),
         }
     }
 
-    /// What stands at a place.
+    /// Returns the value at a place.
     pub(crate) fn at(&self, place: usize) -> Option<&T> {
         self.items.get(place)?.as_ref()
     }
 
-    /// Puts something at a place, if there is memory for that.
+    /// Puts a value at a place. Fails if there is no memory to grow the list.
     pub(crate) fn put(&mut self, place: usize, read: T) -> Result<(), AllocError>
         requires { place < 2048 }
     {

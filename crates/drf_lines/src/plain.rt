@@ -1,4 +1,4 @@
-//! Texts that a JSON string holds as they are.
+//! Finds the bytes that a JSON string contains without escapes.
 ghost use Rattle.std.specs.Prelude.{◌≡◌, ◌≤◌, length, drop, map};
 ghost use Rattle.std.specs.List.{list_all};
 ghost use Rattle.std.specs.Simd.Lanes.{mask_l};
@@ -7,7 +7,7 @@ ghost use Rattle.drf_lines.specs.Written.{is_plain_byte, ArePlainFrom};
 
 use std::simd::prelude::*;
 
-/// A bit for each byte that needs an escape.
+/// Returns a bit mask of the bytes that need an escape, for 16 bytes.
 #[inline(always)]
 fn stops_16(bytes: u8x16) -> u64
     ensures { result ≡ mask_l (map is_stop bytes) }
@@ -17,7 +17,7 @@ fn stops_16(bytes: u8x16) -> u64
         | bytes.simd_lt(u8x16::splat(32))).to_bitmask()
 }
 
-/// The same of 8 bytes.
+/// Returns the same mask for 8 bytes.
 #[inline(always)]
 fn stops_8(bytes: u8x8) -> u64
     ensures { result ≡ mask_l (map is_stop bytes) }
@@ -34,7 +34,7 @@ fn is_plain_byte(byte: u8) -> bool
     (byte >= 32) & ((byte != b'"') & (byte != b'\\'))
 }
 
-/// Whether all bytes from a place on are plain, one after another.
+/// Returns whether no byte from `from` on needs an escape; it tests byte by byte.
 fn is_plain_slowly(bytes: &[u8], from: usize) -> bool
     requires { from ≤ length bytes.now }
     ensures { result ≡ list_all is_plain_byte (drop from bytes.now) }
@@ -49,7 +49,7 @@ fn is_plain_slowly(bytes: &[u8], from: usize) -> bool
     true
 }
 
-/// The same, where fewer than 16 are left.
+/// Returns the same as `is_plain_slowly`, for fewer than 16 bytes.
 fn is_plain_end(bytes: &[u8], from: usize) -> bool
     requires { from ≤ length bytes.now }
     ensures { result ≡ list_all is_plain_byte (drop from bytes.now) }
@@ -63,7 +63,7 @@ fn is_plain_end(bytes: &[u8], from: usize) -> bool
     is_plain_slowly(bytes, from + 8)
 }
 
-/// Whether a JSON string holds the text as it is.
+/// Returns whether a JSON string contains the text without escapes.
 pub fn is_plain(text: &str) -> bool
     ensures { result ≡ list_all is_plain_byte text.now }
 {
@@ -78,7 +78,7 @@ pub fn is_plain(text: &str) -> bool
     is_plain_end(bytes, i)
 }
 
-/// Where the bytes end that a JSON string holds as they are, one after another.
+/// Returns the end of the bytes from `from` on that need no escape; it tests byte by byte.
 fn plain_end_slowly(bytes: &[u8], from: usize) -> usize
     requires { from ≤ length bytes.now }
     ensures bound { (from ≤ result) × (result ≤ length bytes.now) }
@@ -91,7 +91,7 @@ fn plain_end_slowly(bytes: &[u8], from: usize) -> usize
     i
 }
 
-/// The same, many at once.
+/// Returns the same as `plain_end_slowly`, but tests 16 bytes at once.
 #[inline(always)]
 pub fn plain_end(bytes: &[u8], from: usize) -> usize
     requires { from ≤ length bytes.now }

@@ -1,4 +1,4 @@
-//! Whether the numbers of a value are in the range of a double. A line with another number anywhere in it is no JSON.
+//! Tests whether the numbers of a value are in the range of a double. A line with any other number is not JSON.
 ghost use Rattle.std.specs.Prelude.{◌≡◌};
 ghost use Rattle.json.specs.Value.{value_view, items_view, members_view};
 ghost use Rattle.drf_lines.specs.LineValue.{is_in_range, items_in_range, members_in_range};
@@ -8,7 +8,7 @@ use crate::object::LineValue;
 use bumpalo::Bump;
 use json::Value;
 
-/// Whether each number of the value is in the range of a double.
+/// Returns whether every number of the value is in the range of a double.
 #[cycle(is_in_range)]
 pub fn is_in_range(value: &LineValue<'_>) -> bool
     ensures { result ≡ is_in_range (value_view value.now) }

@@ -1,4 +1,4 @@
-//! The writer of a reply line.
+//! Writes the line of a reply or of an error.
 ghost use Rattle.std.specs.Prelude.{◌≡◌, ◌++◌, map, IfOk, OnOk};
 ghost use Rattle.serde_json.specs.Data.{array};
 ghost use Rattle.serde_json.specs.View.{items_of};
@@ -26,7 +26,7 @@ fn put_offer(line: &mut Vec<u8>, text: &mut String, offer: &OfferLine) -> Result
     put_byte(line, b'}')
 }
 
-/// The offers, one after another.
+/// Appends the offers as an array, in their order.
 fn put_offer_list(
     line: &mut Vec<u8>,
     text: &mut String,
@@ -77,7 +77,7 @@ fn put_reply(line: &mut Vec<u8>, last: &mut LastReport, reply: &Reply) -> Result
     }
 }
 
-/// Adds the line that tells a reply, behind the report that was written last.
+/// Appends the line of a reply. Text of a report can be copied from the last report.
 pub fn push_reply_after(
     text: &mut Vec<u8>,
     last: &mut LastReport,
@@ -90,8 +90,8 @@ pub fn push_reply_after(
     put_byte(text, b'\n')
 }
 
-/// Adds the line that tells a reply: compact JSON, the keys in order of bytes. At want of memory a part of it may stand
-/// behind what stood there.
+/// Appends the line of a reply, with a line feed: compact JSON with its keys in byte order. If memory runs out, a part
+/// of the line may have been appended.
 pub fn push_reply(text: &mut Vec<u8>, reply: &Reply) -> Result<(), AllocError>
     ensures ok { OnOk result (text.new.items ≡ text.old.items ++ reply_line reply.now) }
     ensures front { KeepsFront text.old.items text.new.items }
@@ -100,7 +100,8 @@ pub fn push_reply(text: &mut Vec<u8>, reply: &Reply) -> Result<(), AllocError>
     push_reply_after(text, &mut last, reply)
 }
 
-/// Adds the line that tells why a line is no event. At want of memory a part of it may stand behind what stood there.
+/// Appends the line that reports why a line is not an event, with a line feed. If memory runs out, a part of it may
+/// have been appended.
 pub fn push_fault(text: &mut Vec<u8>, fault: LineFault) -> Result<(), AllocError>
     ensures { AppendsText result text.old.items text.new.items (fault_line fault) }
 {
@@ -108,7 +109,7 @@ pub fn push_fault(text: &mut Vec<u8>, fault: LineFault) -> Result<(), AllocError
     put_byte(text, b'\n')
 }
 
-/// The line that tells a reply.
+/// Returns the line of a reply, with a line feed.
 pub fn write_reply(alloc: Global, reply: &Reply) -> Result<Vec<u8>, AllocError>
     ensures { IfOk result (λ line. line.items ≡ reply_line reply.now) }
 {
@@ -117,7 +118,7 @@ pub fn write_reply(alloc: Global, reply: &Reply) -> Result<Vec<u8>, AllocError>
     Ok(line)
 }
 
-/// The line that tells why a line is no event.
+/// Returns the line that reports why a line is not an event, with a line feed.
 pub fn write_fault(alloc: Global, fault: LineFault) -> Result<Vec<u8>, AllocError>
     ensures { IfOk result (λ line. line.items ≡ fault_line fault) }
 {

@@ -1,4 +1,4 @@
-//! The writer of a report.
+//! Writes a report.
 ghost use Rattle.std.specs.Prelude.{◌≡◌, ◌++◌, OnOk};
 ghost use Rattle.serde_json.specs.Written.{compact_text};
 ghost use Rattle.drf_lines.specs.ReportLine.{report_value};
@@ -10,7 +10,7 @@ use crate::member::{put, put_byte};
 use drf_rows::Report;
 use std::alloc::AllocError;
 
-/// Writes a report behind the one that was written last.
+/// Appends a report. The text of nodes that are the same as in the last report is copied.
 pub fn put_report(
     line: &mut Vec<u8>,
     last: &mut LastReport,

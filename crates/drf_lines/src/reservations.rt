@@ -1,4 +1,4 @@
-//! The events of reservations.
+//! Reads and writes the events `reserve` and `unreserve`.
 ghost use Rattle.std.specs.Prelude.{◌≡◌, Ok, OnOk};
 ghost use Rattle.serde_json.specs.Written.{compact_text};
 ghost use Rattle.drf_role.specs.Parts.{text_of};
@@ -18,7 +18,7 @@ use drf_bundle::Bundle;
 use drf_role::{Name, Role};
 use std::alloc::AllocError;
 
-/// The agent, the role and the resources of an event that has no other keys.
+/// Reads the agent, the role and the resources of an event that has no other keys.
 #[tactic(auto, unfolding(crate::specs::ReservationEvents::its_reservation))]
 pub fn read_its_reservation(
     known: &mut KnownWords,
@@ -37,7 +37,7 @@ pub fn read_its_reservation(
     ))
 }
 
-/// An event of an agent, a role and resources.
+/// Appends an event that consists of an agent, a role and resources.
 pub fn put_of_reservation(
     line: &mut Vec<u8>,
     event: &str,

@@ -1,4 +1,4 @@
-//! Resources, quantities and weights as texts of a line.
+//! Reads the texts of resources, quantities and weights in a line.
 ghost use Rattle.std.specs.Prelude.{◌≡◌};
 ghost use Rattle.drf_lines.specs.Fault.{IsReadOf};
 ghost use Rattle.drf_lines.specs.Resources.{bundle_in, quantities_in, weight_in};
@@ -8,7 +8,7 @@ use drf_bundle::{Bundle, Quantities};
 use drf_text::TextFault;
 use std::alloc::Global;
 
-/// Reads a bundle.
+/// Reads a bundle. Fails with `BadText` if the text is not a bundle, and with `Memory` if memory runs out.
 #[tactic(auto, unfolding(crate::specs::Resources::bundle_in))]
 pub fn read_bundle(alloc: Global, text: &str) -> Result<Bundle, LineError>
     ensures { IsReadOf result (bundle_in text.now) }
@@ -20,7 +20,7 @@ pub fn read_bundle(alloc: Global, text: &str) -> Result<Bundle, LineError>
     }
 }
 
-/// Reads quantities.
+/// Reads quantities. Fails with `BadText` if the text is not quantities, and with `Memory` if memory runs out.
 #[tactic(auto, unfolding(crate::specs::Resources::quantities_in))]
 pub fn read_quantities(alloc: Global, text: &str) -> Result<Quantities, LineError>
     ensures { IsReadOf result (quantities_in text.now) }
@@ -32,7 +32,7 @@ pub fn read_quantities(alloc: Global, text: &str) -> Result<Quantities, LineErro
     }
 }
 
-/// Reads a weight, in thousandths.
+/// Reads a weight, and returns it in thousandths. Fails with `BadText` if the text is not a weight.
 #[tactic(auto, unfolding(crate::specs::Resources::weight_in))]
 pub fn read_weight(text: &str) -> Result<u64, LineFault>
     ensures { result ≡ weight_in text.now }

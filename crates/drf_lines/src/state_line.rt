@@ -1,4 +1,4 @@
-//! The lines of a state.
+//! Reads and writes the lines of a state.
 ghost use Rattle.std.specs.Prelude.{◌≡◌, Ok, OnOk};
 ghost use Rattle.drf_saved.specs.declared.saved.StateLine.TheVariants.{Row, End};
 ghost use Rattle.drf_lines.specs.Fault.{IsReadOf};
@@ -22,6 +22,7 @@ use drf_rows::{LimitRow, WeightRow};
 use drf_saved::{Head, SavedRow, StateLine};
 use std::alloc::AllocError;
 
+/// Reads the head of a state: its clock, the next offer number and the number of accepted events.
 #[tactic(auto, unfolding(crate::specs::StateMeaning::head_in))]
 fn read_head(value: &LineValue<'_>) -> Result<Head, LineError>
     ensures { IsReadOf result (head_in (line_view value.now)) }
@@ -37,6 +38,7 @@ fn read_head(value: &LineValue<'_>) -> Result<Head, LineError>
     })
 }
 
+/// Reads the end of a state. The number of lines and the digest must be there, but are not returned.
 #[tactic(auto, unfolding(crate::specs::StateMeaning::end_in))]
 fn read_end(value: &LineValue<'_>) -> Result<StateLine, LineError>
     ensures { IsReadOf result (end_in (line_view value.now)) }
@@ -47,6 +49,7 @@ fn read_end(value: &LineValue<'_>) -> Result<StateLine, LineError>
     Ok(StateLine::End)
 }
 
+/// Reads the head, a row or the end of a state.
 #[tactic(auto, unfolding(crate::specs::StateMeaning::state_line_in))]
 pub fn read_state_object(
     known: &mut KnownWords,
@@ -75,7 +78,7 @@ pub fn read_state_object(
     Ok(StateLine::Row(row))
 }
 
-/// Adds the line with which a state begins, as `push_row` does.
+/// Appends the first line of a state, as `push_row` does.
 pub fn push_head(text: &mut Vec<u8>, head: &Head) -> Result<(), AllocError>
     ensures appends { AppendsText result text.old.items text.new.items (head_line head.now) }
     ensures read { OnOk result (state_line_meaning (head_line head.now) ≡ Ok (StateLine.Head head.now)) }
@@ -86,8 +89,8 @@ pub fn push_head(text: &mut Vec<u8>, head: &Head) -> Result<(), AllocError>
     put(text, ",\"row\":\"state\"}")
 }
 
-/// Adds the line of a row, without a line feed: compact JSON, the keys in order of bytes. It is read as this row. At want of memory a
-/// part of it may stand behind what stood there.
+/// Appends the line of a row, without a line feed: compact JSON with its keys in byte order. Reading the line gives
+/// this row. If memory runs out, a part of the line may have been appended.
 pub fn push_row(text: &mut Vec<u8>, row: &SavedRow) -> Result<(), AllocError>
     ensures appends { AppendsText result text.old.items text.new.items (row_line row.now) }
     ensures read { OnOk result (state_line_meaning (row_line row.now) ≡ Ok (Row row.now)) }
@@ -103,7 +106,7 @@ pub fn push_row(text: &mut Vec<u8>, row: &SavedRow) -> Result<(), AllocError>
     }
 }
 
-/// Adds the line with which a state ends, as `push_row` does: how many lines stand before it, and the digest of their bytes.
+/// Appends the last line of a state, as `push_row` does: the number of lines before it, and the digest of their bytes.
 pub fn push_end(text: &mut Vec<u8>, rows: u64, sha256: &str) -> Result<(), AllocError>
     ensures appends { AppendsText result text.old.items text.new.items (end_line rows sha256.now) }
     ensures read { OnOk result (state_line_meaning (end_line rows sha256.now) ≡ Ok End) }

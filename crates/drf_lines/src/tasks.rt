@@ -1,4 +1,4 @@
-//! The tasks of an accept: one under the keys `task` and `use`, or 1 to 16 in an array.
+//! Reads and writes the tasks of an accept: one under the keys `task` and `use`, or 1 to 16 in an array.
 ghost use Rattle.std.specs.Prelude.{◌≡◌, ◌∷◌, ◌++◌, [], map, codes, true, Ok, OnOk};
 ghost use Rattle.json.specs.Print.{escape};
 ghost use Rattle.serde_json.specs.Data.{string, array, member, no_members};
@@ -19,14 +19,14 @@ use drf_role::Name;
 use drf_rows::{MOST_TASKS, Table, TaskList};
 use std::alloc::{AllocError, Global};
 
-/// The name of a task as it stands in a line, and what it uses.
+/// The name of a task and the resources that it uses, as the texts that were in the line.
 #[derive(Clone, Copy)]
 pub struct TaskText<'a> {
     name: &'a str,
     used: &'a str,
 }
 
-/// The texts of an object of the two keys alone.
+/// Reads the texts of a task from an object that has only the two keys.
 #[tactic(auto, unfolding(crate::specs::TaskTexts::task_text))]
 fn task_text<'a>(value: &LineValue<'a>) -> Result<TaskText<'a>, LineError>
     ensures { IsReadAs (λ text. (text.name.now, text.used.now)) result (task_text (line_view value.now)) }
@@ -37,7 +37,7 @@ fn task_text<'a>(value: &LineValue<'a>) -> Result<TaskText<'a>, LineError>
     Ok(TaskText { name, used })
 }
 
-/// The texts of each of some objects.
+/// Reads the texts of the tasks from objects.
 fn each_text<'a>(alloc: Global, values: &[LineValue<'a>]) -> Result<Table<TaskText<'a>>, LineError>
     ensures { IsReadAs (map (λ text. (text.name.now, text.used.now))) result (each_in task_text (map line_view values.now)) }
 {
@@ -48,14 +48,14 @@ fn each_text<'a>(alloc: Global, values: &[LineValue<'a>]) -> Result<Table<TaskTe
     Ok(Table::from_vec(texts))
 }
 
-/// Whether so many tasks are 1 to 16.
+/// Returns whether the number of tasks is from 1 to 16.
 fn is_few(count: usize) -> bool
     ensures { result ≡ is_few count }
 {
     (1 <= count) & (count <= MOST_TASKS)
 }
 
-/// The values of an array, where they are 1 to 16.
+/// Returns the values if there are 1 to 16 of them, and otherwise fails with `BadShape`.
 #[tactic(auto, unfolding(crate::specs::TaskTexts::if_few))]
 fn if_few<'v, 'a>(values: &'v [LineValue<'a>]) -> Result<&'v [LineValue<'a>], LineFault>
     ensures { IsFoundAs (λ values. map line_view values.now) result (if_few (map line_view values.now)) }
@@ -66,6 +66,7 @@ fn if_few<'v, 'a>(values: &'v [LineValue<'a>]) -> Result<&'v [LineValue<'a>], Li
     Ok(values)
 }
 
+/// Reads the texts of the task of an accept that has no array of tasks.
 #[tactic(auto, unfolding(crate::specs::TaskTexts::one_text))]
 fn one_text<'a>(alloc: Global, value: &LineValue<'a>) -> Result<Table<TaskText<'a>>, LineError>
     ensures { IsReadAs (map (λ text. (text.name.now, text.used.now))) result (one_text (line_view value.now)) }
@@ -78,6 +79,7 @@ fn one_text<'a>(alloc: Global, value: &LineValue<'a>) -> Result<Table<TaskText<'
     Ok(Table::from_vec(texts))
 }
 
+/// Reads the texts of the tasks of an accept that has an array of tasks.
 #[tactic(auto, unfolding(crate::specs::TaskTexts::several_texts))]
 fn several_texts<'a>(alloc: Global, value: &LineValue<'a>) -> Result<Table<TaskText<'a>>, LineError>
     ensures { IsReadAs (map (λ text. (text.name.now, text.used.now))) result (several_texts (line_view value.now)) }
@@ -88,7 +90,7 @@ fn several_texts<'a>(alloc: Global, value: &LineValue<'a>) -> Result<Table<TaskT
     each_text(alloc, values)
 }
 
-/// The texts of the tasks of an accept, whose keys are those of one task or of several.
+/// Reads the texts of the tasks of an accept, and checks all keys of the accept.
 #[tactic(auto, unfolding(crate::specs::TaskTexts::task_texts))]
 pub fn task_texts<'a>(
     alloc: Global,
@@ -102,6 +104,7 @@ pub fn task_texts<'a>(
     one_text(alloc, value)
 }
 
+/// Reads the name of a task and the resources that it uses.
 #[tactic(auto, unfolding(crate::specs::TaskTexts::start_in))]
 fn read_start(known: &mut KnownWords, text: &TaskText) -> Result<(Name, Bundle), LineError>
     ensures { IsReadOf result (start_in (text.now.name.now, text.now.used.now)) }
@@ -124,7 +127,7 @@ fn read_starts(
     Ok(Table::from_vec(starts))
 }
 
-/// The list of those tasks. Their number was looked at before.
+/// Returns the tasks as a `TaskList`. There are 1 to 16, because their number was checked before.
 #[tactic(auto, unfolding(crate::specs::TaskTexts::if_few))]
 fn task_list(tasks: Table<(Name, Bundle)>) -> Result<TaskList, LineFault>
     ensures { IsFoundAs (λ tasks. tasks) result (if_few tasks) }
@@ -142,7 +145,7 @@ pub fn read_tasks(known: &mut KnownWords, texts: &[TaskText]) -> Result<TaskList
     Ok(tasks)
 }
 
-/// Writes what stands before the name of a task with its first `"`, and the task with the closing bracket.
+/// Appends `before`, which ends with the opening quote of the name, then the task and the closing brace.
 pub fn put_start(
     line: &mut Vec<u8>,
     text: &mut String,
@@ -157,7 +160,7 @@ pub fn put_start(
     put_byte(line, b'}')
 }
 
-/// The tasks as objects, in their order.
+/// Appends the tasks as an array of objects, in their order.
 pub fn put_task_list(
     line: &mut Vec<u8>,
     text: &mut String,

@@ -1,5 +1,6 @@
-//! Arrays and objects in the usual form, in one pass over their bytes: without spaces, escapes and `true`, `false` or `null`, numbers of a few digits
-//! alone, nothing empty, few levels. All numbers of that form are in range.
+//! The fast path for JSON: reads arrays and objects in one pass over their bytes. They must have no spaces, escapes,
+//! `true`, `false`, `null`, empty arrays or empty objects, only integers of at most 19 digits, and few levels. So all
+//! numbers are in the range of a double.
 ghost use Rattle.std.specs.Prelude.{◌≡◌, ◌<◌, ◌≤◌, ℕ, [], true, Some, IfSome, IfOk, length, get_or, is_some};
 ghost use Rattle.json.specs.Json.{value};
 ghost use Rattle.json.specs.Lex.{tokens};
@@ -15,19 +16,19 @@ use bumpalo::Bump;
 use json::Value;
 use std::alloc::AllocError;
 
-/// How deep the arrays and objects of a line may nest.
+/// How many levels of arrays and objects a line may have.
 pub const MOST_DEPTH: usize = 127;
 
-/// No line of events, and none of a state, has more than four levels: what nests deeper is left to the other reader at once.
+/// The remaining depth below which the fast path stops, after four levels. No event and no row of a state has more.
 const LEAST_DEPTH: usize = MOST_DEPTH - 3;
 
-/// Room for so many members is made at once in the outermost object, so that few grow.
+/// The initial capacity for the members of the outermost object, so that few objects grow.
 const USUAL_MEMBERS: usize = 8;
 
-/// The same for those within, of which a line may have thousands.
+/// The initial capacity for inner objects, of which a line may have thousands.
 const FEW_MEMBERS: usize = 2;
 
-/// The byte at a place, or a space behind the end.
+/// Returns the byte at an index, or a space after the end.
 #[inline(always)]
 fn byte_at(bytes: &[u8], at: usize) -> u8
     ensures { result ≡ get_or bytes.now at 32 }
@@ -35,7 +36,7 @@ fn byte_at(bytes: &[u8], at: usize) -> u8
     if at < bytes.len() { bytes[at] } else { b' ' }
 }
 
-/// The string without escapes at a place, and the place behind it.
+/// Returns the string at an index if it has no escapes, and the index after it.
 #[inline(always)]
 fn string_at<'a>(text: &'a str, at: usize) -> Option<(&'a str, usize)>
     ensures found { IfSome result (λ found. IsStringAt text.now at found.0.now found.1) }
@@ -52,7 +53,7 @@ fn string_at<'a>(text: &'a str, at: usize) -> Option<(&'a str, usize)>
     Some((&text[at + 1..stop], stop + 1))
 }
 
-/// Where digits end.
+/// Returns the end of the digits that begin at `from`.
 fn digits_end(bytes: &[u8], from: usize) -> usize
     requires { from ≤ length bytes.now }
     ensures bound { (from ≤ result) × (result ≤ length bytes.now) }
@@ -65,7 +66,7 @@ fn digits_end(bytes: &[u8], from: usize) -> usize
     i
 }
 
-/// A byte behind which no value or key goes on.
+/// Returns whether the byte ends a value: a comma or a closing bracket or brace.
 #[inline(always)]
 fn is_end(byte: u8) -> bool
     ensures { result ≡ is_end byte }
@@ -73,7 +74,7 @@ fn is_end(byte: u8) -> bool
     (byte == b',') | (byte == b'}') | (byte == b']')
 }
 
-/// The number at a place that is a few digits alone, before what ends it, and the place behind it.
+/// Returns the number at an index if it is at most 19 digits before a byte that ends a value, and the index after it.
 fn digits_at<'a>(text: &'a str, at: usize) -> Option<(&'a str, usize)>
     ensures found { IfSome result (λ found. IsNumberAt text.now at found.0.now found.1) }
     ensures range { IfSome result (λ found. is_some (number_of found.0.now) ≡ true) }
@@ -90,7 +91,7 @@ fn digits_at<'a>(text: &'a str, at: usize) -> Option<(&'a str, usize)>
     if stop - at > FEW_DIGITS {
         return None;
     }
-    // A longer number does not begin with 0.
+    // A number of several digits must not begin with 0.
     if (stop > at + 1) & (bytes[at] == b'0') {
         return None;
     }
@@ -100,7 +101,7 @@ fn digits_at<'a>(text: &'a str, at: usize) -> Option<(&'a str, usize)>
     Some((&text[at..stop], stop))
 }
 
-/// The key at a place, and the place behind its colon.
+/// Returns the key at an index, and the index after its colon.
 #[inline(always)]
 fn key_at<'a>(text: &'a str, at: usize) -> Option<(&'a str, usize)>
     ensures found { IfSome result (λ found. IsKeyAt text.now at found.0.now found.1) }
@@ -113,7 +114,7 @@ fn key_at<'a>(text: &'a str, at: usize) -> Option<(&'a str, usize)>
     Some((key, next + 1))
 }
 
-/// The string or the number at a place, and the place behind it.
+/// Returns the string or number at an index, and the index after it.
 fn leaf_at<'a>(text: &'a str, at: usize) -> Option<(LineValue<'a>, usize)>
     ensures found { IfSome result (λ found. (depth : ℕ) → IsValueAt depth text.now at (value_view found.0) found.1) }
     ensures range { IfSome result (λ found. is_in_range (value_view found.0) ≡ true) }
@@ -130,7 +131,7 @@ fn leaf_at<'a>(text: &'a str, at: usize) -> Option<(LineValue<'a>, usize)>
     Some((Value::String(found), next))
 }
 
-/// The array or the object at a place, of at most so many levels with its own, and the place behind it.
+/// Returns the array or object at an index if it has at most `depth` levels, and the index after it.
 #[cycle(value_at)]
 fn value_at<'a>(
     arena: &'a Bump,
@@ -158,7 +159,7 @@ fn value_at<'a>(
     }
 }
 
-/// The value at a place within another. Most are texts and numbers.
+/// Returns the value at an index inside another value, and the index after it. Most are strings and numbers.
 #[inline(always)]
 #[cycle(value_at)]
 fn inner_at<'a>(
@@ -178,7 +179,7 @@ fn inner_at<'a>(
     Ok(leaf_at(text, at))
 }
 
-/// The items of an array whose bracket stands before a place, and the place behind the bracket that ends it.
+/// Returns the items of an array from the index after its opening bracket, and the index after its closing bracket.
 #[cycle(value_at)]
 fn items_at<'a>(
     arena: &'a Bump,
@@ -192,7 +193,7 @@ fn items_at<'a>(
 {
     let mut found = Vec::new(arena);
     let mut at = from;
-    // An array without items is read in another way.
+    // Empty arrays do not take the fast path.
     while at < text.len() {
         let Some((item, next)) = inner_at(arena, text, at, depth)? else {
             return Ok(None);
@@ -207,7 +208,7 @@ fn items_at<'a>(
     Ok(None)
 }
 
-/// Room for the members of an object in which values nest so deep.
+/// Returns the initial capacity for the members of an object, given the levels that remain.
 fn room_for(depth: usize) -> usize
     ensures { result ≤ 8 }
 {
@@ -217,7 +218,7 @@ fn room_for(depth: usize) -> usize
     USUAL_MEMBERS
 }
 
-/// The members of an object whose brace stands before a place, and the place behind the brace that ends it.
+/// Returns the members of an object from the index after its opening brace, and the index after its closing brace.
 #[cycle(value_at)]
 fn members_at<'a>(
     arena: &'a Bump,
@@ -231,7 +232,7 @@ fn members_at<'a>(
 {
     let mut found = Vec::with_capacity(arena, room_for(depth))?;
     let mut at = from;
-    // An object without members is read in another way.
+    // Empty objects do not take the fast path.
     while at < text.len() {
         let Some((key, begin)) = key_at(text, at) else {
             return Ok(None);
@@ -249,7 +250,7 @@ fn members_at<'a>(
     Ok(None)
 }
 
-/// The value of a text that is an array or an object in the usual form.
+/// Returns the value of a text that takes the fast path, or `None` for other texts, which may still be JSON.
 pub fn usual_value<'a>(arena: &'a Bump, text: &'a str) -> Result<Option<LineValue<'a>>, AllocError>
     ensures found { IfOk result (λ found. IfSome found (λ found. value 127 (tokens text.now) ≡ Some (value_view found, []))) }
     ensures range { IfOk result (λ found. IfSome found (λ found. is_in_range (value_view found) ≡ true)) }

@@ -1,4 +1,4 @@
-//! The event and the rows of weights.
+//! Reads and writes the event `set_weight` and the rows of weights.
 ghost use Rattle.std.specs.Prelude.{◌≡◌, ◌∷◌, ◌++◌, [], Ok, OnOk};
 ghost use Rattle.json.specs.Print.{escape};
 ghost use Rattle.serde_json.specs.Written.{compact_text};
@@ -25,7 +25,7 @@ use drf_rows::WeightRow;
 use drf_text::{weight_round_trip_law, write_weight};
 use std::alloc::AllocError;
 
-/// The role and the weight of an event, or of a row, that has no other keys.
+/// Reads the role and the weight, in thousandths, of an event, or of a row, that has no other keys.
 #[tactic(auto, unfolding(crate::specs::WeightEvents::its_weight))]
 pub fn read_its_weight(
     known: &mut KnownWords,
@@ -39,7 +39,8 @@ pub fn read_its_weight(
     Ok((known.role(role)?, read_weight(weight)?))
 }
 
-/// Writes what stands before a weight with its first `"`, and the weight. It is read as this weight.
+/// Appends `before`, which ends with the opening quote, then the weight and the closing quote. Reading the weight gives
+/// this weight.
 fn put_weight(line: &mut Vec<u8>, before: &str, weight: u64) -> Result<(), AllocError>
     ensures appends { AppendsText result line.old.items line.new.items (before.now ++ (escape (amount_text weight) ++ 34 ∷ [])) }
     ensures read { OnOk result (weight_in (amount_text weight) ≡ Ok weight) }
@@ -50,6 +51,7 @@ fn put_weight(line: &mut Vec<u8>, before: &str, weight: u64) -> Result<(), Alloc
     put_text(line, before, text.as_str())
 }
 
+/// Appends the event `set_weight`.
 pub fn put_set_weight(line: &mut Vec<u8>, role: &Role, weight: u64) -> Result<(), AllocError>
     ensures appends { AppendsText result line.old.items line.new.items (compact_text (weight_value role.now weight)) }
     ensures read { OnOk result (IsSpelled (SetWeight role.now weight)) }
@@ -59,7 +61,7 @@ pub fn put_set_weight(line: &mut Vec<u8>, role: &Role, weight: u64) -> Result<()
     put_byte(line, b'}')
 }
 
-/// Adds the line of a weight's row, as `push_row` does.
+/// Appends the line of a weight's row, as `push_row` does.
 pub fn push_weight_row(text: &mut Vec<u8>, row: &WeightRow) -> Result<(), AllocError>
     ensures appends { AppendsText result text.old.items text.new.items (row_line (Weight row.now)) }
     ensures read { OnOk result (state_line_meaning (row_line (Weight row.now)) ≡ Ok (Row (Weight row.now))) }

@@ -1,5 +1,5 @@
-//! Names, roles and bundles as texts of a line. Most come again and again: a copy of what was read takes no memory, and shares what the
-//! others hold.
+//! Reads the names, roles and bundles of a line. Most of them occur often: copying a value that was read before
+//! allocates nothing and shares its memory.
 ghost use Rattle.std.specs.Prelude.{◌≡◌, ◌<◌, Ok, IfSome};
 ghost use Rattle.drf_lines.specs.Fault.{IsReadOf};
 ghost use Rattle.drf_lines.specs.Resources.{bundle_in};
@@ -13,24 +13,24 @@ use drf_bundle::Bundle;
 use drf_role::{Name, Role};
 use std::alloc::{AllocError, Global};
 
-/// Reads the name of an agent, a framework or a task.
+/// Reads the name of an agent, a framework or a task. Fails with `BadText` if the text is not a name.
 pub fn read_name(alloc: Global, text: &str) -> Result<Name, LineError>
     ensures { IsReadOf result (name_in text.now) }
 {
     Ok(Name::read(alloc, text)?)
 }
 
-/// Reads a role.
+/// Reads a role. Fails with `BadText` if the text is not a role.
 fn read_role(alloc: Global, text: &str) -> Result<Role, LineError>
     ensures { IsReadOf result (role_in text.now) }
 {
     Ok(Role::read(alloc, text)?)
 }
 
-/// How many bytes the text of a bundle that is known has at most.
+/// The greatest length, in bytes, of the text of a bundle that is kept.
 const LONGEST_KNOWN: usize = 128;
 
-/// The name of a text, if it stands at a place.
+/// Returns the name at a place if its text is the given one.
 fn known_name(names: &Places<Name>, place: usize, text: &str) -> Option<Name>
     ensures { IfSome result (λ name. name_in text.now ≡ Ok name) }
 {
@@ -41,7 +41,7 @@ fn known_name(names: &Places<Name>, place: usize, text: &str) -> Option<Name>
     None
 }
 
-/// The role of a text, if it stands at a place.
+/// Returns the role at a place if its text is the given one.
 fn known_role(roles: &Places<Role>, place: usize, text: &str) -> Option<Role>
     ensures { IfSome result (λ role. role_in text.now ≡ Ok role) }
 {
@@ -52,16 +52,17 @@ fn known_role(roles: &Places<Role>, place: usize, text: &str) -> Option<Role>
     None
 }
 
-/// The bundle of a text, if it stands at a place.
+/// Returns the bundle at a place if its text is the given one.
 fn known_bundle(bundles: &Places<KnownBundle>, place: usize, text: &str) -> Option<Bundle>
     ensures { IfSome result (λ bundle. bundle_in text.now ≡ Ok bundle) }
 {
     bundles.at(place)?.of(text)
 }
 
-/// A reader of names, roles and bundles, which knows some, or none where it reads a line alone. What it knows is in no contract.
+/// Reads names, roles and bundles, and caches those that it has read. No contract says what it caches; for a single
+/// line it caches nothing.
 pub struct KnownWords {
-    /// Where what is read goes.
+    /// The allocator for what is read.
     pub alloc: Global,
     keeps: bool,
     names: Places<Name>,
@@ -69,7 +70,7 @@ pub struct KnownWords {
     bundles: Places<KnownBundle>,
 }
 
-// Written out, so that the proof of whoever drops them sees one call.
+// Written by hand, so that the proof of code that drops them sees one call.
 impl Drop for KnownWords {
     fn drop(self) {
         let KnownWords {
@@ -83,7 +84,7 @@ impl Drop for KnownWords {
 }
 
 impl KnownWords {
-    /// None is known yet.
+    /// Creates a reader whose caches are empty.
     pub fn new(alloc: Global) -> KnownWords {
         KnownWords {
             alloc,
@@ -94,7 +95,7 @@ impl KnownWords {
         }
     }
 
-    /// None is known, and none will be.
+    /// Creates a reader that never caches anything.
     pub fn none(alloc: Global) -> KnownWords {
         KnownWords {
             alloc,
@@ -134,7 +135,7 @@ impl KnownWords {
         Ok(())
     }
 
-    /// Reads the name of an agent or a framework.
+    /// Reads the name of an agent or a framework. Fails with `BadText` if the text is not a name.
     pub fn name(&mut self, text: &str) -> Result<Name, LineError>
         ensures { IsReadOf result (name_in text.now) }
     {
@@ -147,7 +148,7 @@ impl KnownWords {
         Ok(name)
     }
 
-    /// Reads a role.
+    /// Reads a role. Fails with `BadText` if the text is not a role.
     pub fn role(&mut self, text: &str) -> Result<Role, LineError>
         ensures { IsReadOf result (role_in text.now) }
     {
@@ -160,7 +161,7 @@ impl KnownWords {
         Ok(role)
     }
 
-    /// Reads a bundle.
+    /// Reads a bundle. Fails with `BadText` if the text is not a bundle.
     pub fn bundle(&mut self, text: &str) -> Result<Bundle, LineError>
         ensures { IsReadOf result (bundle_in text.now) }
     {

@@ -1,10 +1,11 @@
-//! Amounts as text: a number of thousandths with at most three decimals.
+//! Writes amounts, given in thousandths, as decimal numbers with at most three decimals.
 ghost use Rattle.std.specs.Prelude.{◌≡◌, [], ◌∷◌, ◌++◌, ◌+◌, ◌<◌, OnOk, string_bytes};
 ghost use Rattle.drf_text.specs.Written.{decimals_text, amount_text};
 
 use itoa::Buffer;
 use std::alloc::AllocError;
 
+/// Appends a decimal digit.
 fn push_digit(text: &mut String, digit: u64) -> Result<(), AllocError>
     requires { digit < 10 }
     ensures { OnOk result (string_bytes text.new ≡ string_bytes text.old ++ (48 + digit) ∷ []) }
@@ -12,7 +13,7 @@ fn push_digit(text: &mut String, digit: u64) -> Result<(), AllocError>
     text.push((b'0' + digit as u8) as char)
 }
 
-/// Writes the decimals that are needed of a number of thousandths below 1.
+/// Appends `.` and the decimals of a number of thousandths below 1000 without trailing zeros; for 0 it appends nothing.
 fn push_decimals(text: &mut String, thousandths: u64) -> Result<(), AllocError>
     requires { thousandths < 1000 }
     ensures { OnOk result (string_bytes text.new ≡ string_bytes text.old ++ decimals_text thousandths) }
@@ -32,7 +33,7 @@ fn push_decimals(text: &mut String, thousandths: u64) -> Result<(), AllocError>
     push_digit(text, thousandths % 10)
 }
 
-/// Writes an amount of thousandths: 1500 as `1.5`, 4000 as `4`.
+/// Appends an amount given in thousandths as a decimal number: 1500 as `1.5`, 4000 as `4`.
 pub fn push_amount(text: &mut String, amount: u64) -> Result<(), AllocError>
     ensures { OnOk result (string_bytes text.new ≡ string_bytes text.old ++ amount_text amount) }
 {

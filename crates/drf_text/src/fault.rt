@@ -1,3 +1,4 @@
+//! The errors that occur when resources are read from text.
 ghost use Rattle.std.specs.Prelude.{◌≡◌};
 ghost use Rattle.drf_text.specs.declared.fault.TextFault.TheVariants.{Memory};
 
@@ -7,11 +8,12 @@ use drf_role::{NameFault, RoleFault};
 use std::alloc::{AllocError, AllocFailed};
 use thiserror::Error;
 
-/// Why a text says no resources. Where a piece has several faults, the one listed first here is told; want of memory may
-/// be told in place of any but the first piece's form and name.
+/// The error of reading bundles, quantities or weights. If a piece has several errors, the one that is listed first
+/// here is returned. `Memory` may be returned instead of any error except those in the form and the name of the first
+/// piece.
 #[derive(Clone, Copy, Debug, PartialEq, Eq, Error)]
 pub enum TextFault {
-    /// A `:`, a bracket or a `-` is missing, or stands where none may.
+    /// A `:`, a bracket or a `-` is missing, or is where none is allowed.
     #[error("not a list of resources")]
     Syntax,
     #[error("not a name")]
@@ -20,13 +22,13 @@ pub enum TextFault {
     BadRole,
     #[error("not a number")]
     BadNumber,
-    /// A name has two kinds.
+    /// A name is used with two kinds.
     #[error("a name has two kinds")]
     Kind,
-    /// A member stands under two reservations of a name.
+    /// A member is under two reservations of the same name.
     #[error("a member stands under two reservations")]
     Overlap,
-    /// The scalars of a name are above 2^64 - 1 thousandths.
+    /// The scalars of a name add up to more than 2^64 - 1 thousandths.
     #[error("a scalar is too large")]
     TooLarge,
     #[error("out of memory")]
@@ -88,7 +90,7 @@ impl From<RangesFault> for TextFault {
     }
 }
 
-/// No union is refused because something is not covered.
+/// Converts the error of a union. Unions never return `NotCovered`.
 impl From<AlgebraFault> for TextFault {
     ghost use Rattle.drf_text.specs.Meaning.{text_fault_of};
 

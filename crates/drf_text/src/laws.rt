@@ -1,12 +1,13 @@
-//! What some texts mean, computed from the definition, and that what is written means what it was written of. The functions
-//! do nothing.
+//! Examples of what texts mean, computed from the definition, and theorems which say that reading what was written
+//! gives the same value back. The functions do nothing; their contracts are the statements.
 ghost use Rattle.std.specs.Prelude.{◌≡◌, [], ◌∷◌, Ok, Err, codes};
 ghost use Rattle.drf_bundle.specs.declared.value.Value.TheVariants.{Scalar};
 ghost use Rattle.drf_text.specs.Meaning.{meaning_of, quantities_meant};
 ghost use Rattle.drf_text.specs.RoundTrip.{BundleIsRead, QuantitiesAreRead, WeightIsRead};
 ghost use Rattle.drf_text.specs.declared.fault.TextFault.TheVariants.{Syntax, BadName, BadRole, BadNumber, Kind, TooLarge};
 
-/// Pieces are put together, and the first fault of the first piece that has one is told.
+/// Proves examples of texts of bundles: pieces are combined, and the first error of the first piece that has one is the
+/// result.
 pub fn bundle_text_example()
     ensures nothing { meaning_of (codes " ; ;") ≡ Ok [] }
     ensures rounded { meaning_of (codes "cpus:0.0005") ≡ Ok (record { label = codes "cpus"; role = codes "*" ∷ []; value = Scalar 1 } ∷ []) }
@@ -24,24 +25,24 @@ pub fn bundle_text_example()
     ensures skipped { meaning_of (codes "cpus:0.0004;cpus(eng):0.0004") ≡ Ok [] }
 {}
 
-/// Zeros stay named, and there are no reservations.
+/// Proves examples of texts of quantities: amounts of 0 are kept, and reservations are errors.
 pub fn quantities_text_example()
     ensures zero { quantities_meant (codes "mem:0;cpus:1;cpus:2") ≡ Ok (record { label = codes "cpus"; amount = 3000 } ∷ record { label = codes "mem"; amount = 0 } ∷ []) }
     ensures reserved { quantities_meant (codes "cpus(*):1") ≡ Err BadRole }
     ensures ranges { quantities_meant (codes "ports:[]") ≡ Err Kind }
 {}
 
-/// The text that is written of a bundle means that bundle.
+/// Proves that reading the text that is written for a bundle gives this bundle.
 pub fn bundle_round_trip_law()
     ensures { BundleIsRead }
 {}
 
-/// The text that is written of quantities means those quantities.
+/// Proves that reading the text that is written for quantities gives these quantities.
 pub fn quantities_round_trip_law()
     ensures { QuantitiesAreRead }
 {}
 
-/// The text that is written of a weight says that weight.
+/// Proves that reading the text that is written for a weight gives this weight.
 pub fn weight_round_trip_law()
     ensures { WeightIsRead }
 {}

@@ -1,4 +1,4 @@
-//! The text of resources, of quantities and of weights.
+//! Reads and writes bundles, quantities and weights as text.
 #![tactic(auto)]
 
 mod amount;

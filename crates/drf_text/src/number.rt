@@ -1,4 +1,4 @@
-//! Numbers as text, read as thousandths.
+//! Reads numbers from text, in thousandths.
 ghost use Rattle.std.specs.Prelude.{◌≡◌, ◌+◌, ◌*◌, ◌<◌, IsTrue, ◌&&◌, Err, if◌then◌else◌};
 ghost use Rattle.std.specs.Str.Parse.{digits_value};
 ghost use Rattle.drf_text.specs.Number.{are_digits, digit_at, rounded, small_or_fault, number_of, weight_of};
@@ -7,13 +7,14 @@ ghost use Rattle.drf_text.specs.declared.fault.TextFault.TheVariants.{BadNumber}
 use crate::fault::TextFault;
 use crate::trim::trim;
 
+/// Returns whether the text is one or more ASCII digits.
 pub fn are_digits(text: &str) -> bool
     ensures { result ≡ are_digits text.now }
 {
     !text.is_empty() && text.as_bytes().iter().all(|b| b.is_ascii_digit())
 }
 
-/// The digit at a place, 0 behind the end.
+/// Returns the decimal digit at an index, or 0 after the end.
 fn digit_at(decimals: &[u8], place: usize) -> u64
     ensures value { result ≡ digit_at decimals.now place }
     ensures small { result < 256 }
@@ -24,7 +25,7 @@ fn digit_at(decimals: &[u8], place: usize) -> u64
     }
 }
 
-/// The thousandths that decimals say, rounded at the fourth.
+/// Returns the decimals as thousandths; the fourth decimal rounds half up, and later ones are ignored.
 fn rounded(decimals: &str) -> u64
     ensures value { result ≡ rounded decimals.now }
     ensures small { result < 65536 }
@@ -38,7 +39,7 @@ fn rounded(decimals: &str) -> u64
     }
 }
 
-/// Digits and the thousandths behind their point.
+/// Returns whole digits plus thousandths, in thousandths. Fails with `TooLarge` if the sum is 2^64 or more.
 fn sum_of(whole: &str, thousandths: u64) -> Result<u64, TextFault>
     requires digits { IsTrue (are_digits whole.now) }
     requires small { thousandths < 65536 }
@@ -54,7 +55,8 @@ fn sum_of(whole: &str, thousandths: u64) -> Result<u64, TextFault>
     }
 }
 
-/// Digits, a point and digits.
+/// Reads a number with a point. Fails with `BadNumber` if one of the parts is not digits, and with `TooLarge` if the
+/// number is 2^64 thousandths or more.
 fn parted_number(whole: &str, decimals: &str) -> Result<u64, TextFault>
     ensures { result ≡ (if are_digits whole.now && are_digits decimals.now
         then small_or_fault (digits_value 10 whole.now * 1000 + rounded decimals.now) else Err BadNumber) }
@@ -65,7 +67,7 @@ fn parted_number(whole: &str, decimals: &str) -> Result<u64, TextFault>
     sum_of(whole, rounded(decimals))
 }
 
-/// Digits alone.
+/// Reads a number without a point; it has the errors of `parted_number`.
 fn whole_number(text: &str) -> Result<u64, TextFault>
     ensures { result ≡ (if are_digits text.now then small_or_fault (digits_value 10 text.now * 1000) else Err BadNumber) }
 {
@@ -75,7 +77,8 @@ fn whole_number(text: &str) -> Result<u64, TextFault>
     sum_of(text, 0)
 }
 
-/// Reads a number such as `3` or `0.125`, to the nearest thousandth.
+/// Reads a number such as `3` or `0.125`, and returns it rounded to thousandths. Fails with `BadNumber` if the text is
+/// not a number, and with `TooLarge` if the number is 2^64 thousandths or more.
 pub fn read_number(text: &str) -> Result<u64, TextFault>
     ensures { result ≡ number_of text.now }
 {
@@ -85,8 +88,8 @@ pub fn read_number(text: &str) -> Result<u64, TextFault>
     }
 }
 
-/// Reads a weight: a number, rounded to thousandths, with spaces and tabs at its ends. What is no number is
-/// `BadNumber`, and one of 2^64 thousandths or more `TooLarge`.
+/// Reads a weight, and returns it rounded to thousandths. Spaces and tabs at both ends are ignored. Fails with
+/// `BadNumber` if the text is not a number, and with `TooLarge` if the number is 2^64 thousandths or more.
 pub fn read_weight(text: &str) -> Result<u64, TextFault>
     ensures { result ≡ weight_of text.now }
 {

@@ -1,4 +1,4 @@
-//! Pieces cut into their parts.
+//! Cuts a piece, `name:value` or `name(role):value`, into its parts. Nothing here allocates memory.
 ghost use Rattle.std.specs.Prelude.{◌≡◌, ◌∷◌, ◌==◌};
 ghost use Rattle.std.specs.List.{list_all, list_any, slice_split};
 ghost use Rattle.drf_text.specs.Blanks.{is_blank, trimmed};
@@ -9,14 +9,14 @@ ghost use Rattle.drf_text.specs.Steps.{cut_in, plain_head_in, head_in, view_head
 use crate::fault::TextFault;
 use crate::trim::trim;
 
-/// The name, and the text of the role where there is one.
+/// The part of a piece before the `:`: the name, and the text of the role if there is one.
 #[derive(Clone, Copy)]
 pub struct Head<'a> {
     pub name: &'a str,
     pub role: Option<&'a str>,
 }
 
-/// The kinds of values.
+/// The kind of a value.
 #[derive(Clone, Copy)]
 pub enum Kind {
     Scalar,
@@ -24,21 +24,22 @@ pub enum Kind {
     Items,
 }
 
-/// A value: of a scalar all of it, else what stands between the brackets.
+/// The part of a piece after the `:`. The text of a scalar is all of it; that of ranges or a set is what is between the
+/// brackets.
 #[derive(Clone, Copy)]
 pub struct Body<'a> {
     pub kind: Kind,
     pub text: &'a str,
 }
 
-/// Whether there are only spaces and tabs.
+/// Returns whether the text has only spaces and tabs.
 pub fn is_blank(text: &str) -> bool
     ensures { result ≡ list_all is_blank text.now }
 {
     text.as_bytes().iter().all(|b| *b == b' ' || *b == b'\t')
 }
 
-/// What stands before the first `:`, and after it.
+/// Returns the trimmed parts before and after the first `:`. Fails with `Syntax` if there is no `:`.
 #[tactic(auto, unfolding(crate::specs::Steps::cut_in))]
 pub fn cut_piece(piece: &str) -> Result<(&str, &str), TextFault>
     ensures { IsCutAs (λ parts. (parts.0.now, parts.1.now)) result (cut_in piece.now) }
@@ -55,7 +56,7 @@ fn has_byte(text: &str, byte: u8) -> bool
     text.as_bytes().iter().any(|b| *b == byte)
 }
 
-/// A head without `(`.
+/// Cuts a head without `(`. Fails with `Syntax` if it has a `)`.
 #[tactic(auto, unfolding(crate::specs::Steps::plain_head_in))]
 fn cut_plain_head(head: &str) -> Result<Head<'_>, TextFault>
     ensures { IsCutAs view_head result (plain_head_in head.now) }
@@ -69,7 +70,8 @@ fn cut_plain_head(head: &str) -> Result<Head<'_>, TextFault>
     })
 }
 
-/// What stands before the first `(`, and between it and the last byte, which has to be `)`.
+/// Cuts a head into the part before its first `(` and the part between it and the last byte. Fails with `Syntax` if
+/// that byte is not `)`.
 pub fn cut_head(head: &str) -> Result<Head<'_>, TextFault>
     ensures { IsCutAs view_head result (head_in head.now) }
 {
@@ -97,14 +99,15 @@ fn have_one_dash(text: &str) -> bool
     text.split(',').all(|part| has_one_dash(trim(part)))
 }
 
-/// Whether each part has the form of a range.
+/// Returns whether the text is blank, or each part between commas has exactly one `-`.
 fn are_ranges(text: &str) -> bool
     ensures { result ≡ list_all has_one_dash (parts_between text.now) }
 {
     is_blank(text) || have_one_dash(text)
 }
 
-/// Ranges behind their `[`.
+/// Cuts ranges whose `[` was removed. Fails with `Syntax` if there is no closing `]`, or a part does not have exactly
+/// one `-`.
 fn cut_ranges(rest: &str) -> Result<Body<'_>, TextFault>
     ensures { IsCutAs view_body result (body_in (91 ∷ rest.now)) }
 {
@@ -122,7 +125,7 @@ fn cut_ranges(rest: &str) -> Result<Body<'_>, TextFault>
     }
 }
 
-/// A set behind its `{`.
+/// Cuts a set whose `{` was removed. Fails with `Syntax` if there is no closing `}`.
 fn cut_items(rest: &str) -> Result<Body<'_>, TextFault>
     ensures { IsCutAs view_body result (body_in (123 ∷ rest.now)) }
 {
@@ -135,7 +138,8 @@ fn cut_items(rest: &str) -> Result<Body<'_>, TextFault>
     }
 }
 
-/// The kind of a value by its first byte, and what its brackets hold.
+/// Returns the kind of a value, which its first byte decides, and the text in its brackets. Fails with `Syntax` if the
+/// brackets or dashes are wrong.
 pub fn cut_body(body: &str) -> Result<Body<'_>, TextFault>
     ensures { IsCutAs view_body result (body_in body.now) }
 {

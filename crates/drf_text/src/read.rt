@@ -1,4 +1,4 @@
-//! Bundles and quantities read from text.
+//! Reads bundles and quantities from text.
 ghost use Rattle.std.specs.Prelude.{◌≡◌, if◌then◌else◌, OnOk, IfErr, IsErrOf, IsOk};
 ghost use Rattle.drf_role.specs.Role.{default_role};
 ghost use Rattle.drf_bundle.specs.Union.{has_other_kind};
@@ -16,7 +16,8 @@ use drf_bundle::{Bundle, Parts, Quantities, Value};
 use drf_role::{Label, Role};
 use std::alloc::Global;
 
-/// The fault of a scalar that is too large by itself.
+/// Returns the error for a scalar that is too large by itself: `Kind` if its name already has another kind, else
+/// `TooLarge`.
 fn fault_of_too_large(bundle: &Parts, label: &Label) -> TextFault
     ensures { result ≡ (if has_other_kind bundle.now label.now (Value.Scalar 0) then TextFault.Kind else TextFault.TooLarge) }
 {
@@ -26,7 +27,7 @@ fn fault_of_too_large(bundle: &Parts, label: &Label) -> TextFault
     TextFault::TooLarge
 }
 
-/// Puts what a piece says into the bundle.
+/// Adds the resource of a piece to the bundle. An empty value changes nothing.
 fn put_said(bundle: &mut Parts, said: Said) -> Result<(), TextFault>
     ensures ok { OnOk result (put_said bundle.old said ≡ Ok bundle.new) }
     ensures fault { IfErr result (IsTold (put_said bundle.old said)) }
@@ -44,7 +45,7 @@ fn put_said(bundle: &mut Parts, said: Said) -> Result<(), TextFault>
     }
 }
 
-/// Reads what stands between two `;`, and puts it into the bundle.
+/// Reads one piece and adds its resource to the bundle. A blank piece changes nothing.
 fn add_piece(
     alloc: Global,
     bundle: &mut Parts,
@@ -64,8 +65,8 @@ fn add_piece(
     put_said(bundle, said)
 }
 
-/// Reads a bundle: pieces `name:value` or `name(role):value`, which `;` separates. The first fault of the first piece that
-/// has one is told, and `Memory` where memory ends.
+/// Reads a bundle: pieces `name:value` or `name(role):value`, separated by `;`. Returns the first error of the first
+/// piece that has one, or `Memory` if there is not enough memory.
 pub fn read_bundle(alloc: Global, text: &str) -> Result<Bundle, TextFault>
     ensures read { IsMeaning result (meaning_of text.now) }
     ensures memory { IsErrOf result TextFault.Memory → IsFirstNamed (pieces_of text.now) }
@@ -78,7 +79,8 @@ pub fn read_bundle(alloc: Global, text: &str) -> Result<Bundle, TextFault>
     Ok(Bundle::from_parts(bundle)?)
 }
 
-/// Adds an amount to that of its name.
+/// Adds an amount to the one that the quantities have under its name. Fails with `TooLarge` if the sum is 2^64
+/// thousandths or more.
 fn add_amount(quantities: &mut Quantities, label: Label, thousandths: u64) -> Result<(), TextFault>
     ensures ok { OnOk result (counted quantities.old label (Value.Scalar thousandths) ≡ Ok quantities.new) }
     ensures fault { IfErr result (IsTold (counted quantities.old label (Value.Scalar thousandths))) }
@@ -90,7 +92,7 @@ fn add_amount(quantities: &mut Quantities, label: Label, thousandths: u64) -> Re
     }
 }
 
-/// Adds what a piece says to the quantities.
+/// Adds the amount of a piece to the quantities. Fails with `Kind` if its value is not a scalar.
 fn put_counted(quantities: &mut Quantities, said: Counted) -> Result<(), TextFault>
     ensures ok { OnOk result (put_counted quantities.old said ≡ Ok quantities.new) }
     ensures fault { IfErr result (IsTold (put_counted quantities.old said)) }
@@ -106,7 +108,7 @@ fn put_counted(quantities: &mut Quantities, said: Counted) -> Result<(), TextFau
     }
 }
 
-/// Reads what stands between two `;`, and adds it to the quantities.
+/// Reads one piece and adds its amount to the quantities. A blank piece changes nothing.
 fn count_piece(alloc: Global, quantities: &mut Quantities, text: &str) -> Result<(), TextFault>
     ensures ok { OnOk result (quantities_step text.now quantities.old ≡ Ok quantities.new) }
     ensures fault { IfErr result (IsTold (quantities_step text.now quantities.old)) }
@@ -120,8 +122,8 @@ fn count_piece(alloc: Global, quantities: &mut Quantities, text: &str) -> Result
     put_counted(quantities, said)
 }
 
-/// Reads quantities: pieces `name:amount`, which `;` separates. A name stays named, be its amount 0 or not. The first
-/// fault of the first piece that has one is told, and `Memory` where memory ends.
+/// Reads quantities: pieces `name:amount`, separated by `;`. A name with the amount 0 is kept. Returns the first error
+/// of the first piece that has one, or `Memory` if there is not enough memory.
 pub fn read_quantities(alloc: Global, text: &str) -> Result<Quantities, TextFault>
     ensures read { IsMeaning result (quantities_meant text.now) }
     ensures memory { IsErrOf result TextFault.Memory → IsFirstNamed (pieces_of text.now) }

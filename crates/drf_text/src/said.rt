@@ -1,4 +1,4 @@
-//! What pieces say by themselves.
+//! Reads one piece by itself.
 ghost use Rattle.std.specs.Prelude.{◌≡◌, IsErrOf, IsOk};
 ghost use Rattle.drf_role.specs.Role.{default_role};
 ghost use Rattle.drf_text.specs.Faults.{IsReadAs, IsMeaning};
@@ -11,7 +11,8 @@ use drf_bundle::Value;
 use drf_role::{Label, Role};
 use std::alloc::Global;
 
-/// A piece of which the role and all but the members of the value are still to be read.
+/// A piece that is partly read: the text of the role, and of the value all but the members of a set, are still to be
+/// read.
 #[derive(Drop)]
 struct Draft<'a> {
     label: Label,
@@ -20,7 +21,7 @@ struct Draft<'a> {
     members: Vec<Label>,
 }
 
-/// What a piece of a bundle says. There is no value where a scalar is too large.
+/// The resource that a piece of a bundle describes. The value is `None` if a scalar is too large.
 #[derive(Drop)]
 pub struct Said {
     pub label: Label,
@@ -28,7 +29,7 @@ pub struct Said {
     pub value: Option<Value>,
 }
 
-/// What a piece of quantities says.
+/// The entry that a piece of quantities describes. The value is `None` if a scalar is too large.
 #[derive(Drop)]
 pub struct Counted {
     pub label: Label,
@@ -53,7 +54,7 @@ fn read_draft(alloc: Global, piece: &str) -> Result<Draft<'_>, TextFault>
     })
 }
 
-/// Reads a piece of a bundle. The role `*` is lent, since most pieces name none.
+/// Reads a piece of a bundle. The caller passes the role `*` as `unreserved`, because most pieces have no role.
 #[tactic(auto, using(crate::proofs::Named::draft_named), unfolding(crate::specs::Steps::said_in))]
 pub fn read_piece(alloc: Global, piece: &str, unreserved: &Role) -> Result<Said, TextFault>
     requires { unreserved.now ≡ default_role }
@@ -71,7 +72,7 @@ pub fn read_piece(alloc: Global, piece: &str, unreserved: &Role) -> Result<Said,
     Ok(Said { label, role, value })
 }
 
-/// Reads a piece of quantities, where nothing may stand in parentheses.
+/// Reads a piece of quantities. Fails with `BadRole` if it has parentheses.
 #[tactic(auto, using(crate::proofs::Named::draft_named), unfolding(crate::specs::Steps::counted_in))]
 pub fn read_count(alloc: Global, piece: &str) -> Result<Counted, TextFault>
     ensures read { IsMeaning result (counted_in piece.now) }

@@ -1,9 +1,9 @@
-//! Spaces and tabs dropped at the ends of a text.
+//! Removes spaces and tabs at the ends of a text.
 ghost use Rattle.std.specs.Prelude.{◌≡◌};
 ghost use Rattle.std.specs.Bool.{OnTrue};
 ghost use Rattle.drf_text.specs.Blanks.{is_blank, IsOneFirstLess, IsOneLastLess, without_first_blanks, without_last_blanks, trimmed};
 
-/// What follows a space or a tab at the front, or all of it.
+/// Returns the text without its first byte if this is a space or a tab, and else the whole text.
 fn drop_first(text: &str) -> &str
     ensures { IsOneFirstLess text.now result.now }
 {
@@ -16,7 +16,7 @@ fn drop_first(text: &str) -> &str
     }
 }
 
-/// What stands before a space or a tab at the end, or all of it.
+/// Returns the text without its last byte if this is a space or a tab, and else the whole text.
 fn drop_last(text: &str) -> &str
     ensures { IsOneLastLess text.now result.now }
 {
@@ -59,7 +59,7 @@ fn is_blank_byte(byte: u8) -> bool
     byte == b' ' || byte == b'\t'
 }
 
-/// Whether neither end is a space or a tab.
+/// Returns `true` only if the text is not empty and neither end is a space or a tab.
 fn has_bare_ends(text: &str) -> bool
     ensures { OnTrue result (trimmed text.now ≡ text.now) }
 {
@@ -73,7 +73,7 @@ fn has_bare_ends(text: &str) -> bool
     !is_blank_byte(bytes[bytes.len() - 1])
 }
 
-/// The text without the spaces and tabs at both ends.
+/// Returns the text without the spaces and tabs at both ends.
 pub fn trim(text: &str) -> &str
     ensures { result.now ≡ trimmed text.now }
 {

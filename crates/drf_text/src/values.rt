@@ -1,4 +1,4 @@
-//! Names, roles and values as texts of a piece.
+//! Reads the names, roles and values of a piece.
 ghost use Rattle.std.specs.Prelude.{◌≡◌, IsErrOf, IsOk};
 ghost use Rattle.std.specs.Option.{option_copied};
 ghost use Rattle.drf_role.specs.Role.{default_role};
@@ -16,6 +16,7 @@ use drf_kinds::{Items, Ranges};
 use drf_role::{Label, Role};
 use std::alloc::Global;
 
+/// Reads a name. Fails with `BadName` if the text is not a name.
 #[tactic(auto, unfolding(crate::specs::Steps::label_in))]
 pub fn read_label(alloc: Global, text: &str) -> Result<Label, TextFault>
     ensures read { IsMeaning result (label_in text.now) }
@@ -24,7 +25,7 @@ pub fn read_label(alloc: Global, text: &str) -> Result<Label, TextFault>
     Ok(Label::read(alloc, text)?)
 }
 
-/// Reads a role. Where none is named it is a copy of the role `*`.
+/// Reads a role, or copies the role `*` if there is none. Fails with `BadRole` if the text is not a role.
 #[tactic(auto, unfolding(crate::specs::Steps::role_in))]
 pub fn read_role(alloc: Global, role: Option<&str>, unreserved: &Role) -> Result<Role, TextFault>
     requires { unreserved.now ≡ default_role }
@@ -36,7 +37,7 @@ pub fn read_role(alloc: Global, role: Option<&str>, unreserved: &Role) -> Result
     }
 }
 
-/// An end of a range.
+/// Returns an end of a range, or `None` if the text is not a number below 2^32.
 fn read_end(text: &str) -> Option<u32>
     ensures { result ≡ end_in text.now }
 {
@@ -46,7 +47,7 @@ fn read_end(text: &str) -> Option<u32>
     text.parse().ok()
 }
 
-/// The two ends of a range, if the first is not the greater.
+/// Returns the two ends of a range, or `None` if one is not a number or the first is greater than the last.
 fn read_ends(low: &str, high: &str) -> Option<(u32, u32)>
     ensures { result ≡ ends_in low.now high.now }
 {
@@ -93,7 +94,7 @@ fn read_labels(alloc: Global, text: &str) -> Result<Vec<Label>, TextFault>
     Ok(labels)
 }
 
-/// The members of a set; another value has none.
+/// Reads the members of a set; other kinds of values have none.
 #[tactic(auto, unfolding(crate::specs::Steps::members_in))]
 pub fn read_members(alloc: Global, body: &Body<'_>) -> Result<Vec<Label>, TextFault>
     ensures { IsReadAs (λ labels. labels.items) result (members_in (view_body body.now)) }
@@ -104,7 +105,7 @@ pub fn read_members(alloc: Global, body: &Body<'_>) -> Result<Vec<Label>, TextFa
     }
 }
 
-/// A scalar, or nothing where it is too large.
+/// Reads a scalar. Returns `None` if it is too large, and fails with `BadNumber` if it is not a number.
 #[tactic(auto, unfolding(crate::specs::Steps::scalar_in))]
 fn read_scalar(text: &str) -> Result<Option<Value>, TextFault>
     ensures { result ≡ scalar_in text.now }
@@ -126,7 +127,8 @@ fn read_ranges(alloc: Global, text: &str) -> Result<Ranges, TextFault>
     Ok(Ranges::from_pairs(alloc, &pairs)?)
 }
 
-/// The value, whose members were read before, or nothing where a scalar is too large.
+/// Returns the value. The members of a set were read before. Returns `None` if a scalar is too large, and fails with
+/// `BadNumber` if a number is invalid.
 #[tactic(auto, unfolding(crate::specs::Steps::value_in))]
 pub fn read_value(
     alloc: Global,

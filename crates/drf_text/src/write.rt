@@ -1,4 +1,4 @@
-//! Quantities and bundles as text.
+//! Writes quantities, bundles and weights as text.
 ghost use Rattle.std.specs.Prelude.{◌≡◌, ◌==◌, [], ◌∷◌, ◌++◌, ◌<◌, if◌then◌else◌, Ok, IfOk, OnOk, string_bytes};
 ghost use Rattle.std.specs.List.{join_with_byte};
 ghost use Rattle.drf_kinds.specs.Listed.{listed, intervals_of};
@@ -12,10 +12,10 @@ use drf_kinds::{Interval, Items, Ranges};
 use itoa::Buffer;
 use std::alloc::{AllocError, Global};
 
-/// Room for the usual text, so that it need not grow.
+/// The capacity, in bytes, of a new text, so that common texts need not grow.
 const USUAL_LENGTH: usize = 64;
 
-/// Writes the mark, but not before the first of several.
+/// Appends the separator, unless `place` is 0 (the first of several parts).
 fn push_separator(text: &mut String, place: usize, mark: char) -> Result<(), AllocError>
     requires { mark < 128 }
     ensures { OnOk result (string_bytes text.new ≡ string_bytes text.old ++ (if place == 0 then [] else mark ∷ [])) }
@@ -35,8 +35,8 @@ fn push_quantity(text: &mut String, entry: &Entry) -> Result<(), AllocError>
     push_amount(text, entry.amount.thousandths())
 }
 
-/// Writes quantities behind a text: for each name in order the name, `:` and its amount, joined by `;`. What is written
-/// means those quantities. Where memory ends, some of it may stand there.
+/// Appends quantities to a text: for each name in order the name, `:` and its amount, joined by `;`. Reading the
+/// appended text gives the same quantities. If memory runs out, a part of it may have been appended.
 pub fn push_quantities(text: &mut String, quantities: &Quantities) -> Result<(), AllocError>
     ensures text { OnOk result (string_bytes text.new ≡ string_bytes text.old ++ quantities_text quantities.now) }
     ensures read { OnOk result (quantities_meant (quantities_text quantities.now) ≡ Ok quantities.now) }
@@ -49,7 +49,7 @@ pub fn push_quantities(text: &mut String, quantities: &Quantities) -> Result<(),
     Ok(())
 }
 
-/// Writes quantities as a text of their own.
+/// Writes quantities as a new text; see `push_quantities`.
 pub fn write_quantities(alloc: Global, quantities: &Quantities) -> Result<String, AllocError>
     ensures text { IfOk result (λ text. string_bytes text ≡ quantities_text quantities.now) }
     ensures read { OnOk result (quantities_meant (quantities_text quantities.now) ≡ Ok quantities.now) }
@@ -67,7 +67,7 @@ fn push_interval(text: &mut String, interval: &Interval) -> Result<(), AllocErro
     text.push_str(Buffer::new().format(interval.last))
 }
 
-/// Writes the maximal intervals, which a comma separates.
+/// Appends the maximal intervals, separated by commas.
 fn push_intervals(text: &mut String, ranges: &Ranges) -> Result<(), AllocError>
     ensures { OnOk result (string_bytes text.new ≡ string_bytes text.old ++ intervals_text (intervals_of ranges.now)) }
 {
@@ -79,7 +79,7 @@ fn push_intervals(text: &mut String, ranges: &Ranges) -> Result<(), AllocError>
     Ok(())
 }
 
-/// Writes the members, which a comma separates.
+/// Appends the members, separated by commas.
 fn push_names(text: &mut String, items: &Items) -> Result<(), AllocError>
     ensures { OnOk result (string_bytes text.new ≡ string_bytes text.old ++ join_with_byte 44 (listed items.now)) }
 {
@@ -91,7 +91,7 @@ fn push_names(text: &mut String, items: &Items) -> Result<(), AllocError>
     Ok(())
 }
 
-/// Writes the maximal intervals between `[` and `]`.
+/// Appends the maximal intervals between `[` and `]`.
 fn push_ranges(text: &mut String, ranges: &Ranges) -> Result<(), AllocError>
     ensures { OnOk result (string_bytes text.new ≡ string_bytes text.old ++ ranges_text ranges.now) }
 {
@@ -100,7 +100,7 @@ fn push_ranges(text: &mut String, ranges: &Ranges) -> Result<(), AllocError>
     text.push(']')
 }
 
-/// Writes the members between `{` and `}`.
+/// Appends the members between `{` and `}`.
 fn push_items(text: &mut String, items: &Items) -> Result<(), AllocError>
     ensures { OnOk result (string_bytes text.new ≡ string_bytes text.old ++ items_text items.now) }
 {
@@ -109,7 +109,7 @@ fn push_items(text: &mut String, items: &Items) -> Result<(), AllocError>
     text.push('}')
 }
 
-/// Writes a weight of thousandths: 1500 as `1.5`, 4000 as `4`.
+/// Returns a weight given in thousandths as a decimal number: 1500 as `1.5`, 4000 as `4`.
 pub fn write_weight(alloc: Global, weight: u64) -> Result<String, AllocError>
     ensures { IfOk result (λ text. string_bytes text ≡ amount_text weight) }
 {
@@ -148,8 +148,8 @@ fn push_resource(text: &mut String, resource: &Resource) -> Result<(), AllocErro
     push_value(text, &resource.value)
 }
 
-/// Writes a bundle behind a text: for each resource in order its name, its role in parentheses if it is reserved, `:` and
-/// its value, joined by `;`. Where memory ends, some of it may stand there.
+/// Appends a bundle to a text: for each resource in order its name, its role in parentheses if it is reserved, `:` and
+/// its value, joined by `;`. If memory runs out, a part of it may have been appended.
 pub fn push_bundle(text: &mut String, bundle: &Bundle) -> Result<(), AllocError>
     ensures { OnOk result (string_bytes text.new ≡ string_bytes text.old ++ bundle_text bundle.now) }
 {
@@ -161,7 +161,7 @@ pub fn push_bundle(text: &mut String, bundle: &Bundle) -> Result<(), AllocError>
     Ok(())
 }
 
-/// Writes a bundle as a text of its own.
+/// Writes a bundle as a new text; see `push_bundle`.
 pub fn write_bundle(alloc: Global, bundle: &Bundle) -> Result<String, AllocError>
     ensures { IfOk result (λ text. string_bytes text ≡ bundle_text bundle.now) }
 {

@@ -1,4 +1,4 @@
-//! The one that adds to a history.
+//! The author of a history: the only value that can add entries to it.
 ghost use Rattle.std.specs.Prelude.{◌≡◌, ◌+◌, ◌<◌, ◌^◌, ◌++◌, ◌∷◌, [], length};
 ghost use mathlib.Core.List.{IsPrefix};
 ghost use Rattle.logbook.specs.Pages.{may_write};
@@ -11,7 +11,7 @@ use drf_rows::{Event, Reply};
 use logbook::{Offer, Pen, Seen, Word};
 use std::marker::{Model, PhantomData};
 
-/// A word that nobody wrote yet, and the pen for it, which nobody else has.
+/// Returns a new word of the log that nothing was written to, and its pen, which nobody else has.
 pub fn new_word(
     head: &Word<Link, u64, Chained>,
     seen: &Seen<Link, u64, Chained>,
@@ -28,7 +28,7 @@ pub fn new_word(
     (word, pen)
 }
 
-/// The one that may add to the history of a board: it has the pen that the last link names. Contracts see it as that history.
+/// The only value that can add to the history of a board, because it has the pen of the last link's word. Contracts see it as the history.
 #[derive(Drop)]
 pub struct Author<K: Naming> {
     count: u64,
@@ -56,7 +56,7 @@ impl<K: Naming> Model for Author<K> {
 }
 
 impl<K: Naming> Author<K> {
-    /// Nothing was added yet.
+    /// Creates the author of an empty history.
     pub fn new(
         head: Word<Link, u64, Chained>,
         root: Word<Link, u64, Chained>,
@@ -79,14 +79,14 @@ impl<K: Naming> Author<K> {
         }
     }
 
-    /// The whole history, as others may know it.
+    /// Returns the whole history as a prefix that others can keep.
     pub fn known(&self) -> Prefix<K>
         ensures { result ≡ self.now }
     {
         Prefix::of(self.count, self.seen.again())
     }
 
-    /// Tells a proof that what others know of the history is a beginning of it. It changes nothing.
+    /// Proves that a prefix which others have is a prefix of the history. Changes nothing.
     pub fn recall(&mut self, known: &Prefix<K>)
         ensures same { self.new ≡ self.old }
         ensures begins { IsPrefix known.now self.new }
@@ -104,7 +104,7 @@ impl<K: Naming> Author<K> {
             .compare_exchange::<Look, NoGain>(0, 0, &mut both, &mut offer, &mut self.pen);
     }
 
-    /// Adds an entry to the history. It takes no memory.
+    /// Adds an entry to the history. Allocates nothing.
     pub fn add(&mut self, event: &Event, reply: &Reply)
         requires room { length self.old + 1 < 2 ^ 64 }
         requires legal { IsLegal K.slate.limits K.start (self.old ++ entry event.now reply.now ∷ []) }

@@ -1,3 +1,4 @@
+//! The board, which publishes sheets to viewers and keeps the list of all events and replies.
 ghost use Rattle.std.specs.Prelude.{◌≡◌, ◌+◌, ◌^◌, ◌<◌, ◌++◌, ◌∷◌, [], length, All, IfOk, OnOk, OnErr};
 ghost use mathlib.Core.List.{IsPrefix};
 ghost use Rattle.drf_board.specs.Boards.{HasPublished};
@@ -17,8 +18,8 @@ use std::alloc::{AllocError, Global};
 use std::marker::Model;
 use std::sync::Wait;
 
-/// Shows what was published last, though no clause says so. Contracts see it as the list of all that was published, and for how many
-/// viewers it was opened. It stands under the lock of whoever publishes; viewers do not take that.
+/// Publishes sheets to viewers. It is meant to show the newest sheet, but the contracts do not say this. Contracts see it as the list of all
+/// published entries, and the number of viewers for which it was opened. The publisher's lock protects it; viewers do not take that lock.
 #[derive(Drop)]
 pub struct Board<K: Naming, R: Wait + Drop>
 where
@@ -47,8 +48,8 @@ impl<K: Naming, R: Wait + Drop> Board<K, R>
 where
     Pane<K>: Shows,
 {
-    /// A board of the slate that K names, with nothing published, and its viewers, which have seen nothing. The first sheet is that of the rows
-    /// with which the history begins.
+    /// Opens a board for the slate `K::slate`. Returns the board, with nothing published, and its viewers, which have seen nothing. `first_sheet`
+    /// must be the sheet of the rows `K::start`. It fails only if memory runs out.
     pub fn open(
         rt: R,
         alloc: Global,
@@ -67,7 +68,7 @@ where
         let prefix = author.known();
         let (first, second) = Pane::pair(alloc)?;
         first.fill(Shown::new(first_sheet, prefix.again()));
-        // The carrier has a place for one reader at least.
+        // The writer needs room for at least one reader.
         let writer = WriteHandle::new(alloc, rt, first, second, viewers.max(1) as usize)?;
         let readers = readers_of(alloc, &writer, &prefix, viewers as usize)?;
         let board = Board {
@@ -79,21 +80,21 @@ where
         Ok((board, readers))
     }
 
-    /// For how many viewers it was opened. Where there are none, nobody asks for a sheet, and `publish_unseen` serves.
+    /// Returns the number of viewers for which it was opened. If it is 0, nobody reads sheets, and `publish_unseen` can be used.
     pub fn viewers(&self) -> u64
         ensures { result ≡ self.now.viewers }
     {
         self.viewers
     }
 
-    /// All that was published so far, for a viewer to learn.
+    /// Returns the list of all published entries, for viewers to learn.
     pub fn told(&self) -> Told<K>
         ensures { result ≡ self.now.entries }
     {
         Told::of(self.author.known())
     }
 
-    /// Tells a proof that a list that was told begins the list of all that was published. It changes nothing.
+    /// Proves that a list which was returned earlier is a prefix of the list of all published entries. Changes nothing.
     pub fn recall_told(&mut self, told: &Told<K>)
         ensures same { self.new ≡ self.old }
         ensures begins { IsPrefix told.now self.new.entries }
@@ -101,7 +102,7 @@ where
         self.author.recall(told.prefix());
     }
 
-    /// The same of what a viewer saw or learnt.
+    /// Proves that the list which a viewer saw or learnt is a prefix of the list of all published entries. Changes nothing.
     pub fn recall_viewer(&mut self, viewer: &Viewer<K>)
         ensures same { self.new ≡ self.old }
         ensures begins { IsPrefix viewer.now self.new.entries }
@@ -109,8 +110,8 @@ where
         self.author.recall(viewer.prefix());
     }
 
-    /// Adds an event with its reply to the list, and shows the sheet of the longer list. It waits for viewers that still read the
-    /// sheet from before the last call. What it tells is the longer list. Where it finds no memory the list stays as it is.
+    /// Adds an event with its reply to the list, shows the sheet of the longer list to viewers, and returns the longer list. It waits for viewers
+    /// that still read the sheet before the last one. If memory runs out, the list is unchanged.
     pub fn publish(
         &mut self,
         sheet: Sheet,
@@ -129,13 +130,13 @@ where
         }
         self.author.add(event, reply);
         pane.fill(Shown::new(sheet, self.author.known()));
-        // It takes no memory, so it succeeds.
+        // This allocates nothing, so it succeeds.
         let _ = self.writer.publish();
         Ok(Told::of(self.author.known()))
     }
 
-    /// The same for a board that nobody looks at: it is told no sheet, shows none, waits for nobody and takes no memory, so its caller
-    /// need not make a report that nobody would read.
+    /// Adds an event with its reply to the list of a board without viewers, and returns the longer list. It shows no sheet, does not wait, allocates
+    /// nothing and cannot fail, so the caller need not compute a report.
     pub fn publish_unseen(&mut self, event: &Event, reply: &Reply) -> Told<K>
         requires unseen { self.old.viewers ≡ 0 }
         requires room { length self.old.entries + 1 < 2 ^ 64 }
@@ -148,7 +149,7 @@ where
     }
 }
 
-// So many viewers of what a writer shows.
+// Returns `count` viewers of what a writer shows.
 fn readers_of<K: Naming, R: Wait + Drop>(
     alloc: Global,
     writer: &WriteHandle<Pane<K>, Pane<K>, R>,

@@ -1,7 +1,8 @@
+//! Entries: the elements of a history.
 use drf_rows::{Copied, Event, Reply};
 use std::alloc::AllocError;
 
-/// An event with its reply: one line of a history. Events that were refused have one too.
+/// An event with its reply: one element of a history. Refused events have entries too.
 #[derive(Drop)]
 pub struct Entry {
     pub event: Event,

@@ -1,17 +1,18 @@
-//! The rule of the histories: each board's is a chain of links in one log, which only grows. It exists in proofs alone.
+//! The rule for the histories of all boards: each history is a chain of links in one log, to which links are only added. The log exists only in
+//! proofs.
 use crate::entry::Entry;
 use drf_rows::{Event, Reply};
 use logbook::{Gain, Pen, Plain, Play, Rule, Word};
 use std::marker::Brand;
 
-/// An entry in the chain of one board, and the word whose pen may add the next one. No value of it is made.
+/// One entry of a board's chain, and the key of the word whose pen can add the next entry. No value of this type is made at run time.
 pub struct Link {
     pub chain: u64,
     pub next: u64,
     pub entry: Entry,
 }
 
-/// The words whose pens have added links are at home.
+/// The rule that a pen can add only one link: once a pen has added a link, its word is back in the log.
 pub struct Chained;
 
 impl Rule<Link, u64> for Chained {
@@ -32,7 +33,7 @@ impl Rule<Link, u64> for Chained {
     ghost moves = { λ ask before after answer. Unit {0} };
 }
 
-/// Nobody gets anything for a step.
+/// The gain of a step that gives nothing.
 pub struct NoGain;
 
 impl Gain<Link, u64> for NoGain {
@@ -59,7 +60,7 @@ impl Plain<(), Link, u64> for NewPen {
     ghost state = { λ nothing. None };
 }
 
-/// What a link is made of: the word that names its chain, the pen that may add the next one, and the entry.
+/// What a link is made from: the word that names the chain, the pen that can add the next link, and the event and reply of the entry.
 #[derive(Clone, Copy)]
 pub struct Lent<'a> {
     pub root: &'a Word<Link, u64, Chained>,
@@ -87,14 +88,14 @@ impl<'a> Plain<Lent<'a>, Link, u64> for AddLink {
     ghost state = { λ lent. None };
 }
 
-/// How many links a chain is expected to have.
+/// The number of links that a chain is expected to have.
 #[derive(Clone, Copy)]
 pub struct Expected<'a> {
     pub root: &'a Word<Link, u64, Chained>,
     pub count: u64,
 }
 
-/// The step by which who has the pen finds that nobody has seen more links than are expected.
+/// The step by which the owner of the pen finds that nobody has seen more links than expected.
 pub struct Look;
 
 impl Play<Link, u64> for Look {
@@ -112,9 +113,9 @@ impl<'a> Plain<Expected<'a>, Link, u64> for Look {
     ghost state = { λ expected. None };
 }
 
-/// Names one slate: where its history stands, and its limits; and the rows with which that begins. Code that opens a board is generic in
-/// such a type, and each call of it says in its proof which slate is named, so that what one board tells is never learnt by a viewer of
-/// another. It has no calls.
+/// A name of one slate, for proofs only: the place of its history, its capacities (`slate`), and the rows with which the history begins (`start`).
+/// Code that opens a board is generic in such a type, and the proof of each call says which slate it is for. So a list of one board cannot be learnt
+/// by a viewer of another.
 pub trait Naming {
     ghost use Rattle.drf_rows.specs.declared.rows.Rows.{Rows};
     ghost use Rattle.drf_board.specs.Slates.{SlateName};
@@ -124,7 +125,7 @@ pub trait Naming {
     ghost start: { Rows };
 }
 
-/// The type that such code is called with.
+/// The type with which code that is generic in `Naming` is called.
 impl Naming for Brand {
     ghost use Rattle.drf_rows.specs.LimitNumbers.{ceilings};
     ghost use Rattle.drf_rows.specs.Step.{opening};

@@ -1,4 +1,4 @@
-//! The board: reports of shares that are read without the master's lock, and never go back.
+//! The board: reports of shares that viewers read without the master's lock. A viewer never sees an older report after a newer one.
 #![tactic(auto)]
 
 mod author;

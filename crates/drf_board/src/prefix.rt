@@ -1,4 +1,4 @@
-//! How much of the history is known.
+//! Prefixes of a board's history.
 ghost use Rattle.std.specs.Prelude.{◌≡◌, length, nat_le, MatchBool};
 ghost use mathlib.Core.List.{IsPrefix};
 ghost use Rattle.drf_board.specs.Chains.{entries_of};
@@ -8,7 +8,7 @@ use crate::history::{Chained, Link, Naming};
 use logbook::Seen;
 use std::marker::{Model, PhantomData};
 
-/// A legal list with which the history of the board begins. Contracts see it as that list; at run time it is its length alone.
+/// A legal prefix of the history of a board. Contracts see it as the list of its entries; at run time it is only their number.
 #[derive(Drop)]
 pub struct Prefix<K: Naming> {
     count: u64,
@@ -33,7 +33,7 @@ impl<K: Naming> Model for Prefix<K> {
 }
 
 impl<K: Naming> Prefix<K> {
-    /// What was seen of the history, which has so many entries.
+    /// Returns the prefix that consists of everything seen in `seen`, which is `count` entries.
     pub fn of(count: u64, seen: Seen<Link, u64, Chained>) -> Prefix<K>
         requires count { count ≡ length (entries_of K.slate.chain seen.log) }
         requires book { seen.book ≡ K.slate.book }
@@ -47,14 +47,14 @@ impl<K: Naming> Prefix<K> {
         }
     }
 
-    /// Tells a proof that the list is legal. It does nothing.
+    /// Proves that the list is legal. Does nothing.
     pub fn recall(&self)
         ensures { IsLegal K.slate.limits K.start self.now }
     {
         let _ = &self.count;
     }
 
-    /// The same list once more, without memory.
+    /// Returns the same prefix again. Allocates nothing.
     pub fn again(&self) -> Prefix<K>
         ensures { result ≡ self.now }
     {
@@ -65,7 +65,7 @@ impl<K: Naming> Prefix<K> {
         }
     }
 
-    /// What was seen of the histories of all boards.
+    /// Returns what was seen of the log.
     pub(crate) fn seen(&self) -> &Seen<Link, u64, Chained>
         ensures book { result.now.book ≡ K.slate.book }
         ensures entries { entries_of K.slate.chain result.now.log ≡ self.now }
@@ -73,12 +73,12 @@ impl<K: Naming> Prefix<K> {
         &self.seen
     }
 
-    /// Whether the other list begins with this one. If it does not, this one begins with the other.
+    /// Returns whether this list is a prefix of the other. If not, the other is a prefix of this one.
     pub fn begins(&self, other: &Prefix<K>) -> bool
         ensures which { MatchBool result (IsPrefix self.now other.now) (IsPrefix other.now self.now) }
         ensures exact { result ≡ nat_le (length self.now) (length other.now) }
     {
-        // For the proof alone: one of the two lists begins with the other.
+        // Only for the proof: one of the two lists is a prefix of the other.
         let mut both = self.seen.again();
         both.learn(&other.seen);
         if other.count < self.count {
@@ -88,7 +88,7 @@ impl<K: Naming> Prefix<K> {
     }
 }
 
-/// The list that the board had when a call was answered, for a viewer to learn. It carries no sheet.
+/// The list that a board had when a call returned, for viewers to learn. It contains no sheet.
 #[derive(Drop)]
 pub struct Told<K: Naming> {
     prefix: Prefix<K>,
@@ -107,20 +107,22 @@ impl<K: Naming> Model for Told<K> {
 }
 
 impl<K: Naming> Told<K> {
+    /// Returns the list that is this prefix.
     pub(crate) fn of(prefix: Prefix<K>) -> Told<K>
         ensures { result ≡ prefix }
     {
         Told { prefix }
     }
 
+    /// Returns the list as a prefix.
     pub(crate) fn prefix(&self) -> &Prefix<K>
         ensures { result.now ≡ self.now }
     {
         &self.prefix
     }
 
-    /// Whether the other list begins with this one. If it does not, this one begins with the other: two lists that were told of one board
-    /// are beginnings of one history.
+    /// Returns whether this list is a prefix of the other. If not, the other is a prefix of this one: two lists that one board returned are prefixes
+    /// of one history.
     pub fn begins(&self, other: &Told<K>) -> bool
         ensures which { MatchBool result (IsPrefix self.now other.now) (IsPrefix other.now self.now) }
         ensures exact { result ≡ nat_le (length self.now) (length other.now) }

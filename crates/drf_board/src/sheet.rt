@@ -1,10 +1,11 @@
+//! Sheets: the reports that a board publishes.
 ghost use Rattle.std.specs.Prelude.{◌≡◌, IfOk};
 
 use drf_rows::Report;
 use std::alloc::AllocError;
 
-/// What viewers are shown: how many events were published, refused ones among them, and the report of shares after the last. Events before
-/// the history do not count.
+/// What a viewer reads: the number of entries of the history, refused events included, and the report of shares after the last one. Events that led
+/// to the rows with which the history begins are not counted.
 #[derive(Drop)]
 pub struct Sheet {
     pub events: u64,
@@ -12,6 +13,7 @@ pub struct Sheet {
 }
 
 impl Sheet {
+    /// Returns a copy. It fails only if memory runs out.
     pub fn copy(&self) -> Result<Sheet, AllocError>
         ensures { IfOk result (λ copy. copy ≡ self.now) }
     {

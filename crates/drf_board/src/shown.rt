@@ -1,4 +1,4 @@
-//! What viewers are shown.
+//! Panes: the values that a board shows to its viewers through `left_right`.
 ghost use Rattle.std.specs.Prelude.{◌≡◌, IfOk};
 ghost use Rattle.drf_board.specs.Sheets.{IsSheet};
 
@@ -10,7 +10,7 @@ use std::alloc::{AllocError, Global};
 use std::marker::Model;
 use std::sync::{Arc, OnceLock};
 
-/// A sheet, and the list that it is of. Contracts see it as that list.
+/// A sheet with the list that it is the sheet of. Contracts see it as that list.
 #[derive(Drop)]
 pub struct Shown<K: Naming> {
     sheet: Sheet,
@@ -33,6 +33,7 @@ impl<K: Naming> Model for Shown<K> {
 }
 
 impl<K: Naming> Shown<K> {
+    /// Returns a sheet with its list.
     pub fn new(sheet: Sheet, prefix: Prefix<K>) -> Shown<K>
         requires { IsSheet K.slate.limits K.start prefix sheet }
         ensures { result ≡ prefix }
@@ -40,13 +41,14 @@ impl<K: Naming> Shown<K> {
         Shown { sheet, prefix }
     }
 
+    /// Returns the list.
     pub fn prefix(&self) -> &Prefix<K>
         ensures { result.now ≡ self.now }
     {
         &self.prefix
     }
 
-    /// A copy of the sheet.
+    /// Returns a copy of the sheet. It fails only if memory runs out.
     pub fn sheet(&self) -> Result<Sheet, AllocError>
         ensures { IfOk result (λ sheet. IsSheet K.slate.limits K.start self.now sheet) }
     {
@@ -54,32 +56,33 @@ impl<K: Naming> Shown<K> {
     }
 }
 
-/// A place for what is shown, which is written once. The two copies that `left_right` keeps are such places, and so are its operations.
+/// A place for a sheet that is written once. Both copies that `left_right` keeps are panes, and so are its operations.
 #[derive(Drop)]
 pub struct Pane<K: Naming> {
     slot: Arc<OnceLock<Shown<K>>, Global>,
 }
 
 impl<K: Naming> Pane<K> {
-    /// One empty place, twice.
+    /// Creates an empty pane, and returns two handles to it. It fails only if memory runs out.
     pub(crate) fn pair(alloc: Global) -> Result<(Pane<K>, Pane<K>), AllocError> {
         let slot = Arc::new(alloc, OnceLock::new())?;
         let other = Arc::try_clone(&slot)?;
         Ok((Pane { slot }, Pane { slot: other }))
     }
 
-    /// Writes the place, where it is still empty.
+    /// Writes the pane if it is still empty.
     pub(crate) fn fill(&self, shown: Shown<K>) {
         let _ = self.slot.try_set(shown);
     }
 
+    /// Returns what was written, if anything.
     pub(crate) fn get(&self) -> Option<&Shown<K>> {
         self.slot.get()
     }
 }
 
 impl<K: Naming> Absorb<Pane<K>> for Pane<K> {
-    // What is shown tells by its type which list it is of, so the two copies need not agree.
+    // The type of a pane says which board its list belongs to, so the contracts need not say that both copies agree.
     type State = ();
 
     ghost state = { λ p. tt };
@@ -88,21 +91,24 @@ impl<K: Naming> Absorb<Pane<K>> for Pane<K> {
 
     ghost never_fails = { Unit {0} };
 
+    // Shows the pane of the operation.
     fn absorb_first(&mut self, operation: &Pane<K>, _other: &Pane<K>) -> Result<(), AllocError> {
-        // Without a count for one owner more the older place stays, which `Viewer::read` tells from a newer one.
+        // If the pane already has 2^63 owners, the older pane stays. `Viewer::read` notices this.
         if let Ok(slot) = Arc::try_clone(&operation.slot) {
             self.slot = slot;
         }
         Ok(())
     }
 
+    // Shows the pane of the operation.
     fn absorb_second(&mut self, operation: Pane<K>, _other: &Pane<K>) -> Result<(), Pane<K>> {
         *self = operation;
         Ok(())
     }
 }
 
-/// What both copies are. A bound by this name keeps `left_right`'s own out of the types that hold a board.
+/// What `left_right` requires of both copies. Types that hold a board use this name as their bound, so that they need not name the traits of
+/// `left_right`.
 pub trait Shows: Absorb<Self, State = ()> + Drop + Sized {}
 
 impl<K: Naming> Shows for Pane<K> {}

@@ -1,3 +1,4 @@
+//! Slates: they name one board and its viewers before the board is opened.
 ghost use Rattle.std.specs.Prelude.{◌≡◌, ◌≤◌, [], IfOk};
 
 use crate::author::{Author, new_word};
@@ -7,7 +8,7 @@ use logbook::{Pen, Seen, Start, Word};
 use std::alloc::AllocError;
 use std::marker::Model;
 
-/// A board that has no name yet. Contracts see it as the name that it is to get, and how many viewers it is for.
+/// A board that is not opened yet. Contracts see it as the name that the board will have, and the number of its viewers.
 #[derive(Drop)]
 pub struct Slate {
     limits: Limits,
@@ -34,8 +35,8 @@ impl Model for Slate {
 }
 
 impl Slate {
-    /// A slate for 0 to 64 viewers. The lists of its board are legal under the limits. It takes no memory: `Board::open` makes
-    /// what the viewers read.
+    /// Creates a slate for 0 to 64 viewers. The lists of its board will be legal under these capacities. Allocates nothing, and never fails
+    /// (`Board::open` allocates what the viewers read).
     pub fn open(viewers: u64, limits: Limits) -> Result<Slate, AllocError>
         requires few { viewers ≤ 64 }
         ensures limits { IfOk result (λ slate. slate.name.limits ≡ limits) }
@@ -54,7 +55,7 @@ impl Slate {
         })
     }
 
-    /// How many viewers it is for.
+    /// Returns the number of viewers.
     pub fn viewers(&self) -> u64
         ensures value { result ≡ self.now.viewers }
         ensures few { self.now.viewers ≤ 64 }
@@ -62,7 +63,7 @@ impl Slate {
         self.viewers
     }
 
-    /// The author of the history of the board.
+    /// Returns the author of the board's history, which is empty.
     pub(crate) fn into_author<K: Naming>(self) -> Author<K>
         requires named { self.name ≡ K.slate }
         ensures { result ≡ [] }

@@ -1,3 +1,4 @@
+//! Viewers, which read the sheets of a board without the publisher's lock.
 ghost use Rattle.std.specs.Prelude.{◌≡◌, ◌⊎◌, IfOk, OnErr};
 ghost use mathlib.Core.List.{IsPrefix};
 ghost use Rattle.drf_board.specs.declared.viewer.ViewFault.TheVariants.{Memory};
@@ -12,12 +13,12 @@ use left_right::ReadHandle;
 use std::alloc::AllocError;
 use std::marker::Model;
 
-/// Why a viewer was shown nothing. It has then seen what it had seen before.
+/// Why a viewer could not read a sheet. The viewer is unchanged.
 #[derive(Clone, Copy, PartialEq, Eq)]
 pub enum ViewFault {
-    /// The board is gone, though no clause says so.
+    /// The board is gone (the contracts do not say this).
     Closed,
-    /// There is no memory for the sheet.
+    /// Memory ran out while the sheet was copied.
     Memory,
 }
 
@@ -29,7 +30,7 @@ impl From<AllocError> for ViewFault {
     }
 }
 
-/// Reads what the board shows, without the lock of whoever publishes. Contracts see it as the longest list that it saw or learnt.
+/// Reads the sheets of a board without the publisher's lock. Contracts see it as the longest list that it saw or learnt.
 #[derive(Drop)]
 pub struct Viewer<K: Naming> {
     handle: ReadHandle<Pane<K>>,
@@ -48,7 +49,7 @@ impl<K: Naming> Model for Viewer<K> {
     ghost view = { λ v. v.prefix };
 }
 
-// What is shown, where that is not older than what is known.
+// Returns the sheet of a pane and its list, or `Closed` if it is empty or its list is older than `known`.
 fn see<K: Naming>(pane: &Pane<K>, known: &Prefix<K>) -> Result<(Sheet, Prefix<K>), ViewFault>
     ensures later { IfOk result (λ r. IsPrefix known.now r.1) }
     ensures sheet { IfOk result (λ r. IsSheet K.slate.limits K.start r.1 r.0) }
@@ -65,21 +66,24 @@ fn see<K: Naming>(pane: &Pane<K>, known: &Prefix<K>) -> Result<(Sheet, Prefix<K>
 }
 
 impl<K: Naming> Viewer<K> {
+    /// Creates a viewer that has seen this prefix.
     pub(crate) fn new(handle: ReadHandle<Pane<K>>, prefix: Prefix<K>) -> Viewer<K>
         ensures { result ≡ prefix }
     {
         Viewer { handle, prefix }
     }
 
+    /// Returns the longest list that it saw or learnt.
     pub(crate) fn prefix(&self) -> &Prefix<K>
         ensures { result.now ≡ self.now }
     {
         &self.prefix
     }
 
-    /// The sheet of a legal list that begins with all that this viewer saw before and all that it learnt: what it reads never goes back.
-    /// The board's own list begins with that list, as `Board::recall_viewer` says. It waits for nobody. `Closed` is for a board that is gone; a
-    /// sheet older than what was seen, or none, which `publish` does not leave behind, would be told so too.
+    /// Returns the sheet of a legal list that begins with everything this viewer saw or learnt before, so it never reads an older sheet after a newer
+    /// one. This list is a prefix of the board's own list (`Board::recall_viewer`). Does not wait. Errors: `Memory` if the sheet cannot be copied;
+    /// `Closed` if the board is gone. `Closed` would also be returned for a sheet older than the last one, or for none, but `publish` does not leave
+    /// such a pane.
     pub fn read(&mut self) -> Result<Sheet, ViewFault>
         ensures later { IsPrefix self.old self.new }
         ensures legal { IsLegal K.slate.limits K.start self.new }
@@ -97,8 +101,8 @@ impl<K: Naming> Viewer<K> {
         Ok(sheet)
     }
 
-    /// From now on, what this viewer reads begins with the told list. So the lists that two callers were told, and that one viewer
-    /// learnt, are beginnings of one history. It takes no memory and waits for nobody.
+    /// Makes this viewer continue from a list that a call returned: each sheet that it reads later includes this list. So if one viewer learns the
+    /// lists of two callers, both are prefixes of one history. Allocates nothing and does not wait.
     pub fn learn(&mut self, told: &Told<K>)
         ensures later { IsPrefix self.old self.new }
         ensures told { IsPrefix told.now self.new }

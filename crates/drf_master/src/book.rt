@@ -1,4 +1,4 @@
-//! A core with its journal.
+//! A book: a core together with the journal of its events and replies.
 ghost use Rattle.std.specs.Prelude.{◌≡◌, ◌<◌, ◌≤◌, ◌-◌, ◌^◌, [], Some, length, vec_len, vec_capacity, IfOk, IfErr, OnOk, OnErr};
 ghost use Rattle.drf_board.specs.History.{IsLegal, entry};
 ghost use Rattle.drf_board.specs.Sheets.{IsSheet};
@@ -20,17 +20,17 @@ use std::alloc::{AllocError, Global};
 use std::marker::{Model, PhantomData};
 use std::mem::replace;
 
-/// A core, and the journal of what it was asked and what it answered: the core is the run of the journal's events from the rows that K names,
-/// and each reply is the definition's. Contracts see its limits, its journal and how many entries it has room for. A book that nobody names a
-/// slate for is a `Book<Brand, S>`, which begins with an empty cluster.
+/// A core with its journal, which lists every event and its reply. The core is always in the state that the journal's events lead to from the rows
+/// `K::start`, and each reply is the one that the definition gives. Contracts see the limits, the journal, and the number of entries for which the
+/// journal has room. If there is no slate, use `Book<Brand, S>`, which begins with an empty cluster.
 pub struct Book<K: Naming, S: Sorter> {
     core: Core<S>,
-    // Another core, behind that one, which works out what comes next.
+    // A core that can be some entries behind the first. It computes the next step.
     second: Second<K, S>,
     entries: Vec<Entry>,
 }
 
-// Written out, so that the proof of whoever drops a book sees one call, and not the drop of each field.
+// Written by hand, so that a proof about dropping a book sees one call instead of the drop of each field.
 impl<K: Naming, S: Sorter> Drop for Book<K, S> {
     fn drop(self) {
         let Book {
@@ -54,14 +54,14 @@ impl<K: Naming, S: Sorter> Model for Book<K, S> {
     ghost invariant = { λ b. IsBook K.start b.entries.items b.core b.second.core b.second.taken };
 }
 
-/// The core after one event more, and the entry that is to be added.
+/// The core after one more event, and the entry for that event, which is not yet in the journal.
 #[derive(Drop)]
 pub struct Next<S: Sorter> {
     pub(crate) core: Core<S>,
     pub(crate) entry: Entry,
 }
 
-/// Copies of an entry and of its reply, for who keeps a receipt and who is answered.
+/// A copy of an entry for the receipt, and a copy of its reply for the caller.
 #[derive(Drop)]
 pub(crate) struct Copies {
     pub(crate) kept: Entry,
@@ -69,20 +69,21 @@ pub(crate) struct Copies {
 }
 
 impl<S: Sorter> Next<S> {
-    /// The event with its reply.
+    /// Returns the event with its reply.
     pub fn entry(&self) -> &Entry
         ensures { result.now ≡ self.now.entry }
     {
         &self.entry
     }
 
+    /// Returns the reply.
     pub fn reply(&self) -> &Reply
         ensures { result.now ≡ self.now.entry.reply }
     {
         &self.entry.reply
     }
 
-    /// The report of shares after the event.
+    /// Returns the report of shares after the event. It fails only if memory runs out.
     pub fn report(&self) -> Result<Report, AllocError>
         ensures { IfOk result (λ report. report ≡ report_of self.now.core.rows) }
     {
@@ -90,7 +91,8 @@ impl<S: Sorter> Next<S> {
     }
 }
 
-// The core takes an event, for whose entry the journal has room then. A copy of the event and two of the reply are made before.
+// Steps the core by an event and makes room in the journal for its entry. Copies of the event and of the reply are made before the core changes. If
+// memory runs out, the core is unchanged.
 fn take_copied<S: Sorter>(
     core: &mut Core<S>,
     entries: &mut Vec<Entry>,
@@ -117,7 +119,7 @@ fn take_copied<S: Sorter>(
     }
 }
 
-// The entry of an event with its reply, and copies of both.
+// Returns the entry of an event with its reply, and the copies of both.
 fn copied_entry(event: Event, kept: Event, stepped: Stepped) -> (Entry, Copies)
     requires kept { kept ≡ event }
     requires copies { stepped.copies ≡ Some (stepped.reply, stepped.reply) }
@@ -138,7 +140,7 @@ fn copied_entry(event: Event, kept: Event, stepped: Stepped) -> (Entry, Copies)
 }
 
 impl<K: Naming, S: Sorter> Book<K, S> {
-    /// A core that was just opened, and an empty journal.
+    /// Creates a book with a new, empty core and an empty journal. It fails only if memory runs out.
     pub fn open(alloc: Global, limits: Limits) -> Result<Book<K, S>, AllocError>
         requires start { K.start ≡ opening }
         ensures limits { IfOk result (λ book. book.limits ≡ limits) }
@@ -148,7 +150,7 @@ impl<K: Naming, S: Sorter> Book<K, S> {
         Ok(Book::open_from(alloc, core))
     }
 
-    /// A core with the rows that K names, and an empty journal. It takes no memory.
+    /// Creates a book from a core whose rows are `K::start`, with an empty journal. Allocates nothing.
     pub fn open_from(alloc: Global, core: Core<S>) -> Book<K, S>
         requires start { Begins core.limits K.start core }
         ensures limits { result.limits ≡ core.limits }
@@ -161,7 +163,7 @@ impl<K: Naming, S: Sorter> Book<K, S> {
         }
     }
 
-    /// How many entries the journal has.
+    /// Returns the number of entries in the journal.
     pub fn len(&self) -> u64
         ensures count { result ≡ length self.now.entries }
         ensures few { result < 2 ^ 63 }
@@ -169,7 +171,7 @@ impl<K: Naming, S: Sorter> Book<K, S> {
         self.entries.len() as u64
     }
 
-    /// The journal, which is legal.
+    /// Returns the journal, which is legal.
     pub fn entries(&self) -> &[Entry]
         ensures entries { result.now ≡ self.now.entries }
         ensures legal { IsLegal self.now.limits K.start self.now.entries }
@@ -177,14 +179,14 @@ impl<K: Naming, S: Sorter> Book<K, S> {
         self.entries.as_slice()
     }
 
-    /// The core, which is the run of the journal.
+    /// Returns the core, which is in the state that the journal's events lead to.
     pub fn core(&self) -> &Core<S>
         ensures { IsRunOf self.now.limits K.start self.now.entries result.now }
     {
         &self.core
     }
 
-    /// The sheet of the journal.
+    /// Returns the sheet of the journal: the number of its entries and the report of shares. It fails only if memory runs out.
     pub fn sheet(&self) -> Result<Sheet, AllocError>
         ensures { IfOk result (IsSheet self.now.limits K.start self.now.entries) }
     {
@@ -194,7 +196,7 @@ impl<K: Naming, S: Sorter> Book<K, S> {
         })
     }
 
-    /// The journal, without the core.
+    /// Drops the core and returns the journal.
     pub fn into_entries(self) -> Vec<Entry>
         ensures { result.items ≡ self.entries }
     {
@@ -206,7 +208,7 @@ impl<K: Naming, S: Sorter> Book<K, S> {
         entries
     }
 
-    // The core after an event, and the reply to it. The journal stays as it is, and has room for one entry more.
+    // Computes, on the second core, the state after an event and the reply. The journal is unchanged, and has room for one more entry.
     fn work_out(&mut self, event: &Event) -> Result<(Core<S>, Reply), AllocError>
         ensures same { IsSameJournal self.old self.new }
         ensures next { IfOk result (λ r. IsNext self.new.limits K.start self.new.entries r.0 (entry event.now r.1)) }
@@ -219,7 +221,7 @@ impl<K: Naming, S: Sorter> Book<K, S> {
         Ok(worked)
     }
 
-    /// Works out what comes of an event, and makes room for its entry. The journal stays as it is.
+    /// Computes the step for an event without making it, and makes room for its entry. The journal is unchanged. It fails only if memory runs out.
     pub fn prepare(&mut self, event: Event) -> Result<Next<S>, AllocError>
         ensures same { IsSameJournal self.old self.new }
         ensures next { IfOk result (λ next. IsNext self.new.limits K.start self.new.entries next.core next.entry) }
@@ -238,8 +240,8 @@ impl<K: Naming, S: Sorter> Book<K, S> {
         }
     }
 
-    /// Adds what was prepared, and answers its place in the journal, from 0. It takes no memory. The core from before is now the one
-    /// behind.
+    /// Makes a prepared step and adds its entry. Returns the place of the entry in the journal, counted from 0. Cannot fail, and allocates nothing.
+    /// The old core becomes the second core.
     pub fn settle(&mut self, next: Next<S>) -> u64
         requires next { IsNext self.old.limits K.start self.old.entries next.core next.entry }
         requires room { 0 < self.old.room }
@@ -253,8 +255,8 @@ impl<K: Naming, S: Sorter> Book<K, S> {
         place as u64
     }
 
-    /// Takes an event in one step, where nobody is to see what comes of it before it stands. Copies of its entry and of its reply are made
-    /// before the core changes; where there is no memory for them, the journal stays as it is. A second core goes: it would fall behind.
+    /// Makes one step for an event, and returns copies of its entry and of its reply. For books without viewers. The copies are made before the core
+    /// changes; if memory runs out, the journal is unchanged. The second core is dropped, because it would fall behind.
     pub(crate) fn record(&mut self, event: Event) -> Result<Copies, AllocError>
         ensures added { IfOk result (λ copies. Adds self.old self.new copies.kept) }
         ensures event { IfOk result (λ copies. copies.kept.event ≡ event) }
@@ -275,8 +277,8 @@ impl<K: Naming, S: Sorter> Book<K, S> {
         }
     }
 
-    /// Takes an event in one step, and answers its reply and its place. Where it finds no memory the journal stays as it is. A second
-    /// core, which `prepare` makes, goes.
+    /// Makes one step for an event, and returns the reply and the place of the entry in the journal. If memory runs out, the journal is unchanged.
+    /// The second core, which `prepare` makes, is dropped.
     pub fn take(&mut self, event: Event) -> Result<(Reply, u64), AllocError>
         ensures place { IfOk result (λ r. r.1 ≡ length self.old.entries) }
         ensures added { IfOk result (λ r. Adds self.old self.new (entry event r.0)) }
@@ -287,10 +289,9 @@ impl<K: Naming, S: Sorter> Book<K, S> {
         Ok((reply, place))
     }
 
-    /// Compares the journal with the receipts of passes. Where there is memory, `Ok` is told exactly where the journal is a shuffle of them:
-    /// each entry is one receipt's, and those of a pass stand in its order. Otherwise the first fault is told, and of several places the
-    /// least; want of memory is told only where none is missing. It never tells `Stranger`, and takes a time that is linear in journal and
-    /// receipts.
+    /// Checks that the journal is a shuffle of the receipts of these passes: each entry has exactly one receipt, and the receipts of a pass are in
+    /// their order. If so, the only possible error is `Memory`. Otherwise returns the first error that applies, in the order of `CloseFault`, with
+    /// the smallest place; but `Memory` can come before `Mismatch`. Never returns `Stranger`. Takes time linear in the journal and the receipts.
     pub fn matches(&self, passes: &[Pass]) -> Result<(), CloseFault>
         ensures ok { OnOk result (IsShuffle self.now.entries (receipts_of passes.now)) }
         ensures err { IfErr result (IsFault self.now.entries (receipts_of passes.now)) }

@@ -1,4 +1,4 @@
-//! What the lock of a master holds.
+//! The desk: what the lock of a master protects, a book and its board.
 ghost use Rattle.std.specs.Prelude.{◌≡◌, ◌+◌, ◌<◌, ◌^◌, ◌++◌, ◌∷◌, [], length, IfOk, OnOk, OnErr};
 ghost use mathlib.Core.List.{IsPrefix};
 ghost use Rattle.drf_board.specs.Boards.{HasPublished};
@@ -18,7 +18,7 @@ use std::sync::Wait;
 /// The sorter of a master's core.
 pub type MasterSorter = TreeSorter;
 
-/// A book, and the board that shows it. Contracts see it as its journal, which by this type is the list of the board.
+/// A book and the board that shows it. Contracts see it as the journal, which by this type's invariant is also the list of the board.
 pub struct Desk<K: Naming, R: Wait + Drop> {
     book: Book<K, MasterSorter>,
     board: Board<K, R>,
@@ -38,14 +38,15 @@ impl<K: Naming, R: Wait + Drop> Model for Desk<K, R> {
     ghost invariant = { λ d. (d.board.entries ≡ d.book.entries) × (d.book.limits ≡ K.slate.limits) };
 }
 
-// Written out, so that the proof of whoever drops a desk sees two calls.
+// Written by hand, so that a proof about dropping a desk sees two calls.
 impl<K: Naming, R: Wait + Drop> Drop for Desk<K, R> {
     fn drop(self) {
         drop(self.into_book());
     }
 }
 
-/// What a call is answered: the reply, its place in the journal, counted from 0, and the list that viewers of this master may learn.
+/// The result of a call: the reply, its place in the journal (counted from 0), and the list of all entries so far, which viewers of this master can
+/// learn.
 #[derive(Drop)]
 pub struct Answer<K: Naming> {
     pub reply: Reply,
@@ -53,6 +54,7 @@ pub struct Answer<K: Naming> {
     pub told: Told<K>,
 }
 
+// Returns copies of a prepared entry and of its reply. It fails only if memory runs out.
 fn copies_of(next: &Next<MasterSorter>) -> Result<Copies, AllocError>
     ensures kept { IfOk result (λ copies. copies.kept ≡ next.now.entry) }
     ensures reply { IfOk result (λ copies. copies.reply ≡ next.now.entry.reply) }
@@ -64,7 +66,7 @@ fn copies_of(next: &Next<MasterSorter>) -> Result<Copies, AllocError>
     })
 }
 
-// Shows what was prepared, after so many entries.
+// Publishes a prepared step, which comes after `place` entries. If memory runs out, the board is unchanged.
 fn show<K: Naming, R: Wait + Drop>(
     board: &mut Board<K, R>,
     place: u64,
@@ -85,7 +87,7 @@ fn show<K: Naming, R: Wait + Drop>(
     board.publish(sheet, event, reply)
 }
 
-// Copies what was prepared, and then shows it.
+// Copies a prepared entry, and then publishes it. If memory runs out, the board is unchanged.
 fn show_copied<K: Naming, R: Wait + Drop>(
     board: &mut Board<K, R>,
     place: u64,
@@ -109,7 +111,7 @@ fn show_copied<K: Naming, R: Wait + Drop>(
     }
 }
 
-// Shows what was prepared, and then adds it to the book. All that asks for memory comes before anything is shown.
+// Publishes a prepared step, and then adds it to the book. Everything that can run out of memory comes before anything is published.
 fn answer_prepared<K: Naming, R: Wait + Drop>(
     book: &mut Book<K, MasterSorter>,
     board: &mut Board<K, R>,
@@ -141,7 +143,7 @@ fn answer_prepared<K: Naming, R: Wait + Drop>(
     }
 }
 
-// Adds an event to a book whose board nobody looks at, and to the board's list.
+// Adds an event to a book whose board has no viewers, and to the list of the board. If memory runs out, both are unchanged.
 fn answer_unseen<K: Naming, R: Wait + Drop>(
     book: &mut Book<K, MasterSorter>,
     board: &mut Board<K, R>,
@@ -159,7 +161,7 @@ fn answer_unseen<K: Naming, R: Wait + Drop>(
 {
     let place = book.len();
     let Copies { kept, reply } = book.record(event)?;
-    // The proof learns that the journal is legal, and not too long, by these calls alone.
+    // Only these calls tell the proof that the journal is legal and not too long.
     let _ = book.entries();
     let _ = book.len();
     let told = board.publish_unseen(&kept.event, &kept.reply);
@@ -168,7 +170,7 @@ fn answer_unseen<K: Naming, R: Wait + Drop>(
 }
 
 impl<K: Naming, R: Wait + Drop> Desk<K, R> {
-    /// A book with its board. It takes no memory.
+    /// Creates a desk from a book and its board. Allocates nothing.
     pub fn new(book: Book<K, MasterSorter>, board: Board<K, R>) -> Desk<K, R>
         requires entries { board.entries ≡ book.entries }
         requires limits { book.limits ≡ K.slate.limits }
@@ -177,7 +179,7 @@ impl<K: Naming, R: Wait + Drop> Desk<K, R> {
         Desk { book, board }
     }
 
-    /// Tells a proof that a list that was told begins the journal. It changes nothing.
+    /// Proves that a list which was returned by this board is a prefix of the journal. Changes nothing.
     pub fn recall_told(&mut self, told: &Told<K>)
         ensures same { self.new ≡ self.old }
         ensures begins { IsPrefix told.now self.new }
@@ -185,7 +187,7 @@ impl<K: Naming, R: Wait + Drop> Desk<K, R> {
         self.board.recall_told(told);
     }
 
-    /// The same of what a viewer saw or learnt.
+    /// Proves that the list which a viewer saw or learnt is a prefix of the journal. Changes nothing.
     pub fn recall_viewer(&mut self, viewer: &Viewer<K>)
         ensures same { self.new ≡ self.old }
         ensures begins { IsPrefix viewer.now self.new }
@@ -193,7 +195,8 @@ impl<K: Naming, R: Wait + Drop> Desk<K, R> {
         self.board.recall_viewer(viewer);
     }
 
-    /// Takes an event, a refused one too, and shows what comes of it. Where it finds no memory, journal and board stay as they are.
+    /// Adds an event with its reply to the journal and to the board, and returns the reply. A refused event is added too. If memory runs out, journal
+    /// and board are unchanged.
     pub fn answer(&mut self, event: Event) -> Result<Answer<K>, AllocError>
         ensures journal { IfOk result (λ answer. self.new ≡ self.old ++ entry event answer.reply ∷ []) }
         ensures told { IfOk result (λ answer. answer.told ≡ self.new) }
@@ -205,7 +208,7 @@ impl<K: Naming, R: Wait + Drop> Desk<K, R> {
         Ok(answer)
     }
 
-    // The same, with a receipt.
+    // Does what `answer` does, and also returns a receipt.
     fn answer_with_receipt(&mut self, event: Event) -> Result<(Answer<K>, Receipt), AllocError>
         ensures journal { IfOk result (λ r. self.new ≡ self.old ++ entry event r.0.reply ∷ []) }
         ensures told { IfOk result (λ r. r.0.told ≡ self.new) }
@@ -221,7 +224,8 @@ impl<K: Naming, R: Wait + Drop> Desk<K, R> {
         answer_prepared(&mut self.book, &mut self.board, next)
     }
 
-    /// The same, and the pass, which has room for it, gets a receipt: journal, board and pass change together, or none of them.
+    /// Does what `answer` does, and adds a receipt to the pass, which must have room for it. If memory runs out, journal, board and pass are
+    /// unchanged.
     pub(crate) fn answer_to(
         &mut self,
         pass: &mut Pass,
@@ -240,7 +244,7 @@ impl<K: Naming, R: Wait + Drop> Desk<K, R> {
         Ok(answer)
     }
 
-    /// The book, which nobody shows any more.
+    /// Drops the board and returns the book.
     pub fn into_book(self) -> Book<K, MasterSorter>
         ensures entries { result.entries ≡ self }
         ensures limits { result.limits ≡ K.slate.limits }
@@ -252,7 +256,7 @@ impl<K: Naming, R: Wait + Drop> Desk<K, R> {
         book
     }
 
-    /// The same, and the journal as a list that was told.
+    /// Drops the board, and returns the book and the journal as a list that viewers can learn.
     pub(crate) fn into_told(self) -> (Book<K, MasterSorter>, Told<K>)
         ensures entries { result.0.entries ≡ self }
         ensures limits { result.0.limits ≡ K.slate.limits }

@@ -1,4 +1,4 @@
-//! Scripts of events that threads run on one master, each on a pass of its own.
+//! Drives: scripts of events that run concurrently on one master, each on its own thread with its own pass.
 ghost use Rattle.std.specs.Prelude.{◌≡◌, ◌≤◌, [], All, length, map, vec_capacity, IfOk, IfErr, IsNone, OnErr, OnOk};
 ghost use Rattle.drf_board.specs.History.{IsLegal};
 ghost use Rattle.drf_master.specs.Closing.{AreOf, IsClosed};
@@ -18,15 +18,16 @@ use std::sync::Wait;
 use std::thread;
 use std::thread::Threads;
 
-/// Why scripts gave no book. A pass of another key is told before all else, and of the faults of several workers that of the first.
-/// `Memory` may come in place of any but a stranger: no clause says where it was wanting.
+/// Why a drive did not return a book. A pass with another key is reported before all other errors, and of the errors of several workers the one of
+/// the first worker is reported. `Memory` can be returned instead of any error except `Close(Stranger)`; the contracts do not say where memory ran
+/// out.
 #[derive(Clone, Copy, Debug, PartialEq, Eq)]
 pub enum DriveFault {
     /// The gate stopped a worker.
     Stopped,
-    /// There is no memory for threads, calls or replies.
+    /// Memory ran out for threads, calls or replies.
     Memory,
-    /// The passes do not fit, or with `Memory` there was none to find that out.
+    /// The passes do not fit the journal, or, with `CloseFault::Memory`, memory ran out while this was checked.
     Close(CloseFault),
 }
 
@@ -47,6 +48,7 @@ impl From<CallFault> for DriveFault {
 
     ghost from_gives = { λ fault gives. gives ≡ drive_fault fault };
 
+    /// Returns the error of a drive for the error of a call.
     fn from(fault: CallFault) -> DriveFault {
         match fault {
             CallFault::Stranger => DriveFault::Close(CloseFault::Stranger),
@@ -55,17 +57,17 @@ impl From<CallFault> for DriveFault {
     }
 }
 
-/// What is handed back where scripts gave no book.
+/// What is left when a drive does not return a book.
 #[derive(Drop)]
 pub enum Undriven<K: Naming> {
-    /// The scripts did not run to their ends, though of `Memory` no clause says so. The master and the passes are gone.
+    /// Not all calls were made (of `Memory` the contracts do not say this). The master and the passes are gone.
     Undone(DriveFault),
-    /// All calls were made, but the passes were not found to fit the journal: with `Memory` they may.
+    /// All calls were made, but the passes do not fit the journal, or, with `CloseFault::Memory`, memory ran out while this was checked.
     Unfit(CloseRefused<K>),
 }
 
 impl<K: Naming> Undriven<K> {
-    /// Why there is no book. The rest goes.
+    /// Returns why there is no book. Everything else is dropped.
     pub fn into_fault(self) -> DriveFault
         ensures { result ≡ fault_of self }
     {
@@ -76,7 +78,7 @@ impl<K: Naming> Undriven<K> {
     }
 }
 
-/// The book of a master that was driven and closed, and the replies to each script.
+/// The book of a master whose drive was completed and closed, and the replies to each script.
 #[derive(Drop)]
 pub struct Driven<K: Naming> {
     pub book: Book<K, MasterSorter>,
@@ -84,7 +86,7 @@ pub struct Driven<K: Naming> {
 }
 
 impl<K: Naming> Driven<K> {
-    /// The journal, without the core and the replies.
+    /// Drops the core and the replies, and returns the journal.
     pub fn into_entries(self) -> Vec<Entry>
         ensures { result.items ≡ self.book.entries }
     {
@@ -96,7 +98,7 @@ impl<K: Naming> Driven<K> {
     }
 }
 
-/// What one thread is to do.
+/// The work of one thread.
 #[derive(Drop)]
 pub struct Job {
     pub worker: u64,
@@ -104,14 +106,14 @@ pub struct Job {
     pub script: Vec<Event>,
 }
 
-/// What one thread did.
+/// The result of one thread.
 #[derive(Drop)]
 pub struct Done {
     pub pass: Pass,
     pub replies: Vec<Reply>,
 }
 
-// Gives the lock up after the last of the calls that are made together: it is kept for so many at most.
+// Keeps the lock for the next call, or releases it after each `together` calls.
 fn keep<'a, K: Naming, R: Wait + Drop>(
     desk: Locked<'a, K, R>,
     together: u64,
@@ -126,7 +128,7 @@ fn keep<'a, K: Naming, R: Wait + Drop>(
     Some(desk)
 }
 
-// Makes one call, and asks the gate round it. Hands back the desk, if the next call is made with it.
+// Makes one call, and asks the gate before and after it. Returns the lock if the next call uses it too.
 fn run_call<'a, K: Naming, R: Wait + Drop, W: Wait, G: Gate>(
     rt: &W,
     master: &'a Master<K, R>,
@@ -152,7 +154,8 @@ fn run_call<'a, K: Naming, R: Wait + Drop, W: Wait, G: Gate>(
     Ok((answer.reply, held))
 }
 
-// Makes the calls of a script in order, as far as it gets. The pass has a receipt for each that was made, and for no other.
+// Makes the calls of a script in order. If a call fails, the later ones are not made. The pass has a receipt for each call that was made, and for no
+// other.
 fn run_script<K: Naming, R: Wait + Drop, W: Wait, G: Gate>(
     rt: &W,
     alloc: Global,
@@ -178,7 +181,7 @@ fn run_script<K: Naming, R: Wait + Drop, W: Wait, G: Gate>(
     Ok(replies)
 }
 
-// Does what one thread is to do.
+// Does the work of one thread.
 fn run_job<K: Naming, R: Wait + Drop, W: Wait, G: Gate>(
     rt: &W,
     alloc: Global,
@@ -198,7 +201,7 @@ fn run_job<K: Naming, R: Wait + Drop, W: Wait, G: Gate>(
     Ok(Done { pass, replies })
 }
 
-// Runs each job on a thread of its own: the jobs are halved until each has a thread to itself, and all threads are joined.
+// Runs each job on its own thread: `map_vec` halves the jobs until each has a thread. All threads are joined.
 fn run_all<
     K: Naming + Send + Sync,
     R: Wait + Drop + Send + Sync,
@@ -226,7 +229,7 @@ fn run_all<
     Ok(results)
 }
 
-// A job for each pass with its script.
+// Returns a job for each pass with its script.
 fn jobs_of(
     alloc: Global,
     passes: Vec<Pass>,
@@ -249,8 +252,8 @@ fn jobs_of(
     Ok(jobs)
 }
 
-// The passes and replies of jobs that were all done, or the fault of the first that was not. It takes no memory, so that no other
-// fault is told in place of that one.
+// Returns the passes and replies of jobs that all succeeded, or the error of the first job that failed. Allocates nothing, so that running out of
+// memory cannot hide this error.
 fn all_done(
     mut passes: Vec<Pass>,
     mut replies: Vec<Vec<Reply>>,
@@ -270,7 +273,7 @@ fn all_done(
     Ok((passes, replies))
 }
 
-// Runs each script on a thread and a pass of its own. A pass of another key is told before any thread starts.
+// Runs each script on its own thread with its own pass. A pass with another key is reported before any thread starts.
 fn run_scripts<
     K: Naming + Send + Sync,
     R: Wait + Drop + Send + Sync,
@@ -298,7 +301,7 @@ fn run_scripts<
     all_done(done, replies, results)
 }
 
-// Closes the master of scripts that were run, with these replies.
+// Closes a master after its scripts have run, and adds their replies to the result.
 fn close_driven<K: Naming, R: Wait + Drop>(
     master: Master<K, R>,
     passes: Vec<Pass>,
@@ -317,9 +320,9 @@ fn close_driven<K: Naming, R: Wait + Drop>(
     }
 }
 
-/// Runs each script on a thread and a pass of its own, asks the gate round each call, joins all threads and closes the master. A pass
-/// of another key is told before all else, and before any thread starts, though no clause says that. Where all calls were made but the
-/// passes are not found to fit the journal, both are handed back, as `Master::close` does.
+/// Runs each script on its own thread with its own pass, asks the gate before and after each call, joins all threads and closes the master. A pass
+/// with another key is reported before all other errors, and before any thread starts (the contracts do not say the latter). If all calls were made
+/// but the passes do not fit the journal, the journal and the passes are returned, as by `Master::close`.
 pub fn drive<
     K: Naming + Send + Sync,
     R: Wait + Drop + Send + Sync,

@@ -1,4 +1,4 @@
-//! The second core of a book.
+//! The second core of a book, which computes a step before the first core makes it.
 ghost use Rattle.std.specs.Prelude.{◌≡◌, length, None, Some, IfOk, OnOk, OnErr};
 ghost use Rattle.drf_board.specs.History.{IsLegal, entry};
 ghost use Rattle.drf_master.specs.Journal.{HasTaken, HasTakenIfAny, IsNext, IsRunOf};
@@ -10,7 +10,7 @@ use drf_sorter::Sorter;
 use std::alloc::AllocError;
 use std::marker::PhantomData;
 
-/// A core that has taken the first so many entries of a journal, which begins with the rows that K names.
+/// A core that has taken the first `taken` entries of a journal, from the rows `K::start`.
 #[derive(Drop)]
 struct Follower<K: Naming, S: Sorter> {
     core: Core<S>,
@@ -19,7 +19,7 @@ struct Follower<K: Naming, S: Sorter> {
 }
 
 impl<K: Naming, S: Sorter> Follower<K, S> {
-    // Takes the entries that it has not taken yet. Where it finds no memory it has taken some of them.
+    // Takes the entries that it has not taken yet. If memory runs out, it has taken some of them.
     fn catch_up(&mut self, entries: &[Entry]) -> Result<(), AllocError>
         requires { HasTaken self.old.core.limits K.start entries.now self.old.core self.old.taken }
         ensures taken { HasTaken self.old.core.limits K.start entries.now self.new.core self.new.taken }
@@ -33,7 +33,8 @@ impl<K: Naming, S: Sorter> Follower<K, S> {
         Ok(())
     }
 
-    // Takes what it lacks of the entries, and then an event. Where it finds no memory it has taken some of the entries.
+    // Takes the entries that it has not taken yet and then an event, and returns the reply. If memory runs out, it has taken some of the entries, but
+    // not the event.
     fn work_out(&mut self, entries: &[Entry], event: &Event) -> Result<Reply, AllocError>
         requires legal { IsLegal self.old.core.limits K.start entries.now }
         requires taken { HasTaken self.old.core.limits K.start entries.now self.old.core self.old.taken }
@@ -47,8 +48,8 @@ impl<K: Naming, S: Sorter> Follower<K, S> {
     }
 }
 
-/// The place of a book's second core, which is behind its first: it takes what it lacks of the journal, and then the event that is to
-/// come, so that nobody copies the rows for that. The place is empty while a prepared event has the core.
+/// The second core of a book. It can be some entries behind the first: before it computes a step, it takes the entries that it lacks. So the rows
+/// need not be copied for each event. It is absent while a prepared step owns it.
 #[derive(Drop)]
 pub struct Second<K: Naming, S: Sorter> {
     pub(crate) core: Option<Core<S>>,
@@ -57,7 +58,7 @@ pub struct Second<K: Naming, S: Sorter> {
 }
 
 impl<K: Naming, S: Sorter> Second<K, S> {
-    /// There is none.
+    /// Returns an absent second core.
     pub fn empty() -> Second<K, S>
         ensures { result.core ≡ None }
     {
@@ -68,7 +69,7 @@ impl<K: Naming, S: Sorter> Second<K, S> {
         }
     }
 
-    /// Keeps a core that has taken so many entries.
+    /// Stores a core that has taken the first `taken` entries.
     pub fn keep(&mut self, core: Core<S>, taken: usize)
         ensures core { self.new.core ≡ Some core }
         ensures taken { self.new.taken ≡ taken }
@@ -77,7 +78,7 @@ impl<K: Naming, S: Sorter> Second<K, S> {
         self.taken = taken;
     }
 
-    // The second core, which then is no longer here; where there is none, a copy of the first.
+    // Takes the second core out. If it is absent, returns a copy of the first core.
     fn follower(&mut self, first: &Core<S>, entries: &[Entry]) -> Result<Follower<K, S>, AllocError>
         requires run { IsRunOf first.now.limits K.start entries.now first.now }
         requires taken { HasTakenIfAny first.now.limits K.start entries.now self.old.core self.old.taken }
@@ -98,8 +99,8 @@ impl<K: Naming, S: Sorter> Second<K, S> {
         }
     }
 
-    /// What comes of an event after the entries, worked out by the second core, which then is no longer here. Where memory ends, it is
-    /// kept, with what it has taken of the entries.
+    /// Takes the second core out, and returns it after it has taken the entries and then an event, with the reply. If memory runs out, the second
+    /// core stays, with the entries that it has taken so far.
     pub fn work_out(
         &mut self,
         first: &Core<S>,

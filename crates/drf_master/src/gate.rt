@@ -1,36 +1,37 @@
-//! When the workers of a drive go on.
+//! Gates: they decide whether a worker of a drive makes its next call.
 ghost use Rattle.std.specs.Prelude.{MatchBool};
 
-/// Is asked by each worker round each of its calls; that it is before and after the call, and outside the lock where `together` is 1, no
-/// clause says. Workers and calls are counted from 0. A gate of which nothing is to be known says `Unit {0}` of each call.
+/// Decides whether a worker makes its next call, and sees each call that was made. Each worker asks it before and after each of its calls, and does
+/// not hold the lock then if `together` is 1 (the contracts do not say this). Workers and calls are counted from 0. A gate with nothing to state uses
+/// `Unit {0}` for each call.
 pub trait Gate {
     ghost use Rattle.std.specs.Prelude.{ℕ};
 
-    /// What is true of a worker and a call that it lets go on.
+    /// What holds for a worker and a call that it allows.
     ghost lets: { Self → ℕ → ℕ → Type 0 };
 
-    /// What is true of a worker and a call at which it stops it.
+    /// What holds for a worker and a call at which it stops the worker.
     ghost stops: { Self → ℕ → ℕ → Type 0 };
 
-    /// What is true of a worker and a call once it was told that the call was answered.
+    /// What holds for a worker and a call once the gate knows that the call was made.
     ghost sees: { Self → ℕ → ℕ → Type 0 };
 
-    /// Before a call. With `false` the worker stops.
+    /// Returns whether the worker makes this call. With `false` the worker stops.
     fn before(&self, worker: u64, call: u64) -> bool
         ensures { MatchBool result (lets self.now worker call) (stops self.now worker call) };
 
-    /// After a call that was answered.
+    /// Is called after a call was made.
     fn after(&self, worker: u64, call: u64)
         ensures { sees self.now worker call };
 
-    /// After so many calls a worker gives the lock up to others. More than 1 is for gates that wait for nobody, as they are asked with the
-    /// lock held then. No clause speaks of it.
+    /// Returns the number of calls for which a worker keeps the lock. If it is more than 1, the gate is asked while the lock is held, so it must not
+    /// wait. The contracts do not mention this number.
     fn together(&self) -> u64 {
         1
     }
 }
 
-/// Lets all workers go on.
+/// The gate that allows all calls.
 pub struct OpenGate;
 
 impl Gate for OpenGate {
@@ -46,7 +47,7 @@ impl Gate for OpenGate {
 
     fn after(&self, _worker: u64, _call: u64) {}
 
-    /// Two threads that take turns at the lock wait longer for one another than a call takes.
+    /// Returns 256: if two threads alternate at the lock, they wait for each other longer than a call takes.
     fn together(&self) -> u64 {
         256
     }

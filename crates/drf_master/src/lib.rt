@@ -1,4 +1,4 @@
-//! The master: one allocator that many threads call, with a journal that is a shuffle of what they were told.
+//! The master: one allocator that many threads call. Its journal is a shuffle of the receipts of its callers.
 #![tactic(auto)]
 
 mod book;

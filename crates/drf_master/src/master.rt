@@ -1,4 +1,4 @@
-//! One allocator under a lock, and the passes by which it is called.
+//! The master: one allocator behind a lock, called through passes.
 ghost use Rattle.std.specs.Prelude.{◌≡◌, ◌<◌, ◌≤◌, [], length, All, IsTrue, ◌↔◌, OnOk, IfOk, IfErr, OnErr};
 ghost use mathlib.Core.List.{IsPrefix};
 ghost use Rattle.drf_board.specs.History.{IsLegal, entry};
@@ -20,12 +20,13 @@ use drf_rows::{Event, Limits};
 use std::alloc::{AllocError, Global};
 use std::sync::{Mutex, MutexGuard, Wait};
 
-/// Why a call was not made. The pass is as it was; that journal and board are, the clause of `Desk::answer` says, and none of a call.
+/// Why a call was not made. The pass is unchanged. That journal and board are unchanged is in the contract of `Desk::answer`, but not in that of a
+/// call.
 #[derive(Clone, Copy, Debug, PartialEq, Eq)]
 pub enum CallFault {
-    /// The pass has another key.
+    /// The pass has another key than the master.
     Stranger,
-    /// There is no memory for the call.
+    /// Memory ran out.
     Memory,
 }
 
@@ -39,7 +40,8 @@ impl From<AllocError> for CallFault {
     }
 }
 
-/// What is handed back where passes are not found to fit the journal: why, the book, its journal as a list that was told, and the passes.
+/// What `Master::close` returns if it does not find that the passes fit the journal: the error, the book, its journal as a list that viewers can
+/// learn, and the passes.
 #[derive(Drop)]
 pub struct CloseRefused<K: Naming> {
     pub fault: CloseFault,
@@ -49,7 +51,7 @@ pub struct CloseRefused<K: Naming> {
 }
 
 impl<K: Naming> CloseRefused<K> {
-    // Why the passes do not fit. The rest goes.
+    // Returns the error. Everything else is dropped.
     pub(crate) fn into_fault(self) -> CloseFault
         ensures { result ≡ self.fault }
     {
@@ -59,7 +61,7 @@ impl<K: Naming> CloseRefused<K> {
     }
 }
 
-/// The desk of a master, under its lock.
+/// The desk of a master while its lock is held.
 pub(crate) type Locked<'a, K, R> = MutexGuard<'a, Desk<K, R>>;
 
 /// One allocator that many threads call, one call at a time.
@@ -69,7 +71,7 @@ pub struct Master<K: Naming, R: Wait + Drop> {
     desk: Mutex<Desk<K, R>>,
 }
 
-// So many passes of one master.
+// Returns `count` new passes of one master.
 fn passes_of(alloc: Global, key: u64, count: usize) -> Result<Vec<Pass>, AllocError>
     ensures count { IfOk result (λ passes. length passes.items ≡ count) }
     ensures new { IfOk result (λ passes. All (IsNewPass key) passes.items) }
@@ -82,14 +84,14 @@ fn passes_of(alloc: Global, key: u64, count: usize) -> Result<Vec<Pass>, AllocEr
     Ok(passes)
 }
 
-// Whether all passes are of the master with the key.
+// Returns whether all passes have this key.
 pub(crate) fn are_of(key: u64, passes: &[Pass]) -> bool
     ensures { IsTrue result ↔ AreOf key passes.now }
 {
     passes.iter().all(|pass| pass.key() == key)
 }
 
-// Whether passes are of the master with the key, and the journal of its book is a shuffle of their receipts.
+// Checks that all passes have this key, and that the journal of the book is a shuffle of their receipts.
 fn compare<K: Naming>(
     key: u64,
     book: &Book<K, MasterSorter>,
@@ -107,8 +109,8 @@ fn compare<K: Naming>(
 }
 
 impl<K: Naming, R: Wait + Drop> Master<K, R> {
-    /// A master of an empty cluster, its passes, which hold no receipts, and the viewers of the slate that K names, which have seen nothing.
-    /// The master keeps `rt` to wait for viewers when it is dropped.
+    /// Opens a master of an empty cluster. Returns the master, its passes (without receipts), and the viewers of the slate `K::slate`, which have
+    /// seen nothing. The master keeps `rt` to wait for viewers when it is dropped. It fails only if memory runs out.
     pub fn open(
         rt: R,
         alloc: Global,
@@ -129,7 +131,7 @@ impl<K: Naming, R: Wait + Drop> Master<K, R> {
         Master::open_from(rt, alloc, key, core, passes, slate)
     }
 
-    /// The same of a cluster that a core has, whose rows K names.
+    /// Opens a master as `open` does, but from a core whose rows are `K::start`.
     pub fn open_from(
         rt: R,
         alloc: Global,
@@ -153,7 +155,7 @@ impl<K: Naming, R: Wait + Drop> Master<K, R> {
         Ok((master, passes, viewers))
     }
 
-    // A master of a desk at which nobody has called: no clause sees a desk behind its lock.
+    // Creates a master from an empty desk. A function of its own, because no contract speaks of a desk behind its lock.
     fn of_new(key: u64, desk: Desk<K, R>) -> Master<K, R>
         requires { desk ≡ [] }
         ensures { result.key ≡ key }
@@ -164,13 +166,15 @@ impl<K: Naming, R: Wait + Drop> Master<K, R> {
         }
     }
 
+    /// Returns the key of the master.
     pub(crate) fn key(&self) -> u64
         ensures { result ≡ self.now.key }
     {
         self.key
     }
 
-    /// Takes an event as one step under the lock, and gives the pass a receipt for it. A refused event is a call like any other.
+    /// Makes one step for an event while holding the lock, and adds a receipt to the pass. A refused event is a call too. Errors: `Stranger` if the
+    /// pass has another key, `Memory` if memory ran out.
     pub fn call<W: Wait>(
         &self,
         rt: &W,
@@ -188,7 +192,8 @@ impl<K: Naming, R: Wait + Drop> Master<K, R> {
         Ok(answer)
     }
 
-    /// The same after a call whose list is handed in, of this pass or of another: that list begins the one that this call is told.
+    /// Does what `call` does, after an earlier call by this or another pass: the list that the earlier call returned is a prefix of the list that
+    /// this call returns.
     pub fn call_after<W: Wait>(
         &self,
         rt: &W,
@@ -212,7 +217,7 @@ impl<K: Naming, R: Wait + Drop> Master<K, R> {
         }
     }
 
-    // Makes a call by a pass that has room for its receipt, after a list that was told.
+    // Makes a call after an earlier list. The pass has room for the receipt.
     fn call_later<W: Wait>(
         &self,
         rt: &W,
@@ -234,8 +239,8 @@ impl<K: Naming, R: Wait + Drop> Master<K, R> {
         Ok(answer)
     }
 
-    /// The same by a caller that may hold this master's lock from the call before, and gets it back held. That it is this master's no clause
-    /// says.
+    /// Does what `call` does, for a caller that may already hold the lock from its last call. Returns the held lock. The contracts do not say that
+    /// the lock is this master's.
     pub(crate) fn call_held<'a, W: Wait>(
         &'a self,
         rt: &W,
@@ -259,7 +264,7 @@ impl<K: Naming, R: Wait + Drop> Master<K, R> {
         }
     }
 
-    // Makes room for one receipt more in a pass of this master.
+    // Makes room for one more receipt in a pass. Fails if the pass has another key or memory runs out.
     fn make_ready(&self, pass: &mut Pass) -> Result<(), CallFault>
         ensures same { IsSamePass pass.old pass.new }
         ensures own { OnOk result (pass.old.key ≡ self.now.key) }
@@ -273,7 +278,7 @@ impl<K: Naming, R: Wait + Drop> Master<K, R> {
         Ok(())
     }
 
-    // Makes a call by a pass that has room for its receipt.
+    // Makes a call. The pass has room for the receipt.
     fn call_ready<'a, W: Wait>(
         &'a self,
         rt: &W,
@@ -296,10 +301,10 @@ impl<K: Naming, R: Wait + Drop> Master<K, R> {
         Ok((answer, desk))
     }
 
-    /// Takes the book out of the lock. `Ok` is told only where the passes have the master's key and the journal is a shuffle of their receipts:
-    /// each call once, in its caller's order, with the reply that the caller was told. Otherwise the first fault is told; where no receipt is
-    /// missing, it may be `Memory`. The book that is handed out then is what was told, as each list is that was told of this slate: with any
-    /// of them one begins the other (`Told::begins`).
+    /// Closes the master and returns its book. Succeeds only if the passes have the master's key and the journal is a shuffle of their receipts: each
+    /// call once, in its caller's order, with the reply that the caller received. Otherwise returns the first error that applies, the book and the
+    /// passes; if no receipt is missing, the error can be `Memory`. The returned journal and any list that this master returned earlier agree: one is
+    /// a prefix of the other (`Told::begins`).
     pub fn close(self, passes: Vec<Pass>) -> Result<Book<K, MasterSorter>, CloseRefused<K>>
         ensures closed { IfOk result (λ book. IsClosed K.slate.limits K.start book self.key passes.items) }
         ensures kept { IfErr result (λ refused. refused.passes.items ≡ passes.items) }
@@ -311,7 +316,7 @@ impl<K: Naming, R: Wait + Drop> Master<K, R> {
     {
         let Master { key, desk } = self;
         let (book, told) = desk.into_inner().into_told();
-        // The proof learns that the journal is legal by this call alone.
+        // Only this call tells the proof that the journal is legal.
         let _ = book.entries();
         match compare(key, &book, &passes) {
             Ok(()) => Ok(book),

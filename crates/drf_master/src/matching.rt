@@ -1,4 +1,4 @@
-//! Whether passes fit a journal.
+//! Checks that the receipts of passes fit a journal.
 ghost use Rattle.std.specs.Prelude.{◌≡◌, ◌<◌, ◌≤◌, ◌↔◌, ◌++◌, ◌∷◌, [], true, false, cond, IsTrue, List, length, All, Some, None, slice_get, slice_set, IfOk, IfErr, OnOk};
 ghost use Rattle.drf_master.specs.Matching.{IsShuffle, IsFault, count, receipts_of};
 ghost use Rattle.drf_master.specs.Tallies.{IsTally, marked, least_above, lesser};
@@ -10,7 +10,7 @@ use crate::same::Same;
 use drf_board::Entry;
 use std::alloc::{AllocError, Global};
 
-/// Why passes do not fit a journal. Of several faults the first of this list is told, and of several places the least; `Memory` may come
+/// Why passes do not fit a journal. If several errors apply, the first of this list is returned, with the smallest place; but `Memory` can come
 /// before `Mismatch`.
 #[derive(Clone, Copy, Debug, PartialEq, Eq)]
 pub enum CloseFault {
@@ -18,9 +18,9 @@ pub enum CloseFault {
     Stranger,
     /// The passes hold fewer receipts than the journal has entries.
     Missing,
-    /// A receipt that names this place is not the journal's entry, or two receipts name it.
+    /// A receipt for this place differs from the journal's entry, is out of order in its pass, or two receipts are for this place.
     Mismatch(u64),
-    /// There is no memory for the comparison.
+    /// Memory ran out during the comparison.
     Memory,
 }
 
@@ -32,14 +32,14 @@ impl From<AllocError> for CloseFault {
     }
 }
 
-/// Which places the receipts name that were looked at so far, and the least place that is wrong.
+/// The places of the receipts examined so far, and the smallest place at which something is wrong.
 #[derive(Drop)]
 struct Tally {
     named: Vec<bool>,
     wrong: Option<u64>,
 }
 
-// Whether passes hold fewer receipts than so many.
+// Returns whether the passes hold fewer than `wanted` receipts.
 fn lack(passes: &[Pass], wanted: usize) -> bool
     ensures { IsTrue result ↔ (count (receipts_of passes.now) < wanted) }
 {
@@ -50,7 +50,7 @@ fn lack(passes: &[Pass], wanted: usize) -> bool
     left > 0
 }
 
-// Whether a receipt is the journal's entry at its place.
+// Returns whether a receipt equals the journal's entry at its place.
 fn is_entry(journal: &[Entry], receipt: &Receipt) -> bool
     ensures { IsTrue result ↔ (slice_get journal.now receipt.now.place ≡ Some receipt.now.entry) }
 {
@@ -60,7 +60,7 @@ fn is_entry(journal: &[Entry], receipt: &Receipt) -> bool
     }
 }
 
-// Whether a place is above the one before it, if there is one.
+// Returns whether a place is greater than the one before it, if there is one.
 fn is_above(before: Option<u64>, place: u64) -> bool
     ensures { IsTrue result ↔ (least_above before ≤ place) }
 {
@@ -70,7 +70,7 @@ fn is_above(before: Option<u64>, place: u64) -> bool
     }
 }
 
-// Whether a receipt is the journal's entry, where the one before it in its pass, if there is one, names a place.
+// Returns whether a receipt equals the journal's entry at its place, and its place is greater than that of the receipt before it in its pass.
 fn is_journals(journal: &[Entry], before: Option<u64>, receipt: &Receipt) -> bool
     ensures { IsTrue result ↔ ((least_above before ≤ receipt.now.place) × (slice_get journal.now receipt.now.place ≡ Some receipt.now.entry)) }
 {
@@ -78,7 +78,7 @@ fn is_journals(journal: &[Entry], before: Option<u64>, receipt: &Receipt) -> boo
 }
 
 impl Tally {
-    // Nothing was looked at.
+    // Returns a tally before any receipt is examined.
     fn new(alloc: Global, places: usize) -> Result<Tally, AllocError>
         ensures places { IfOk result (λ tally. length tally.named.items ≡ places) }
         ensures named { IfOk result (λ tally. All (λ mark. mark ≡ false) tally.named.items) }
@@ -89,7 +89,7 @@ impl Tally {
         Ok(Tally { named, wrong: None })
     }
 
-    // Whether a receipt that was looked at names the place.
+    // Returns whether one of the receipts examined so far has this place.
     fn is_named(&self, place: u64) -> bool
         ensures { result ≡ marked self.now.named.items place }
     {
@@ -99,7 +99,7 @@ impl Tally {
         }
     }
 
-    // Looks at a receipt. It is wrong to name a place that another one names, even where it is the journal's entry.
+    // Examines a receipt. A place that another receipt has is wrong, even if this receipt equals the journal's entry.
     fn take(&mut self, place: u64, is_journals: bool)
         ensures named { self.new.named.items ≡ slice_set self.old.named.items place true }
         ensures wrong { self.new.wrong ≡ cond is_journals (cond (marked self.old.named.items place) (Some (lesser self.old.wrong place)) self.old.wrong) (Some (lesser self.old.wrong place)) }
@@ -116,7 +116,7 @@ impl Tally {
         }
     }
 
-    // Looks at the receipts of one pass more.
+    // Examines the receipts of one more pass.
     fn take_all(&mut self, journal: &[Entry], receipts: &[Receipt])
         ensures { (lists : List (List Receipt)) → IsTally journal.now lists self.old.named.items self.old.wrong → IsTally journal.now (lists ++ receipts.now ∷ []) self.new.named.items self.new.wrong }
     {
@@ -129,7 +129,7 @@ impl Tally {
     }
 }
 
-/// What `Book::matches` tells, of a journal and the receipts that passes hold.
+/// Checks that a journal is a shuffle of the receipts of these passes, as described at `Book::matches`.
 pub fn matches(alloc: Global, journal: &[Entry], passes: &[Pass]) -> Result<(), CloseFault>
     ensures ok { OnOk result (IsShuffle journal.now (receipts_of passes.now)) }
     ensures err { IfErr result (IsFault journal.now (receipts_of passes.now)) }

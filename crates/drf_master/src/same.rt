@@ -1,4 +1,4 @@
-//! Whether two events, replies or entries are the same.
+//! Equality of events, replies and entries.
 ghost use Rattle.std.specs.Prelude.{◌≡◌, ◌↔◌, IsTrue};
 
 use drf_amount::is_same;
@@ -9,14 +9,14 @@ use drf_rows::{
     Accept, Decline, Event, NodeLine, OfferLine, Reply, Report, SharedTable, Table, TaskList,
 };
 
-/// What can be compared for equality.
+/// Types whose values can be compared for equality.
 pub trait Same {
-    /// Whether it is the same as the other.
+    /// Returns whether both values are equal.
     fn same(&self, other: &Self) -> bool
         ensures { IsTrue result ↔ (self.now ≡ other.now) };
 }
 
-// Whether two lists have the same rows in the same order.
+// Returns whether two lists have equal elements in the same order.
 fn are_rows<T: Same>(rows: &[T], others: &[T]) -> bool
     ensures { IsTrue result ↔ (rows.now ≡ others.now) }
 {
@@ -62,7 +62,7 @@ impl Same for drf_bundle::Entry {
     }
 }
 
-// Whether two texts have the same bytes.
+// Returns whether two texts have the same bytes.
 fn is_same_text(text: &str, other: &str) -> bool
     ensures { IsTrue result ↔ (text.now ≡ other.now) }
 {
@@ -120,8 +120,8 @@ impl Same for Decline {
 }
 
 impl Same for Event {
-    // One function, though it is long: each of the 20 kinds stands once, beside what is compared of it, and a helper for a family of kinds would
-    // have to tell the other families apart again. A match for each kind: one match on both events would be 400 cases of a proof.
+    // This function is long because each of the 20 kinds of events appears once, beside its comparison; helpers for groups of kinds would have to
+    // distinguish the kinds again. There is one inner match for each kind, because a single match on both events would be 400 cases of a proof.
     fn same(&self, other: &Event) -> bool {
         match self {
             Event::AddAgent { agent, total } => match other {

@@ -1,4 +1,4 @@
--- What ends, as the definitions say it.
+-- The `Ending` of the definition that a value of the type `Ending` in `src/ending.rt` means.
 use Rattle.drf_rows.specs.Endings.{Ending, one_offer, one_task, offers_on, all_on, all_of}
 use Rattle.drf_rows.specs.declared.ending.Ending as told
 use Rattle.drf_rows.specs.declared.ending.Ending.TheVariants.{Offer, Task, OffersOn, AllOn, AllOf}

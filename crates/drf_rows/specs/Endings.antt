@@ -1,4 +1,4 @@
--- What ends: one word for all events by which holdings end.
+-- Release of resources: all events that end offers or tasks do it by an `Ending`, so that one theorem covers them all.
 use Rattle.std.specs.Prelude.{ℕ, ◌==◌, Bool, false, not, ◌&&◌, filter}
 use Rattle.drf_role.specs.Text.{Text, same_text}
 use Rattle.drf_rows.specs.declared.rows.OfferRow.{OfferRow}
@@ -6,17 +6,18 @@ use Rattle.drf_rows.specs.declared.rows.TaskRow.{TaskRow}
 use Rattle.drf_rows.specs.declared.rows.Rows.{Rows}
 
 pub data Ending : Type 0 where
-  -- the offer of a number
+  -- the offer with a number
   one_offer : ℕ → Ending
-  -- the task of a framework and a name
+  -- the task of a framework with a name
   one_task : Text → Text → Ending
-  -- the offers on an agent
+  -- all offers on an agent
   offers_on : Text → Ending
-  -- all that is held on an agent
+  -- all offers and tasks on an agent
   all_on : Text → Ending
-  -- all that a framework holds
+  -- all offers and tasks of a framework
   all_of : Text → Ending
 
+-- the ending ends the offer
 abbrev pub ends_offer : Ending → OfferRow → Bool
 ends_offer (one_offer number) o = o.number == number
 ends_offer (one_task framework name) o = false
@@ -24,10 +25,11 @@ ends_offer (offers_on agent) o = same_text o.agent agent
 ends_offer (all_on agent) o = same_text o.agent agent
 ends_offer (all_of framework) o = same_text o.framework framework
 
--- the task is the framework's, and has that name
+-- the task is one of that framework and has that name
 abbrev pub is_task : Text → Text → TaskRow → Bool
 is_task framework name t = same_text t.framework framework && same_text t.name name
 
+-- the ending ends the task
 abbrev pub ends_task : Ending → TaskRow → Bool
 ends_task (one_offer number) t = false
 ends_task (one_task framework name) t = is_task framework name t
@@ -35,7 +37,7 @@ ends_task (offers_on agent) t = false
 ends_task (all_on agent) t = same_text t.agent agent
 ends_task (all_of framework) t = same_text t.framework framework
 
--- the rows without what ends; the other rows close up
+-- the rows without the offers and tasks that end; the others keep their order
 abbrev pub without_ended : Rows → Ending → Rows
 without_ended rows ending = record rows {
   offers = filter (λ o. not (ends_offer ending o)) rows.offers;

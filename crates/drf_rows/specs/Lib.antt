@@ -1,3 +1,5 @@
+-- The definition of the allocator, and theorems that decide whether an offer covers tasks. DEFINITION.md says in which
+-- order to read the files.
 pub mod LimitNumbers
 pub mod Limits
 pub mod Client

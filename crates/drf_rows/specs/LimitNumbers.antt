@@ -1,8 +1,8 @@
--- The limits of the tables, as numbers.
+-- The capacities of the allocator, as numbers.
 use Rattle.std.specs.Prelude.{ℕ, ◌≤◌}
 
--- how many agents, frameworks, roles of one framework, clients, filters in force, weight rows, limit rows, names of
--- scalars over all agents, and accepted events there may be
+-- the greatest numbers of agents, frameworks, roles of one framework, clients, filters in force, roles with a weight,
+-- roles with a limit, names of scalars over all agents, and accepted events
 pub record LimitNumbers : Type 0 where
   pub agents : ℕ
   pub frameworks : ℕ
@@ -14,7 +14,7 @@ pub record LimitNumbers : Type 0 where
   pub scalar_names : ℕ
   pub events : ℕ
 
--- the greatest limits
+-- the greatest capacities
 abbrev pub ceilings : LimitNumbers
 ceilings = record {
   agents = 4096;
@@ -28,11 +28,11 @@ ceilings = record {
   events = 4294967295;
 }
 
--- a number from 1 to the ceiling
+-- the number is from 1 to the ceiling
 abbrev pub IsWithin : ℕ → ℕ → Type 0
 IsWithin n ceiling = (1 ≤ n) × (n ≤ ceiling)
 
--- each limit is at least 1 and at most its ceiling
+-- each capacity is from 1 to its ceiling
 pub record IsWithinCeilings (l : LimitNumbers) : Type 0 where
   pub agents : IsWithin l.agents ceilings.agents
   pub frameworks : IsWithin l.frameworks ceilings.frameworks

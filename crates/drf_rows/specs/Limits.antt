@@ -1,8 +1,8 @@
--- The limits' fields and their numbers.
+-- Conversion between the fields of the type `Limits` and the capacities of the definition.
 use Rattle.drf_rows.specs.LimitNumbers.{LimitNumbers}
 use Rattle.drf_rows.specs.declared.limits.Limits.TheInside.{Inside}
 
--- the numbers that the fields have
+-- the capacities that the fields contain
 abbrev pub numbers_of : Inside → LimitNumbers
 numbers_of l = record {
   agents = l.agents;
@@ -16,7 +16,7 @@ numbers_of l = record {
   events = l.events;
 }
 
--- the fields that have the numbers
+-- the fields that contain the capacities
 abbrev pub fields_of : LimitNumbers → Inside
 fields_of n = record {
   agents = n.agents;

@@ -1,10 +1,10 @@
--- The numbers and the names that refusals are told by.
+-- The numbers and the names of refusals in replies.
 use Rattle.std.specs.Prelude.{ℕ, codes}
 use Rattle.drf_role.specs.Text.{Text}
 use Rattle.drf_rows.specs.declared.reply.Refusal.{Refusal}
 use Rattle.drf_rows.specs.declared.reply.Refusal.TheVariants.{HistoryFull, BadMoment, UnknownAgent, KnownAgent, UnknownFramework, KnownFramework, UnknownOffer, NotYours, UnknownTask, KnownTask, NotInRole, DefaultRole, Empty, NotUnreserved, NotCovered, OverLimit, BadWeight, TooLarge, TooMany, RoleInUse}
 
--- the number of a refusal: of several whose cases hold, the one of the least number is answered
+-- the number of a refusal; if several cases hold, the one with the least number is the reply
 abbrev pub refusal_number : Refusal → ℕ
 refusal_number HistoryFull = 1
 refusal_number BadMoment = 2

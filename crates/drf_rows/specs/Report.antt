@@ -1,4 +1,4 @@
--- The report of shares: what there is in the cluster, and for each node of the tree of roles what its clients hold of it.
+-- The report: the cluster's total, and for each node of the tree of roles what its clients hold, with shares and count.
 use Rattle.std.specs.Prelude.{ℕ, zero, suc, List, [], ◌∷◌, ◌++◌, length, take, map, fold, filter, flat_map}
 use Rattle.std.specs.Ordering.{nat_cmp, match_ordering}
 use Rattle.std.specs.declared.cmp.Ordering.{Ordering}
@@ -15,33 +15,33 @@ use Rattle.drf_rows.specs.declared.report.NodeLine.{NodeLine}
 use Rattle.drf_rows.specs.declared.report.Report.{Report}
 use Rattle.drf_rows.specs.declared.rows.Rows.{Rows}
 
--- ---- which nodes there are
+-- ---- the nodes of the report
 
--- part by part, each by its bytes, a path before what goes on after it
+-- the order of paths: part by part, each part by its bytes; a prefix comes before longer paths
 abbrev pub path_cmp : Path → Path → Ordering
 path_cmp = slice_cmp (slice_cmp nat_cmp)
 
--- paths in order, one more put in its place; one that stands there already is not put there again
+-- a sorted list of paths with one more; a path that is already in the list is not added again
 abbrev pub with_node : List Path → Path → List Path
 with_node [] node = node ∷ []
 with_node (n ∷ ns) node = match_ordering (path_cmp node n) (node ∷ n ∷ ns) (n ∷ ns) (n ∷ with_node ns node)
 
--- the first n nodes on the way to a path: its first part, its first two, and so on
+-- the first n nodes of a path: its prefixes with 1, 2, .. n parts
 abbrev pub nodes_to : Path → ℕ → List Path
 nodes_to path zero = []
 nodes_to path (suc n) = nodes_to path n ++ take (suc n) path ∷ []
 
--- all of them
+-- all nodes of a path: its prefixes, and the path itself
 abbrev pub nodes_on : Path → List Path
 nodes_on path = nodes_to path (length path)
 
--- the nodes of the registered clients, each once, in order
+-- the nodes of all registered clients, each once, in order
 abbrev pub nodes_of : Rows → List Path
 nodes_of rows = fold with_node [] (flat_map (λ client. nodes_on (path_of client)) (clients_of rows))
 
--- ---- what is told of each
+-- ---- the line of a node
 
--- what some holdings are together
+-- the sum of the scalars of some holdings
 abbrev pub sum_of : List Holding → List Entry
 sum_of holdings = fold (λ sum h. plus sum (quantities_of h.bundle)) [] holdings
 
@@ -49,11 +49,11 @@ sum_of holdings = fold (λ sum h. plus sum (quantities_of h.bundle)) [] holdings
 abbrev pub held_under : List Holding → Path → List Entry
 held_under holdings node = sum_of (filter (is_under node) holdings)
 
--- the two numbers of a fraction in lowest terms
+-- part and whole of a fraction in lowest terms
 abbrev pub terms_of : Fraction → ℕ × ℕ
 terms_of f = ((lowest_terms f).part, (lowest_terms f).whole)
 
--- the line of a node that holds so much
+-- the line of a node whose clients hold `held`
 abbrev pub line_by : Standing → Path → List Entry → NodeLine
 line_by standing node held = record {
   path = node;
@@ -63,6 +63,7 @@ line_by standing node held = record {
   count = standing.count node;
 }
 
+-- the line of a node
 abbrev pub node_line : Rows → Path → NodeLine
 node_line rows node = line_by (standing_of rows) node (held_under (holdings_of rows) node)
 

@@ -1,4 +1,4 @@
--- The step of the allocator, and its run over a list of events.
+-- The step of the allocator: whether an event is refused, its effect and its reply; and runs over a list of events.
 use Rattle.std.specs.Prelude.{◌+◌, Bool, true, false, not, ◌&&◌, ◌||◌, List, [], ◌∷◌, length, map, find, drop, Option, nat_lt, nat_le}
 use Rattle.std.specs.List.{list_any}
 use Rattle.std.specs.Option.{option_map, option_map_or}
@@ -36,7 +36,7 @@ use Rattle.drf_rows.specs.declared.reply.Refusal.{Refusal}
 use Rattle.drf_rows.specs.declared.reply.Refusal.TheVariants.{HistoryFull, BadMoment, UnknownAgent, KnownAgent, UnknownFramework, KnownFramework, UnknownOffer, NotYours, UnknownTask, KnownTask, NotInRole, DefaultRole, Empty, NotUnreserved, NotCovered, OverLimit, BadWeight, TooLarge, TooMany, RoleInUse}
 use Rattle.drf_rows.specs.declared.reply.OfferLine.{OfferLine}
 
--- the rows of an allocator that has just been opened
+-- the state of a new allocator
 abbrev pub opening : Rows
 opening = record {
   agents = [];
@@ -51,55 +51,58 @@ opening = record {
   events = 0;
 }
 
--- the rows that still tell of something: all but the filters that are not in force
+-- the current state: the rows without expired filters
 abbrev pub live_rows : Rows → Rows
 live_rows rows = record rows { filters = in_force rows.clock rows.filters }
 
+-- as many events were accepted as the capacity allows
 abbrev pub is_full : LimitNumbers → Rows → Bool
 is_full limits rows = nat_le limits.events rows.events
 
--- the names of scalars over all agents would be too many
+-- the agents have more names of scalars than the capacity allows
 abbrev pub too_many_names : LimitNumbers → List AgentRow → Bool
 too_many_names limits agents = nat_lt limits.scalar_names (length (cluster_total agents))
 
--- the agents, or those names, would be
+-- there are more agents, or more names of scalars, than the capacity allows
 abbrev pub too_many_agents : LimitNumbers → List AgentRow → Bool
 too_many_agents limits agents = nat_lt limits.agents (length agents) || too_many_names limits agents
 
--- the frameworks, the roles of this one, or the clients would be too many
+-- with a new framework in these roles there would be too many frameworks, too many roles of this framework, or too many
+-- clients
 abbrev pub too_many_frameworks : LimitNumbers → Rows → List Path → Bool
 too_many_frameworks limits rows roles =
     nat_lt limits.frameworks (length rows.frameworks + 1)
     || (nat_lt limits.roles (length (distinct roles)) || nat_lt limits.clients (length (clients_of rows) + length (distinct roles)))
 
--- an accept would set one filter too many
+-- the accept would add a filter, and as many filters as the capacity allows are in force already
 abbrev pub accept_is_too_much : LimitNumbers → Rows → accepting.Accept → Bool
 accept_is_too_much limits rows a =
     option_map_or (λ o. filters_rest o a.tasks a.refuse_ms) (offer_at rows a.offer) false && are_many_filters limits rows a.at
 
--- a decline would
+-- the decline would add a filter, and as many filters as the capacity allows are in force already
 abbrev pub decline_is_too_much : LimitNumbers → Rows → declining.Decline → Bool
 decline_is_too_much limits rows d = filters_all d.refuse_ms && are_many_filters limits rows d.at
 
--- the framework is in the role
+-- the framework is registered in the role
 abbrev pub is_in_role : Rows → Text → Path → Bool
 is_in_role rows framework role = is_registered rows.frameworks (record { role = role; framework = framework })
 
--- a limit would get a row that is one too many, or names too many scalars
+-- a new limit would be a row too many, or the limit names too many scalars
 abbrev pub too_many_limits : LimitNumbers → Rows → Path → List Entry → Bool
 too_many_limits limits rows role limit =
     (not (is_empty limit) && (not (has_limit rows role) && nat_lt limits.limits (length rows.limits + 1)))
     || nat_lt limits.scalar_names (length limit)
 
--- a scalar of the resources exceeds 2^40 - 1 thousandths, over all their reservations
+-- some scalar of the resources exceeds 2^40 - 1 thousandths, over all its reservations
 abbrev pub is_too_large : List Resource → Bool
 is_too_large total = list_any (λ e. nat_lt LARGEST_AMOUNT e.amount) (quantities_of total)
 
--- the first of some cases that holds
+-- the refusal of the first case that holds, if one does
 abbrev pub first_case : List (Bool × Refusal) → Option Refusal
 first_case cases = option_map (λ c. c.1) (find (λ c. c.0) cases)
 
--- the cases in which an event is refused, by their numbers, behind the one that all events share
+-- the cases in which an event is refused, in order of their numbers, without `HistoryFull`, which comes first for every
+-- event
 abbrev pub own_cases_of : LimitNumbers → Rows → Event → List (Bool × Refusal)
 own_cases_of limits rows (AddAgent agent total) =
     (has_agent rows agent, KnownAgent)
@@ -183,15 +186,15 @@ own_cases_of limits rows (SetLimit role limit) =
 own_cases_of limits rows (Cycle at) = (nat_lt LATEST_MOMENT at, BadMoment) ∷ []
 own_cases_of limits rows event.Report = []
 
--- the cases of an event by their numbers: no event is counted in a full history
+-- all cases in which an event is refused, in order of their numbers: when the history is full, every event is refused
 abbrev pub cases_of : LimitNumbers → Rows → Event → List (Bool × Refusal)
 cases_of limits rows event = (is_full limits rows, HistoryFull) ∷ own_cases_of limits rows event
 
--- why an event is refused, if it is; where several cases hold, the least number is told
+-- why an event is refused, if it is: the first of the cases that hold, which has the least number
 unfoldable pub refusal_of : LimitNumbers → Rows → Event → Option Refusal
 refusal_of limits rows event = first_case (cases_of limits rows event)
 
--- the rows after an event that is not refused
+-- the state after an event that is not refused; `rows_after` adds the count of accepted events
 unfoldable pub effect : Rows → Event → Rows
 effect rows (AddAgent agent total) = record rows { agents = with_agent rows agent total }
 effect rows (RemoveAgent agent) = agent_removed rows agent
@@ -217,21 +220,22 @@ effect rows (SetLimit role limit) = record rows { limits = limits_with rows.limi
 effect rows (Cycle at) = cycle rows at
 effect rows event.Report = rows
 
--- an offer, as it is told
+-- the line of an offer in a reply
 abbrev pub line_told : OfferRow → OfferLine
 line_told o = record { number = o.number; agent = o.agent; framework = o.framework; role = o.role; resources = o.bundle }
 
--- the offers of the second rows that the first do not have
+-- the offers of `after` that `before` does not have: offers are added last, so they are the ones after the first
+-- `length before.offers`
 abbrev pub new_offers : Rows → Rows → List OfferRow
 new_offers before after = drop (length before.offers) after.offers
 
--- what an event that is not refused is answered
+-- the reply to an event that is not refused
 abbrev pub answer : Rows → Rows → Event → Reply
 answer before after (Cycle at) = Offers (map line_told (new_offers before after))
 answer before after event.Report = reply.Report (report_of before)
 answer before after other = Done
 
--- the rows after an event
+-- the state after an event: a refused event changes nothing
 unfoldable pub rows_after : LimitNumbers → Rows → Event → Rows
 rows_after limits rows event =
     option_map_or (λ refusal. rows) (refusal_of limits rows event) (record (effect rows event) { events = rows.events + 1 })
@@ -240,12 +244,12 @@ rows_after limits rows event =
 unfoldable pub reply_to : LimitNumbers → Rows → Event → Reply
 reply_to limits rows event = option_map_or Refused (refusal_of limits rows event) (answer rows (effect rows event) event)
 
--- the rows after a list of events
+-- the state after a list of events
 abbrev pub rows_after_all : LimitNumbers → Rows → List Event → Rows
 rows_after_all limits rows [] = rows
 rows_after_all limits rows (event ∷ events) = rows_after_all limits (rows_after limits rows event) events
 
--- the reply to each event of a list
+-- the replies to a list of events
 abbrev pub replies_to : LimitNumbers → Rows → List Event → List Reply
 replies_to limits rows [] = []
 replies_to limits rows (event ∷ events) = reply_to limits rows event ∷ replies_to limits (rows_after limits rows event) events

@@ -1,4 +1,4 @@
--- When a bundle covers all parts together: by their units, and as it is decided without memory.
+-- Theorems by which the code decides without allocating memory whether a bundle covers all parts together.
 use Rattle.std.specs.Prelude.{◌≡◌, ◌⊎◌, ◌↔◌, ℕ, ◌+◌, ◌-◌, ◌<◌, ◌≤◌, Bool, true, false, not, ◌&&◌, List, [], ◌∷◌, Option, Some, None, option_and_then, is_some, nat_le, nat_lt, sum_by, All, IsTrue}
 use Rattle.std.specs.List.{list_all, AllByRecursion}
 use Rattle.std.specs.Option.{option_map_or}
@@ -21,11 +21,11 @@ use Rattle.drf_bundle.specs.declared.value.Value.{Value}
 use Rattle.drf_rows.specs.Offers.{is_empty}
 use Rattle.drf_rows.specs.Tasks.{Start, uses, covers_all}
 
--- the parts have no more units than the bundle
+-- the bundle has at least the units of all parts together
 abbrev pub HasAll : List Resource → List (List Resource) → Type 0
 HasAll whole parts = (key : Key) (p : Point) → units_of_all parts key p ≤ units whole key p
 
--- the stocks of all parts
+-- the stocks of all parts together
 abbrev pub stock_of_all : List (List Resource) → Text → Point → ℕ
 stock_of_all parts name p = sum_by (λ part. stock part name p) parts
 
@@ -37,7 +37,7 @@ more_stock : (part : List Resource) (parts : List (List Resource)) (name : Text)
     → stock_of_all (part ∷ parts) name p ≡ stock part name p + stock_of_all parts name p
 more_stock part parts name p = sum_by-cons (λ (part : List Resource). stock part name p) part parts
 
--- ---- joins of all
+-- ---- joins of all parts
 
 bundle-joined : (bundle whole : List Resource) (parts : List (List Resource)) → IsBundle bundle → AllByRecursion IsBundle parts
     → joined bundle parts ≡ Some whole → IsBundle whole
@@ -53,7 +53,7 @@ bundle-joined bundle whole (part ∷ parts) is each same =
     by None none some later = cc
     by (Some both) joins some later = later both (join_some bundle part both is each.0 joins).bundle some
 
--- there is a join where the stocks fit
+-- the bundle and the parts have a join (`joined-fits`: they have one if their stocks fit)
 record IsJoinOfAll (bundle : List Resource) (parts : List (List Resource)) : Type 0 where
   pub whole : List Resource
   pub is : joined bundle parts ≡ Some whole
@@ -67,7 +67,7 @@ joined-fits bundle (part ∷ parts) is each fits =
     (fits_less _ _ fits (λ name p. omega (arith, more_stock part parts name p, both.1.stocks_add name p))) in
     record { whole = all.whole; is = ap (option_and_then (λ both. joined both parts)) both.0 ∙ all.is }
 
--- what a bundle has of all parts, it has of their stocks
+-- if the bundle has all units of the parts, it has all of their stocks
 stocks_within : (whole : List Resource) (parts : List (List Resource)) → IsBundle whole → AllByRecursion IsBundle parts → HasAll whole parts
     → (name : Text) (p : Point) → stock_of_all parts name p ≤ stock whole name p
 stocks_within whole parts is each has name p = omega (
@@ -76,7 +76,7 @@ stocks_within whole parts is each has name p = omega (
       (joined-rest_of_all whole parts is each has),
 )
 
--- ---- a bundle covers the join of all exactly where it has all their units
+-- ---- a bundle covers the join of all parts exactly if it has all their units
 
 pub units-covers_all : (whole : List Resource) (parts : List (List Resource)) → IsBundle whole → AllByRecursion IsBundle parts
     → covers_all whole parts ≡ true → HasAll whole parts
@@ -105,7 +105,7 @@ covers_all-units whole parts is each has =
 not_empty : (r : Resource) (rs : List Resource) → r ∷ rs ≡ [] → ⊥
 not_empty r rs e = cc
 
--- something is left exactly where the parts amount to less
+-- something is left exactly if the amounts of the parts add up to less than the amount of the bundle
 pub leaves : (whole : List Resource) (parts : List (List Resource)) (left : ℕ) → IsBundle whole → AllByRecursion IsBundle parts
     → covers_all whole parts ≡ true → left ≡ amount whole - sum_by amount parts
     → nat_lt 0 left ≡ not (is_empty (rest_of_all whole parts))
@@ -129,21 +129,21 @@ leaves whole parts left is each covered told =
         above (inl zero) = absurd (not_empty r rs (some ∙ (bundle_laws.amount_zero rest (bundle-rest_of_all whole parts is)).0 zero))
         above (inr below) = omega (arith, told, more, below)
 
--- whether a bundle covers another
+-- a truth value that says `Covers` is the result of `covers`
 pub covers_from : (b : Bool) (whole part : List Resource) → IsBundle whole → IsBundle part
     → (IsTrue b ↔ Covers IsBundle join whole part) → b ≡ covers whole part
 covers_from b whole part first second told =
     let exact = covers_exact whole part first second in
     same_tests b (covers whole part) (λ here. exact.1 (told.0 here)) (λ here. told.1 (exact.0 here))
   where
-    -- two tests of one thing
+    -- two truth values that imply each other are equal
     same_tests : (a b : Bool) → (a ≡ true → b ≡ true) → (b ≡ true → a ≡ true) → a ≡ b
     same_tests true true there back = refl
     same_tests true false there back = sym (there refl)
     same_tests false true there back = back refl
     same_tests false false there back = refl
 
--- what is found under a key has all units of a scalar there
+-- the value at a key has all units of the scalar at this key
 pub scalar_found : (bundle : List Resource) (key : Key) (found : Option Value) → IsBundle bundle → found ≡ value_at bundle key
     → units_at found Thousandths ≡ units bundle key Thousandths
 scalar_found bundle key found is same = ap (λ (o : Option Value). units_at o Thousandths) same ∙ sym (units_found bundle key Thousandths is.in_order)
@@ -155,7 +155,7 @@ uses_each [] all = tt
 uses_each (s ∷ starts) all =
     (All-head (λ (s : Start). IsBundle s.1) s starts all, uses_each starts (All-tail (λ (s : Start). IsBundle s.1) s starts all))
 
--- ---- as it is decided: each part is covered, each two have a join, and of each scalar there is enough for all
+-- ---- the test in the code: each part is covered, each two parts have a join, and there is enough of each scalar
 
 -- the part has a join with each of the others
 abbrev pub is_apart : List Resource → List (List Resource) → Bool
@@ -165,14 +165,14 @@ abbrev pub are_apart : List (List Resource) → Bool
 are_apart [] = true
 are_apart (part ∷ parts) = is_apart part parts && are_apart parts
 
--- of the scalar under the resource's key there is enough
+-- there is enough of the scalar of the resource for all parts
 abbrev pub is_enough : List Resource → List (List Resource) → Resource → Bool
 is_enough whole parts r = nat_le (units_of_all parts (key_of r) Thousandths) (units whole (key_of r) Thousandths)
 
 abbrev pub fits_all : List Resource → List (List Resource) → Bool
 fits_all whole parts = list_all (covers whole) parts && are_apart parts && list_all (is_enough whole parts) whole
 
--- ---- it is enough
+-- ---- the test is sufficient
 
 none_of_all : (parts : List (List Resource)) (key : Key) (p : Point) → AllByRecursion (λ part. units part key p ≡ 0) parts
     → units_of_all parts key p ≡ 0
@@ -191,7 +191,7 @@ each_none : (parts : List (List Resource)) (key : Key) (p : Point) (n : ℕ) →
 each_none [] key p n zero below = tt
 each_none (part ∷ parts) key p n zero below = (omega (arith, zero, below.0), each_none parts key p n zero below.1)
 
--- a scalar that there is of a bundle, is one of its resources
+-- a scalar of which a bundle has units is one of its resources
 enough_at : (whole : List Resource) (parts : List (List Resource)) (rs : List Resource) (key : Key)
     → list_all (is_enough whole parts) rs ≡ true → 0 < units rs key Thousandths
     → units_of_all parts key Thousandths ≤ units whole key Thousandths
@@ -231,7 +231,7 @@ units_in_stock (r ∷ rs) key p = omega (
     by true false = omega arith
     by false b = omega arith
 
--- members of two that have a join are not in both
+-- a member is not in both of two bundles that have a join
 members_apart : (a b : List Resource) (key : Key) (p : Point) → IsBundle a → IsBundle b → is_some (join a b) ≡ true → most p ≡ 1
     → units a key p + units b key p ≤ 1
 members_apart a b key p first second joins single = by (join a b) refl joins
@@ -275,7 +275,7 @@ units-fits_all whole parts is each fits = by
     by key (Number n) = members_within whole parts key (Number n) each (each_covered whole parts is each first.0 key (Number n)) first.1 refl
     by key (Member m) = members_within whole parts key (Member m) each (each_covered whole parts is each first.0 key (Member m)) first.1 refl
 
--- ---- and it is needed
+-- ---- the test is necessary
 
 covers_each : (whole : List Resource) (parts : List (List Resource)) → IsBundle whole → AllByRecursion IsBundle parts → HasAll whole parts
     → list_all (covers whole) parts ≡ true
@@ -306,7 +306,8 @@ enough_for_each whole parts (r ∷ rs) has = and_from _ _
     (le-leb (units_of_all parts (key_of r) Thousandths) (units whole (key_of r) Thousandths) (has (key_of r) Thousandths))
     (enough_for_each whole parts rs has)
 
--- there is enough where something is left when all took theirs, and is not where one finds too little
+-- there is enough of a scalar if something (maybe 0) is left after all parts are subtracted, and not enough if the rest
+-- is less than the next part
 pub enough-left : (whole : List Resource) (parts : List (List Resource)) (r : Resource) (left : ℕ)
     → units_of_all parts (key_of r) Thousandths + left ≡ units whole (key_of r) Thousandths → true ≡ is_enough whole parts r
 enough-left whole parts r left same =

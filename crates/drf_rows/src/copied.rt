@@ -1,12 +1,13 @@
-//! Copies, made where memory allows.
+//! Copies that can fail for lack of memory.
 ghost use Rattle.std.specs.Prelude.{◌≡◌, IfOk};
 
 use crate::table::Table;
 use drf_role::Role;
 use std::alloc::{AllocError, Global};
 
-/// What can be copied where memory allows.
+/// Types with a copy that fails if memory runs out (`Clone` cannot fail).
 pub trait Copied: Sized + Drop {
+    /// Returns an equal value, or `AllocError` if memory runs out.
     fn copy(&self) -> Result<Self, AllocError>
         ensures { IfOk result (λ copy. copy ≡ self.now) };
 }
@@ -17,7 +18,7 @@ impl Copied for Role {
     }
 }
 
-/// Copies of rows, in their order.
+/// Returns copies of the rows, in the same order. Fails with `AllocError` if memory runs out.
 pub fn copy_all<T: Copied>(alloc: Global, rows: &[T]) -> Result<Table<T>, AllocError>
     ensures { IfOk result (λ copies. copies ≡ rows.now) }
 {
@@ -29,6 +30,7 @@ pub fn copy_all<T: Copied>(alloc: Global, rows: &[T]) -> Result<Table<T>, AllocE
 }
 
 impl<T: Copied> Table<T> {
+    /// Returns an equal table, or `AllocError` if memory runs out.
     pub fn copy(&self) -> Result<Table<T>, AllocError>
         ensures { IfOk result (λ copy. copy ≡ self.now) }
     {

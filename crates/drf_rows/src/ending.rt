@@ -1,17 +1,17 @@
-//! What ends.
+//! Which offers and tasks an event ends.
 use drf_role::Name;
 
-/// What ends.
+/// A release of resources: it says which offers and tasks end.
 #[derive(Clone, Copy)]
 pub enum Ending<'a> {
-    /// The offer of a number.
+    /// The offer with this number.
     Offer(u64),
-    /// A framework's task of a name.
+    /// The task of a framework with this name.
     Task { framework: &'a Name, name: &'a Name },
-    /// The offers on an agent.
+    /// All offers on an agent.
     OffersOn(&'a Name),
-    /// All that is held on an agent.
+    /// All offers and tasks on an agent.
     AllOn(&'a Name),
-    /// All that a framework holds.
+    /// All offers and tasks of a framework.
     AllOf(&'a Name),
 }

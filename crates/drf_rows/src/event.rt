@@ -1,3 +1,4 @@
+//! Events: what callers report to the allocator or ask of it.
 ghost use Rattle.std.specs.Prelude.{◌≡◌, IfOk};
 
 use crate::table::Table;
@@ -7,7 +8,8 @@ use drf_bundle::{Bundle, Quantities};
 use drf_role::{Name, Role};
 use std::alloc::AllocError;
 
-/// A framework starts tasks with parts of an offer, at a moment, and refuses the rest for a time.
+/// A framework accepts an offer at the timestamp `at`: it starts tasks with parts of the offer, and refuses the rest
+/// for `refuse_ms` milliseconds.
 #[derive(Drop)]
 pub struct Accept {
     pub framework: Name,
@@ -17,7 +19,7 @@ pub struct Accept {
     pub refuse_ms: u64,
 }
 
-/// A framework gives an offer back, at a moment, and refuses it for a time.
+/// A framework declines an offer at the timestamp `at`, and refuses it for `refuse_ms` milliseconds.
 #[derive(Drop)]
 pub struct Decline {
     pub framework: Name,
@@ -27,6 +29,7 @@ pub struct Decline {
 }
 
 impl Accept {
+    /// Returns an equal event, or `AllocError` if memory runs out.
     pub fn copy(&self) -> Result<Accept, AllocError>
         ensures { IfOk result (λ copy. copy ≡ self.now) }
     {
@@ -41,6 +44,7 @@ impl Accept {
 }
 
 impl Decline {
+    /// Returns an equal event, or `AllocError` if memory runs out.
     pub fn copy(&self) -> Result<Decline, AllocError>
         ensures { IfOk result (λ copy. copy ≡ self.now) }
     {
@@ -53,8 +57,8 @@ impl Decline {
     }
 }
 
-/// What happens to the cluster. The allocator takes one event at a time, whole or not at all. Moments and times are in
-/// milliseconds; a `refuse_ms` above 365 days counts as 365 days, and with 0 nothing is refused.
+/// An event, which the allocator accepts or refuses as a whole. Timestamps and durations are in milliseconds. A
+/// `refuse_ms` above 365 days counts as 365 days; with 0 no filter is set.
 #[derive(Drop)]
 pub enum Event {
     /// An agent registers with all its resources.
@@ -62,19 +66,19 @@ pub enum Event {
         agent: Name,
         total: Bundle,
     },
-    /// An agent leaves, with its total and all that is held there.
+    /// An agent is removed, with all offers and tasks on it.
     RemoveAgent {
         agent: Name,
     },
-    /// What is free on an agent is offered, from now on.
+    /// An agent becomes active: its free resources are offered again.
     ActivateAgent {
         agent: Name,
     },
-    /// An agent's offers are rescinded, and no more are made. Its tasks stay.
+    /// An agent becomes inactive: its offers are rescinded and no new ones are made. Its tasks continue.
     DeactivateAgent {
         agent: Name,
     },
-    /// An agent's total is another from now on. All that is held there stays.
+    /// An agent gets a new total. Its offers and tasks stay.
     SetAgent {
         agent: Name,
         total: Bundle,
@@ -84,47 +88,49 @@ pub enum Event {
         framework: Name,
         roles: Table<Role>,
     },
-    /// A framework has just these roles from now on. In a role that stays nothing changes for it; in a role that it leaves it
-    /// loses its filters, and holds nothing.
+    /// A framework gets a new list of roles. Clients whose roles stay are unchanged. The framework must hold nothing in
+    /// a role that it leaves; its filters there are removed.
     SetFramework {
         framework: Name,
         roles: Table<Role>,
     },
-    /// A framework leaves. What it held is free.
+    /// A framework is removed. Everything that it held becomes free.
     RemoveFramework {
         framework: Name,
     },
-    /// A framework starts tasks with parts of an offer, all or none. The rest is free; for a time its client is offered there
-    /// nothing that this rest covers.
+    /// A framework accepts an offer: it starts all of the tasks, or none. The rest becomes free. While the filter
+    /// lasts, the client is not offered anything on this agent that the rest covers.
     Accept(Accept),
-    /// A framework gives an offer back; for a time its client is offered there nothing that the offer covers.
+    /// A framework declines an offer. While the filter lasts, the client is not offered anything on this agent that the
+    /// offer covers.
     Decline(Decline),
-    /// An offer is taken back.
+    /// An offer is rescinded.
     Rescind {
         offer: u64,
     },
-    /// A task ends. What it used is free.
+    /// A task finishes. What it used becomes free.
     Finish {
         framework: Name,
         task: Name,
     },
-    /// A framework is not to be served in a role, until it revives.
+    /// A client is suppressed: it gets no offers until it revives.
     Suppress {
         framework: Name,
         role: Role,
     },
-    /// A framework is to be served in a role, and no longer refuses anything there.
+    /// A client revives: it gets offers again, and its filters are removed.
     Revive {
         framework: Name,
         role: Role,
     },
-    /// What is free on an agent for everyone is reserved for a role. The resources name no reservation.
+    /// Free unreserved resources of an agent are reserved for a role. `resources` must not name reservations.
     Reserve {
         agent: Name,
         role: Role,
         resources: Bundle,
     },
-    /// What is free on an agent and reserved for just this role is for everyone again. The resources name no reservation.
+    /// Free resources of an agent that are reserved for exactly this role become unreserved. `resources` must not name
+    /// reservations.
     Unreserve {
         agent: Name,
         role: Role,
@@ -135,20 +141,21 @@ pub enum Event {
         role: Role,
         weight: u64,
     },
-    /// A role gets a limit: the most that it may consume of each scalar named. One that names nothing takes the limit away.
+    /// A role gets a quota limit: the most that it can consume of each scalar named. An empty limit removes the limit.
     SetLimit {
         role: Role,
         limit: Quantities,
     },
-    /// The allocator offers what is free, at a moment in milliseconds.
+    /// The allocator offers the free resources of all active agents. `at` is a timestamp.
     Cycle {
         at: u64,
     },
-    /// The allocator tells what there is, and who holds what of it.
+    /// The allocator reports the cluster's total, and what each node of the role tree holds.
     Report,
 }
 
 impl Event {
+    /// Returns an equal event, or `AllocError` if memory runs out.
     pub fn copy(&self) -> Result<Event, AllocError>
         ensures { IfOk result (λ copy. copy ≡ self.now) }
     {

@@ -1,4 +1,4 @@
-//! Events, replies and rows of the allocator, and the definitions of what it does.
+//! The types of events, replies and state, and in `specs/` the definition of what the allocator does.
 #![tactic(auto)]
 
 mod copied;

@@ -1,10 +1,11 @@
+//! The capacities of the allocator, and the greatest numbers that events can have.
 ghost use Rattle.std.specs.Prelude.{◌≡◌, ◌↔◌, IsTrue};
 ghost use Rattle.std.specs.Option.{SomeIff};
 ghost use Rattle.drf_rows.specs.LimitNumbers.{LimitNumbers, ceilings, IsWithin, IsWithinCeilings};
 
 use std::marker::Model;
 
-/// The latest moment of an event, in milliseconds.
+/// The greatest timestamp of an event, in milliseconds.
 pub const LATEST_MOMENT: u64 = 1 << 62;
 
 /// The longest time for which a filter is in force, in milliseconds: 365 days.
@@ -13,8 +14,8 @@ pub const LONGEST_FILTER: u64 = 31_536_000_000;
 /// The greatest amount of a scalar on one agent, over all its reservations, in thousandths.
 pub const LARGEST_AMOUNT: u64 = (1 << 40) - 1;
 
-/// How many agents, clients, filters in force and more the allocator may have. Each number is at least 1 and at most
-/// its ceiling.
+/// The capacities: how many agents, clients, filters in force and so on the allocator can have. Each number is from 1
+/// to its greatest value, which `Limits::full` returns.
 #[derive(Clone, Copy)]
 pub struct Limits {
     agents: u64,
@@ -42,6 +43,7 @@ impl Model for Limits {
     ghost inverse = { fields_of };
 }
 
+/// Returns whether the number is from 1 to `ceiling`.
 fn is_within(n: u64, ceiling: u64) -> bool
     ensures { IsTrue result ↔ IsWithin n ceiling }
 {
@@ -49,7 +51,7 @@ fn is_within(n: u64, ceiling: u64) -> bool
 }
 
 impl Limits {
-    /// Every ceiling.
+    /// Returns the greatest capacities.
     pub fn full() -> Limits
         ensures { result ≡ ceilings }
     {
@@ -66,9 +68,9 @@ impl Limits {
         }
     }
 
-    /// The limits of those numbers, where each is from 1 to its ceiling: how many agents, frameworks, roles of one
-    /// framework, clients, filters in force, weights, limits, names of scalars over all agents, and accepted events
-    /// there may be.
+    /// Returns these capacities, or `None` if a number is not from 1 to its greatest value. They are the greatest
+    /// numbers of agents, frameworks, roles of one framework, clients, filters in force, roles with a weight, roles
+    /// with a limit, names of scalars over all agents, and accepted events.
     pub fn new(
         agents: u64,
         frameworks: u64,
@@ -118,7 +120,7 @@ impl Limits {
         })
     }
 
-    /// How many agents may be registered.
+    /// Returns how many agents can be registered.
     pub fn agents(&self) -> u64
         ensures value { result ≡ self.now.agents }
         ensures within { IsWithinCeilings self.now }
@@ -126,7 +128,7 @@ impl Limits {
         self.agents
     }
 
-    /// How many frameworks may be registered.
+    /// Returns how many frameworks can be registered.
     pub fn frameworks(&self) -> u64
         ensures value { result ≡ self.now.frameworks }
         ensures within { IsWithinCeilings self.now }
@@ -134,7 +136,7 @@ impl Limits {
         self.frameworks
     }
 
-    /// How many roles a framework may have.
+    /// Returns how many roles a framework can have.
     pub fn roles(&self) -> u64
         ensures value { result ≡ self.now.roles }
         ensures within { IsWithinCeilings self.now }
@@ -142,7 +144,7 @@ impl Limits {
         self.roles
     }
 
-    /// How many clients there may be over all frameworks.
+    /// Returns how many clients all frameworks can have together.
     pub fn clients(&self) -> u64
         ensures value { result ≡ self.now.clients }
         ensures within { IsWithinCeilings self.now }
@@ -150,7 +152,7 @@ impl Limits {
         self.clients
     }
 
-    /// How many filters may be in force.
+    /// Returns how many filters can be in force.
     pub fn filters(&self) -> u64
         ensures value { result ≡ self.now.filters }
         ensures within { IsWithinCeilings self.now }
@@ -158,7 +160,7 @@ impl Limits {
         self.filters
     }
 
-    /// How many roles may have a weight.
+    /// Returns how many roles can have a weight.
     pub fn weights(&self) -> u64
         ensures value { result ≡ self.now.weights }
         ensures within { IsWithinCeilings self.now }
@@ -166,7 +168,7 @@ impl Limits {
         self.weights
     }
 
-    /// How many roles may have a limit.
+    /// Returns how many roles can have a quota limit.
     pub fn limits(&self) -> u64
         ensures value { result ≡ self.now.limits }
         ensures within { IsWithinCeilings self.now }
@@ -174,7 +176,7 @@ impl Limits {
         self.limits
     }
 
-    /// How many names of scalars there may be over all agents.
+    /// Returns how many names of scalars there can be over all agents.
     pub fn scalar_names(&self) -> u64
         ensures value { result ≡ self.now.scalar_names }
         ensures within { IsWithinCeilings self.now }
@@ -182,7 +184,7 @@ impl Limits {
         self.scalar_names
     }
 
-    /// How many events may be accepted.
+    /// Returns how many events can be accepted.
     pub fn events(&self) -> u64
         ensures value { result ≡ self.now.events }
         ensures within { IsWithinCeilings self.now }

@@ -1,3 +1,4 @@
+//! Replies to events.
 ghost use Rattle.std.specs.Prelude.{◌≡◌, IfOk};
 
 use crate::report::Report;
@@ -6,47 +7,48 @@ use drf_bundle::Bundle;
 use drf_role::{Name, Role};
 use std::alloc::AllocError;
 
-/// Why an event was turned away. The rows are then as they were.
+/// Why an event was refused. A refused event changes nothing.
 #[derive(Clone, Copy, PartialEq, Eq)]
 pub enum Refusal {
-    /// The allocator has taken as many events as its limits allow.
+    /// As many events were accepted as the capacity allows.
     HistoryFull,
-    /// The moment is later than 2^62 milliseconds.
+    /// The timestamp is greater than 2^62 milliseconds.
     BadMoment,
-    /// No agent is registered under the name.
+    /// No agent with this name is registered.
     UnknownAgent,
-    /// An agent is registered under the name already.
+    /// An agent with this name is already registered.
     KnownAgent,
-    /// No framework is registered under the name.
+    /// No framework with this name is registered.
     UnknownFramework,
-    /// A framework is registered under the name already.
+    /// A framework with this name is already registered.
     KnownFramework,
-    /// No offer stands under the number.
+    /// No offer with this number is outstanding.
     UnknownOffer,
-    /// The offer is another framework's.
+    /// The offer was made to another framework.
     NotYours,
-    /// The framework has no task of that name.
+    /// The framework has no task with this name.
     UnknownTask,
-    /// The framework has a task of that name already.
+    /// The framework already has a task with this name, or the event names a task twice.
     KnownTask,
-    /// The framework is not in the role.
+    /// The framework is not registered in the role.
     NotInRole,
-    /// The role `*` takes no limit, and nothing is reserved for it.
+    /// The role is `*`, for which there are no limits and no reservations.
     DefaultRole,
-    /// The framework has no roles, or the resources are empty.
+    /// The list of roles or the resources are empty, or a task uses nothing.
     Empty,
-    /// Of what is reserved, or for everyone again, a part names a reservation.
+    /// The resources to be reserved or unreserved name a reservation.
     NotUnreserved,
-    /// The offer, or what is free for the purpose, does not cover the resources; or a total does not cover what is held.
+    /// The offer does not cover the tasks, the agent's free resources do not cover those to be reserved or unreserved,
+    /// or a new total does not cover everything held on the agent.
     NotCovered,
-    /// With what is reserved for it the role, or a role above it, would consume more than its limit.
+    /// With this reservation, the role or a role above it would consume more than its limit.
     OverLimit,
     /// The weight is not from 1 to 1,000,000 thousandths.
     BadWeight,
-    /// What the agent has of one scalar, over all its reservations, exceeds 2^40 - 1 thousandths.
+    /// The agent would have more than 2^40 - 1 thousandths of a scalar, over all its reservations.
     TooLarge,
-    /// A limit would be passed: of agents, names of scalars, frameworks, roles of a framework, clients, filters in force,
-    /// weights, limits, or scalars that one limit names.
+    /// A capacity would be exceeded: of agents, names of scalars, frameworks, roles of a framework, clients, filters in
+    /// force, weights, limits, or scalars named by one limit.
     TooMany,
     /// The framework holds an offer or a task in a role that it would leave.
     RoleInUse,
@@ -55,7 +57,7 @@ pub enum Refusal {
 impl Refusal {
     ghost use Rattle.drf_rows.specs.Refusal.{refusal_number, refusal_name};
 
-    /// The number that the refusal is told by.
+    /// Returns the number of the refusal in replies, from 1 to 20.
     pub fn number(self) -> u64
         ensures { result ≡ refusal_number self }
     {
@@ -83,7 +85,7 @@ impl Refusal {
         }
     }
 
-    /// The name that the refusal is told by.
+    /// Returns the name of the refusal in replies.
     pub fn name(self) -> &'static str
         ensures { result.now ≡ refusal_name self }
     {
@@ -112,7 +114,7 @@ impl Refusal {
     }
 }
 
-/// An offer, as it is told to the framework.
+/// An offer, as a reply lists it.
 #[derive(Drop)]
 pub struct OfferLine {
     pub number: u64,
@@ -122,20 +124,21 @@ pub struct OfferLine {
     pub resources: Bundle,
 }
 
-/// The answer to an event.
+/// The reply to an event.
 #[derive(Drop)]
 pub enum Reply {
     /// The event was accepted.
     Done,
     /// A cycle was accepted, and made these offers.
     Offers(SharedTable<OfferLine>),
-    /// A report was accepted, and tells this.
+    /// A `report` event was accepted; this is its report.
     Report(Report),
     /// The event was refused, and changed nothing.
     Refused(Refusal),
 }
 
 impl Reply {
+    /// Returns an equal reply that shares its lists. Fails with `AllocError` if memory runs out.
     pub fn copy(&self) -> Result<Reply, AllocError>
         ensures { IfOk result (λ copy. copy ≡ self.now) }
     {

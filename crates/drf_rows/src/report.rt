@@ -1,4 +1,4 @@
-//! The report of shares.
+//! The reply to a `report` event.
 ghost use Rattle.std.specs.Prelude.{◌≡◌, IfOk};
 
 use crate::shared::SharedTable;
@@ -6,15 +6,15 @@ use drf_bundle::Quantities;
 use drf_role::NodePath;
 use std::alloc::AllocError;
 
-/// A node of the tree of roles, with what its clients hold together. Fractions are in lowest terms, 0/1 for none.
+/// What the clients of a node of the role tree hold together. Fractions are in lowest terms; a share of nothing is 0/1.
 pub struct NodeLine {
     pub path: NodePath,
     pub held: Quantities,
     /// The dominant share.
     pub share: (u128, u128),
-    /// The dominant share over the weight of the node.
+    /// The dominant share divided by the weight of the node.
     pub weighted: (u128, u128),
-    /// How many offers were made to the node's clients.
+    /// How many offers the clients of the node have received.
     pub count: u64,
 }
 
@@ -30,7 +30,7 @@ impl Drop for NodeLine {
     }
 }
 
-/// What the agents have together, and the nodes of all clients, in order of their paths.
+/// The total of all agents, and a line for each node of the registered clients, in the order of their paths.
 pub struct Report {
     pub total: Quantities,
     pub nodes: SharedTable<NodeLine>,
@@ -46,7 +46,7 @@ impl Drop for Report {
 }
 
 impl Report {
-    /// The same report, whose nodes the two share.
+    /// Returns an equal report that shares the lines. Fails with `AllocError` if memory runs out.
     pub fn copy(&self) -> Result<Report, AllocError>
         ensures { IfOk result (λ copy. copy ≡ self.now) }
     {

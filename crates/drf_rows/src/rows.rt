@@ -1,3 +1,4 @@
+//! The state of the allocator as tables of rows.
 ghost use Rattle.std.specs.Prelude.{◌≡◌, IfOk};
 
 use crate::copied::Copied;
@@ -7,7 +8,7 @@ use drf_bundle::{Bundle, Quantities};
 use drf_role::{Name, Role};
 use std::alloc::AllocError;
 
-/// A registered agent with all its resources.
+/// A registered agent with its total.
 #[derive(Drop)]
 pub struct AgentRow {
     pub name: Name,
@@ -15,7 +16,7 @@ pub struct AgentRow {
     pub active: bool,
 }
 
-/// One client of a framework. `count` counts the offers that it got since it registered.
+/// A client of a framework. `count` is the number of offers that it has received since it registered.
 #[derive(Drop)]
 pub struct ClientRow {
     pub role: Role,
@@ -30,7 +31,7 @@ pub struct FrameworkRow {
     pub clients: Table<ClientRow>,
 }
 
-/// An offer that stands.
+/// An outstanding offer.
 #[derive(Drop)]
 pub struct OfferRow {
     pub number: u64,
@@ -40,7 +41,7 @@ pub struct OfferRow {
     pub bundle: Bundle,
 }
 
-/// A task that runs. Its name is its framework's: another framework may have a task of that name.
+/// A running task. Task names are per framework: two frameworks can use the same name.
 #[derive(Drop)]
 pub struct TaskRow {
     pub name: Name,
@@ -57,14 +58,15 @@ pub struct WeightRow {
     pub weight: u64,
 }
 
-/// The quota limit of a role: the most that it may consume of each scalar named, in thousandths.
+/// The quota limit of a role: the most that it can consume of each scalar named, in thousandths.
 #[derive(Drop)]
 pub struct LimitRow {
     pub role: Role,
     pub limit: Quantities,
 }
 
-/// A filter of a client on an agent: nothing that its bundle covers is offered before a moment in milliseconds.
+/// A filter of a client on an agent: until the timestamp `until`, in milliseconds, nothing that the bundle covers is
+/// offered.
 #[derive(Drop)]
 pub struct FilterRow {
     pub framework: Name,
@@ -74,8 +76,8 @@ pub struct FilterRow {
     pub until: u64,
 }
 
-/// All that the allocator knows. `clock` is in milliseconds, `next_offer` is the number of the next offer, and `events`
-/// counts the events that were not refused.
+/// The state of the allocator. `clock` is a timestamp in milliseconds, `next_offer` is the number of the next offer,
+/// and `events` is the number of accepted events.
 pub struct Rows {
     pub agents: Table<AgentRow>,
     pub frameworks: Table<FrameworkRow>,
@@ -89,7 +91,8 @@ pub struct Rows {
     pub events: u64,
 }
 
-// Written out, so that the proof of whoever drops rows sees one call, and not the drop of each table.
+// Written out, so that a caller's proof about dropping a state deals with one call, and not with the drop of each
+// table.
 impl Drop for Rows {
     fn drop(self) {
         let Rows {
@@ -191,7 +194,7 @@ impl Copied for FilterRow {
 }
 
 impl Rows {
-    /// Another list of the same rows.
+    /// Returns an equal state, or `AllocError` if memory runs out.
     pub fn copy(&self) -> Result<Rows, AllocError>
         ensures { IfOk result (λ copy. copy ≡ self.now) }
     {

@@ -1,4 +1,4 @@
-//! Rows that a reply and its copies share.
+//! A list of rows that a reply and its copies share.
 ghost use Rattle.std.specs.Prelude.{◌≡◌, [], length, IfOk, IsOk};
 
 use crate::table::Table;
@@ -6,7 +6,7 @@ use std::alloc::AllocError;
 use std::marker::Model;
 use std::sync::Arc;
 
-/// Rows in order, which all copies share. Where there are none they take no memory.
+/// A list of rows that all copies share. An empty list takes no memory.
 pub struct SharedTable<T> {
     rows: Option<Arc<Table<T>>>,
 }
@@ -21,7 +21,7 @@ impl<T> Model for SharedTable<T> {
     ghost view = { λ t. option_map_or (λ rows. arc_value rows) t.rows [] };
 }
 
-// Written out, so that the proof of whoever drops a reply sees one call.
+// Written out, so that a caller's proof about dropping a reply deals with one call.
 impl<T: Drop> Drop for SharedTable<T> {
     fn drop(self) {
         let SharedTable { rows: _rows } = self;
@@ -29,12 +29,14 @@ impl<T: Drop> Drop for SharedTable<T> {
 }
 
 impl<T> SharedTable<T> {
+    /// Returns the empty list.
     pub fn empty() -> SharedTable<T>
         ensures { result ≡ [] }
     {
         SharedTable { rows: None }
     }
 
+    /// Returns the rows, in order.
     pub fn as_slice(&self) -> &[T]
         ensures { result.now ≡ self.now }
     {
@@ -44,6 +46,7 @@ impl<T> SharedTable<T> {
         }
     }
 
+    /// Returns the number of rows.
     pub fn len(&self) -> usize
         ensures { result ≡ length self.now }
     {
@@ -52,6 +55,7 @@ impl<T> SharedTable<T> {
 }
 
 impl<T: Drop> SharedTable<T> {
+    /// Returns a shared list of the rows. Fails with `AllocError` if memory runs out, and never for an empty list.
     pub fn from_vec(rows: Vec<T>) -> Result<SharedTable<T>, AllocError>
         ensures rows { IfOk result (λ table. table ≡ rows.items) }
         ensures none { rows.items ≡ [] → IsOk result }
@@ -65,7 +69,7 @@ impl<T: Drop> SharedTable<T> {
         })
     }
 
-    /// The same rows. It asks for no memory, and fails where 2^63 owners were counted.
+    /// Returns a copy that shares the rows. It allocates nothing, and fails only if there would be 2^63 owners.
     pub fn copy(&self) -> Result<SharedTable<T>, AllocError>
         ensures { IfOk result (λ copy. copy ≡ self.now) }
     {

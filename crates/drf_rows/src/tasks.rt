@@ -1,4 +1,4 @@
-//! Tasks that are started with parts of one offer.
+//! The list of tasks that an accept starts with parts of one offer.
 ghost use Rattle.std.specs.Prelude.{◌≡◌, ◌≤◌, length, true, not, is_some, IfOk};
 ghost use Rattle.std.specs.List.{list_all, list_any, AllByRecursion};
 ghost use Rattle.std.specs.Option.{SomeIff};
@@ -17,10 +17,10 @@ use drf_role::Name;
 use std::alloc::{AllocError, Global};
 use std::marker::Model;
 
-/// The most tasks that one accept may start.
+/// The greatest number of tasks that one accept can start.
 pub const MOST_TASKS: usize = 16;
 
-/// The tasks that an accept starts, 1 to 16, each with its name and what it uses of the offer.
+/// The tasks that an accept starts: 1 to 16, each with its name and the part of the offer that it uses.
 #[derive(Drop)]
 pub struct TaskList {
     tasks: Vec<(Name, Bundle)>,
@@ -42,7 +42,7 @@ impl Model for TaskList {
     ghost invariant = { λ l. IsTaskList l.tasks.items };
 }
 
-/// Tells the proof that what tasks use are bundles.
+/// Proves that the parts that tasks use are valid bundles, from the invariant of `Bundle`.
 fn recall(tasks: &[(Name, Bundle)])
     ensures { AllByRecursion IsBundle (uses tasks.now) }
 {
@@ -51,7 +51,7 @@ fn recall(tasks: &[(Name, Bundle)])
     }
 }
 
-/// Whether no task has the name.
+/// Returns whether no task has this name.
 fn is_new(name: &Name, tasks: &[(Name, Bundle)]) -> bool
     ensures { result ≡ list_all (λ s. not (same_text name.now s.0)) tasks.now }
 {
@@ -63,7 +63,7 @@ fn is_new(name: &Name, tasks: &[(Name, Bundle)]) -> bool
     true
 }
 
-/// Whether no name stands twice.
+/// Returns whether all names differ.
 fn are_distinct(tasks: &[(Name, Bundle)]) -> bool
     ensures { result ≡ are_distinct (names_of tasks.now) }
 {
@@ -73,14 +73,14 @@ fn are_distinct(tasks: &[(Name, Bundle)]) -> bool
     is_new(&first.0, others) & are_distinct(others)
 }
 
-/// Whether a bundle has nothing in it.
+/// Returns whether a bundle is empty.
 fn is_empty(bundle: &Bundle) -> bool
     ensures { result ≡ is_empty bundle.now }
 {
     bundle.is_empty()
 }
 
-/// Whether a task uses nothing.
+/// Returns whether some task uses nothing.
 fn has_empty(tasks: &[(Name, Bundle)]) -> bool
     ensures { result ≡ list_any (λ s. is_empty s.1) tasks.now }
 {
@@ -92,14 +92,14 @@ fn has_empty(tasks: &[(Name, Bundle)]) -> bool
     false
 }
 
-/// Whether a bundle covers another.
+/// Returns whether `whole` covers `part`.
 fn covers(whole: &Bundle, part: &Bundle) -> bool
     ensures { result ≡ covers whole.now part.now }
 {
     whole.covers(part)
 }
 
-/// Whether a bundle covers what each task uses.
+/// Returns whether `whole` covers the part of each task on its own.
 fn covers_each(whole: &Bundle, tasks: &[(Name, Bundle)]) -> bool
     ensures { result ≡ list_all (λ s. covers whole.now s.1) tasks.now }
 {
@@ -111,14 +111,14 @@ fn covers_each(whole: &Bundle, tasks: &[(Name, Bundle)]) -> bool
     true
 }
 
-/// Whether two bundles have a join.
+/// Returns whether two bundles have a join.
 fn have_join(part: &Bundle, other: &Bundle) -> bool
     ensures { result ≡ is_some (join part.now other.now) }
 {
     part.disjoint(other)
 }
 
-/// Whether a bundle has a join with what each task uses.
+/// Returns whether `part` has a join with the part of each task.
 fn is_apart(part: &Bundle, tasks: &[(Name, Bundle)]) -> bool
     ensures { result ≡ list_all (λ s. is_some (join part.now s.1)) tasks.now }
 {
@@ -130,7 +130,7 @@ fn is_apart(part: &Bundle, tasks: &[(Name, Bundle)]) -> bool
     true
 }
 
-/// Whether each two of what the tasks use have a join.
+/// Returns whether the parts of any two tasks have a join.
 fn are_apart(tasks: &[(Name, Bundle)]) -> bool
     ensures { result ≡ are_apart (uses tasks.now) }
 {
@@ -140,7 +140,7 @@ fn are_apart(tasks: &[(Name, Bundle)]) -> bool
     is_apart(&first.1, others) & are_apart(others)
 }
 
-/// The thousandths of a value, if it is a scalar.
+/// Returns the thousandths of a scalar, and 0 for any other value.
 fn thousandths(value: &Value) -> u64
     ensures { result ≡ units_in value.now Thousandths }
 {
@@ -151,7 +151,7 @@ fn thousandths(value: &Value) -> u64
     }
 }
 
-/// The thousandths of a scalar that a bundle has under a resource's name and reservation.
+/// Returns the thousandths that a bundle has of a scalar, under the name and reservation of `resource`.
 fn scalar_in(bundle: &Bundle, resource: &Resource) -> u64
     ensures { result ≡ units bundle.now (key_of resource.now) Thousandths }
 {
@@ -162,7 +162,7 @@ fn scalar_in(bundle: &Bundle, resource: &Resource) -> u64
     }
 }
 
-/// Whether a bundle has enough of a scalar for all tasks.
+/// Returns whether `whole` has enough of one scalar for all tasks together.
 fn is_enough(whole: &Bundle, tasks: &[(Name, Bundle)], resource: &Resource) -> bool
     ensures { result ≡ is_enough whole.now (uses tasks.now) resource.now }
 {
@@ -176,7 +176,7 @@ fn is_enough(whole: &Bundle, tasks: &[(Name, Bundle)], resource: &Resource) -> b
     true
 }
 
-/// Whether a bundle has enough of each of some scalars for all tasks.
+/// Returns whether `whole` has enough of each of these scalars for all tasks together.
 fn has_enough(whole: &Bundle, tasks: &[(Name, Bundle)], resources: &[Resource]) -> bool
     ensures { result ≡ list_all (is_enough whole.now (uses tasks.now)) resources.now }
 {
@@ -189,7 +189,7 @@ fn has_enough(whole: &Bundle, tasks: &[(Name, Bundle)], resources: &[Resource]) 
 }
 
 impl TaskList {
-    /// The list of those tasks, where they are 1 to 16. It needs no memory.
+    /// Returns the list of these tasks, or `None` if they are not 1 to 16. It allocates nothing.
     pub fn new(tasks: Vec<(Name, Bundle)>) -> Option<TaskList>
         ensures { SomeIff result ((1 ≤ length tasks.items) × (length tasks.items ≤ 16)) tasks.items }
     {
@@ -200,7 +200,7 @@ impl TaskList {
         Some(TaskList { tasks })
     }
 
-    /// The tasks, in their order.
+    /// Returns the tasks, in order.
     pub fn as_slice(&self) -> &[(Name, Bundle)]
         ensures value { result.now ≡ self.now }
         ensures right { IsTaskList self.now }
@@ -208,6 +208,7 @@ impl TaskList {
         self.tasks.as_slice()
     }
 
+    /// Returns the tasks, in order, in their `Vec`.
     pub fn into_vec(self) -> Vec<(Name, Bundle)>
         ensures value { result.items ≡ self }
         ensures right { IsTaskList self }
@@ -216,6 +217,7 @@ impl TaskList {
         tasks
     }
 
+    /// Returns an equal list, or `AllocError` if memory runs out.
     pub fn copy(&self) -> Result<TaskList, AllocError>
         ensures { IfOk result (λ copy. copy ≡ self.now) }
     {
@@ -226,22 +228,22 @@ impl TaskList {
         Ok(TaskList { tasks })
     }
 
-    /// Whether a task uses nothing.
+    /// Returns whether some task uses nothing.
     pub fn has_empty(&self) -> bool
         ensures { result ≡ list_any is_empty (uses self.now) }
     {
         has_empty(&self.tasks)
     }
 
-    /// Whether no two tasks have one name.
+    /// Returns whether all tasks have different names.
     pub fn are_distinct(&self) -> bool
         ensures { result ≡ are_distinct (names_of self.now) }
     {
         are_distinct(&self.tasks)
     }
 
-    /// Whether what the tasks use has a join that the bundle covers. It needs no memory: each part is covered, each two
-    /// parts have a join, and of each scalar there is enough for all.
+    /// Returns whether the parts of all tasks have a join and `whole` covers it. It allocates nothing: it tests that
+    /// each part is covered, that each two parts have a join, and that there is enough of each scalar for all.
     pub fn are_covered_by(&self, whole: &Bundle) -> bool
         ensures { result ≡ covers_all whole.now (uses self.now) }
     {
@@ -249,7 +251,7 @@ impl TaskList {
         covers_each(whole, tasks) & are_apart(tasks) & has_enough(whole, tasks, whole.entries())
     }
 
-    /// Whether anything is left of a bundle that covers what the tasks use. It needs no memory.
+    /// Returns whether anything is left of `whole` besides the parts of the tasks. It allocates nothing.
     pub fn leave_any_of(&self, whole: &Bundle) -> bool
         requires { covers_all whole.now (uses self.now) ≡ true }
         ensures { result ≡ not (is_empty (rest_of_all whole.now (uses self.now))) }
@@ -261,7 +263,7 @@ impl TaskList {
         0 < left
     }
 
-    /// What is left of a bundle without what the tasks use.
+    /// Returns what is left of `whole` without the parts of the tasks. Fails with `AllocError` if memory runs out.
     pub fn rest_of(&self, whole: &Bundle) -> Result<Bundle, AllocError>
         ensures { IfOk result (λ rest. rest ≡ rest_of_all whole.now (uses self.now)) }
     {

@@ -1,8 +1,8 @@
-//! Laws of filters. A call does nothing: its contract is the law.
+//! Theorems about filters. The function does nothing; its contract is the theorem.
 ghost use Rattle.drf_gates.specs.filters.Laws.{SpentHoldNothing, LessIsHeldBack, HeldBackIsRefused};
 
-/// Filters that have run out hold nothing back; a filter in force holds back, from its client on its agent, what has at most
-/// its units, and nothing else is held back.
+/// Proves that expired filters hold nothing back, and that a filter in force holds back, from its client on its agent, exactly the bundles
+/// whose units it covers.
 pub fn filters_law()
     ensures spent { SpentHoldNothing }
     ensures less { LessIsHeldBack }

@@ -1,5 +1,4 @@
-//! What stands between what is free on an agent and an offer of it: the filters of declined offers, and of what is
-//! left of accepted ones.
+//! The tables that decide whether a free resource can be offered to a client: filters, quota limits, and what roles consume.
 #![tactic(auto)]
 
 mod filters;

@@ -1,4 +1,4 @@
-//! Limits of roles beside what roles consume (Mesos: quota limits).
+//! `Quota`: how much more roles can consume under their quota limits (as in Mesos).
 ghost use Rattle.std.specs.Prelude.{◌≡◌, ◌≢◌, ℕ, ◌+◌, ◌-◌, ◌<◌, ◌≤◌, ◌↔◌, true, nat_le, IsTrue, filter, length, take, None, false, OnOk, IfOk, IfSome, []};
 ghost use Rattle.std.specs.List.{list_all};
 ghost use Rattle.std.specs.Option.{option_map_or};
@@ -24,7 +24,7 @@ use drf_role::Role;
 use std::alloc::AllocError;
 use std::marker::Model;
 
-/// The limits of roles, lent beside what each role consumes, all in thousandths.
+/// The limits of roles and what each role consumes, both borrowed. All amounts are in thousandths.
 #[derive(Drop)]
 pub struct Quota<'a> {
     limits: &'a QuotaLimits,
@@ -41,7 +41,7 @@ impl<'a> Model for Quota<'a> {
     ghost view = { λ q. record { limits = q.limits.now; used = q.consumption.now } };
 }
 
-/// The lesser of a number and of one that may be known.
+/// Returns the lesser of the two numbers, or `number` if the other is not known.
 fn lesser(known: Option<u64>, number: u64) -> u64
     ensures { result ≡ lesser known number }
 {
@@ -61,14 +61,14 @@ impl<'a> Quota<'a> {
         }
     }
 
-    /// Whether any role has a limit.
+    /// Returns whether any role has a limit.
     pub fn has_limits(&self) -> bool
         ensures { IsTrue result ↔ (self.now.limits ≢ []) }
     {
         !self.limits.is_empty()
     }
 
-    /// What a role consumes of a scalar together with the roles below it, in thousandths.
+    /// Returns what a role and the roles below it consume of a scalar, in thousandths.
     pub fn consumption(&self, role: &Role, label: &str) -> u64
         ensures value { result ≡ used_at self.now.used role.now label.now }
         ensures of_rows { (rows : Rows) → IsAllowanceOf rows self.now → result ≡ consumption rows role.now label.now }
@@ -76,7 +76,8 @@ impl<'a> Quota<'a> {
         self.consumption.amount(role, label)
     }
 
-    /// What the limits of a role and of the roles above it leave of a scalar, in thousandths, if one of them names it.
+    /// Returns the headroom of a role for a scalar, in thousandths: the least that its limit and those of the roles above it leave. Returns
+    /// `None` if no limit names the scalar.
     pub fn headroom_at(&self, role: &Role, label: &str) -> Option<u64>
         ensures value { result ≡ headroom_under self.now.limits (used_at self.now.used) role.now label.now }
         ensures of_rows { (rows : Rows) → IsAllowanceOf rows self.now → result ≡ headroom_at rows role.now label.now }
@@ -90,7 +91,8 @@ impl<'a> Quota<'a> {
         least
     }
 
-    /// The lesser of what is known and of what the limit of the role's first `len` parts, if they have one, leaves of a scalar.
+    /// Returns the lesser of `known` and of what the limit of the role's first `len` parts leaves of a scalar. Returns `known` if there is
+    /// no such limit.
     fn front_room(&self, role: &Role, len: usize, label: &str, known: Option<u64>) -> Option<u64>
         requires { len ≤ length role.now }
         ensures { result ≡ least_at known (used_at self.now.used) (limits_at (take len role.now) self.now.limits) label.now }
@@ -104,15 +106,16 @@ impl<'a> Quota<'a> {
         Some(lesser(known, self.room(place, limited, label, most)))
     }
 
-    /// What a limit of so much of a scalar leaves of it, in thousandths.
+    /// Returns what is left of a scalar under a limit of `most`, in thousandths. `place` is the position of the limit.
     fn room(&self, place: usize, limited: &Role, label: &str, most: u64) -> u64
         ensures { result ≡ most - used_at self.now.used limited.now label.now }
     {
         most.saturating_sub(self.consumption.amount_at(place, limited, label))
     }
 
-    /// The number of parts of the first role, from the top down to this one, whose limit leaves less of a scalar than so much, if there
-    /// is one. Limits leave less than so much to every role that begins with these parts.
+    /// Returns the number of parts of the first role, from the top of the tree down to this one, whose limit leaves less than `least` of a
+    /// scalar, in thousandths. Returns `None` if there is none. The headroom of every role that begins with these parts is less than
+    /// `least`, too.
     pub fn short_front(&self, role: &Role, label: &str, least: u64) -> Option<usize>
         ensures within { IfSome result (λ len. len ≤ length role.now) }
         ensures first { IfSome result (IsFirstShort (used_at self.now.used) role.now label.now least self.now.limits) }
@@ -133,7 +136,7 @@ impl<'a> Quota<'a> {
         None
     }
 
-    /// Whether the limit of the role's first `len` parts, if they have one, leaves so much of a scalar.
+    /// Returns whether the limit of the role's first `len` parts, if there is one, leaves at least `least` of a scalar.
     fn front_leaves(&self, role: &Role, len: usize, label: &str, least: u64) -> bool
         requires { len ≤ length role.now }
         ensures { result ≡ front_leaves (used_at self.now.used) role.now label.now least len self.now.limits }
@@ -147,7 +150,8 @@ impl<'a> Quota<'a> {
         }
     }
 
-    /// What the limit of a role leaves of each scalar that it names, put among what others leave. The lesser is kept.
+    /// Lowers `room` to what the limit of a role leaves of each scalar that the limit names, or adds the scalar. `place` is the position of
+    /// the limit.
     fn add_headroom(
         &self,
         place: usize,
@@ -168,7 +172,7 @@ impl<'a> Quota<'a> {
         Ok(())
     }
 
-    /// Lessens what is known by what the limit of the role's first `len` parts, if they have one, leaves of each scalar that it names.
+    /// Lowers `room` to what the limit of the role's first `len` parts leaves of each scalar, if there is such a limit.
     fn add_front(&self, role: &Role, len: usize, room: &mut Quantities) -> Result<(), AllocError>
         requires { len ≤ length role.now }
         ensures { OnOk result ((label : Text) → known_amount room.new label
@@ -180,7 +184,8 @@ impl<'a> Quota<'a> {
         self.add_headroom(place, limited, limit, room)
     }
 
-    /// The headroom of a role, in thousandths: of the scalars that its limits and those of the roles above it name.
+    /// Returns the headroom of a role, in thousandths, for each scalar that its limit or a limit of a role above it names. It fails only
+    /// when out of memory.
     pub fn headroom(&self, role: &Role) -> Result<Quantities, AllocError>
         ensures value { IfOk result (λ room. room ≡ headrooms self.now.limits (used_at self.now.used) role.now) }
         ensures of_rows { IfOk result (λ room. (rows : Rows) → IsAllowanceOf rows self.now → room ≡ headroom rows role.now) }
@@ -195,7 +200,7 @@ impl<'a> Quota<'a> {
         Ok(room)
     }
 
-    /// Whether a limit of so much of a scalar, which stands at that place, leaves room for so much more of it.
+    /// Returns whether a role can consume `more` of a scalar under its limit of `most`. `place` is the position of the limit.
     fn stays_within(&self, place: usize, limited: &Role, more: &Entry, most: u64) -> bool
         ensures { result ≡ nat_le (used_at self.now.used limited.now more.now.label + more.now.amount) most }
     {
@@ -205,7 +210,7 @@ impl<'a> Quota<'a> {
         used <= most && more.amount.thousandths() <= most - used
     }
 
-    /// Whether the limit of the role's first `len` parts, if they have one, leaves room for so much more.
+    /// Returns whether `more` of a scalar fits under the limit of the role's first `len` parts, if there is one.
     fn front_admits(&self, role: &Role, len: usize, more: &Entry) -> bool
         requires { len ≤ length role.now }
         ensures { result ≡ front_passes (stays_within (used_at self.now.used) more.now) role.now more.now.label len self.now.limits }
@@ -219,7 +224,7 @@ impl<'a> Quota<'a> {
         }
     }
 
-    /// Whether a role may consume so much more of a scalar.
+    /// Returns whether a role can consume `more` of a scalar.
     fn admits_one(&self, role: &Role, more: &Entry) -> bool
         ensures { result
             ≡ list_all (stays_within (used_at self.now.used) more.now) (filter (binds role.now more.now.label) self.now.limits) }
@@ -234,7 +239,7 @@ impl<'a> Quota<'a> {
         true
     }
 
-    /// Whether a role may consume so much more: neither its limit nor that of a role above it would be exceeded.
+    /// Returns whether a role can consume so much more without exceeding its limit or that of a role above it. Amounts are in thousandths.
     pub fn admits(&self, role: &Role, amounts: &Quantities) -> bool
         ensures value { result ≡ admits_under self.now.limits (used_at self.now.used) role.now amounts.now }
         ensures of_rows { (rows : Rows) → IsAllowanceOf rows self.now → result ≡ admits rows role.now amounts.now }

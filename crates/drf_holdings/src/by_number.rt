@@ -1,6 +1,6 @@
-//! Things in order of their numbers, in a list in which what is taken out leaves a gap. Most are found where their number says, counted
-//! from the last one; the others by halving. Gaps close up where there are more of them than things: what leaves pays for that, and the
-//! list is not much longer than what stands.
+//! `ByNumber`, a list of things in order of their numbers. Removing a thing leaves a free slot. A thing is first looked for at the position
+//! that its number suggests, counted from the last slot, and then by bisection. The free slots are closed when there are many more of them
+//! than things, so that the list stays in proportion to its content.
 ghost use Rattle.std.specs.Prelude.{◌≡◌, ◌==◌, ◌<◌, ◌≤◌, ◌^◌, ℕ, [], ◌∷◌, ◌++◌, map, find, filter, not, nat_lt, length, take, drop, None, IfSome, IfNone, IfErr, OnOk, OnErr, MatchOption, option_copied};
 ghost use Rattle.std.specs.Iterator.{YieldsFirstRef, item_count};
 ghost use Rattle.std.specs.List.{AllByRecursion};
@@ -12,7 +12,7 @@ ghost use Rattle.drf_holdings.specs.Taking.{IsTaken, HasNone};
 use std::alloc::{AllocFailed, Global};
 use std::marker::Model;
 
-/// What has a number of its own.
+/// A thing with a number of its own.
 pub(crate) trait Numbered: Sized + Drop {
     ghost number: { Self → ℕ };
 
@@ -20,7 +20,7 @@ pub(crate) trait Numbered: Sized + Drop {
         ensures { result ≡ number self.now };
 }
 
-/// A thing under its number, or the gap that it left.
+/// A slot: a number, and the thing with this number, or nothing if it was removed.
 #[derive(Drop)]
 pub(crate) struct Slot<T> {
     number: u64,
@@ -34,7 +34,7 @@ impl<T> Slot<T> {
         self.thing
     }
 
-    /// Takes the thing out.
+    /// Removes the thing from the slot, and returns it.
     fn empty(&mut self) -> Option<T>
         ensures thing { result ≡ self.old.thing }
         ensures gap { self.new ≡ record { number = self.old.number; thing = None } }
@@ -43,7 +43,7 @@ impl<T> Slot<T> {
     }
 }
 
-/// The place of a number, if the numbers from it to the last one go on by one.
+/// Returns the position of a number, if the numbers from it to the last one are consecutive.
 fn place_before_last<T>(slots: &[Slot<T>], number: u64) -> Option<usize>
     ensures { IfSome result (IsPlaceOf number slots.now) }
 {
@@ -57,7 +57,7 @@ fn place_before_last<T>(slots: &[Slot<T>], number: u64) -> Option<usize>
     }
 }
 
-/// How many slots, whose numbers rise, have numbers below one.
+/// Returns how many slots have numbers below this one. The numbers must be increasing.
 fn count_below<T>(slots: &[Slot<T>], number: u64) -> usize
     requires { IsRising (map slot_number slots.now) }
     ensures within { result ≤ length slots.now }
@@ -70,7 +70,7 @@ fn count_below<T>(slots: &[Slot<T>], number: u64) -> usize
     }
 }
 
-/// The place of a number among slots whose numbers rise.
+/// Returns the position of a number. The numbers must be increasing.
 fn place_of<T>(slots: &[Slot<T>], number: u64) -> Option<usize>
     requires { IsRising (map slot_number slots.now) }
     ensures { MatchOption result (AreOthers slot_number number slots.now) (IsPlaceOf number slots.now) }
@@ -87,7 +87,7 @@ fn place_of<T>(slots: &[Slot<T>], number: u64) -> Option<usize>
     }
 }
 
-/// Takes the last thing out, and the gaps behind it.
+/// Removes the last thing and the free slots after it, and returns the thing.
 fn pop_thing<T: Drop>(slots: &mut Vec<Slot<T>>) -> Option<T>
     ensures things { things_in slots.old.items ≡ things_in slots.new.items ++ option_to_list result }
     ensures order { KeepsOrder slots.old.items slots.new.items }
@@ -101,10 +101,10 @@ fn pop_thing<T: Drop>(slots: &mut Vec<Slot<T>>) -> Option<T>
     None
 }
 
-// So many gaps more than things do no harm.
+// So many more free slots than things are always tolerated.
 const FEW: usize = 16;
 
-/// Closes the gaps up where there are more of them than things, and a few.
+/// Closes the free slots if there are over `FEW` more of them than things.
 fn close_up_if_many<T: Drop>(slots: &mut Vec<Slot<T>>, count: usize)
     ensures things { things_in slots.new.items ≡ things_in slots.old.items }
     ensures order { KeepsOrder slots.old.items slots.new.items }
@@ -114,11 +114,11 @@ fn close_up_if_many<T: Drop>(slots: &mut Vec<Slot<T>>, count: usize)
     }
 }
 
-/// Things whose numbers rise. Contracts see their list.
+/// Things with increasing numbers. Contracts see their list.
 #[derive(Drop)]
 pub(crate) struct ByNumber<T: Numbered> {
     slots: Vec<Slot<T>>,
-    // How many are no gaps.
+    // The number of slots that are in use.
     count: usize,
 }
 
@@ -134,7 +134,7 @@ impl<T: Numbered> Model for ByNumber<T> {
 }
 
 impl<T: Numbered> ByNumber<T> {
-    /// Nothing.
+    /// Returns an empty list.
     pub(crate) fn new(alloc: Global) -> ByNumber<T>
         ensures { result ≡ [] }
     {
@@ -151,7 +151,7 @@ impl<T: Numbered> ByNumber<T> {
         self.count
     }
 
-    /// All, in order of number.
+    /// Returns an iterator over the things, in order of number.
     pub(crate) fn values(&self) -> InOrder<'_, T>
         ensures rest { result ≡ self.now }
         ensures fits { length self.now < 2 ^ 63 }
@@ -159,7 +159,7 @@ impl<T: Numbered> ByNumber<T> {
         InOrder { slots: &self.slots }
     }
 
-    /// Those whose numbers are not below one, in order of number.
+    /// Returns an iterator over the things whose numbers are at least this one, in order of number.
     pub(crate) fn from(&self, number: u64) -> InOrder<'_, T>
         ensures { result ≡ filter (λ x. not (nat_lt (T.number x) number)) self.now }
     {
@@ -169,7 +169,7 @@ impl<T: Numbered> ByNumber<T> {
         }
     }
 
-    /// The one of a number.
+    /// Returns the thing with this number.
     pub(crate) fn get(&self, number: u64) -> Option<&T>
         ensures { option_copied result ≡ find (λ x. T.number x == number) self.now }
     {
@@ -177,7 +177,7 @@ impl<T: Numbered> ByNumber<T> {
         self.slots[place].thing.as_ref()
     }
 
-    /// Takes the one of a number out. It needs no memory.
+    /// Removes the thing with this number, and returns it. It never allocates.
     pub(crate) fn take(&mut self, number: u64) -> Option<T>
         ensures found { result ≡ find (λ x. T.number x == number) self.old }
         ensures taken { MatchOption result
@@ -191,7 +191,7 @@ impl<T: Numbered> ByNumber<T> {
         Some(thing)
     }
 
-    /// Takes the last one out. It needs no memory.
+    /// Removes the last thing, and returns it. It never allocates.
     pub(crate) fn pop(&mut self) -> Option<T>
         ensures items { self.old ≡ self.new ++ option_to_list result }
         ensures none { IfNone result ((self.old ≡ []) × (self.new ≡ [])) }
@@ -201,7 +201,7 @@ impl<T: Numbered> ByNumber<T> {
         Some(last)
     }
 
-    /// Puts one behind all others. An `Err` gives it back, and changes nothing.
+    /// Appends a thing, whose number must be greater than all others. When out of memory, returns it in the error; then nothing changes.
     pub(crate) fn push(&mut self, last: T) -> Result<(), AllocFailed<T>>
         requires { IsRising (map T.number (self.old ++ last ∷ [])) }
         ensures ok { OnOk result (self.new ≡ self.old ++ last ∷ []) }
@@ -209,7 +209,7 @@ impl<T: Numbered> ByNumber<T> {
         ensures err { OnErr result (self.new ≡ self.old) }
     {
         let number = last.number();
-        // What is not below it are gaps.
+        // The slots from here on are free.
         let place = count_below(&self.slots, number);
         self.slots.truncate(place);
         if self.slots.reserve(1).is_err() {
@@ -224,7 +224,7 @@ impl<T: Numbered> ByNumber<T> {
     }
 }
 
-/// The things that stand in a list, in order of number. Contracts see those that are left.
+/// An iterator over the things of a list, in order of number. Contracts see those that are still to come.
 #[derive(Drop)]
 pub struct InOrder<'a, T> {
     slots: &'a [Slot<T>],

@@ -1,4 +1,4 @@
-//! What clients hold, and how it ends.
+//! `Holdings`, the offers and tasks of all clients, and the release of their resources.
 ghost use Rattle.std.specs.Prelude.{◌≡◌, ◌==◌, [], ◌∷◌, ◌++◌, Some, true, false, length, map, find, filter, not, nat_lt, IfOk, OnOk, OnErr, MatchOption, option_copied};
 ghost use Rattle.std.specs.List.{list_any};
 ghost use Rattle.drf_bundle.specs.Taken.{rest_of_all};
@@ -22,7 +22,7 @@ use drf_rows::{Ending, OfferRow, Table, TaskList, TaskRow};
 use std::alloc::{AllocError, Global};
 use std::marker::Model;
 
-/// An offer or a task that was taken out.
+/// An offer or a task that was removed.
 #[derive(Drop)]
 pub struct Taken {
     pub agent: Name,
@@ -31,7 +31,7 @@ pub struct Taken {
     pub bundle: Bundle,
 }
 
-/// Takes an offer out that ends, if there is one.
+/// Removes an offer that the ending selects, and returns it. Returns `None` if there is none.
 fn take_offer(offers: &mut OfferTable, ending: Ending) -> Option<OfferRow>
     ensures { MatchOption result
         (HasNone (ends_offer (ending_of ending.entry)) offers.old offers.new)
@@ -46,7 +46,7 @@ fn take_offer(offers: &mut OfferTable, ending: Ending) -> Option<OfferRow>
     }
 }
 
-/// Takes a task out that ends, if there is one.
+/// Removes a task that the ending selects, and returns it. Returns `None` if there is none.
 fn take_task(tasks: &mut TaskTable, ending: Ending) -> Option<TaskRow>
     ensures { MatchOption result
         (HasNone (ends_task (ending_of ending.entry)) tasks.old tasks.new)
@@ -61,7 +61,7 @@ fn take_task(tasks: &mut TaskTable, ending: Ending) -> Option<TaskRow>
     }
 }
 
-/// The tasks that are started with parts of an offer, in their order.
+/// Returns the tasks that are started with parts of an offer, in the given order.
 fn task_rows(offer: &OfferRow, tasks: Vec<(Name, Bundle)>) -> Result<Vec<TaskRow>, AllocError>
     ensures { IfOk result (λ rows. rows.items ≡ map (task_of offer.now) tasks.items) }
 {
@@ -78,8 +78,8 @@ fn task_rows(offer: &OfferRow, tasks: Vec<(Name, Bundle)>) -> Result<Vec<TaskRow
     Ok(rows)
 }
 
-/// The offers and the tasks. Contracts see their lists. What leaves does so without memory, and no call looks at holdings
-/// other than those that it is asked for, but at some while it finds one, and at all where gaps close up.
+/// The offers and tasks of all clients. Contracts see their lists. Removing a holding never allocates. A call looks only at the holdings
+/// that it is about, except when it closes free slots or drops empty lists. This is not proved.
 #[derive(Drop)]
 pub struct Holdings {
     offers: OfferTable,
@@ -97,7 +97,7 @@ impl Model for Holdings {
 }
 
 impl Holdings {
-    /// No offers and no tasks. Names are found by hashes that begin with a key.
+    /// Returns a table without offers and tasks. The hashes of names begin with `key`.
     pub fn new(alloc: Global, key: HashKey) -> Holdings
         ensures offers { result.offers ≡ [] }
         ensures tasks { result.tasks ≡ [] }
@@ -108,49 +108,49 @@ impl Holdings {
         }
     }
 
-    /// How many offers there are.
+    /// Returns the number of offers.
     pub fn offer_count(&self) -> usize
         ensures { result ≡ length self.now.offers }
     {
         self.offers.len()
     }
 
-    /// How many tasks there are.
+    /// Returns the number of tasks.
     pub fn task_count(&self) -> usize
         ensures { result ≡ length self.now.tasks }
     {
         self.tasks.len()
     }
 
-    /// The offers, in order of number.
+    /// Returns an iterator over the offers, in order of number.
     pub fn offers(&self) -> InOrder<'_, OfferRow>
         ensures { result ≡ self.now.offers }
     {
         self.offers.rows()
     }
 
-    /// The offers whose numbers are not below one, in order of number.
+    /// Returns an iterator over the offers whose numbers are at least this one, in order of number.
     pub fn offers_from(&self, number: u64) -> InOrder<'_, OfferRow>
         ensures { result ≡ filter (λ o. not (nat_lt o.number number)) self.now.offers }
     {
         self.offers.from(number)
     }
 
-    /// The tasks, as they were started.
+    /// Returns an iterator over the tasks, in the order in which they were started.
     pub fn tasks(&self) -> InOrder<'_, Task>
         ensures { map task_row result ≡ self.now.tasks }
     {
         self.tasks.tasks()
     }
 
-    /// Copies of the offers, in order of number.
+    /// Returns copies of the offers, in order of number.
     pub fn copy_offers(&self, alloc: Global) -> Result<Table<OfferRow>, AllocError>
         ensures { IfOk result (λ rows. rows ≡ self.now.offers) }
     {
         self.offers.copies(alloc)
     }
 
-    /// Copies of the tasks, as they were started.
+    /// Returns copies of the tasks, in the order in which they were started.
     pub fn copy_tasks(&self, alloc: Global) -> Result<Table<TaskRow>, AllocError>
         ensures { IfOk result (λ rows. rows ≡ self.now.tasks) }
     {
@@ -166,21 +166,21 @@ impl Holdings {
         })
     }
 
-    /// The offer of a number.
+    /// Returns the offer with this number.
     pub fn offer(&self, number: u64) -> Option<&OfferRow>
         ensures { option_copied result ≡ find (λ o. o.number == number) self.now.offers }
     {
         self.offers.get(number)
     }
 
-    /// Whether the framework has a task of that name.
+    /// Returns whether the framework has a task with this name.
     pub fn has_task(&self, framework: &Name, name: &Name) -> bool
         ensures { result ≡ list_any (is_task framework.now name.now) self.now.tasks }
     {
         self.tasks.has(framework, name)
     }
 
-    /// What is left of an agent's total.
+    /// Returns an agent's total without what is held there. It fails only when out of memory.
     pub fn left_on(&self, agent: &Name, total: &Bundle) -> Result<Bundle, AllocError>
         ensures { IfOk result (λ left. left ≡ rest_of_all total.now (parts_on agent.now (holdings_in self.now))) }
     {
@@ -188,7 +188,7 @@ impl Holdings {
             .left_of(self.offers.left_of(total, agent)?, agent)
     }
 
-    /// Takes out an offer or a task that ends, if there is one. It needs no memory.
+    /// Removes an offer or a task that the ending selects, and returns it. Returns `None` if there is none. It never allocates.
     pub fn take(&mut self, ending: Ending) -> Option<Taken>
         ensures { HasTaken (ending_of ending.entry) self.old self.new result }
     {
@@ -209,7 +209,7 @@ impl Holdings {
         })
     }
 
-    /// Puts offers behind those that are there. An `Err` changes nothing on either side.
+    /// Moves all of these offers to the end of the list of offers. When out of memory, neither list changes.
     pub fn append(&mut self, offers: &mut Vec<OfferRow>) -> Result<(), AllocError>
         requires { IsRising (map offer_number (self.old.offers ++ offers.old.items)) }
         ensures ok { OnOk result (self.new.offers ≡ self.old.offers ++ offers.old.items) }
@@ -220,7 +220,7 @@ impl Holdings {
         self.offers.append(offers)
     }
 
-    /// Puts a task behind those that are there. An `Err` changes nothing.
+    /// Appends a task. When out of memory, nothing changes.
     pub fn put_task(&mut self, task: TaskRow) -> Result<(), AllocError>
         requires { list_any (is_task task.framework task.name) self.old.tasks ≡ false }
         ensures ok { OnOk result (self.new.tasks ≡ self.old.tasks ++ task ∷ []) }
@@ -230,7 +230,7 @@ impl Holdings {
         self.tasks.push(task)
     }
 
-    /// Tasks are started with parts of an offer, which goes. Gives the offer that it was. An `Err` changes nothing.
+    /// Replaces an offer by tasks that are started with parts of it, and returns the offer. When out of memory, nothing changes.
     pub fn start(&mut self, number: u64, tasks: TaskList) -> Result<OfferRow, AllocError>
         requires there { list_any (λ o. o.number == number) self.old.offers ≡ true }
         requires new { (o : OfferRow) → find (λ p. p.number == number) self.old.offers ≡ Some o

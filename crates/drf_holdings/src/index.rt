@@ -1,4 +1,4 @@
-//! Which holdings are an agent's or a framework's, by their numbers.
+//! `Index`, which lists the numbers of the holdings of each agent or framework.
 ghost use Rattle.std.specs.Prelude.{◌≡◌, ◌-◌, ℕ, List, [], ◌∷◌, ◌++◌, cond, true, not, filter, length, slice_get, ◌==◌, OnOk, OnErr, option_copied};
 ghost use Rattle.std.specs.Option.{option_map_or};
 ghost use Rattle.std.specs.VecDeque.{deque_len, deque_items};
@@ -12,7 +12,7 @@ use indexmap::IndexMap;
 use std::alloc::{AllocError, Global};
 use std::collections::VecDeque;
 
-/// Whether a number is the first.
+/// Returns whether a number is the first of the list.
 fn is_first(numbers: &VecDeque<u64>, number: u64) -> bool
     ensures { result ≡ true → (rest : List ℕ) × (numbers.now.items ≡ number ∷ rest) }
 {
@@ -22,7 +22,7 @@ fn is_first(numbers: &VecDeque<u64>, number: u64) -> bool
     }
 }
 
-/// Takes a number out of numbers that rise. It mostly is the first; else those on the shorter side of it move.
+/// Removes a number from a list of increasing numbers. It mostly is the first; otherwise the shorter part of the list moves.
 fn take_out(numbers: &mut VecDeque<u64>, number: u64)
     ensures { IsRising numbers.old.items → numbers.new.items ≡ filter (λ m. not (m == number)) numbers.old.items }
 {
@@ -35,21 +35,21 @@ fn take_out(numbers: &mut VecDeque<u64>, number: u64)
     }
 }
 
-// A list begins with room for so many numbers.
+// The capacity with which a list starts.
 const ROOM: usize = 4;
 
-// An empty list with room for more numbers does not stay.
+// An empty list with a greater capacity is dropped.
 const MOST_KEPT: usize = 16;
 
-/// Whether a list is empty, and has room for more numbers than may stay.
+/// Returns whether a list is empty, and its capacity is so great that it is dropped.
 fn is_spent(numbers: &VecDeque<u64>) -> bool
     ensures { result ≡ true → numbers.now.items ≡ [] }
 {
     numbers.is_empty() && MOST_KEPT < numbers.capacity()
 }
 
-/// Lists of numbers, by name. An empty list stays, if it is small, since its name most often gets a number again. Before there are
-/// more than `most`, the empty ones go, and as many again as are left, and a few, may be added.
+/// Lists of numbers, by name. A small list that becomes empty is kept, because its name usually gets a number again soon. Before there are
+/// more than `most` lists, the empty ones are dropped. Then `most` is set to twice the number of the others, plus 8.
 #[derive(Drop)]
 pub(crate) struct Index {
     pub(crate) lists: ByName<VecDeque<u64>>,
@@ -57,7 +57,7 @@ pub(crate) struct Index {
 }
 
 impl Index {
-    /// The index of nothing.
+    /// Returns an index without numbers. The hashes of names begin with `key`.
     pub(crate) fn new(alloc: Global, key: HashKey) -> Index
         ensures { (name : Text) → numbers_in result name ≡ [] }
     {
@@ -71,19 +71,19 @@ impl Index {
         *self.lists.allocator()
     }
 
-    /// With what the hashes of names begin.
+    /// Returns the key that the hashes of names begin with.
     pub(crate) fn key(&self) -> HashKey {
         *self.lists.hasher()
     }
 
-    /// The numbers of a name, in the order in which they were added: no list, or an empty one, where there are none.
+    /// Returns the numbers of a name, in the order in which they were added. If there are none, returns `None` or an empty list.
     pub(crate) fn list(&self, name: &Name) -> Option<&VecDeque<u64>>
         ensures { option_map_or deque_items (option_copied result) [] ≡ numbers_in self.now name.now }
     {
         self.lists.get(name)
     }
 
-    /// The last of the numbers of a name.
+    /// Returns the last of the numbers of a name.
     pub(crate) fn last(&self, name: &Name) -> Option<u64>
         ensures { result ≡ slice_get (numbers_in self.now name.now) (length (numbers_in self.now name.now) - 1) }
     {
@@ -91,7 +91,7 @@ impl Index {
         numbers.back().copied()
     }
 
-    /// Drops the empty lists where there are as many lists as may be.
+    /// Drops the empty lists if there are `most` lists.
     fn make_room(&mut self)
         ensures { (n : Text) → numbers_in self.new n ≡ numbers_in self.old n }
     {
@@ -106,7 +106,7 @@ impl Index {
         self.most = self.lists.len().saturating_mul(2).saturating_add(8);
     }
 
-    /// Adds a number behind those of a name. An `Err` changes no list.
+    /// Appends a number to those of a name. When out of memory, the numbers of each name stay the same.
     pub(crate) fn add(&mut self, name: &Name, number: u64) -> Result<(), AllocError>
         ensures ok { OnOk result ((n : Text) → numbers_in self.new n ≡ numbers_in self.old n ++ cond (same_text name.now n) (number ∷ []) []) }
         ensures err { OnErr result ((n : Text) → numbers_in self.new n ≡ numbers_in self.old n) }
@@ -122,7 +122,7 @@ impl Index {
         Ok(())
     }
 
-    /// Takes a number out of those of a name, which rise. It needs no memory.
+    /// Removes a number from those of a name, which must be increasing. It never allocates.
     pub(crate) fn remove(&mut self, name: &Name, number: u64)
         ensures { IsRising (numbers_in self.old name.now) → (n : Text) → numbers_in self.new n
             ≡ cond (same_text name.now n) (filter (λ m. not (m == number)) (numbers_in self.old n)) (numbers_in self.old n) }

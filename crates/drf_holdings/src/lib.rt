@@ -1,5 +1,4 @@
-//! What clients hold: offers, found by number, and tasks, found by framework and name; and what is held on an agent or by
-//! a framework, without a look at what others hold.
+//! The table of offers, by number, and of tasks, by framework and name, with indexes of the holdings on each agent and of each framework.
 #![tactic(auto)]
 
 mod by_number;

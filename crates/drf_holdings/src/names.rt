@@ -1,4 +1,4 @@
-//! Which tasks are a framework's, by their names.
+//! `Names`, which finds the tasks of a framework by name.
 ghost use Rattle.std.specs.Prelude.{◌≡◌, [], ◌∷◌, ◌++◌, ◌&&◌, cond, IfSome, IfNone, OnOk, OnErr};
 ghost use Rattle.std.specs.Option.{option_to_list};
 ghost use Rattle.drf_role.specs.Text.{Text, same_text};
@@ -9,14 +9,14 @@ use drf_role::Name;
 use indexmap::IndexMap;
 use std::alloc::{AllocError, Global};
 
-/// The serial numbers of tasks, by framework and name. A framework stands here while it has a task.
+/// The serial numbers of tasks, by framework and name. A framework is in the map only while it has a task.
 #[derive(Drop)]
 pub(crate) struct Names {
     pub(crate) frameworks: ByName<ByName<u64>>,
 }
 
 impl Names {
-    /// The names of no tasks.
+    /// Returns an empty map. The hashes of names begin with `hash_key`.
     pub(crate) fn new(alloc: Global, hash_key: HashKey) -> Names
         ensures { (key : TaskKey) → serials_in result key ≡ [] }
     {
@@ -25,7 +25,7 @@ impl Names {
         }
     }
 
-    /// The serial number of the framework's task of a name.
+    /// Returns the serial number of the framework's task with this name.
     pub(crate) fn get(&self, framework: &Name, name: &Name) -> Option<u64>
         ensures { option_to_list result ≡ serials_in self.now (framework.now, name.now) }
     {
@@ -33,7 +33,7 @@ impl Names {
         tasks.get(name).copied()
     }
 
-    /// The serial number of a task of the framework.
+    /// Returns the serial number of some task of the framework, or `None` if it has no task.
     pub(crate) fn last(&self, framework: &Name) -> Option<u64>
         ensures some { IfSome result (λ serial. (name : Text) × (serials_in self.now (framework.now, name) ≡ serial ∷ [])) }
         ensures none { IfNone result ((name : Text) → serials_in self.now (framework.now, name) ≡ []) }
@@ -44,7 +44,7 @@ impl Names {
         Some(*serial)
     }
 
-    /// Adds a task of a framework. An `Err` changes nothing.
+    /// Adds a task of a framework. When out of memory, nothing changes.
     pub(crate) fn add(
         &mut self,
         framework: &Name,
@@ -70,7 +70,7 @@ impl Names {
         Ok(())
     }
 
-    /// Takes the framework's task of a name out, and gives its serial number, if there is one. It needs no memory.
+    /// Removes the framework's task with this name, and returns its serial number. It never allocates.
     pub(crate) fn take(&mut self, framework: &Name, name: &Name) -> Option<u64>
         ensures found { option_to_list result ≡ serials_in self.old (framework.now, name.now) }
         ensures left { (key : TaskKey) → serials_in self.new key

@@ -1,4 +1,4 @@
-//! The offers that stand, in order of number.
+//! `OfferTable`, the outstanding offers in order of number.
 ghost use Rattle.std.specs.Prelude.{◌≡◌, ◌==◌, ◌+◌, ◌≤◌, List, [], ◌∷◌, ◌++◌, map, find, filter, flat_map, not, nat_lt, take, reverse, length, vec_len, vec_capacity, IfOk, OnOk, OnErr, MatchOption, option_copied};
 ghost use Rattle.drf_bundle.specs.Taken.{rest_of_all};
 ghost use Rattle.drf_rows.specs.Holdings.{of_offer, parts_on};
@@ -26,7 +26,7 @@ pub(crate) struct OfferIndex {
 }
 
 impl OfferIndex {
-    /// The index of no offers.
+    /// Returns an index without offers. The hashes of names begin with `key`.
     fn new(alloc: Global, key: HashKey) -> OfferIndex
         ensures { AreOffersListed result [] }
     {
@@ -36,7 +36,7 @@ impl OfferIndex {
         }
     }
 
-    /// Adds an offer behind those that are there. An `Err` changes nothing.
+    /// Adds an offer after the others. When out of memory, nothing changes.
     fn add(&mut self, offer: &OfferRow) -> Result<(), AllocError>
         ensures ok { OnOk result ((offers : List OfferRow) → AreOffersListed self.old offers → AreOffersListed self.new (offers ++ offer.now ∷ [])) }
         ensures err { OnErr result ((offers : List OfferRow) → IsRising (map offer_number (offers ++ offer.now ∷ []))
@@ -52,7 +52,7 @@ impl OfferIndex {
         }
     }
 
-    /// Takes an offer out.
+    /// Removes an offer.
     fn remove(&mut self, offer: &OfferRow)
         ensures { (before after : List OfferRow) → IsRising (map offer_number (before ++ offer.now ∷ after))
             → AreOffersListed self.old (before ++ offer.now ∷ after) → AreOffersListed self.new (before ++ after) }
@@ -61,7 +61,7 @@ impl OfferIndex {
         self.frameworks.remove(&offer.framework, offer.number);
     }
 
-    /// Takes offers out.
+    /// Removes some offers, which are the last ones.
     fn remove_all(&mut self, offers: &[OfferRow])
         ensures { (before : List OfferRow) → AreOffersKept self.old (before ++ offers.now) → AreOffersListed self.new before }
     {
@@ -70,8 +70,7 @@ impl OfferIndex {
         }
     }
 
-    /// Adds offers behind those that are there, all or none: where memory ends, those that came before are taken out,
-    /// which takes none.
+    /// Adds all of these offers after the others. When out of memory, those that were added are removed again, and nothing changes.
     fn add_all(&mut self, offers: &[OfferRow]) -> Result<(), AllocError>
         ensures ok { OnOk result ((before : List OfferRow) → AreOffersListed self.old before → AreOffersListed self.new (before ++ offers.now)) }
         ensures err { OnErr result ((before : List OfferRow) → IsRising (map offer_number (before ++ offers.now))
@@ -97,7 +96,7 @@ impl Numbered for OfferRow {
     }
 }
 
-/// Moves offers behind those that stand, the last one first. An `Err` leaves some of them where they are.
+/// Moves offers to the end of `rows`, the last one first. When out of memory, the remaining offers stay where they are.
 fn move_some(rows: &mut ByNumber<OfferRow>, offers: &mut Vec<OfferRow>) -> Result<(), AllocError>
     requires { IsRising (map offer_number (rows.old ++ reverse offers.old.items)) }
     ensures all { rows.new ++ reverse offers.new.items ≡ rows.old ++ reverse offers.old.items }
@@ -115,7 +114,7 @@ fn move_some(rows: &mut ByNumber<OfferRow>, offers: &mut Vec<OfferRow>) -> Resul
     Ok(())
 }
 
-/// Moves the last ones of the offers that stand back, until so many are left. It needs no memory.
+/// Moves the last offers of `rows` back, until `count` are left. It never allocates.
 fn move_back(rows: &mut ByNumber<OfferRow>, offers: &mut Vec<OfferRow>, count: usize)
     requires within { count ≤ length rows.old }
     requires room { vec_len offers.old + length rows.old ≤ vec_capacity offers.old + count }
@@ -130,7 +129,7 @@ fn move_back(rows: &mut ByNumber<OfferRow>, offers: &mut Vec<OfferRow>, count: u
     }
 }
 
-/// Moves offers behind those that stand, all or none.
+/// Moves all of these offers to the end of `rows`. When out of memory, neither list changes.
 fn move_all(rows: &mut ByNumber<OfferRow>, offers: &mut Vec<OfferRow>) -> Result<(), AllocError>
     requires { IsRising (map offer_number (rows.old ++ offers.old.items)) }
     ensures ok { OnOk result (rows.new ≡ rows.old ++ offers.old.items) }
@@ -149,7 +148,7 @@ fn move_all(rows: &mut ByNumber<OfferRow>, offers: &mut Vec<OfferRow>) -> Result
     }
 }
 
-/// Offers with rising numbers. Contracts see their list. What leaves does so without memory.
+/// Offers with increasing numbers, and an index of them. Contracts see their list. Removing an offer never allocates.
 #[derive(Drop)]
 pub(crate) struct OfferTable {
     rows: ByNumber<OfferRow>,
@@ -175,7 +174,7 @@ impl Model for OfferTable {
 }
 
 impl OfferTable {
-    /// A table with no offers.
+    /// Returns a table without offers. The hashes of names begin with `key`.
     pub(crate) fn new(alloc: Global, key: HashKey) -> OfferTable
         ensures { result ≡ [] }
     {
@@ -185,28 +184,28 @@ impl OfferTable {
         }
     }
 
-    /// How many offers there are.
+    /// Returns the number of offers.
     pub(crate) fn len(&self) -> usize
         ensures { result ≡ length self.now }
     {
         self.rows.len()
     }
 
-    /// The offers, in order of number.
+    /// Returns an iterator over the offers, in order of number.
     pub(crate) fn rows(&self) -> InOrder<'_, OfferRow>
         ensures { result ≡ self.now }
     {
         self.rows.values()
     }
 
-    /// The offers whose numbers are not below one.
+    /// Returns an iterator over the offers whose numbers are at least this one, in order of number.
     pub(crate) fn from(&self, number: u64) -> InOrder<'_, OfferRow>
         ensures { result ≡ filter (λ o. not (nat_lt o.number number)) self.now }
     {
         self.rows.from(number)
     }
 
-    /// Copies of the offers.
+    /// Returns copies of the offers, in order of number.
     pub(crate) fn copies(&self, alloc: Global) -> Result<Table<OfferRow>, AllocError>
         ensures { IfOk result (λ rows. rows ≡ self.now) }
     {
@@ -217,7 +216,7 @@ impl OfferTable {
         Ok(Table::from_vec(copies))
     }
 
-    /// A table with the same offers.
+    /// Returns a copy of the table.
     pub(crate) fn copy(&self) -> Result<OfferTable, AllocError>
         ensures { IfOk result (λ copy. copy ≡ self.now) }
     {
@@ -232,14 +231,14 @@ impl OfferTable {
         Ok(OfferTable { rows, index })
     }
 
-    /// The offer of a number.
+    /// Returns the offer with this number.
     pub(crate) fn get(&self, number: u64) -> Option<&OfferRow>
         ensures { option_copied result ≡ find (λ o. o.number == number) self.now }
     {
         self.rows.get(number)
     }
 
-    /// What is left of a bundle when the offers of some numbers are taken from it.
+    /// Returns a bundle without the resources of the offers with these numbers.
     fn less(&self, whole: Bundle, numbers: &VecDeque<u64>) -> Result<Bundle, AllocError>
         ensures { IfOk result (λ left. left ≡ rest_of_all whole (flat_map (bundles_at offer_number (λ o. o.bundle) self.now) numbers.now.items)) }
     {
@@ -253,7 +252,7 @@ impl OfferTable {
         Ok(left)
     }
 
-    /// What is left of a bundle when the offers on an agent are taken from it.
+    /// Returns a bundle without the resources of the offers on an agent.
     pub(crate) fn left_of(&self, whole: &Bundle, agent: &Name) -> Result<Bundle, AllocError>
         ensures { IfOk result (λ left. left ≡ rest_of_all whole.now (parts_on agent.now (map of_offer self.now))) }
     {
@@ -264,7 +263,7 @@ impl OfferTable {
         }
     }
 
-    /// Takes the offer of a number out.
+    /// Removes the offer with this number, and returns it.
     pub(crate) fn take(&mut self, number: u64) -> Option<OfferRow>
         ensures found { result ≡ find (λ o. o.number == number) self.old }
         ensures taken { MatchOption result
@@ -276,7 +275,7 @@ impl OfferTable {
         Some(offer)
     }
 
-    /// Takes the last offer on an agent out.
+    /// Removes the last offer on an agent, and returns it.
     pub(crate) fn take_on(&mut self, agent: &Name) -> Option<OfferRow>
         ensures { MatchOption result
             (HasNone (offer_on agent.now) self.old self.new)
@@ -286,7 +285,7 @@ impl OfferTable {
         self.take(number)
     }
 
-    /// Takes the last offer of a framework out.
+    /// Removes the last offer of a framework, and returns it.
     pub(crate) fn take_of(&mut self, framework: &Name) -> Option<OfferRow>
         ensures { MatchOption result
             (HasNone (offer_of framework.now) self.old self.new)
@@ -296,7 +295,7 @@ impl OfferTable {
         self.take(number)
     }
 
-    /// Puts offers behind those that are there. An `Err` changes nothing on either side.
+    /// Moves all of these offers to the end of the table. When out of memory, neither list changes.
     pub(crate) fn append(&mut self, offers: &mut Vec<OfferRow>) -> Result<(), AllocError>
         requires { IsRising (map offer_number (self.old ++ offers.old.items)) }
         ensures ok { OnOk result (self.new ≡ self.old ++ offers.old.items) }

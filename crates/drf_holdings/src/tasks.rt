@@ -1,4 +1,4 @@
-//! The tasks that run, as they were started.
+//! `TaskTable`, the tasks in the order in which they were started.
 ghost use Rattle.std.specs.Prelude.{◌≡◌, ◌==◌, ◌+◌, ◌^◌, ℕ, List, [], ◌∷◌, ◌++◌, map, flat_map, take, length, ◌<◌, ◌-◌, false, IfOk, OnOk, OnErr, MatchOption};
 ghost use Rattle.std.specs.List.{list_any};
 ghost use Rattle.drf_bundle.specs.Taken.{rest_of_all};
@@ -23,7 +23,7 @@ use std::alloc::{AllocError, Global};
 use std::collections::VecDeque;
 use std::marker::Model;
 
-/// A task, and its number among all that were started.
+/// A task, and its serial number, which increases with each task that is started.
 #[derive(Drop)]
 pub struct Task {
     pub row: TaskRow,
@@ -38,7 +38,7 @@ pub(crate) struct TaskIndex {
 }
 
 impl TaskIndex {
-    /// The index of no tasks.
+    /// Returns an index without tasks. The hashes of names begin with `key`.
     fn new(alloc: Global, key: HashKey) -> TaskIndex
         ensures { AreTasksListed result [] }
     {
@@ -48,7 +48,7 @@ impl TaskIndex {
         }
     }
 
-    /// Adds a task behind those that are there. An `Err` changes nothing.
+    /// Adds a task after the others. When out of memory, nothing changes.
     fn add(&mut self, task: &Task) -> Result<(), AllocError>
         requires { serials_in self.old.names (task.now.row.framework, task.now.row.name) ≡ [] }
         ensures ok { OnOk result ((tasks : List Task) → AreTasksListed self.old tasks → AreTasksListed self.new (tasks ++ task.now ∷ [])) }
@@ -65,7 +65,7 @@ impl TaskIndex {
         }
     }
 
-    /// Takes a task out.
+    /// Removes a task.
     fn remove(&mut self, task: &Task)
         ensures { (before after : List Task) → IsRising (map task_serial (before ++ task.now ∷ after))
             → AreTasksListed self.old (before ++ task.now ∷ after) → AreTasksListed self.new (before ++ after) }
@@ -85,7 +85,7 @@ impl Numbered for Task {
     }
 }
 
-/// What is left of a bundle when the tasks of some serial numbers are taken from it.
+/// Returns a bundle without the resources of the tasks with these serial numbers.
 fn less_tasks(
     whole: Bundle,
     tasks: &ByNumber<Task>,
@@ -103,7 +103,7 @@ fn less_tasks(
     Ok(left)
 }
 
-/// Takes the task of a serial number out.
+/// Removes the task with this serial number, and returns it.
 fn take_task(tasks: &mut ByNumber<Task>, index: &mut TaskIndex, serial: u64) -> Option<Task>
     ensures taken { MatchOption result
         (HasNone (λ t. t.serial == serial) tasks.old tasks.new)
@@ -115,7 +115,7 @@ fn take_task(tasks: &mut ByNumber<Task>, index: &mut TaskIndex, serial: u64) -> 
     Some(task)
 }
 
-/// Puts a task of the next serial number behind those that are there. An `Err` changes nothing.
+/// Appends a task, with this serial number. When out of memory, nothing changes.
 fn put_task(
     tasks: &mut ByNumber<Task>,
     index: &mut TaskIndex,
@@ -139,7 +139,7 @@ fn put_task(
     }
 }
 
-/// The tasks, with serial numbers from 0 on.
+/// Returns the same tasks and an index of them, with the serial numbers 0, 1, and so on.
 fn renumbered(
     alloc: Global,
     key: HashKey,
@@ -159,8 +159,8 @@ fn renumbered(
     Ok((copy, index))
 }
 
-/// A serial number above those of the tasks, and below the greatest: where there is none, the tasks are numbered anew. An
-/// `Err` changes nothing.
+/// Returns a serial number that is greater than those of the tasks and less than `u64::MAX`. If there is none, all tasks are numbered
+/// again. When out of memory, nothing changes.
 fn next_serial(
     tasks: &mut ByNumber<Task>,
     index: &mut TaskIndex,
@@ -180,13 +180,13 @@ fn next_serial(
     Ok(tasks.len() as u64)
 }
 
-/// Tasks with names that no two of a framework share. Contracts see the list of their rows. What leaves does so without
-/// memory.
+/// Tasks, whose names are distinct within a framework, and an index of them. Contracts see the list of their rows. Removing a task never
+/// allocates.
 #[derive(Drop)]
 pub(crate) struct TaskTable {
     tasks: ByNumber<Task>,
     index: TaskIndex,
-    // The serial number of the task that is started next.
+    // A serial number that is greater than those of the tasks.
     next: u64,
 }
 
@@ -209,7 +209,7 @@ impl Model for TaskTable {
 }
 
 impl TaskTable {
-    /// A table with no tasks.
+    /// Returns a table without tasks. The hashes of names begin with `key`.
     pub(crate) fn new(alloc: Global, key: HashKey) -> TaskTable
         ensures { result ≡ [] }
     {
@@ -220,21 +220,21 @@ impl TaskTable {
         }
     }
 
-    /// How many tasks there are.
+    /// Returns the number of tasks.
     pub(crate) fn len(&self) -> usize
         ensures { result ≡ length self.now }
     {
         self.tasks.len()
     }
 
-    /// The tasks, as they were started.
+    /// Returns an iterator over the tasks, in the order in which they were started.
     pub(crate) fn tasks(&self) -> InOrder<'_, Task>
         ensures { map task_row result ≡ self.now }
     {
         self.tasks.values()
     }
 
-    /// Copies of the tasks.
+    /// Returns copies of the tasks, in the order in which they were started.
     pub(crate) fn copies(&self, alloc: Global) -> Result<Table<TaskRow>, AllocError>
         ensures { IfOk result (λ rows. rows ≡ self.now) }
     {
@@ -245,7 +245,7 @@ impl TaskTable {
         Ok(Table::from_vec(copies))
     }
 
-    /// A table with the same tasks.
+    /// Returns a copy of the table.
     pub(crate) fn copy(&self) -> Result<TaskTable, AllocError>
         ensures { IfOk result (λ copy. copy ≡ self.now) }
     {
@@ -258,14 +258,14 @@ impl TaskTable {
         Ok(TaskTable { tasks, index, next })
     }
 
-    /// Whether the framework has a task of that name.
+    /// Returns whether the framework has a task with this name.
     pub(crate) fn has(&self, framework: &Name, name: &Name) -> bool
         ensures { result ≡ list_any (is_task framework.now name.now) self.now }
     {
         self.index.names.get(framework, name).is_some()
     }
 
-    /// What is left of a bundle when the tasks on an agent are taken from it.
+    /// Returns a bundle without the resources of the tasks on an agent.
     pub(crate) fn left_of(&self, whole: Bundle, agent: &Name) -> Result<Bundle, AllocError>
         ensures { IfOk result (λ left. left ≡ rest_of_all whole (parts_on agent.now (map of_task self.now))) }
     {
@@ -275,7 +275,7 @@ impl TaskTable {
         }
     }
 
-    /// Puts a task behind those that are there. An `Err` changes nothing.
+    /// Appends a task. When out of memory, nothing changes.
     pub(crate) fn push(&mut self, row: TaskRow) -> Result<(), AllocError>
         requires { list_any (is_task row.framework row.name) self.old ≡ false }
         ensures ok { OnOk result (self.new ≡ self.old ++ row ∷ []) }
@@ -288,7 +288,7 @@ impl TaskTable {
         Ok(())
     }
 
-    /// Takes the last task out.
+    /// Removes the last task.
     fn pop(&mut self)
         ensures front { (count : ℕ) → count < length self.old → take count self.new ≡ take count self.old }
         ensures fewer { length self.new ≡ length self.old - 1 }
@@ -298,7 +298,7 @@ impl TaskTable {
         }
     }
 
-    /// Takes the last tasks out, until so many are left.
+    /// Removes the last tasks, until `count` are left.
     fn truncate(&mut self, count: usize)
         ensures { self.new ≡ take count self.old }
     {
@@ -307,8 +307,7 @@ impl TaskTable {
         }
     }
 
-    /// Puts tasks behind those that are there, all or none: where memory ends, those that came before are taken out, which
-    /// takes none.
+    /// Appends all of these tasks. When out of memory, those that were appended are removed again, and nothing changes.
     pub(crate) fn append(&mut self, rows: Vec<TaskRow>) -> Result<(), AllocError>
         requires { AreNew self.old rows.items }
         ensures ok { OnOk result (self.new ≡ self.old ++ rows.items) }
@@ -324,7 +323,7 @@ impl TaskTable {
         Ok(())
     }
 
-    /// Takes a task on an agent out.
+    /// Removes a task on an agent, and returns it.
     pub(crate) fn take_on(&mut self, agent: &Name) -> Option<TaskRow>
         ensures { MatchOption result
             (HasNone (λ t. same_text t.agent agent.now) self.old self.new)
@@ -335,7 +334,7 @@ impl TaskTable {
         Some(task.row)
     }
 
-    /// Takes a task of a framework out.
+    /// Removes a task of a framework, and returns it.
     pub(crate) fn take_of(&mut self, framework: &Name) -> Option<TaskRow>
         ensures { MatchOption result
             (HasNone (λ t. same_text t.framework framework.now) self.old self.new)
@@ -346,7 +345,7 @@ impl TaskTable {
         Some(task.row)
     }
 
-    /// Takes the framework's task of a name out.
+    /// Removes the framework's task with this name, and returns it.
     pub(crate) fn take_named(&mut self, framework: &Name, name: &Name) -> Option<TaskRow>
         ensures { MatchOption result
             (HasNone (is_task framework.now name.now) self.old self.new)

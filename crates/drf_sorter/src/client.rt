@@ -1,4 +1,4 @@
-//! The clients of a sorter that lists them, and those of one node.
+//! `Client`, a client with what it holds, and `NodeClients`, the clients at and below a node.
 ghost use Rattle.std.specs.Prelude.{◌≡◌, ◌+◌, ◌<◌, ◌^◌, false, IfOk, OnOk, OnErr};
 ghost use Rattle.std.specs.List.{list_any};
 ghost use Rattle.drf_bundle.specs.Quantities.{HasNoZeros, amount_of, names_all};
@@ -10,7 +10,7 @@ use drf_bundle::Quantities;
 use drf_role::{ClientPath, Label, NodePath};
 use std::alloc::{AllocError, Global};
 
-/// A client with what it holds, and the number of offers that were made to it.
+/// A client, with what it holds and the number of offers made to it.
 #[derive(Drop)]
 pub struct Client {
     pub path: ClientPath,
@@ -34,8 +34,8 @@ impl Client {
         })
     }
 
-    /// The client got so many more offers, of these quantities together. Where it held nothing of a label, no label stays that is 0. An
-    /// `Err` changes nothing.
+    /// Adds these quantities and a number of offers to the client. If a label is new, the labels with the amount 0 are dropped. When out of
+    /// memory, nothing changes.
     pub fn charge(&mut self, quantities: &Quantities, offers: u64) -> Result<(), AllocError>
         requires held { (label : Text) → amount_of self.old.held label + amount_of quantities.now label < 2 ^ 64 }
         requires count { self.old.count + offers < 2 ^ 64 }
@@ -49,7 +49,7 @@ impl Client {
         Ok(())
     }
 
-    /// Takes a charge of one offer back.
+    /// Undoes a charge of one offer.
     pub fn undo_charge(&mut self, quantities: &Quantities)
         requires { HasCharge quantities.now (ranked self.old) }
         ensures client { ranked self.new ≡ discharged quantities.now (ranked self.old) }
@@ -60,7 +60,7 @@ impl Client {
         self.count -= 1;
     }
 
-    /// The client gives these quantities back.
+    /// Takes these quantities from the client. Its count of offers stays the same.
     pub fn refund(&mut self, quantities: &Quantities)
         requires { Holds quantities.now (ranked self.old) }
         ensures client { ranked self.new ≡ refunded quantities.now (ranked self.old) }
@@ -71,8 +71,8 @@ impl Client {
     }
 }
 
-/// Adds what is held more. It needs no memory where all labels are there already. Where one is not, those that have come to 0 make
-/// room, so that the labels do not grow with the history.
+/// Adds amounts to what is held. If all their labels are there already, it does not allocate. Otherwise the labels with the amount 0 are
+/// dropped, so that labels do not accumulate over time. When out of memory, nothing changes.
 fn raise(held: &mut Quantities, more: &Quantities) -> Result<(), AllocError>
     requires { (label : Text) → amount_of held.old label + amount_of more.now label < 2 ^ 64 }
     ensures ok { OnOk result ((label : Text) → amount_of held.new label ≡ amount_of held.old label + amount_of more.now label) }
@@ -91,7 +91,7 @@ fn raise(held: &mut Quantities, more: &Quantities) -> Result<(), AllocError>
     Ok(())
 }
 
-/// Whether the path begins with the node's parts.
+/// Returns whether the path begins with the parts of the node.
 fn begins_with(path: &ClientPath, node: &NodePath) -> bool
     ensures { result ≡ begins_with path.now node.now }
 {
@@ -106,7 +106,7 @@ fn begins_with(path: &ClientPath, node: &NodePath) -> bool
     true
 }
 
-/// The clients of a node, among others.
+/// The clients of a node, as those in a list whose paths begin with the node's.
 #[derive(Clone, Copy)]
 pub struct NodeClients<'a> {
     pub clients: &'a [Client],
@@ -116,7 +116,7 @@ pub struct NodeClients<'a> {
 impl<'a> NodeClients<'a> {
     ghost use Rattle.drf_sorter.specs.Plain.{count_by, held_by};
 
-    /// Whether the node has a client.
+    /// Returns whether the node has a client.
     pub fn has_some(&self) -> bool
         ensures { result ≡ list_any (λ c. begins_with c.path self.now.node.now) self.now.clients.now }
     {
@@ -125,7 +125,7 @@ impl<'a> NodeClients<'a> {
             .any(|client| begins_with(&client.path, self.node))
     }
 
-    /// How many offers were made to them.
+    /// Returns the number of offers made to them.
     pub fn count(&self) -> u64
         requires { count_by self.now.clients.now self.now.node.now < 2 ^ 64 }
         ensures { result ≡ count_by self.now.clients.now self.now.node.now }
@@ -139,7 +139,7 @@ impl<'a> NodeClients<'a> {
         count
     }
 
-    /// What they hold together.
+    /// Returns what they hold together. It fails only when out of memory.
     pub fn held(&self, alloc: Global) -> Result<Quantities, AllocError>
         requires { (label : Text) → held_by self.now.clients.now self.now.node.now label < 2 ^ 64 }
         ensures { IfOk result (λ held. (label : Text) → amount_of held label ≡ held_by self.now.clients.now self.now.node.now label) }

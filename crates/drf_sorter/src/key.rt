@@ -1,4 +1,4 @@
-//! What decides between siblings.
+//! `Key`, by which siblings are ordered, and the dominant shares that it is computed from.
 ghost use Rattle.std.specs.Prelude.{◌≡◌, ◌≤◌, ◌<◌, ◌+◌, ◌-◌, ◌^◌, ℕ, min, IfOk};
 ghost use Rattle.std.specs.String.{string_bytes};
 ghost use Rattle.drf_bundle.specs.Quantities.{amount_of};
@@ -12,12 +12,13 @@ use drf_role::Label;
 use std::alloc::AllocError;
 use std::marker::Model;
 
-/// What holds amounts of scalars.
+/// Something that holds amounts of scalars.
 pub trait Holding {
-    /// The thousandths that are held of each label.
+    /// The amount of each label that is held, in thousandths.
     ghost held: { Self → Text → ℕ };
 
-    /// The thousandths of one label. The place is one to look at first; of a label that stands there it becomes the one before, for the next question.
+    /// Returns the amount of a label, in thousandths. `place` is the position to look at first. If the label is there, `place` becomes the
+    /// position before it, for the next call; so labels are found fast in descending order.
     fn amount(&self, label: &Label, place: &mut usize) -> u64
         requires { held self.now label.now < 2 ^ 64 }
         ensures { result ≡ held self.now label.now };
@@ -41,7 +42,7 @@ impl Holding for Quantities {
     }
 }
 
-/// The dominant share of what is held of the total.
+/// Returns the dominant share: the greatest fraction of the total that is held of any scalar.
 pub(crate) fn dominant_share<H: Holding>(total: &Quantities, holding: &H) -> Share
     requires within { (label : Text) → H.held holding.now label ≤ amount_of total.now label }
     requires fits { (label : Text) → amount_of total.now label < 2 ^ 52 }
@@ -61,7 +62,7 @@ pub(crate) fn dominant_share<H: Holding>(total: &Quantities, holding: &H) -> Sha
     dominant
 }
 
-/// The dominant share of what is held of the total, over a weight in thousandths.
+/// Returns the dominant share divided by a weight, which is in thousandths.
 pub fn weighted_share<H: Holding>(total: &Quantities, weight: u64, holding: &H) -> Share
     requires within { (label : Text) → H.held holding.now label ≤ amount_of total.now label }
     requires fits { (label : Text) → amount_of total.now label < 2 ^ 52 }
@@ -73,7 +74,7 @@ pub fn weighted_share<H: Holding>(total: &Quantities, weight: u64, holding: &H) 
 }
 
 impl Share {
-    /// The dominant share of who holds so much of the total, over a weight in thousandths.
+    /// Returns the dominant share of these amounts, divided by a weight, which is in thousandths.
     pub fn of(total: &Quantities, weight: u64, held: &Quantities) -> Share
         requires within { (label : Text) → amount_of held.now label ≤ amount_of total.now label }
         requires fits { (label : Text) → amount_of total.now label < 2 ^ 52 }
@@ -85,7 +86,7 @@ impl Share {
     }
 }
 
-/// How many keys were made. Each key that is made counts; the count stays at 2^64 - 1 once there.
+/// The number of keys that were computed. It never exceeds 2^64 - 1.
 #[derive(Drop)]
 pub struct KeyCount {
     made: u64,
@@ -110,7 +111,7 @@ impl KeyCount {
         self.made
     }
 
-    /// One more key was made.
+    /// Counts one more key.
     fn add_one(&mut self)
         ensures one_more { self.new ≡ min (self.old + 1) (2 ^ 64 - 1) }
         ensures no_less { self.old ≤ self.new }
@@ -118,7 +119,7 @@ impl KeyCount {
         self.made = self.made.saturating_add(1);
     }
 
-    /// A count of its own, that begins at this one.
+    /// Returns a counter that starts at this count.
     pub fn copy(&self) -> KeyCount
         ensures same { result ≡ self.now }
         ensures fits { result < 2 ^ 64 }
@@ -128,7 +129,7 @@ impl KeyCount {
     }
 }
 
-/// What places a node among its siblings: its weighted share, then its count, then its name.
+/// The key by which a node is ordered among its siblings: its weighted share, then its count of offers, then its name.
 #[derive(Drop, PartialEq, Eq, PartialOrd, Ord)]
 pub struct Key {
     share: Share,
@@ -139,7 +140,7 @@ pub struct Key {
 impl Key {
     ghost use Rattle.drf_sorter.specs.Keys.{key_by};
 
-    /// The key of a node of that weight, in thousandths, by what its clients hold of the total.
+    /// Returns the key of a node from its weight, in thousandths, and what its clients hold of the total. The key is counted.
     pub fn new<H: Holding>(
         made: &mut KeyCount,
         total: &Quantities,
@@ -169,7 +170,7 @@ impl Key {
         key
     }
 
-    /// Makes the key of the same node anew. Every key is made here, and counts.
+    /// Computes the key of the same node again. Each key is computed by this function, which counts it.
     pub fn renew<H: Holding>(
         &mut self,
         made: &mut KeyCount,
@@ -195,7 +196,7 @@ impl Key {
         self.count = count;
     }
 
-    /// The name of its node.
+    /// Returns the name of the node.
     pub fn name(&self) -> &str
         ensures { result.now ≡ (key_by self.now).name }
     {

@@ -1,5 +1,4 @@
-//! Laws of shares and of the order of clients. The functions do nothing: what they promise is proved of the definitions
-//! alone.
+//! Theorems about shares and about the order of clients. The functions do nothing; their contracts are proved from the definitions alone.
 ghost use Rattle.std.specs.Prelude.{◌≡◌, ◌≤◌, true, false, not};
 ghost use Rattle.std.specs.Ordering.{is_lt, is_eq};
 ghost use Rattle.drf_role.specs.Path.{Path, begins_with};
@@ -9,7 +8,8 @@ ghost use Rattle.drf_sorter.specs.Served.{EachBeforeAllLater, EachHasItsTurn, Ea
 ghost use Rattle.drf_sorter.specs.Share.{fraction_of, share_cmp, share_eq};
 ghost use Rattle.drf_sorter.specs.declared.share.Share.{Share};
 
-/// Shares are ordered as the fractions that they are, and tied where they are equal. They are compared in 124 bits.
+/// Proves that the order of shares is the order of their fractions, and that shares are equal if their fractions are equal. The cross
+/// products that are compared have at most 124 bits.
 pub fn share_order_law()
     ensures less { (a b : Share) → is_lt (share_cmp a b) ≡ is_less (fraction_of a) (fraction_of b) }
     ensures same { (a b : Share) → share_eq a b ≡ is_same (fraction_of a) (fraction_of b) }
@@ -17,7 +17,7 @@ pub fn share_order_law()
     ensures products { ProductsFit }
 {}
 
-/// A fraction has one form in lowest terms, which equal fractions share.
+/// Proves that each fraction has exactly one form in lowest terms, and that equal fractions have the same.
 pub fn lowest_terms_law()
     ensures found { LowestIsFound }
     ensures one { OneLowestForm }
@@ -25,8 +25,8 @@ pub fn lowest_terms_law()
     ensures nothing { NothingIsZero }
 {}
 
-/// Of two clients at most one stands before the other, and exactly one where neither path begins with the other. Where
-/// every node has a weight, who stands before a client stands before all that it stands before.
+/// Proves that at most one of two clients comes before the other, and exactly one if neither path is a prefix of the other. If every node
+/// has a weight, the order is also transitive.
 pub fn client_order_law()
     ensures asymmetric { (s : Standing) (a b : Path) →
         stands_before s a b ≡ true → stands_before s b a ≡ false }
@@ -36,33 +36,33 @@ pub fn client_order_law()
         (a b c : Path) → stands_before s a b ≡ true → stands_before s b c ≡ true → stands_before s a c ≡ true }
 {}
 
-/// Where every node has a weight, an order that is picked one by one leaves out no client and has none twice, and each
-/// stands before all later ones. So the turn of an agent tries every active client.
+/// Proves that the definition's order of clients has each client once, and that each comes before all later ones, if every node has a
+/// weight. So each active client is tried in an agent's turn.
 pub fn everyone_is_served_law()
     ensures each_once { EachIsServedOnce }
     ensures in_order { EachBeforeAllLater }
     ensures turn { EachHasItsTurn }
 {}
 
-/// Of two siblings that differ in nothing but their names, the one whose name is less comes first.
+/// Proves that of two siblings that differ only in their names, the one whose name is less comes first.
 pub fn sibling_law()
     ensures { LesserNameFirst }
 {}
 
-/// A greater weight gives a role that holds something of the total a less weighted share. Of consistent rows only roles have
-/// weights.
+/// Proves that a greater weight means a smaller weighted share, for a role that holds something of the total, and that in consistent rows
+/// only roles have weights.
 pub fn weight_law()
     ensures heavier { HeavierHasLess }
     ensures roles_alone { ClientsHaveDefaultWeight }
 {}
 
-/// What a charge did is undone whole, and a client that is not served still counts.
+/// Proves that undoing a charge restores the content, and that suppressed clients still count in shares.
 pub fn change_law()
     ensures undone { UndoneChargeChangesNothing }
     ensures suppressed { SuppressedCounts }
 {}
 
-/// The order in which clients were added is not that in which they are served.
+/// Proves that the order in which clients are added does not affect the order in which they are served.
 pub fn arrival_law()
     ensures { ArrivalDoesNotMatter }
 {}

@@ -1,4 +1,4 @@
-//! The order in which clients are served.
+//! The order of clients: the trait `Sorter`, its simplest implementation, and exact shares.
 #![tactic(auto)]
 
 mod candidate;

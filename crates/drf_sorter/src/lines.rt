@@ -1,4 +1,4 @@
-//! The lines of nodes in a report.
+//! The lines of a report, which describe nodes.
 ghost use Rattle.std.specs.Prelude.{◌≡◌, ◌≤◌, ◌<◌, ◌^◌, [], IfErr, IfOk, IsTrue, OnOk, OnErr, length};
 ghost use Rattle.std.specs.declared.cmp.Ordering.TheVariants.{Greater};
 ghost use Rattle.drf_bundle.specs.Quantities.{amount_of, is_in_order};
@@ -16,7 +16,7 @@ use std::alloc::{AllocError, Global};
 use std::cmp::Ordering;
 use std::marker::Model;
 
-/// The line of a node of that weight, in thousandths, whose clients hold so much of the total and got so many offers.
+/// Returns the line of a node, from its weight, in thousandths, and from what its clients hold of the total and their count of offers.
 pub fn node_line(
     total: &Quantities,
     weight: u64,
@@ -78,7 +78,7 @@ impl NodeLines {
         }
     }
 
-    /// No lines, and room for so many.
+    /// Returns an empty list with this capacity.
     pub fn with_capacity(alloc: Global, capacity: usize) -> Result<NodeLines, AllocError>
         ensures { IfOk result (λ lines. lines ≡ []) }
     {
@@ -87,7 +87,7 @@ impl NodeLines {
         })
     }
 
-    /// Puts a line into its place, for one of the same path if there is one. An `Err` changes nothing.
+    /// Inserts a line at its place in the order of paths, or replaces the line with the same path. When out of memory, nothing changes.
     pub fn put(&mut self, line: NodeLine) -> Result<(), AllocError>
         ensures ok { OnOk result (self.new ≡ with_line self.old line) }
         ensures err { OnErr result (self.new ≡ self.old) }
@@ -98,7 +98,7 @@ impl NodeLines {
         self.put_among(line)
     }
 
-    /// The same of a line that need not be the last.
+    /// Does what `put` does, for a line that need not become the last.
     fn put_among(&mut self, line: NodeLine) -> Result<(), AllocError>
         ensures ok { OnOk result (self.new ≡ with_line self.old line) }
         ensures err { OnErr result (self.new ≡ self.old) }
@@ -112,7 +112,7 @@ impl NodeLines {
         }
     }
 
-    /// The lines, in order of path.
+    /// Returns the lines, in order of path.
     pub fn into_vec(self) -> Vec<NodeLine>
         ensures lines { result.items ≡ self }
         ensures in_order { IsTrue (are_in_order (paths_of self)) }
@@ -121,7 +121,7 @@ impl NodeLines {
     }
 }
 
-/// Whether the path goes on below the other one.
+/// Returns whether the other path is a prefix of this one and shorter.
 fn is_below(path: &NodePath, other: &NodePath) -> bool
     ensures { IsTrue result → path_cmp path.now other.now ≡ Greater }
 {
@@ -133,7 +133,7 @@ fn is_below(path: &NodePath, other: &NodePath) -> bool
     text[front.len()] == b'/' && text.starts_with(front)
 }
 
-/// Whether the path is the other's up to its last part, and that is behind the other's part at this place.
+/// Returns whether the paths are the same up to the last part of `path`, and that part is greater than the other's at its place.
 fn is_beside(path: &NodePath, other: &NodePath) -> bool
     ensures { IsTrue result → path_cmp path.now other.now ≡ Greater }
 {
@@ -147,8 +147,8 @@ fn is_beside(path: &NodePath, other: &NodePath) -> bool
     other.part(last) < part && other.text().as_bytes().starts_with(front)
 }
 
-/// Whether the line of a path would go behind all others. Lines mostly come in order, each below the one before it, or beside that or a node
-/// above that: then little of the two texts is looked at.
+/// Returns whether the path is found to be greater than all others in the list. It is a cheap test that can miss: it finds only a path
+/// below the last one, or beside it or a node above it. Most lines arrive in such an order.
 fn goes_last(lines: &[NodeLine], path: &NodePath) -> bool
     requires { AreRising lines.now }
     ensures { IsTrue result → BelongsBehind path.now lines.now (length lines.now) }
@@ -159,7 +159,8 @@ fn goes_last(lines: &[NodeLine], path: &NodePath) -> bool
     }
 }
 
-/// Where the line of a path is, or where it would go. Lines mostly come in order, so they are looked at from the last one on.
+/// Returns the position of the line with this path, or else the position at which to insert one. It searches from the end, because lines
+/// mostly arrive in order.
 fn place_of(lines: &[NodeLine], path: &NodePath) -> Result<usize, usize>
     requires { AreRising lines.now }
     ensures within { IfOk result (λ at. at < length lines.now) }

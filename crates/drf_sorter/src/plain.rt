@@ -1,4 +1,4 @@
-//! A sorter over a list of clients.
+//! `PlainSorter`, a sorter over a list of clients.
 ghost use Rattle.std.specs.Prelude.{◌≡◌, ◌≤◌, ◌<◌, ◌+◌, ◌-◌, ◌^◌, [], ◌∷◌, ◌++◌, All, IfOk, OnOk, length, map, min, take, true};
 ghost use Rattle.std.specs.List.{AllByRecursion, IsDistinct, IsDistinct-prop, position};
 ghost use Rattle.drf_role.specs.Path.{IsClientPath, Path, begins_with, same_path};
@@ -20,11 +20,11 @@ use drf_rows::NodeLine;
 use indexmap::IndexSet;
 use std::alloc::{AllocError, Global};
 
-/// A sorter that keeps a list of its clients, and forms each sum when it is asked for the order.
+/// A sorter with a list of its clients, which computes each sum again when the order is asked for.
 #[derive(Drop)]
 pub struct PlainSorter {
     clients: Vec<Client>,
-    /// Their paths in the same order, by which a client is found.
+    /// Their paths, in the same order. A client is found by its path.
     paths: IndexSet<ClientPath, HashKey>,
     total: Quantities,
     weights: Weights,
@@ -35,7 +35,7 @@ pub struct PlainSorter {
     ghost distinct: { IsDistinct same_path (map (λ c. c.path) clients.items) } by { IsDistinct-prop same_path (map (λ c. c.path) clients.items) },
 }
 
-/// Copies of clients, in their order.
+/// Returns copies of the clients, in their order.
 fn copies_of(alloc: Global, clients: &[Client]) -> Result<Vec<Client>, AllocError>
     ensures { IfOk result (λ copies. copies.items ≡ clients.now) }
 {
@@ -46,7 +46,7 @@ fn copies_of(alloc: Global, clients: &[Client]) -> Result<Vec<Client>, AllocErro
     Ok(copies)
 }
 
-/// The paths of clients, by which they are found.
+/// Returns the set of the clients' paths, in the same order. Hashes of paths begin with `key`.
 fn paths_of(
     alloc: Global,
     key: HashKey,
@@ -62,7 +62,7 @@ fn paths_of(
     Ok(paths)
 }
 
-/// The paths of the candidates, in their order.
+/// Returns the paths of the candidates, in their order.
 fn paths(alloc: Global, candidates: Vec<Candidate>) -> Result<Vec<ClientPath>, AllocError>
     ensures { IfOk result (λ paths. paths.items ≡ map (λ c. c.path) candidates.items) }
 {
@@ -76,14 +76,14 @@ impl PlainSorter {
     ghost use Rattle.drf_sorter.specs.Plain.{keys_to_make, plain_content, plain_standing};
     ghost use Rattle.drf_sorter.specs.Candidates.{HasKeys};
 
-    /// Where the client of that path stands.
+    /// Returns the position of the client with this path.
     fn row_of(&self, path: &ClientPath) -> Option<usize>
         ensures { result ≡ position (λ c. same_path c.path path.now) self.now.clients.items }
     {
         self.paths.get_index_of(path)
     }
 
-    /// The key of the node that ends with the part at `i`.
+    /// Returns the key of the node of the first `i + 1` parts of a path. The key is counted.
     fn key(&self, made: &mut KeyCount, path: &ClientPath, i: usize) -> Result<Key, AllocError>
         requires sound { IsSound (plain_content self.now) }
         requires short { length path.now ≤ 10 }
@@ -105,7 +105,7 @@ impl PlainSorter {
         Ok(Key::new(made, &self.total, weight, &clients, count, name))
     }
 
-    /// The client of that path, with its keys.
+    /// Returns the client with this path as a candidate, with the keys of the nodes on its path.
     fn candidate(&self, made: &mut KeyCount, path: &ClientPath) -> Result<Candidate, AllocError>
         requires sound { IsSound (plain_content self.now) }
         requires fits { made.old < 2 ^ 64 }
@@ -124,7 +124,7 @@ impl PlainSorter {
         })
     }
 
-    /// The clients that are to be served.
+    /// Returns the active clients as candidates.
     fn candidates(&self, made: &mut KeyCount) -> Result<Vec<Candidate>, AllocError>
         requires sound { IsSound (plain_content self.now) }
         requires fits { made.old < 2 ^ 64 }
@@ -142,14 +142,14 @@ impl PlainSorter {
         Ok(candidates)
     }
 
-    /// The line of a node that has clients.
+    /// Returns the line of a node that has clients.
     fn line(&self, node: NodePath) -> Result<NodeLine, AllocError>
         requires sound { IsSound (plain_content self.now) }
         requires clients { has_node (plain_content self.now) node ≡ true }
         ensures path { IfOk result (λ line. line.path ≡ node) }
         ensures line { IfOk result (IsLineOf (plain_content self.now)) }
     {
-        // A node has a part.
+        // This call reminds the prover that a node has at least one part.
         let _ = node.len();
         let clients = NodeClients {
             clients: &self.clients,
@@ -160,7 +160,7 @@ impl PlainSorter {
         Ok(node_line(&self.total, self.weights.of(&node), node, held, count))
     }
 
-    /// Puts the lines of the nodes on a client's path into their places.
+    /// Puts the lines of all nodes on a client's path into the list.
     fn put_lines(&self, lines: &mut NodeLines, path: &ClientPath) -> Result<(), AllocError>
         requires sound { IsSound (plain_content self.now) }
         requires client { has_client (plain_content self.now) path.now ≡ true }
@@ -269,7 +269,7 @@ impl Sorter for PlainSorter {
         self.weights.set(role, weight)
     }
 
-    /// As of each sorter, and each node on the path of each active client has its key made.
+    /// Does what the trait says. If it succeeds, it counts one key for each node on the path of each active client.
     fn fix_order(&mut self) -> Result<(), AllocError>
         requires { IsSound (plain_content self.old) }
         ensures order { OnOk result (IsOrderOf (plain_content self.old) (drop self.new.next self.new.queue.items)) }
@@ -280,7 +280,7 @@ impl Sorter for PlainSorter {
     {
         let mut made = self.made.copy();
         let candidates = self.candidates(&mut made);
-        // Also those that were made before memory ended count.
+        // If memory ran out, the keys that were computed before still count.
         self.made = made;
         let mut candidates = candidates?;
         candidates.sort_unstable();

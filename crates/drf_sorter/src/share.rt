@@ -1,12 +1,12 @@
-//! Shares of the cluster as exact fractions.
+//! Shares of the cluster, as exact fractions.
 ghost use Rattle.std.specs.Prelude.{◌≡◌, ◌≤◌, ◌<◌, ◌^◌, ◌*◌};
 ghost use Rattle.std.specs.Int.{IsGcd};
 
 use crate::weights::DEFAULT_WEIGHT;
 use std::cmp::Ordering;
 
-/// The part `part * 1000 / (whole * weight)` of the cluster: a share of a whole, divided by a weight in thousandths.
-/// Shares are compared by their cross products, so nothing is rounded.
+/// A share of the cluster over a weight: the fraction `part * 1000 / (whole * weight)`, where the weight is in thousandths. Shares are
+/// compared by their cross products, so nothing is rounded.
 #[derive(Clone, Copy)]
 pub struct Share {
     part: u64,
@@ -24,7 +24,7 @@ impl Share {
     ghost use Rattle.drf_rows.specs.Share.{IsLowest, lowest_terms};
     ghost use Rattle.drf_sorter.specs.Share.{IsUnweighted, fraction_of, share_cmp, terms};
 
-    /// `weight` is in thousandths.
+    /// Returns the share `part / whole` over a weight, which is in thousandths.
     pub fn new(part: u64, whole: u64, weight: u64) -> Share
         requires of_whole { part ≤ whole }
         requires some { 1 ≤ whole }
@@ -40,7 +40,7 @@ impl Share {
         }
     }
 
-    /// That part of a whole, of weight 1.
+    /// Returns the share `part / whole` over the weight 1.
     pub(crate) fn unweighted(part: u64, whole: u64) -> Share
         requires of_whole { part ≤ whole }
         requires some { 1 ≤ whole }
@@ -54,7 +54,7 @@ impl Share {
         }
     }
 
-    /// The same part of the whole, over another weight, in thousandths.
+    /// Returns the same share over another weight, which is in thousandths.
     pub(crate) fn over(&self, weight: u64) -> Share
         requires weighs { 1 ≤ weight }
         requires light { weight ≤ 1000000 }
@@ -67,7 +67,7 @@ impl Share {
         }
     }
 
-    /// The share over its weight, in lowest terms: 0/1 where nothing is held.
+    /// Returns the share in lowest terms, as its numerator and denominator. The weight is included. If nothing is held, it is 0/1.
     pub fn lowest(&self) -> (u128, u128)
         ensures lowest { IsLowest (fraction_of self.now) (terms result) }
         ensures value { terms result ≡ lowest_terms (fraction_of self.now) }
@@ -75,7 +75,7 @@ impl Share {
         if self.part == 0 {
             return (0, 1);
         }
-        // Most nodes have weight 1, and the two numbers need not grow.
+        // Fast path: most nodes have weight 1, and the numbers then stay within 64 bits.
         if self.weight == DEFAULT_WEIGHT {
             let divisor = short_divisor(self.part, self.whole);
             return (
@@ -89,7 +89,7 @@ impl Share {
         (part / divisor, whole / divisor)
     }
 
-    /// How shares of one weight compare: it is a factor of both cross products, and left out of them.
+    /// Compares shares of equal weight. The weight is a factor of both cross products, so it is left out.
     #[tactic(auto, using(crate::proofs::ShareLemmas::same_weight))]
     fn cmp_at_one_weight(&self, other: &Share) -> Ordering
         requires one_weight { self.now.weight ≡ other.now.weight }
@@ -101,7 +101,7 @@ impl Share {
     }
 }
 
-/// The greatest number that divides both. It goes on in 64 bits as soon as the second number fits these.
+/// Returns the greatest common divisor. It continues in 64 bits as soon as the remainder fits.
 fn common_divisor(part: u128, whole: u128) -> u128
     ensures { IsGcd part whole result }
 {
@@ -118,7 +118,7 @@ fn common_divisor(part: u128, whole: u128) -> u128
     u128::from(short_divisor(next as u64, (divisor % next) as u64))
 }
 
-/// The same of short numbers.
+/// Returns the greatest common divisor of 64-bit numbers.
 fn short_divisor(part: u64, whole: u64) -> u64
     ensures { IsGcd part whole result }
 {
@@ -132,7 +132,7 @@ fn short_divisor(part: u64, whole: u64) -> u64
     divisor
 }
 
-/// `part * (whole * weight)`, which is below 2^124.
+/// Returns `part * (whole * weight)`, which is less than 2^124.
 fn cross_product(part: u64, whole: u64, weight: u64) -> u128
     requires part { part < 2 ^ 52 }
     requires whole { whole < 2 ^ 52 }

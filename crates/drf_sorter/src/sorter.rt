@@ -1,3 +1,4 @@
+//! The trait `Sorter`: the clients, and the order in which they are served.
 ghost use Rattle.std.specs.Prelude.{◌≡◌, ◌≤◌, ◌+◌, ◌↔◌, Bool, List, false, true, length, drop, slice_get, IfOk, IfSome, IsOk, IsSome, IsTrue, OnOk, OnErr, option_copied};
 ghost use Rattle.std.specs.List.{AllByRecursion};
 ghost use Rattle.drf_role.specs.Path.{IsClientPath, Path};
@@ -14,53 +15,53 @@ use drf_role::{ClientPath, NodePath, Role};
 use drf_rows::NodeLine;
 use std::alloc::{AllocError, Global};
 
-/// Clients, and the order in which they are served. From the top of the role tree down, the sibling of the least
-/// weighted dominant share comes first; fewer offers, and then the name, break a tie (the Mesos hierarchical sorter).
-/// A call without a `Result` takes no memory.
+/// Clients, and the order in which they are served. From the top of the role tree down, the sibling with the least weighted dominant share
+/// comes first; ties are broken by fewer offers, and then by name. This is the hierarchical sorter of Mesos. A failed call leaves the
+/// content unchanged. A call without a `Result` never allocates.
 pub trait Sorter: Sized + Drop {
-    /// What the sorter holds.
+    /// The content of the sorter.
     ghost content: { Self → Content };
 
     /// The clients of the last order that are still to be served.
     ghost queue: { Self → List Path };
 
-    /// The keys that were computed, and the nodes whose key may be stale.
+    /// The number of keys that were computed, and the number of nodes whose key can be stale.
     ghost work: { Self → Work };
 
     ghost COUNTED: { Bool };
 
-    /// Whether the bounds on its work hold of this sorter.
+    /// Whether the bounds on the number of keys are proved for this sorter.
     const COUNTED: bool;
 
-    /// A sorter that holds nothing. Where it finds clients by hashes, these begin with a key, and so in copies.
+    /// Returns an empty sorter. If it finds clients by hashes, these begin with `key`, also in its copies.
     fn open(alloc: Global, key: HashKey) -> Result<Self, AllocError>
         ensures empty { IfOk result (λ sorter. content sorter ≡ empty) }
         ensures work { IfOk result (λ sorter. work sorter ≡ record { made = 0; marked = 0 }) };
 
-    /// The allocator that it was opened with.
+    /// Returns the allocator that the sorter was opened with.
     fn alloc(&self) -> Global;
 
-    /// Adds an active client that holds nothing.
+    /// Adds an active client that holds nothing. It fails only when out of memory.
     fn add(&mut self, path: ClientPath) -> Result<(), AllocError>
         requires { has_client (content self.old) path ≡ false }
         ensures ok { OnOk result (content self.new ≡ with_client (content self.old) path) }
         ensures err { OnErr result (content self.new ≡ content self.old) }
         ensures spends { Spends COUNTED (work self.old) (work self.new) (length path) };
 
-    /// Forgets a client, with all that it holds.
+    /// Removes a client, with all that it holds.
     fn remove(&mut self, path: &ClientPath)
         requires { has_client (content self.old) path.now ≡ true }
         ensures content { content self.new ≡ without_client (content self.old) path.now }
         ensures spends { Defers COUNTED (work self.old) (work self.new) (length path.now) };
 
-    /// Says whether a client is to be served. It counts in shares in either case.
+    /// Activates or suppresses a client. It counts in shares in either case.
     fn set_active(&mut self, path: &ClientPath, active: bool)
         requires { has_client (content self.old) path.now ≡ true }
         ensures content { content self.new ≡ with_change (content self.old) path.now (activated active) }
         ensures spends { Defers COUNTED (work self.old) (work self.new) 0 };
 
-    /// A client got so many more offers, of these quantities together: one in a cycle, none where a task is put back, and several where a
-    /// client is put back that had offers before.
+    /// Adds these quantities and a number of offers to a client. A cycle adds one offer at a time. When a saved state is restored, quantities are
+    /// added without an offer, and counts of offers without quantities. It fails only when out of memory.
     fn charge(
         &mut self,
         path: &ClientPath,
@@ -74,7 +75,7 @@ pub trait Sorter: Sized + Drop {
         ensures queue { queue self.new ≡ queue self.old }
         ensures spends { Defers COUNTED (work self.old) (work self.new) (length path.now) };
 
-    /// Takes a charge of one offer back.
+    /// Undoes a charge of one offer.
     fn undo_charge(&mut self, path: &ClientPath, quantities: &Quantities)
         requires known { has_client (content self.old) path.now ≡ true }
         requires charged { HasChargeAt (content self.old) path.now quantities.now }
@@ -82,7 +83,7 @@ pub trait Sorter: Sized + Drop {
         ensures queue { queue self.new ≡ queue self.old }
         ensures spends { Defers COUNTED (work self.old) (work self.new) (length path.now) };
 
-    /// A client gives these quantities back. The offer in which it got them still counts.
+    /// Takes these quantities from a client. Its count of offers stays the same.
     fn refund(&mut self, path: &ClientPath, quantities: &Quantities)
         requires known { has_client (content self.old) path.now ≡ true }
         requires held { HoldsAt (content self.old) path.now quantities.now }
@@ -90,13 +91,13 @@ pub trait Sorter: Sized + Drop {
         ensures queue { queue self.new ≡ queue self.old }
         ensures spends { Defers COUNTED (work self.old) (work self.new) (length path.now) };
 
-    /// Sets the total of the cluster. No more keys are stale then than there are nodes, by any list that has each.
+    /// Sets the total of the cluster. Afterwards at most as many keys are stale as there are nodes.
     fn set_total(&mut self, total: Quantities)
         ensures content { content self.new ≡ record (content self.old) { total = total } }
         ensures made { (work self.new).made ≡ (work self.old).made }
         ensures stale { (nodes : List Path) → HasNodes (content self.old) nodes → OwesAtMost COUNTED (work self.new) (length nodes) };
 
-    /// Gives a role a weight, in thousandths. No memory is asked for where the role has one.
+    /// Sets the weight of a role, in thousandths. It allocates, and so can fail, only if the role has no weight yet.
     fn set_weight(&mut self, role: &Role, weight: u64) -> Result<(), AllocError>
         requires weighs { 1 ≤ weight }
         requires light { weight ≤ 1000000 }
@@ -105,8 +106,8 @@ pub trait Sorter: Sized + Drop {
         ensures replaced { IsTrue (has_weight (content self.old) role.now) → IsOk result }
         ensures spends { Defers COUNTED (work self.old) (work self.new) 1 };
 
-    /// Puts the paths of the active clients into the order in which these are to be served. `first`, `pass` and `pass_front` go
-    /// along it, whatever is charged meanwhile.
+    /// Puts the active clients into the definition's order. `first`, `pass` and `pass_front` walk along this order, whatever is charged in
+    /// the meantime. It fails only when out of memory.
     fn fix_order(&mut self) -> Result<(), AllocError>
         requires { IsSound (content self.old) }
         ensures order { OnOk result (IsOrderOf (content self.old) (queue self.new)) }
@@ -115,17 +116,17 @@ pub trait Sorter: Sized + Drop {
         ensures spends { Spends COUNTED (work self.old) (work self.new) 0 }
         ensures repaired { OnOk result (IsRepaired COUNTED (work self.new)) };
 
-    /// The client that is to be served next.
+    /// Returns the current client, which is to be served next.
     fn first(&self) -> Option<&ClientPath>
         ensures { option_copied result ≡ slice_get (queue self.now) 0 };
 
-    /// Goes on to the client after that.
+    /// Moves to the next client.
     fn pass(&mut self)
         ensures queue { queue self.new ≡ drop 1 (queue self.old) }
         ensures content { content self.new ≡ content self.old }
         ensures work { work self.new ≡ work self.old };
 
-    /// Goes on past the next client and, if the sorter can, past clients right behind it that share its first `len` parts.
+    /// Moves past the current client and, if the sorter can, past the clients right after it whose paths have the same first `len` parts.
     fn pass_front(&mut self, len: usize)
         ensures queue { IsPassedFront len (queue self.old) (queue self.new) }
         ensures content { content self.new ≡ content self.old }
@@ -135,7 +136,7 @@ pub trait Sorter: Sized + Drop {
         self.pass();
     }
 
-    /// The active clients, in the order in which they are to be served.
+    /// Returns the active clients, in the order in which they are to be served. It fails only when out of memory.
     fn order(&mut self) -> Result<Vec<ClientPath>, AllocError>
         requires { IsSound (content self.old) }
         ensures order { IfOk result (λ paths. IsOrderOf (content self.old) paths.items) }
@@ -152,23 +153,24 @@ pub trait Sorter: Sized + Drop {
         Ok(paths)
     }
 
-    /// How many keys were computed so far. It stays at 2^64 - 1 once there.
+    /// Returns the number of keys that were computed so far. It never exceeds 2^64 - 1.
     fn keys_made(&self) -> u64
         ensures { result ≡ (work self.now).made };
 
-    /// The dominant share of a node, that share over the node's weight, and the number of offers that were made to the
-    /// node's clients. There are none of a node without clients.
+    /// Returns the dominant share of a node, its weighted share, and the number of offers made to its clients. Returns `None` if the node
+    /// has no clients.
     fn share(&self, node: &NodePath) -> Option<(Share, Share, u64)>
         requires { IsSound (content self.now) }
         ensures known { IsSome result ↔ IsTrue (has_node (content self.now) node.now) }
         ensures share { IfSome result (IsShareOf (content self.now) node.now) };
 
-    /// A line of each node that has clients, in order of path: what they hold, its shares, and their offers.
+    /// Returns a line for each node that has clients, in order of path: what they hold, the shares, and the number of offers. It fails only
+    /// when out of memory.
     fn lines(&self) -> Result<Vec<NodeLine>, AllocError>
         requires { IsSound (content self.now) }
         ensures { IfOk result (λ lines. AreLinesOf (content self.now) lines.items) };
 
-    /// A sorter of its own that holds the same.
+    /// Returns a copy with the same content.
     fn copy(&self) -> Result<Self, AllocError>
         ensures content { IfOk result (λ sorter. content sorter ≡ content self.now) }
         ensures work { IfOk result (λ sorter. work sorter ≡ work self.now) };

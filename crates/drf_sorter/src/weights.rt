@@ -1,4 +1,4 @@
-//! The weights of roles.
+//! `Weights`, the weights of roles.
 ghost use Rattle.std.specs.Prelude.{◌≡◌, ◌≤◌, [], IfOk, IsOk, IsTrue, OnErr, OnOk};
 ghost use Rattle.std.specs.Option.{option_copied};
 ghost use Rattle.std.specs.List.{find, list_any, position};
@@ -10,7 +10,7 @@ use drf_role::{NodePath, Role};
 use drf_rows::WeightRow;
 use std::alloc::{AllocError, Global};
 
-/// The weight of a node with no weight of its own, in thousandths.
+/// The weight of a node that has no weight of its own, in thousandths.
 pub const DEFAULT_WEIGHT: u64 = 1000;
 
 /// The weights of roles, in thousandths.
@@ -20,21 +20,21 @@ pub struct Weights {
     ghost weighs: { IsTrue (are_weights rows.items) },
 }
 
-/// Where the weight of that role is.
+/// Returns the position of the role's weight.
 fn row_index(weights: &[WeightRow], role: &Role) -> Option<usize>
     ensures { result ≡ position (λ w. same_path w.role role.now) weights.now }
 {
     weights.iter().position(|row| row.role == *role)
 }
 
-/// Whether the node is that of a role.
+/// Returns whether the node is this role.
 fn is_node_of(role: &Role, node: &NodePath) -> bool
     ensures { result ≡ same_path role.now node.now }
 {
     role.text() == node.text()
 }
 
-/// The weight row of the role that is the node.
+/// Returns the weight row of the role that the node is, if it has one.
 fn row_of_node<'a>(weights: &'a [WeightRow], node: &NodePath) -> Option<&'a WeightRow>
     ensures { option_copied result ≡ find (λ w. same_path w.role node.now) weights.now }
 {
@@ -42,7 +42,7 @@ fn row_of_node<'a>(weights: &'a [WeightRow], node: &NodePath) -> Option<&'a Weig
 }
 
 impl Weights {
-    /// No role has a weight of its own.
+    /// Returns weights in which no role has a weight of its own.
     pub fn new(alloc: Global) -> Weights
         ensures { result.rows.items ≡ [] }
     {
@@ -51,7 +51,7 @@ impl Weights {
         }
     }
 
-    /// The weight of a node.
+    /// Returns the weight of a node, in thousandths.
     pub fn of(&self, node: &NodePath) -> u64
         ensures value { result ≡ weight_of self.now.rows.items node.now }
         ensures weighs { 1 ≤ result }
@@ -63,7 +63,7 @@ impl Weights {
         }
     }
 
-    /// Gives a role a weight. No memory is asked for where the role has one.
+    /// Sets the weight of a role, in thousandths. It allocates, and so can fail, only if the role has no weight yet; then nothing changes.
     pub fn set(&mut self, role: &Role, weight: u64) -> Result<(), AllocError>
         requires weighs { 1 ≤ weight }
         requires light { weight ≤ 1000000 }

@@ -1,4 +1,4 @@
-//! Clients in slots.
+//! The slots of the ledger: a client with a guess of its tree node, and the changes of the client in a slot.
 ghost use Rattle.std.specs.Prelude.{◌≡◌, ◌+◌, ◌<◌, ◌^◌, IfOk, IfSome, OnErr, OnOk};
 ghost use Rattle.std.specs.Option.{option_map};
 ghost use Rattle.drf_bundle.specs.Quantities.{amount_of};
@@ -11,7 +11,7 @@ use drf_bundle::Quantities;
 use drf_sorter::Client;
 use std::alloc::AllocError;
 
-/// A client, with a guess of the number of its node in the tree, which is in no clause.
+/// A client, with a guess of the number of its node in the tree. No contract depends on the guess.
 #[derive(Drop)]
 pub(crate) struct Booked {
     pub client: Client,
@@ -29,7 +29,7 @@ impl Booked {
     }
 }
 
-/// The guess of a client's node, or the root.
+/// Returns the guess of the node of the client in a slot, or the root if the slot is free.
 pub(crate) fn leaf_in(slot: &Option<Booked>) -> usize {
     match slot {
         Some(booked) => booked.leaf,
@@ -37,7 +37,7 @@ pub(crate) fn leaf_in(slot: &Option<Booked>) -> usize {
     }
 }
 
-/// Says whether the client in a slot is to be served, if there is one.
+/// Activates or suppresses the client in a slot, if there is one.
 pub(crate) fn activate(slot: &mut Option<Booked>, active: bool)
     ensures { seen_slot slot.new ≡ option_map (activated active) (seen_slot slot.old) }
 {
@@ -46,7 +46,7 @@ pub(crate) fn activate(slot: &mut Option<Booked>, active: bool)
     }
 }
 
-/// Charges the client in a slot, if there is one.
+/// Adds these quantities and a number of offers to the client in a slot, if there is one. When out of memory, nothing changes.
 pub(crate) fn charge(
     slot: &mut Option<Booked>,
     quantities: &Quantities,
@@ -63,7 +63,7 @@ pub(crate) fn charge(
     Ok(())
 }
 
-/// Takes a charge of one offer from the client in a slot, if there is one.
+/// Undoes a charge of one offer to the client in a slot, if there is one.
 pub(crate) fn undo_charge(slot: &mut Option<Booked>, quantities: &Quantities)
     requires { IfSome (seen_slot slot.old) (HasCharge quantities.now) }
     ensures { seen_slot slot.new ≡ option_map (discharged quantities.now) (seen_slot slot.old) }
@@ -73,7 +73,7 @@ pub(crate) fn undo_charge(slot: &mut Option<Booked>, quantities: &Quantities)
     }
 }
 
-/// The client in a slot gives these quantities back, if there is one.
+/// Takes these quantities from the client in a slot, if there is one. Its count of offers stays the same.
 pub(crate) fn refund(slot: &mut Option<Booked>, quantities: &Quantities)
     requires { IfSome (seen_slot slot.old) (Holds quantities.now) }
     ensures { seen_slot slot.new ≡ option_map (refunded quantities.now) (seen_slot slot.old) }

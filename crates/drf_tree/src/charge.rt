@@ -1,4 +1,4 @@
-//! What clients get and give back, along their nodes.
+//! Adding and subtracting what a client holds, on each node from its leaf up.
 ghost use Rattle.std.specs.Prelude.{true, ◌≡◌, ◌⊎◌, Some, OnOk, length};
 ghost use Rattle.drf_bundle.specs.Quantities.{amount_of, is_named, names_all};
 ghost use Rattle.drf_role.specs.Path.{Path};
@@ -15,7 +15,8 @@ use drf_role::Label;
 use std::alloc::AllocError;
 
 impl Tree {
-    /// The nodes from this one up name the labels of these amounts. No amount is changed, at an `Err` neither.
+    /// Adds an entry for each label of these amounts, with the amount 0 if it is new, to each node from this one up. No amount changes.
+    /// When out of memory, some of the nodes can have the new entries.
     pub(crate) fn name_labels(
         &mut self,
         leaf: usize,
@@ -38,7 +39,7 @@ impl Tree {
         Ok(())
     }
 
-    /// The nodes from this one up, which name all its labels, hold so much more, and were made so many more offers.
+    /// Adds these amounts and a number of offers to each node from this one up. Each of them must have an entry for each label.
     pub(crate) fn charge(&mut self, leaf: usize, quantities: &Quantities, offers: u64)
         requires shape { IsShapeOf self.old }
         requires room { HasRoomFor self.old leaf quantities.now offers }
@@ -59,7 +60,7 @@ impl Tree {
         }
     }
 
-    /// The nodes from this one up hold so much less, and were made so many offers less.
+    /// Subtracts these amounts and a number of offers from each node from this one up.
     pub(crate) fn lower(&mut self, leaf: usize, quantities: &Quantities, offers: u64)
         requires shape { IsShapeOf self.old }
         requires lowerable { IsLowerable self.old leaf quantities.now offers }
@@ -80,8 +81,8 @@ impl Tree {
     }
 }
 
-/// Names each label of the other amounts, with 0 where it was not named. No amount is changed, at an `Err` neither. Labels that have
-/// come to 0 make room for new ones, so that the labels do not grow with the history.
+/// Adds an entry for each label of the other amounts, with the amount 0 if it is new. No amount changes, even when out of memory. If a
+/// label is new, the entries whose amount is 0 are dropped first, so that the labels do not accumulate over time.
 fn name_all(held: &mut Quantities, others: &Quantities) -> Result<(), AllocError>
     ensures same { (label : Text) → amount_of held.new label ≡ amount_of held.old label }
     ensures named { OnOk result (names_all held.new others.now ≡ true) }
@@ -95,7 +96,7 @@ fn name_all(held: &mut Quantities, others: &Quantities) -> Result<(), AllocError
     name_each(held, others)
 }
 
-/// Names each label of the other amounts, one after another.
+/// Adds an entry for each label of the other amounts, with the amount 0 if it is new.
 fn name_each(held: &mut Quantities, others: &Quantities) -> Result<(), AllocError>
     ensures same { (label : Text) → amount_of held.new label ≡ amount_of held.old label }
     ensures named { OnOk result (names_all held.new others.now ≡ true) }
@@ -107,7 +108,7 @@ fn name_each(held: &mut Quantities, others: &Quantities) -> Result<(), AllocErro
     Ok(())
 }
 
-/// Names a label, with 0 where it was not named.
+/// Adds an entry for a label, with the amount 0 if it is new.
 fn name(held: &mut Quantities, label: &Label) -> Result<(), AllocError>
     ensures same { (other : Text) → amount_of held.new other ≡ amount_of held.old other }
     ensures named { OnOk result (is_named held.new label.now ≡ true) }

@@ -1,4 +1,4 @@
-//! Copies of the lists of a tree.
+//! Copies of a tree and its lists.
 ghost use Rattle.std.specs.Prelude.{◌≡◌, IfOk, map};
 ghost use Rattle.drf_sorter.specs.Content.{Content};
 ghost use Rattle.drf_tree.specs.Nodes.{seen_in};

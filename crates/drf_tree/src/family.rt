@@ -14,7 +14,7 @@ use drf_bundle::Quantities;
 use drf_sorter::Key;
 use std::alloc::{AllocError, Global};
 
-/// Whether two texts end in different bytes, as most names do that are numbered.
+/// Returns whether the last bytes of two texts differ. Numbered names, which are common, mostly differ there.
 fn end_apart(name: &[u8], other: &[u8]) -> bool
     ensures { IsTrue result → name.now ≢ other.now }
 {
@@ -28,12 +28,12 @@ fn end_apart(name: &[u8], other: &[u8]) -> bool
 #[derive(Drop, PartialEq, Eq, PartialOrd, Ord)]
 pub(crate) struct Child {
     key: Key,
-    /// The number of the child.
+    /// The number of the child's node.
     pub node: usize,
 }
 
 impl Child {
-    /// A child with the key of its sum, which counts as computed.
+    /// Returns a child with a key that is computed from its sum. The key is counted.
     pub(crate) fn new(
         marks: &mut Marks,
         node: usize,
@@ -67,7 +67,7 @@ impl Child {
         !end_apart(name.as_bytes(), own.as_bytes()) && name == own
     }
 
-    /// Makes its key anew if that may be stale. The mark is taken away.
+    /// Computes the key again if its dirty flag is set, and clears the flag.
     fn renew_if_marked(&mut self, marks: &mut Marks, total: &Quantities, sums: &[Sum])
         requires key { CanKeyAt total.now sums.now self.old.node }
         requires marks { length marks.old.stale ≡ length sums.now }
@@ -87,7 +87,7 @@ impl Child {
     }
 }
 
-/// Siblings in the order of their keys, be these stale or not.
+/// Siblings in the order of their keys. Keys can be stale.
 #[derive(Drop)]
 pub(crate) struct Family {
     children: Vec<Child>,
@@ -111,7 +111,7 @@ impl Family {
         self.children.as_slice()
     }
 
-    /// The number of the child at that place of the order.
+    /// Returns the node of the child at a position in the order.
     pub(crate) fn child(&self, place: usize) -> Option<usize>
         ensures { result ≡ slice_get (numbers_of self.now.children.items) place }
     {
@@ -119,7 +119,7 @@ impl Family {
         Some(child.node)
     }
 
-    /// Puts a child where its key belongs. An `Err` changes nothing.
+    /// Inserts a child at the position that its key determines. When out of memory, nothing changes.
     pub(crate) fn insert(&mut self, child: Child) -> Result<(), AllocError>
         ensures ok { OnOk result (IsWith child self.old.children.items self.new.children.items) }
         ensures err { OnErr result (self.new.children.items ≡ self.old.children.items) }
@@ -128,7 +128,7 @@ impl Family {
         Ok(self.children.insert(place, child)?)
     }
 
-    /// Takes a child out.
+    /// Removes the child with this node.
     pub(crate) fn remove(&mut self, node: usize)
         requires { has_child node self.old.children.items ≡ true }
         ensures { IsGone node self.old.children.items self.new.children.items }
@@ -137,7 +137,7 @@ impl Family {
         self.children.remove(place);
     }
 
-    /// Makes the key of a child anew from its sum, and puts the child into its place.
+    /// Computes the key of a child again from its sum, and moves the child to its position.
     pub(crate) fn renew(&mut self, marks: &mut Marks, node: usize, total: &Quantities, sum: &Sum)
         requires known { has_child node self.old.children.items ≡ true }
         requires key { CanKey total.now sum.now }
@@ -151,7 +151,7 @@ impl Family {
         turn_to_place(&mut self.children, at);
     }
 
-    /// Makes each key anew that may be stale, and puts the children into their places.
+    /// Computes each key again whose dirty flag is set, clears these flags, and sorts the children.
     pub(crate) fn renew_all(&mut self, marks: &mut Marks, total: &Quantities, sums: &[Sum])
         requires once { IsDistinct is_same (numbers_of self.old.children.items) }
         requires keys { AllByRecursion (λ c. CanKeyAt total.now sums.now c.node) self.old.children.items }
@@ -183,7 +183,7 @@ impl Family {
     }
 }
 
-/// Makes the key of each child anew that may be stale. The children stay where they are.
+/// Computes each key again whose dirty flag is set, and clears these flags. The order of the children stays the same.
 fn renew_keys(children: &mut [Child], marks: &mut Marks, total: &Quantities, sums: &[Sum])
     requires once { IsDistinct is_same (numbers_of children.old) }
     requires keys { AllByRecursion (λ c. CanKeyAt total.now sums.now c.node) children.old }
@@ -200,7 +200,7 @@ fn renew_keys(children: &mut [Child], marks: &mut Marks, total: &Quantities, sum
     }
 }
 
-/// Puts the children into the order of their keys. Most families have no child, or one.
+/// Sorts the children by their keys. Most families have at most one child and need no sorting.
 fn sort(children: &mut Vec<Child>)
     ensures same { IsPermutation children.old.items children.new.items }
     ensures sorted { IsTrue (are_sorted children.new.items) }
@@ -210,7 +210,7 @@ fn sort(children: &mut Vec<Child>)
     }
 }
 
-/// How many of the others, which stand in order, belong before the child at a place.
+/// Returns how many of the other children, which are sorted, come before the child at a position.
 fn rank_of(children: &[Child], at: usize) -> usize
     requires within { at < length children.now }
     requires sorted { IsTrue (are_sorted (without_place at children.now)) }
@@ -226,7 +226,7 @@ fn rank_of(children: &[Child], at: usize) -> usize
     at + place_for(&children[at + 1..], key)
 }
 
-/// Moves the child at a place, whose key is another now, to where it belongs among the others, which stand in order.
+/// Moves the child at a position, whose key has changed, to its place among the others, which are sorted.
 fn turn_to_place(children: &mut [Child], at: usize)
     requires within { at < length children.old }
     requires sorted { IsTrue (are_sorted (without_place at children.old)) }
@@ -241,7 +241,7 @@ fn turn_to_place(children: &mut [Child], at: usize)
     }
 }
 
-/// How many children stand before the key.
+/// Returns how many children have keys less than this one.
 fn place_for(children: &[Child], key: &Key) -> usize
     requires { IsTrue (are_sorted children.now) }
     ensures bound { result ≤ length children.now }
@@ -251,14 +251,14 @@ fn place_for(children: &[Child], key: &Key) -> usize
     children.partition_point(|other| other.key < *key)
 }
 
-/// Where the child of that name stands.
+/// Returns the position of the child with this name.
 pub(crate) fn place_named(children: &[Child], name: &str) -> Option<usize>
     ensures { result ≡ position (λ c. same_text name.now (child_name c)) children.now }
 {
     children.iter().position(|child| child.has_name(name))
 }
 
-/// Where the child of that number stands.
+/// Returns the position of the child with this node.
 fn place_of(children: &[Child], node: usize) -> Option<usize>
     ensures { result ≡ position (λ c. c.node == node) children.now }
 {

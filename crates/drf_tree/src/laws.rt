@@ -1,7 +1,7 @@
-//! The order of clients as a walk of a tree.
+//! The theorem that a walk of the tree visits the clients in the definition's order.
 ghost use Rattle.drf_tree.specs.Walk.{WalkIsOrder};
 
-/// A depth-first walk of families that stand in order gives the order of clients.
+/// Proves that a depth-first walk through sorted families visits the clients in the definition's order.
 pub fn walk_law()
     ensures { WalkIsOrder }
 {}

@@ -1,4 +1,4 @@
-//! The clients of a tree by their paths, the total and the weights. Who leaves leaves a gap, so that nobody behind it has to move.
+//! The clients of a tree by their paths, the total and the weights. Removing a client leaves a free slot, so no other client moves.
 ghost use Rattle.std.specs.Prelude.{◌≡◌, ◌*◌, ◌≤◌, ◌++◌, ◌∷◌, [], IfOk, IsOk, IsTrue, OnErr, OnOk, false, length, map, true};
 ghost use Rattle.drf_hash.specs.Slots.{IsRegistry};
 ghost use Rattle.drf_hash.specs.SlotLaws.{registry-prop};
@@ -16,12 +16,13 @@ use drf_sorter::{Client, Weights};
 use indexmap::IndexMap;
 use std::alloc::{AllocError, Global};
 
-/// The clients in order of registration. Gaps are closed where a client comes while half of all slots are gaps, or more.
+/// The clients in the order in which they were added, the total of the cluster, and the weights of roles. When a client is added and at
+/// least half of all slots are free, the free slots are closed first.
 pub(crate) struct Ledger {
     slots: Vec<Option<Booked>>,
-    // In which slot each client stands.
+    // The slot of each client.
     places: IndexMap<ClientPath, usize, HashKey>,
-    // How many are no gaps.
+    // The number of slots that are in use.
     live: usize,
     total: Quantities,
     weights: Weights,
@@ -46,14 +47,14 @@ impl Ledger {
     ghost use Rattle.drf_sorter.specs.Content.{empty, has_client, has_weight, with_client, with_weight, without_client};
     ghost use Rattle.drf_tree.specs.Ledger.{ledger_content, rows_in};
 
-    /// No clients.
+    /// Returns a ledger with no clients, an empty total and no weights. Hashes of paths begin with `key`.
     pub(crate) fn new(alloc: Global, key: HashKey) -> Ledger
         ensures { ledger_content result ≡ empty }
     {
         Ledger::with(alloc, key, Quantities::empty(alloc), Weights::new(alloc))
     }
 
-    /// No clients, with a total and weights.
+    /// Returns a ledger with no clients, and with this total and these weights.
     fn with(alloc: Global, key: HashKey, total: Quantities, weights: Weights) -> Ledger
         ensures { ledger_content result ≡ record { clients = []; total = total; weights = weights.rows.items } }
     {
@@ -70,21 +71,21 @@ impl Ledger {
         *self.slots.allocator()
     }
 
-    /// The total of the cluster.
+    /// Returns the total of the cluster.
     pub(crate) fn total(&self) -> &Quantities
         ensures { result.now ≡ self.now.total }
     {
         &self.total
     }
 
-    /// The weight of a node, in thousandths.
+    /// Returns the weight of a node, in thousandths.
     pub(crate) fn weight_of(&self, node: &NodePath) -> u64
         ensures { result ≡ weight_of self.now.weights.rows.items node.now }
     {
         self.weights.of(node)
     }
 
-    /// Where the client of that path stands.
+    /// Returns the slot of the client with this path.
     pub(crate) fn row_of(&self, path: &ClientPath) -> Option<usize>
         ensures { result ≡ slot_of same_path path_of path.now (rows_in self.now) }
     {
@@ -94,7 +95,7 @@ impl Ledger {
         }
     }
 
-    /// The guess of the node of the client in that row, or the root.
+    /// Returns the guess of the node of the client in a slot, or the root if there is none.
     pub(crate) fn leaf_at(&self, row: Option<usize>) -> usize {
         match row {
             Some(row) if row < self.slots.len() => leaf_in(&self.slots[row]),
@@ -102,7 +103,7 @@ impl Ledger {
         }
     }
 
-    /// Closes the gaps where they are half of all slots, or more. An `Err` changes nothing.
+    /// Closes the free slots if they are at least half of all slots. When out of memory, nothing changes.
     fn close(&mut self) -> Result<(), AllocError>
         ensures few { OnOk result (length self.new.slots.items ≤ 2 * self.new.live) }
         ensures same { ledger_content self.new ≡ ledger_content self.old }
@@ -113,7 +114,7 @@ impl Ledger {
         Ok(())
     }
 
-    /// Puts a client behind the others. An `Err` changes nothing.
+    /// Appends a client. When out of memory, nothing changes.
     fn push(&mut self, booked: Booked) -> Result<(), AllocError>
         requires { has_client (ledger_content self.old) booked.client.path ≡ false }
         ensures ok { OnOk result (ledger_content self.new ≡ record (ledger_content self.old) { clients = filled (rows_in self.old) ++ client_of booked ∷ [] }) }
@@ -127,7 +128,7 @@ impl Ledger {
         Ok(())
     }
 
-    /// Adds an active client that holds nothing, with a guess of its node. An `Err` changes nothing.
+    /// Adds an active client that holds nothing, with a guess of its node. When out of memory, the clients stay the same.
     pub(crate) fn add(&mut self, path: ClientPath, leaf: usize) -> Result<(), AllocError>
         requires { has_client (ledger_content self.old) path ≡ false }
         ensures ok { OnOk result (ledger_content self.new ≡ with_client (ledger_content self.old) path) }
@@ -143,7 +144,7 @@ impl Ledger {
         self.push(Booked { client, leaf })
     }
 
-    /// Forgets a client. The guess of its node, or the root.
+    /// Removes a client. Returns the guess of its node, or the root.
     pub(crate) fn remove(&mut self, path: &ClientPath) -> usize
         requires { has_client (ledger_content self.old) path.now ≡ true }
         ensures { ledger_content self.new ≡ without_client (ledger_content self.old) path.now }
@@ -163,7 +164,7 @@ impl Ledger {
         self.total = total;
     }
 
-    /// Gives a role a weight, in thousandths. No memory is asked for where the role has one.
+    /// Sets the weight of a role, in thousandths. It allocates, and so can fail, only if the role has no weight yet; then nothing changes.
     pub(crate) fn set_weight(&mut self, role: &Role, weight: u64) -> Result<(), AllocError>
         requires weighs { 1 ≤ weight }
         requires light { weight ≤ 1000000 }
@@ -174,7 +175,7 @@ impl Ledger {
         self.weights.set(role, weight)
     }
 
-    /// A ledger of its own that holds the same, without gaps.
+    /// Returns a copy without free slots.
     pub(crate) fn copy(&self) -> Result<Ledger, AllocError>
         ensures { IfOk result (λ copy. ledger_content copy ≡ ledger_content self.now) }
     {

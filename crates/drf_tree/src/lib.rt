@@ -1,4 +1,5 @@
-//! The order of clients, kept in a tree of roles with running sums and repaired where it changed.
+//! `TreeSorter`, the sorter that the program uses: a tree of roles with running sums, which is put in order again only where it has
+//! changed.
 #![tactic(auto)]
 
 mod booked;

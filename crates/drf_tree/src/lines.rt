@@ -1,4 +1,4 @@
-//! The lines of the nodes in a report.
+//! The lines of a report, one for each node that has clients.
 ghost use Rattle.std.specs.Prelude.{◌≡◌, ◌≤◌, true, IfOk, OnOk, length};
 ghost use Rattle.std.specs.List.{AllByRecursion};
 ghost use Rattle.drf_role.specs.Path.{Path};
@@ -15,7 +15,7 @@ use drf_rows::NodeLine;
 use drf_sorter::{NodeLines, node_line};
 use std::alloc::{AllocError, Global};
 
-/// A node that is still to come, by the name under which it stands among its siblings.
+/// A node that is still to be visited, with its name, by which it is ordered among its siblings.
 #[derive(Drop)]
 struct Waiting<'a> {
     name: &'a str,
@@ -23,7 +23,7 @@ struct Waiting<'a> {
 }
 
 impl Tree {
-    /// A line of each node that has clients, in order of path.
+    /// Returns a line for each node that has clients, in order of path. It fails only when out of memory.
     pub(crate) fn lines(&self, ledger: &Ledger) -> Result<Vec<NodeLine>, AllocError>
         requires sound { IsSound (ledger_content ledger.now) }
         requires tree { IsTreeOf (ledger_content ledger.now) self.now }
@@ -37,14 +37,15 @@ impl Tree {
         Ok(lines.into_vec())
     }
 
-    /// How many nodes have clients, for which there is room at first.
+    /// Returns the number of nodes with clients, which is the capacity that the list of lines starts with.
     fn line_count(&self) -> usize
         ensures { result ≤ length self.now.sums.items }
     {
         self.sums.iter().filter(|sum| sum.clients > 0).count()
     }
 
-    /// All numbers, those of the nodes mostly in order of path.
+    /// Returns all node numbers: first the nodes of the tree, depth first and by name, then all other numbers. This order only makes
+    /// appending lines fast; `NodeLines::put` keeps them in order of path in any case.
     fn in_order_of_path(&self) -> Result<Vec<usize>, AllocError>
         ensures { IfOk result (λ order. HasEach (length self.now.places.items) order.items) }
     {
@@ -58,7 +59,7 @@ impl Tree {
         Ok(order)
     }
 
-    /// Nodes depth first, siblings in order of name.
+    /// Returns the numbers of the nodes depth first, siblings in order of name.
     fn downwards(&self) -> Result<Vec<usize>, AllocError> {
         let mut order = Vec::with_capacity(self.alloc(), self.places.len())?;
         let mut waiting = Vec::new(self.alloc());
@@ -76,7 +77,7 @@ impl Tree {
         Ok(order)
     }
 
-    /// Puts the children of a node behind those that wait, the first by name last.
+    /// Pushes the children of a node onto the stack of nodes to visit, in descending order of name, so that the first is visited first.
     fn push_children<'a>(
         &'a self,
         waiting: &mut Vec<Waiting<'a>>,
@@ -99,7 +100,7 @@ impl Tree {
         Ok(())
     }
 
-    /// Puts the line of a number into its place, where a node that has clients stands there.
+    /// Adds the line of the node with this number, if there is such a node and it has clients.
     fn put_line(
         &self,
         lines: &mut NodeLines,
@@ -127,7 +128,7 @@ impl Tree {
     }
 }
 
-/// Which of the first numbers, `len` of them, stand in a list.
+/// Returns, for each number below `len`, whether it is in the list.
 fn listed(alloc: Global, numbers: &[usize], len: usize) -> Result<Vec<bool>, AllocError>
     ensures long { IfOk result (λ flags. length flags.items ≡ len) }
     ensures listed { IfOk result (λ flags. AreListed flags.items numbers.now) }

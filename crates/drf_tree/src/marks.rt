@@ -1,4 +1,4 @@
-//! Which keys may be stale, and how many were computed.
+//! Dirty flags of nodes, and the number of keys that were computed.
 ghost use Rattle.std.specs.Prelude.{◌≡◌, ◌≤◌, ◌<◌, ◌+◌, ◌-◌, ◌^◌, [], ◌∷◌, ◌++◌, ℕ, false, min, true, IfNone, IfOk, IfSome, OnOk, OnErr, length, slice_index_or, slice_set};
 ghost use Rattle.std.specs.String.{string_bytes};
 ghost use Rattle.drf_sorter.specs.Keys.{key_by};
@@ -12,13 +12,13 @@ use drf_sorter::{Key, KeyCount};
 use std::alloc::{AllocError, Global};
 use std::marker::Model;
 
-/// The nodes whose key may be stale, and the number of keys that were computed.
+/// The dirty flag of each node, which is set if the key of the node can be stale, and the number of keys that were computed.
 pub(crate) struct Marks {
-    /// Whether a node is marked.
+    /// The dirty flag of each node.
     stale: Vec<bool>,
-    /// The numbers to be looked at: each that is marked, and maybe some that were.
+    /// The nodes to look at: each node whose flag is set, and perhaps nodes whose flag was cleared since.
     waiting: Vec<usize>,
-    /// Whether a number is among them.
+    /// Whether a node is in `waiting`.
     listed: Vec<bool>,
     made: KeyCount,
 }
@@ -63,7 +63,7 @@ impl Marks {
         self.made.made()
     }
 
-    /// The key of a sum, under that name. It counts as computed.
+    /// Returns the key of a sum and a name. The key is counted.
     pub(crate) fn key(&mut self, total: &Quantities, sum: &Sum, name: String) -> Key
         requires { CanKey total.now sum.now }
         ensures key { key_by result ≡ key_for total.now sum.now (string_bytes name) }
@@ -81,7 +81,7 @@ impl Marks {
         )
     }
 
-    /// Makes a key anew from a sum. It counts as computed.
+    /// Computes a key again from a sum. The key is counted.
     pub(crate) fn renew(&mut self, key: &mut Key, total: &Quantities, sum: &Sum)
         requires { CanKey total.now sum.now }
         ensures key { key_by key.new ≡ key_for total.now sum.now (key_by key.old).name }
@@ -92,7 +92,7 @@ impl Marks {
         key.renew(&mut self.made, total, sum.weight, &sum.held, sum.count);
     }
 
-    /// Whether the key of a node may be stale.
+    /// Returns whether the dirty flag of a node is set.
     pub(crate) fn is_marked(&self, node: usize) -> bool
         ensures { result ≡ slice_index_or self.now.stale node false }
     {
@@ -102,12 +102,12 @@ impl Marks {
         }
     }
 
-    /// Whether so many wait that it is quicker to look at all nodes.
+    /// Returns whether so many nodes wait that sorting whole families is faster than moving each node.
     pub(crate) fn are_many(&self) -> bool {
         self.waiting.len() >= self.stale.len() / 4
     }
 
-    /// One more node, that is not marked. There is room for its mark.
+    /// Adds a node whose flag is not set, and reserves room for it in `waiting`. When out of memory, nothing changes.
     pub(crate) fn push(&mut self) -> Result<(), AllocError>
         ensures ok { OnOk result (self.new ≡ record self.old { stale = self.old.stale ++ false ∷ [] }) }
         ensures err { OnErr result (self.new ≡ self.old) }
@@ -120,7 +120,7 @@ impl Marks {
         Ok(())
     }
 
-    /// The key of a node may be stale.
+    /// Sets the dirty flag of a node. It never allocates.
     pub(crate) fn mark(&mut self, node: usize)
         requires { node < length self.old.stale }
         ensures flags { self.new ≡ record self.old { stale = slice_set self.old.stale node true } }
@@ -134,7 +134,7 @@ impl Marks {
         self.waiting.push_reserved(node);
     }
 
-    /// The key of a node is not asked for any more.
+    /// Clears the dirty flag of a node.
     pub(crate) fn forget(&mut self, node: usize)
         requires { node < length self.old.stale }
         ensures flags { self.new ≡ record self.old { stale = slice_set self.old.stale node false } }
@@ -143,7 +143,7 @@ impl Marks {
         self.stale[node] = false;
     }
 
-    /// A node whose key may be stale, if there is one. Its mark is taken away.
+    /// Clears the dirty flag of a node for which it is set, and returns the node. Returns `None` if no flag is set.
     pub(crate) fn take(&mut self) -> Option<usize>
         ensures found { IfSome result (λ node. slice_index_or self.old.stale node false ≡ true) }
         ensures taken { IfSome result (λ node. self.new ≡ record self.old { stale = slice_set self.old.stale node false }) }
@@ -160,7 +160,7 @@ impl Marks {
         None
     }
 
-    /// Marks each node whose clients hold something: the share of nothing is 0, whatever the total is.
+    /// Sets the dirty flag of each node that holds something. The share of other nodes is 0, whatever the total is.
     pub(crate) fn mark_all(&mut self, places: &[Option<Place>], sums: &[Sum])
         requires places { length self.old.stale ≡ length places.now }
         requires sums { length self.old.stale ≡ length sums.now }
@@ -191,7 +191,7 @@ impl Marks {
     }
 }
 
-/// Whether a node stands at that number, and its clients hold something.
+/// Returns whether the number is that of a node that holds something.
 fn is_holding(places: &[Option<Place>], sums: &[Sum], node: usize) -> bool
     requires place { node < length places.now }
     requires sum { node < length sums.now }

@@ -1,4 +1,4 @@
-//! Clients that come and go.
+//! Adding clients to the tree, removing them, and changing whether they are active.
 ghost use Rattle.std.specs.Prelude.{◌≡◌, ◌≢◌, ◌≤◌, ◌+◌, ◌<◌, ◌^◌, ℕ, Some, IfOk, IfSome, OnErr, OnOk, false, length, take, true};
 ghost use Rattle.drf_role.specs.Path.{IsClientPath, Path};
 ghost use Rattle.drf_sorter.specs.Content.{Content, activated, has_client, has_node, with_change, with_client, without_client};
@@ -17,7 +17,8 @@ use std::alloc::AllocError;
 use std::mem;
 
 impl Tree {
-    /// The node of a client, made with all nodes above it that are missing. Where that fails, those that were made go again.
+    /// Returns the node of a client, and adds it and the nodes above it if they are missing. When out of memory, the nodes that were added
+    /// are removed again.
     pub(crate) fn grow(&mut self, path: &ClientPath, ledger: &Ledger) -> Result<usize, AllocError>
         requires tree { IsTreeOf (ledger_content ledger.now) self.old }
         ensures tree { IsTreeOf (ledger_content ledger.now) self.new }
@@ -41,7 +42,7 @@ impl Tree {
         Ok(node)
     }
 
-    /// The node of one part more of a path, below that of the first `i`, made if it is missing.
+    /// Returns the node of the first `i + 1` parts of a path, below `node`, which is that of the first `i`. Adds it if it is missing.
     fn step(
         &mut self,
         node: usize,
@@ -68,7 +69,7 @@ impl Tree {
         self.sprout_for(node, path, i + 1, ledger)
     }
 
-    /// The node of the first parts of a path, `len` of them, below the one of one part less.
+    /// Adds the node of the first `len` parts of a path below `parent`, which is that of one part less. Returns its number.
     fn sprout_for(
         &mut self,
         parent: usize,
@@ -98,7 +99,7 @@ impl Tree {
         self.sprout(parent, node, client, weight)
     }
 
-    /// One more client, that is active, from this node up.
+    /// Counts one more client, which is active, at each node from this one up.
     pub(crate) fn admit(&mut self, leaf: usize)
         requires shape { IsShapeOf self.old }
         requires live { is_live self.old.places.items leaf ≡ true }
@@ -117,7 +118,7 @@ impl Tree {
         }
     }
 
-    /// The client at this node is gone, and so is what it held from all nodes above.
+    /// Removes the client at this node: what it holds, its offers and itself are subtracted from each node above. The node stays.
     pub(crate) fn dismiss(&mut self, leaf: usize)
         requires shape { IsShapeOf self.old }
         requires live { is_live self.old.places.items leaf ≡ true }
@@ -143,7 +144,7 @@ impl Tree {
         }
     }
 
-    /// The client at this node is to be served or not, for all nodes from there up.
+    /// Records at each node from this one up that the client at this node is active, or that it is suppressed.
     pub(crate) fn set_active(&mut self, leaf: usize, active: bool)
         requires shape { IsShapeOf self.old }
         requires live { is_live self.old.places.items leaf ≡ true }
@@ -164,7 +165,7 @@ impl Tree {
         }
     }
 
-    /// The bare nodes from this one up are gone.
+    /// Removes this node and the nodes above it, as long as they have neither clients nor children.
     pub(crate) fn prune(&mut self, leaf: usize)
         requires shape { IsShapeOf self.old }
         requires node { is_node self.old.places.items leaf ≡ true }
@@ -182,7 +183,7 @@ impl Tree {
     }
 }
 
-/// The client that the node of the first parts of a path is, if it is one.
+/// Returns a copy of the path if `len` is its full length, and `None` if it is less.
 fn client_of(path: &ClientPath, len: usize) -> Result<Option<ClientPath>, AllocError>
     requires { len ≤ length path.now }
     ensures client { IfOk result (λ client. IsClientPath (take len path.now) → client ≡ Some (take len path.now)) }

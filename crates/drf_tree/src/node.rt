@@ -1,4 +1,4 @@
-//! What the tree knows of a node: its place, and its sums.
+//! What the tree stores for a node: its place and its sums.
 ghost use Rattle.std.specs.Prelude.{◌≡◌, [], IfOk};
 ghost use Rattle.drf_bundle.specs.Quantities.{amount_of};
 ghost use Rattle.drf_role.specs.Text.{Text};
@@ -8,13 +8,13 @@ use drf_bundle::Quantities;
 use drf_role::{ClientPath, NodePath};
 use std::alloc::{AllocError, Global};
 
-/// Where a node stands.
+/// The place of a node: its path, its parent, and the client that it is.
 #[derive(Drop)]
 pub(crate) struct Place {
     pub path: NodePath,
-    /// The number of the node above it.
+    /// The number of the parent.
     pub parent: usize,
-    /// The client that the node is, if it is one.
+    /// The path of the client, if the node is one.
     pub client: Option<ClientPath>,
 }
 
@@ -39,22 +39,23 @@ fn copy_of_client(client: &Option<ClientPath>) -> Result<Option<ClientPath>, All
     }
 }
 
-/// What the clients of a node come to together.
+/// The sums over the clients at and below a node, and the weight of the node.
 #[derive(Drop)]
 pub(crate) struct Sum {
     pub held: Quantities,
-    /// The offers that were made to them.
+    /// The number of offers made to them.
     pub count: u64,
-    /// How many they are.
+    /// The number of clients.
     pub clients: u64,
-    /// How many of them are to be served.
+    /// The number of active clients.
     pub active: u64,
     /// The weight of the node, in thousandths.
     pub weight: u64,
 }
 
 impl Sum {
-    /// A copy of what they hold. Where all amounts are 0, as of a client whose tasks have ended, it names no label, though no clause says so.
+    /// Returns a copy of what the clients hold. If all amounts are 0, the copy has no labels, to save time. The postcondition does not say
+    /// so.
     pub(crate) fn copy_held(&self, alloc: Global) -> Result<Quantities, AllocError>
         ensures { IfOk result (λ held. (label : Text) → amount_of held label ≡ amount_of self.now.held label) }
     {
@@ -64,7 +65,7 @@ impl Sum {
         self.held.copy()
     }
 
-    /// The sum of no clients.
+    /// Returns the sum of no clients.
     pub(crate) fn of_none(alloc: Global, weight: u64) -> Sum
         ensures { result ≡ record { held = []; count = 0; clients = 0; active = 0; weight = weight } }
     {
@@ -77,7 +78,7 @@ impl Sum {
         }
     }
 
-    /// Whether its clients hold something.
+    /// Returns whether the clients hold something.
     pub(crate) fn holds_any(&self) -> bool
         ensures { result ≡ holds_any self.now }
     {

@@ -1,4 +1,4 @@
-//! Families put into order where keys are stale.
+//! Computing stale keys, and putting their nodes into order.
 ghost use Rattle.std.specs.Prelude.{◌≡◌, ◌<◌, ◌≤◌, ◌+◌, ◌-◌, ◌^◌, length, min, true};
 ghost use Rattle.drf_sorter.specs.Content.{IsSound};
 ghost use Rattle.drf_tree.specs.Ledger.{ledger_content};
@@ -10,7 +10,7 @@ use crate::ledger::Ledger;
 use crate::tree::Tree;
 
 impl Tree {
-    /// Computes each key that is stale, and puts its node into its place.
+    /// Computes the key of each dirty node again, and moves the node to its position among its siblings. No node is dirty afterwards.
     pub(crate) fn repair(&mut self, ledger: &Ledger)
         requires sound { IsSound (ledger_content ledger.now) }
         requires tree { IsTreeOf (ledger_content ledger.now) self.old }
@@ -27,7 +27,7 @@ impl Tree {
         }
     }
 
-    /// Computes each key that is stale, family by family.
+    /// Computes the keys of dirty nodes again, and sorts the families, one family after another.
     fn renew_all(&mut self, ledger: &Ledger)
         requires sound { IsSound (ledger_content ledger.now) }
         requires tree { IsTreeOf (ledger_content ledger.now) self.old }
@@ -40,7 +40,7 @@ impl Tree {
         }
     }
 
-    /// Computes the keys of the children of a node that are stale.
+    /// Computes the keys of the dirty children of a node again, and sorts the children.
     fn renew_family(&mut self, node: usize, ledger: &Ledger)
         requires sound { IsSound (ledger_content ledger.now) }
         requires tree { IsTreeOf (ledger_content ledger.now) self.old }
@@ -54,7 +54,7 @@ impl Tree {
         family.renew_all(&mut self.marks, ledger.total(), &self.sums);
     }
 
-    /// Computes the key of a node, and puts it into its place among its siblings.
+    /// Computes the key of a node again, and moves the node to its position among its siblings.
     fn renew(&mut self, node: usize, ledger: &Ledger)
         requires sound { IsSound (ledger_content ledger.now) }
         requires live { is_live self.old.places.items node ≡ true }

@@ -6,12 +6,12 @@ use crate::node::Place;
 use std::alloc::{AllocError, Global};
 use std::marker::Model;
 
-/// The place of each node by its number, whose size does not grow with the history: a number without a place is free, and the first
-/// free one is taken first.
+/// The place of each node by its number. A number without a place is free. The smallest free number is used first, so that the list does
+/// not grow over time.
 #[derive(Drop)]
 pub(crate) struct Places {
     items: Vec<Option<Place>>,
-    /// No number below is free.
+    /// All numbers below this one are in use.
     first_free: usize,
 }
 
@@ -50,14 +50,14 @@ impl Places {
         self.items.as_slice()
     }
 
-    /// The place at a number, where there is one.
+    /// Returns the place with this number, if there is one.
     pub(crate) fn get(&self, node: usize) -> Option<&Place>
         ensures { option_copied result ≡ place_at self.now.items node }
     {
         self.items.get(node)?.as_ref()
     }
 
-    /// Room for one more number.
+    /// Reserves room for one more number.
     pub(crate) fn reserve(&mut self) -> Result<(), AllocError>
         ensures same { self.new.items ≡ self.old.items }
         ensures room { OnOk result (0 < self.new.room) }
@@ -65,7 +65,7 @@ impl Places {
         Ok(self.items.reserve(1)?)
     }
 
-    /// One more number, that is free. There is room for it.
+    /// Adds a free number. Room for it must have been reserved.
     pub(crate) fn push_reserved(&mut self)
         requires { 0 < self.old.room }
         ensures { self.new.items ≡ self.old.items ++ None ∷ [] }
@@ -73,7 +73,7 @@ impl Places {
         self.items.push_reserved(None);
     }
 
-    /// The first free number, never the root's, or that of one more.
+    /// Returns the smallest free number other than the root's, or the length of the list if none is free.
     pub(crate) fn free_number(&self) -> usize
         requires { 0 < length self.now.items }
         ensures within { result ≤ length self.now.items }
@@ -88,7 +88,7 @@ impl Places {
         self.items.len()
     }
 
-    /// Puts a place at a number below which none is free.
+    /// Sets the place of a number. No number below it can be free.
     pub(crate) fn put(&mut self, node: usize, place: Place)
         requires there { node < length self.old.items }
         requires first { AreTaken self.old.items node }
@@ -98,7 +98,7 @@ impl Places {
         self.first_free = node + 1;
     }
 
-    /// A number is free.
+    /// Frees a number.
     pub(crate) fn free(&mut self, node: usize)
         requires { node < length self.old.items }
         ensures { self.new.items ≡ slice_set self.old.items node None }

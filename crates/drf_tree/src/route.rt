@@ -1,10 +1,10 @@
-//! Ways down the tree, part by part.
+//! The trait `Route`: paths from the top of the tree down, part by part.
 ghost use Rattle.std.specs.Prelude.{◌≡◌, ◌≤◌, ◌<◌, Some, length, slice_get};
 ghost use Rattle.drf_role.specs.Path.{Path};
 
 use drf_role::{ClientPath, NodePath, Role};
 
-/// What names a node by its parts from the top of the tree down.
+/// A path that leads to a node, as a list of parts.
 pub(crate) trait Route {
     ghost parts: { Self → Path };
 

@@ -1,4 +1,4 @@
-//! A sorter over a tree of nodes.
+//! `TreeSorter`, an implementation of `Sorter` with a ledger, a tree and a walk.
 use crate::ledger::Ledger;
 use crate::tree::Tree;
 use crate::walk::Walk;
@@ -10,14 +10,14 @@ use drf_sorter::{DEFAULT_WEIGHT, Share, Sorter};
 use std::alloc::{AllocError, Global};
 use std::marker::Model;
 
-/// A sorter that keeps its clients in a ledger, and their order in a tree, where a change costs one key for each node on
-/// the way to the client.
+/// A sorter with its clients in a ledger and their order in a tree. After a change of a client, at most one key is computed again for each
+/// node on its path.
 #[derive(Drop)]
 pub struct TreeSorter {
     ledger: Ledger,
     tree: Tree,
     walk: Walk,
-    /// If set, the tree is right whatever the total is, as all is marked that hangs on it.
+    /// If set, the tree is valid for any total, because each node whose key depends on the total is dirty.
     is_total_free: bool,
 }
 

@@ -1,4 +1,4 @@
-//! Numbered nodes in parallel lists: their places, their sums, their families and their marks.
+//! The tree: numbered nodes in parallel lists, which are their places, sums, families and dirty flags.
 ghost use Rattle.std.specs.Prelude.{◌≡◌, ◌≢◌, ◌<◌, ◌+◌, ◌-◌, ◌++◌, ◌∷◌, [], ℕ, false, true, IfOk, IfSome, IsSome, List, None, OnErr, OnOk, Some, length, map, max, option_copied, slice_get, slice_set};
 ghost use Rattle.std.specs.List.{list_any};
 ghost use Rattle.drf_bundle.specs.declared.quantities.Entry.{Entry};
@@ -26,10 +26,10 @@ use drf_role::{ClientPath, NodePath};
 use drf_sorter::DEFAULT_WEIGHT;
 use std::alloc::{AllocError, Global};
 
-/// The number of what stands above the nodes of one part. It has a family, and is no node itself.
+/// The number of the root, the parent of the nodes with one part. The root has a family, but does not count as a node.
 pub(crate) const ROOT: usize = 0;
 
-/// The nodes by number. A number without a place is free.
+/// The tree of nodes, by number. A number without a place is free.
 pub(crate) struct Tree {
     pub places: Places,
     pub sums: Vec<Sum>,
@@ -49,7 +49,7 @@ impl Drop for Tree {
 }
 
 impl Tree {
-    /// The root alone.
+    /// Returns a tree with only the root.
     pub(crate) fn open(alloc: Global) -> Result<Tree, AllocError>
         ensures tree { IfOk result (IsTreeOf empty) }
         ensures tidy { IfOk result (λ tree. IsTidy empty tree.places.items) }
@@ -69,14 +69,14 @@ impl Tree {
         *self.sums.allocator()
     }
 
-    /// The keys that were computed.
+    /// Returns the number of keys that were computed.
     pub(crate) fn keys_made(&self) -> u64
         ensures { result ≡ self.now.marks.made }
     {
         self.marks.made()
     }
 
-    /// What the clients of a node come to.
+    /// Returns the sums over the clients of a node.
     pub(crate) fn sum(&self, node: usize) -> &Sum
         requires { node < length self.now.sums.items }
         ensures { slice_get self.now.sums.items node ≡ Some result.now }
@@ -84,7 +84,7 @@ impl Tree {
         &self.sums[node]
     }
 
-    /// Each key may be stale but those of nothing.
+    /// Sets the dirty flag of each node that holds something, because the total changes.
     pub(crate) fn mark_all(&mut self)
         requires shape { IsShapeOf self.old }
         ensures tree { (content : Content) (total : List Entry) → Weighs (standing_in content) → IsTreeOf content self.old → IsTreeOf (record content { total = total }) self.new }
@@ -95,7 +95,7 @@ impl Tree {
         self.marks.mark_all(self.places.as_slice(), &self.sums);
     }
 
-    /// Gives a node a weight, in thousandths.
+    /// Sets the weight of a node, in thousandths.
     pub(crate) fn weigh(&mut self, node: usize, weight: u64)
         requires shape { IsShapeOf self.old }
         requires live { is_live self.old.places.items node ≡ true }
@@ -109,7 +109,7 @@ impl Tree {
         self.marks.mark(node);
     }
 
-    /// One more number, that is free. An `Err` changes nothing.
+    /// Adds a free number. When out of memory, no list that contracts see changes.
     fn push(&mut self) -> Result<(), AllocError>
         ensures places { OnOk result (self.new.places.items ≡ self.old.places.items ++ None ∷ []) }
         ensures families { (i : ℕ) → children_at self.new.families.items i ≡ children_at self.old.families.items i }
@@ -129,7 +129,7 @@ impl Tree {
         Ok(())
     }
 
-    /// The first free number, which is one more just where none was free.
+    /// Returns the smallest free number. Adds a number if none is free.
     pub(crate) fn vacant(&mut self) -> Result<usize, AllocError>
         requires shape { IsShapeOf self.old }
         ensures shape { IsShapeOf self.new }
@@ -148,14 +148,14 @@ impl Tree {
         Ok(free)
     }
 
-    /// The place of a node.
+    /// Returns the place of a node, or `None` if the number is free.
     pub(crate) fn place(&self, node: usize) -> Option<&Place>
         ensures { option_copied result ≡ place_at self.now.places.items node }
     {
         self.places.get(node)
     }
 
-    /// The number of the node above a node, which is the root for a number without a place.
+    /// Returns the number of a node's parent, or the root if the number is free.
     pub(crate) fn parent(&self, node: usize) -> usize
         ensures { result ≡ parent_at self.now.places.items node }
     {
@@ -165,7 +165,7 @@ impl Tree {
         }
     }
 
-    /// The child of that name.
+    /// Returns the child with this name.
     pub(crate) fn child(&self, node: usize, name: &str) -> Option<usize>
         requires shape { IsShapeOf self.now }
         requires node { is_node self.now.places.items node ≡ true }
@@ -177,7 +177,7 @@ impl Tree {
         Some(family[place].node)
     }
 
-    /// The node that a route leads to.
+    /// Returns the node that a route leads to, if there is one.
     pub(crate) fn find<R: Route>(&self, route: &R) -> Option<usize>
         requires { IsShapeOf self.now }
         ensures found { IfSome result (λ node. (is_node self.now.places.items node ≡ true) × (path_at self.now.places.items node ≡ R.parts route.now)) }
@@ -192,7 +192,7 @@ impl Tree {
         Some(node)
     }
 
-    /// The node of a client: the one that it is known to have, or else the one that its parts lead to.
+    /// Returns the node of a client: `known` if that is its node, and otherwise the node that its path leads to.
     pub(crate) fn leaf(&self, known: usize, path: &ClientPath) -> Option<usize>
         requires { IsShapeOf self.now }
         ensures at { IfSome result (λ node. path_at self.now.places.items node ≡ path.now) }
@@ -205,14 +205,14 @@ impl Tree {
         self.find(path)
     }
 
-    /// The client that a node is, if it is one.
+    /// Returns the path of the client that a node is, if it is one.
     pub(crate) fn client(&self, node: usize) -> Option<&ClientPath>
         ensures { option_copied result ≡ client_at self.now.places.items node }
     {
         self.place(node)?.client.as_ref()
     }
 
-    /// Whether a node is that client.
+    /// Returns whether a node is this client.
     fn is_client(&self, node: usize, path: &ClientPath) -> bool
         ensures { result ≡ true → client_at self.now.places.items node ≡ Some path.now }
     {
@@ -222,7 +222,7 @@ impl Tree {
         }
     }
 
-    /// A node without clients, below another, with its key.
+    /// Adds a node without clients below `parent`, with its key, and returns its number. When out of memory, the nodes stay the same.
     pub(crate) fn sprout(
         &mut self,
         parent: usize,
@@ -257,7 +257,7 @@ impl Tree {
         Ok(node)
     }
 
-    /// A child whose clients hold nothing. Its key is the same whatever the total is, and the weight.
+    /// Returns a child that holds nothing. Its key does not depend on the total and the weight.
     fn first_child(&mut self, node: usize, path: &NodePath) -> Result<Child, AllocError>
         ensures node { IfOk result (λ child. child.node ≡ node) }
         ensures key { IfOk result (λ child. IsKeyOfNothing path.now (key_by child.key)) }
@@ -274,7 +274,7 @@ impl Tree {
         Ok(Child::new(&mut self.marks, node, name, &nothing, &none))
     }
 
-    /// Whether a node has neither clients nor children.
+    /// Returns whether a node has neither clients nor children.
     pub(crate) fn is_bare(&self, node: usize) -> bool
         requires shape { IsShapeOf self.now }
         requires node { is_live self.now.places.items node ≡ true }
@@ -283,7 +283,7 @@ impl Tree {
         self.sums[node].clients == 0 && self.families[node].children().is_empty()
     }
 
-    /// A node that is bare leaves its parent's family, and its number is free.
+    /// Removes a node that has neither clients nor children. Its number becomes free.
     pub(crate) fn wither(&mut self, node: usize)
         requires shape { IsShapeOf self.old }
         requires node { is_live self.old.places.items node ≡ true }

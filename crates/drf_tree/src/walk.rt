@@ -1,4 +1,4 @@
-//! The active clients of the tree one by one, depth first.
+//! A walk through the active clients of a tree, one by one, depth first.
 ghost use Rattle.std.specs.Prelude.{◌≡◌, ◌<◌, ◌≤◌, ◌++◌, ◌∷◌, [], Some, IfOk, drop, length, option_copied, slice_get, true};
 ghost use Rattle.std.specs.Option.{is_some};
 ghost use Rattle.std.specs.Vec.{vec_capacity};
@@ -13,10 +13,10 @@ use crate::tree::{ROOT, Tree};
 use drf_role::ClientPath;
 use std::alloc::{AllocError, Global};
 
-/// The families that are gone along at once: the root's, and one for each part of a node's path.
+/// The greatest number of families on the stack: the root's, and one for each part of a node's path.
 const MOST_FRAMES: usize = 11;
 
-/// A family, and the place in it that comes next.
+/// A family on the stack of a walk, with the next position to visit in it.
 #[derive(Clone, Copy)]
 pub(crate) struct Frame {
     pub node: usize,
@@ -24,7 +24,7 @@ pub(crate) struct Frame {
 }
 
 impl Frame {
-    /// The place after that. No family is so long that the number ends.
+    /// Returns the frame with the position after this one. The addition never saturates, because no family is so long.
     fn onward(self) -> Frame
         ensures { result ≡ onward self }
     {
@@ -35,27 +35,27 @@ impl Frame {
     }
 }
 
-/// How far a tree was gone along. The last frame stands at the client that is next, if there is any.
+/// A walk through the tree, as a stack of frames. The last frame is at the current client, if there is one.
 #[derive(Drop)]
 pub(crate) struct Walk {
     frames: Vec<Frame>,
     ghost room: { 11 ≤ vec_capacity frames },
 }
 
-/// What comes next.
+/// What is at the position of a frame.
 enum Next {
-    /// The family is at its end.
+    /// Nothing: the end of the family.
     End,
-    /// Nobody is served there.
+    /// A node with no active clients.
     Nobody,
-    /// A client.
+    /// An active client.
     Client,
-    /// A node with clients below it.
+    /// A node with active clients below it.
     Node(usize),
 }
 
 impl Walk {
-    /// A walk that is at its end.
+    /// Returns a walk that has ended.
     pub(crate) fn open(alloc: Global) -> Result<Walk, AllocError>
         ensures { IfOk result (λ walk. walk.frames.items ≡ []) }
     {
@@ -64,14 +64,14 @@ impl Walk {
         })
     }
 
-    /// Nothing comes next.
+    /// Ends the walk.
     pub(crate) fn stop(&mut self)
         ensures { self.new.frames.items ≡ [] }
     {
         self.frames.clear();
     }
 
-    /// Begins anew, at the first client of the tree.
+    /// Starts the walk again, at the first client of the tree.
     pub(crate) fn start(&mut self, tree: &Tree)
         requires { IsShapeOf tree.now }
         ensures frames { AreFrames tree.now.places.items self.new.frames.items }
@@ -86,7 +86,7 @@ impl Walk {
         self.settle(tree);
     }
 
-    /// The client that is next.
+    /// Returns the current client.
     pub(crate) fn first<'a>(&self, tree: &'a Tree) -> Option<&'a ClientPath>
         requires shape { IsShapeOf tree.now }
         requires frames { AreFrames tree.now.places.items self.now.frames.items }
@@ -97,7 +97,7 @@ impl Walk {
         tree.place(node)?.client.as_ref()
     }
 
-    /// Goes on to the client after that.
+    /// Moves to the client after the current one.
     pub(crate) fn pass(&mut self, tree: &Tree)
         requires shape { IsShapeOf tree.now }
         requires frames { AreFrames tree.now.places.items self.old.frames.items }
@@ -111,7 +111,7 @@ impl Walk {
         self.settle(tree);
     }
 
-    /// Goes on past the client that is next, and past others below the same node of so many parts.
+    /// Moves past the current client and the clients after it that are below the node of the first `len` parts of its path.
     pub(crate) fn pass_front(&mut self, tree: &Tree, len: usize)
         requires shape { IsShapeOf tree.now }
         requires frames { AreFrames tree.now.places.items self.old.frames.items }
@@ -127,7 +127,7 @@ impl Walk {
         }
     }
 
-    /// Goes down and on until a client is next.
+    /// Moves on until the last frame is at an active client, or the walk has ended.
     fn settle(&mut self, tree: &Tree)
         requires shape { IsShapeOf tree.now }
         requires frames { AreFrames tree.now.places.items self.old.frames.items }
@@ -171,7 +171,7 @@ impl Walk {
     }
 }
 
-/// What comes at the place of a frame.
+/// Returns what is at the position of a frame.
 fn next_at(tree: &Tree, frame: Frame) -> Next
     requires shape { IsShapeOf tree.now }
     requires node { is_node tree.now.places.items frame.node ≡ true }

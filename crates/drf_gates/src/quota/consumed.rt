@@ -1,4 +1,4 @@
-//! What roles consume of bundles: what is unreserved of what clients hold, and what is reserved of what agents have.
+//! What roles consume because of a bundle: the unreserved part of what their clients hold, and what agents have reserved for them.
 ghost use Rattle.std.specs.Prelude.{◌≡◌, ◌+◌, ◌^◌, ◌<◌, ◌≤◌, All, Bool, IfOk, IfSome, OnOk, OnErr, if◌then◌else◌};
 ghost use Rattle.drf_role.specs.Text.{Text};
 ghost use Rattle.drf_role.specs.Path.{Path, same_path};
@@ -15,7 +15,7 @@ use drf_bundle::{Bundle, Quantities, Resource, Value};
 use drf_role::Role;
 use std::alloc::{AllocError, Global};
 
-/// The thousandths of a resource, if it is a scalar.
+/// Returns the thousandths of a resource, or 0 if it is not a scalar.
 fn thousandths(resource: &Resource) -> u64
     ensures { result ≡ units_in resource.now.value Thousandths }
 {
@@ -25,7 +25,7 @@ fn thousandths(resource: &Resource) -> u64
     }
 }
 
-/// Adds a resource to the amounts, if it is unreserved. An `Err` changes nothing.
+/// Adds a resource to the amounts if it is unreserved. When out of memory, nothing changes.
 fn add_unreserved(sum: &mut Quantities, resource: &Resource) -> Result<(), AllocError>
     requires right { IsResource resource.now }
     requires fits { unreserved_one resource.now.label resource.now + amount_of sum.old resource.now.label < 2 ^ 64 }
@@ -38,7 +38,7 @@ fn add_unreserved(sum: &mut Quantities, resource: &Resource) -> Result<(), Alloc
     sum.set(resource.label.copy()?, amount)
 }
 
-/// What a bundle has unreserved.
+/// Returns the unreserved part of a bundle.
 fn unreserved(alloc: Global, bundle: &Bundle) -> Result<Quantities, AllocError>
     ensures { IfOk result (λ sum. (label : Text) → amount_of sum label ≡ unreserved_in label bundle.now) }
 {
@@ -49,7 +49,7 @@ fn unreserved(alloc: Global, bundle: &Bundle) -> Result<Quantities, AllocError>
     Ok(sum)
 }
 
-/// The sums of a bundle in which nothing is reserved, which need not be made.
+/// Returns the sums of a bundle if nothing in it is reserved. This avoids computing them.
 fn sums_if_unreserved(bundle: &Bundle) -> Option<&Quantities>
     ensures { IfSome result (λ sums. (label : Text) → amount_of sums.now label ≡ unreserved_in label bundle.now) }
 {
@@ -59,7 +59,7 @@ fn sums_if_unreserved(bundle: &Bundle) -> Option<&Quantities>
     Some(bundle.quantities())
 }
 
-/// The thousandths of one resource.
+/// Returns the amount of one resource, in thousandths.
 fn one(alloc: Global, resource: &Resource) -> Result<Quantities, AllocError>
     ensures { IfOk result (λ amounts. (label : Text) → amount_of amounts label ≡ amount_in_one label resource.now) }
 {
@@ -69,7 +69,8 @@ fn one(alloc: Global, resource: &Resource) -> Result<Quantities, AllocError>
 }
 
 impl Consumption {
-    /// A client of the role holds the bundle: what is unreserved of it is consumed. An `Err` changes nothing.
+    /// Adds the unreserved part of a bundle to what a role consumes, because a client of the role holds it now. When out of memory, nothing
+    /// changes.
     pub fn consume_unreserved(&mut self, role: &Role, bundle: &Bundle) -> Result<(), AllocError>
         requires { (test : Path → Bool) (label : Text)
             → used_where test self.old label + (if test role.now then unreserved_in label bundle.now else 0) < 2 ^ 64 }
@@ -83,7 +84,7 @@ impl Consumption {
         self.consume(role, &amounts)
     }
 
-    /// A client of the role holds the resource no longer: it is released, if it is unreserved.
+    /// Releases one resource of a role if it is unreserved.
     fn release_one(&mut self, role: &Role, resource: &Resource)
         requires right { IsResource resource.now }
         requires fits { (label : Text) → unreserved_one label resource.now ≤ used_by self.old role.now label }
@@ -97,7 +98,7 @@ impl Consumption {
         }
     }
 
-    /// What is unreserved of the bundle is released, one resource after another.
+    /// Releases the unreserved part of a bundle, one resource after another.
     fn release_parts(&mut self, role: &Role, bundle: &Bundle)
         requires { (label : Text) → unreserved_in label bundle.now ≤ used_by self.old role.now label }
         ensures { IsRaisedBy self.new self.old (λ test label. if test role.now then unreserved_in label bundle.now else 0) }
@@ -107,7 +108,7 @@ impl Consumption {
         }
     }
 
-    /// A client of the role holds the bundle no longer: what is unreserved of it is released. It needs no memory.
+    /// Releases the unreserved part of a bundle, because a client of the role no longer holds it. It never allocates.
     pub fn release_unreserved(&mut self, role: &Role, bundle: &Bundle)
         requires { (label : Text) → unreserved_in label bundle.now ≤ used_by self.old role.now label }
         ensures { IsRaisedBy self.new self.old (λ test label. if test role.now then unreserved_in label bundle.now else 0) }
@@ -118,7 +119,7 @@ impl Consumption {
         }
     }
 
-    /// What a resource has reserved is consumed by its role. An `Err` changes nothing.
+    /// Adds what is reserved of a resource to what the role that it is reserved for consumes. When out of memory, nothing changes.
     fn consume_resource(&mut self, resource: &Resource) -> Result<(), AllocError>
         requires right { IsResource resource.now }
         requires fits { (test : Path → Bool) (label : Text) → used_where test self.old label + reserved_one test label resource.now < 2 ^ 64 }
@@ -132,7 +133,7 @@ impl Consumption {
         self.consume(&resource.role, &amounts)
     }
 
-    /// What a resource has reserved is consumed by its role no longer.
+    /// Releases what is reserved of a resource.
     fn release_resource(&mut self, resource: &Resource)
         requires right { IsResource resource.now }
         requires fits { (role : Path) (label : Text) → reserved_one (same_path role) label resource.now ≤ used_by self.old role label }
@@ -146,7 +147,7 @@ impl Consumption {
         }
     }
 
-    /// What resources have reserved is consumed no longer.
+    /// Releases what is reserved of these resources.
     fn release_each(&mut self, resources: &[Resource])
         requires right { All IsResource resources.now }
         requires fits { (role : Path) (label : Text) → reserved_in (same_path role) label resources.now ≤ used_by self.old role label }
@@ -157,7 +158,7 @@ impl Consumption {
         }
     }
 
-    /// An agent has the bundle no longer: what is reserved of it is released. It needs no memory.
+    /// Releases what is reserved in an agent's total, because the agent no longer has it. It never allocates.
     pub fn release_reserved(&mut self, total: &Bundle)
         requires { (role : Path) (label : Text) → reserved_in (same_path role) label total.now ≤ used_by self.old role label }
         ensures { IsRaisedBy self.new self.old (λ test label. reserved_in test label total.now) }
@@ -165,8 +166,7 @@ impl Consumption {
         self.release_each(total.entries());
     }
 
-    /// An agent has the bundle: what is reserved of it is consumed by the roles that it is reserved for. At an `Err` all consume
-    /// what they did.
+    /// Adds what is reserved in an agent's total to what the roles that it is reserved for consume. When out of memory, nothing changes.
     pub fn consume_reserved(&mut self, total: &Bundle) -> Result<(), AllocError>
         requires { (test : Path → Bool) (label : Text) → used_where test self.old label + reserved_in test label total.now < 2 ^ 64 }
         ensures ok { OnOk result (IsRaisedBy self.old self.new (λ test label. reserved_in test label total.now)) }

@@ -1,4 +1,4 @@
-//! What roles consume (Mesos: quota consumption).
+//! `Consumption`: what roles consume (Mesos: quota consumption).
 ghost use Rattle.std.specs.Prelude.{◌≡◌, ◌+◌, ◌^◌, ◌<◌, ◌≤◌, true, [], IfOk, OnErr, OnOk};
 ghost use Rattle.drf_role.specs.Text.{Text};
 ghost use Rattle.drf_role.specs.Path.{Path};
@@ -21,15 +21,15 @@ use indexmap::IndexMap;
 use std::alloc::{AllocError, Global};
 use std::marker::Model;
 
-/// What each role consumes, in thousandths. Contracts see what it consumes itself, the roles below it left out.
+/// What each role consumes, in thousandths. Contracts see what a role consumes itself, without the roles below it.
 pub struct Consumption {
     pub(crate) used: ByRole<Quantities>,
-    // What roles with a limit consume together with the roles below them, as far as there was memory. Each stands at the place
-    // of its limit, until one goes.
+    // What roles with a limit consume together with the roles below them. A total that is missing or unknown is computed when it is needed.
+    // Totals have the same positions as their limits until a limit is removed.
     pub(crate) totals: ByRole<Total>,
 }
 
-// Written out, so that the proof of whoever drops it sees one call, and not the drop of each table.
+// Written out, so that a proof about a function that drops this type sees one call, and not the drop of each table.
 impl Drop for Consumption {
     fn drop(self) {
         let Consumption {
@@ -54,7 +54,7 @@ impl Model for Consumption {
 }
 
 impl Consumption {
-    /// Nothing is consumed. Totals of the roles that have a limit are kept.
+    /// Returns a table in which nothing is consumed, with totals for the roles that have a limit.
     pub fn new(alloc: Global, limits: &QuotaLimits) -> Consumption
         ensures { result ≡ [] }
     {
@@ -63,7 +63,7 @@ impl Consumption {
         Consumption { used, totals }
     }
 
-    /// The same consumption, copied.
+    /// Returns a copy.
     pub fn copy(&self) -> Result<Consumption, AllocError>
         ensures { IfOk result (IsSame self.now) }
     {
@@ -72,7 +72,7 @@ impl Consumption {
         Ok(Consumption { used, totals })
     }
 
-    /// A role got a limit, or another one, or lost it: from now on a total of it is kept, or none.
+    /// Stores or drops the total of a role, after its limit was set or removed. Contracts see no change.
     pub fn follow(&mut self, limits: &QuotaLimits, role: &Role)
         ensures { self.new ≡ self.old }
     {
@@ -83,7 +83,7 @@ impl Consumption {
         }
     }
 
-    /// What a role consumes of a scalar together with the roles below it, in thousandths.
+    /// Returns what a role and the roles below it consume of a scalar, in thousandths.
     pub fn amount(&self, role: &Role, label: &str) -> u64
         ensures value { result ≡ used_at self.now role.now label.now }
         ensures of_rows { (rows : Rows) → IsConsumptionOf rows self.now → result ≡ consumption rows role.now label.now }
@@ -95,7 +95,7 @@ impl Consumption {
         }
     }
 
-    /// The same of a role whose limit stands at that place, where its total is looked for first.
+    /// Returns the same as `amount`. The total of the role is first looked for at `place`, the position of its limit.
     pub(crate) fn amount_at(&self, place: usize, role: &Role, label: &str) -> u64
         ensures { result ≡ used_at self.now role.now label.now }
     {
@@ -105,7 +105,7 @@ impl Consumption {
         }
     }
 
-    /// Raises what a role and the roles above it consume. An `Err` changes nothing.
+    /// Adds amounts to what a role and the roles above it consume. When out of memory, nothing changes.
     pub fn consume(&mut self, role: &Role, amounts: &Quantities) -> Result<(), AllocError>
         requires { (outer : Path) (label : Text) → IsRole outer → is_within outer role.now ≡ true
             → used_at self.old outer label + amount_of amounts.now label < 2 ^ 64 }
@@ -118,7 +118,7 @@ impl Consumption {
         Ok(())
     }
 
-    /// Lowers what a role and the roles above it consume. A role releases no more than it consumed itself.
+    /// Subtracts amounts from what a role and the roles above it consume. They can be at most what the role consumes itself.
     pub fn release(&mut self, role: &Role, amounts: &Quantities)
         requires { (label : Text) → amount_of amounts.now label ≤ used_by self.old role.now label }
         ensures { AreRaised self.new self.old role.now amounts.now }

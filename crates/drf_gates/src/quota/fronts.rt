@@ -1,4 +1,4 @@
-//! What is kept of a role and of the roles above it, found by the fronts of the role's text.
+//! Looking up a role and the roles above it, by prefixes of the role's text.
 ghost use Rattle.std.specs.Prelude.{◌≡◌, ◌≤◌, length, take};
 ghost use Rattle.std.specs.Option.{option_map, option_to_list};
 ghost use Rattle.std.specs.Cmp.Lexicographic.{lists_equiv, nat_list_eq_equiv};
@@ -12,7 +12,7 @@ use drf_hash::ByRole;
 use drf_role::Role;
 use indexmap::Equivalent;
 
-/// A front of a role's text, by which the role that it names is looked up. An empty one names none.
+/// A prefix of a role's text, which is used to look up the role that it names. The empty prefix names no role.
 #[derive(Clone, Copy, PartialEq, Eq, Hash)]
 pub(crate) struct Front<'a> {
     text: &'a str,
@@ -30,7 +30,7 @@ impl<'a> Equivalent<Role> for Front<'a> {
     }
 }
 
-/// Where the first parts of a role, so many, end in its text.
+/// Returns where the first `len` parts of a role end in its text.
 fn end_of(role: &Role, len: usize) -> usize
     requires { len ≤ length role.now }
     ensures { result ≡ end_of (take len role.now) }
@@ -43,7 +43,7 @@ fn end_of(role: &Role, len: usize) -> usize
     next.saturating_sub(1)
 }
 
-/// The first parts of a role, so many.
+/// Returns the first `len` parts of a role.
 pub(crate) fn first_parts(role: &Role, len: usize) -> Front<'_>
     requires { len ≤ length role.now }
     ensures { path_in result.text.now ≡ take len role.now }
@@ -54,7 +54,7 @@ pub(crate) fn first_parts(role: &Role, len: usize) -> Front<'_>
     }
 }
 
-/// The limit of the first parts of a role, so many, and its place, if they have one.
+/// Returns the limit of the role's first `len` parts, with its position and its role, if there is one.
 pub(crate) fn limit_above<'a>(
     limits: &'a ByRole<Quantities>,
     role: &Role,
@@ -64,7 +64,7 @@ pub(crate) fn limit_above<'a>(
     ensures { limits_at (take len role.now) (limit_rows limits.now.entries)
         ≡ option_to_list (option_map (λ f. limit_row (f.1.now, f.2.now)) result) }
 {
-    // The proof learns that no role has two limits by this call alone.
+    // By this call the prover learns that no role has two limits.
     let _ = limits.len();
     limits.get_full(first_parts(role, len))
 }

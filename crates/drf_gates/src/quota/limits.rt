@@ -1,4 +1,4 @@
-//! The limits of roles.
+//! `QuotaLimits`, the table of the limits of roles.
 ghost use Rattle.std.specs.Prelude.{◌≡◌, ◌≤◌, ◌↔◌, [], length, take, IsTrue, IfOk, IsOk, OnOk, OnErr};
 ghost use Rattle.std.specs.Option.{option_copied, option_map, option_to_list};
 ghost use Rattle.drf_role.specs.Path.{same_path};
@@ -16,7 +16,7 @@ use indexmap::IndexMap;
 use std::alloc::{AllocError, Global};
 use std::marker::Model;
 
-/// The limits of roles, in the order in which the roles got one. Contracts see the rows.
+/// The limits of roles, in the order in which the roles got a limit. Contracts see the rows.
 #[derive(Drop)]
 pub struct QuotaLimits {
     limits: ByRole<Quantities>,
@@ -37,11 +37,11 @@ impl Model for QuotaLimits {
 
     ghost view = { λ q. limit_rows q.limits.entries };
 
-    // The empty path, which is no role, has none.
+    // The empty path is not a role and has no limit.
     ghost invariant = { λ q. lookup (same_path []) q.limits.entries ≡ None };
 }
 
-/// Puts a limit behind the others, or in the place of the role's former one. An `Err` changes nothing.
+/// Sets the limit of a role: replaces the old one, or appends it. When out of memory, nothing changes.
 fn put_limit(
     limits: &mut ByRole<Quantities>,
     role: &Role,
@@ -55,7 +55,7 @@ fn put_limit(
     Ok(())
 }
 
-/// Limits, copied in their order.
+/// Returns a copy of the limits, in the same order.
 fn copy_limits(limits: &ByRole<Quantities>) -> Result<ByRole<Quantities>, AllocError>
     ensures { IfOk result (λ copy. copy.entries ≡ limits.now.entries) }
 {
@@ -71,7 +71,7 @@ fn copy_limits(limits: &ByRole<Quantities>) -> Result<ByRole<Quantities>, AllocE
 }
 
 impl QuotaLimits {
-    /// No limit. Roles are found by hashes that begin with a key.
+    /// Returns a table without limits. The hashes of roles begin with `key`.
     pub fn new(alloc: Global, key: HashKey) -> QuotaLimits
         ensures { result ≡ [] }
     {
@@ -80,7 +80,7 @@ impl QuotaLimits {
         }
     }
 
-    /// The same limits, copied in their order.
+    /// Returns a copy of the table, in the same order.
     pub fn copy(&self) -> Result<QuotaLimits, AllocError>
         ensures { IfOk result (λ copy. copy ≡ self.now) }
     {
@@ -88,33 +88,33 @@ impl QuotaLimits {
         Ok(QuotaLimits { limits })
     }
 
-    /// Tells a proof that the empty path, which is no role, has no limit. It does nothing.
+    /// Reminds the prover that the empty path has no limit. It does nothing.
     pub(crate) fn recall(&self)
         ensures { limits_at [] self.now ≡ [] }
     {
         let _ = &self.limits;
     }
 
-    /// How many roles have a limit.
+    /// Returns the number of roles with a limit.
     pub fn len(&self) -> usize
         ensures { result ≡ length self.now }
     {
         self.limits.len()
     }
 
-    /// Whether no role has a limit.
+    /// Returns whether no role has a limit.
     pub fn is_empty(&self) -> bool
         ensures { IsTrue result ↔ (self.now ≡ []) }
     {
         self.limits.is_empty()
     }
 
-    /// The roles with their limits.
+    /// Returns the roles with their limits.
     pub(crate) fn entries(&self) -> &ByRole<Quantities> {
         &self.limits
     }
 
-    /// The limits as rows, copied.
+    /// Returns the limits as rows. It fails only when out of memory.
     pub fn rows(&self) -> Result<Table<LimitRow>, AllocError>
         ensures { IfOk result (λ rows. rows ≡ self.now) }
     {
@@ -128,14 +128,14 @@ impl QuotaLimits {
         Ok(Table::from_vec(rows))
     }
 
-    /// The limit of a role, if it has one.
+    /// Returns the limit of a role, if it has one.
     pub fn get(&self, role: &Role) -> Option<&Quantities>
         ensures { option_copied result ≡ limit_of self.now role.now }
     {
         self.limits.get(role)
     }
 
-    /// The limit of the first parts of a role, so many, and its place among all, if they have one.
+    /// Returns the limit of the role's first `len` parts, with its position and its role, if there is one.
     pub(crate) fn above(&self, role: &Role, len: usize) -> Option<(usize, &Role, &Quantities)>
         requires { len ≤ length role.now }
         ensures { limits_at (take len role.now) self.now ≡ option_to_list (option_map (λ f. limit_row (f.1.now, f.2.now)) result) }
@@ -143,8 +143,8 @@ impl QuotaLimits {
         limit_above(&self.limits, role, len)
     }
 
-    /// Gives a role a limit in the place of the one that it has, if any. A limit that names nothing takes the role's limit
-    /// away, for which no memory is needed. An `Err` changes nothing.
+    /// Sets the limit of a role. A limit without scalars removes the role's limit, which never allocates. When out of memory, nothing
+    /// changes.
     pub fn set(&mut self, role: &Role, limit: Quantities) -> Result<(), AllocError>
         ensures ok { OnOk result (self.new ≡ limits_with self.old role.now limit) }
         ensures err { OnErr result (self.new ≡ self.old) }

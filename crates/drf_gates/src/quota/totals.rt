@@ -1,5 +1,5 @@
-//! What roles with a limit consume together with the roles below them, kept so that a question of it need not go over all roles.
-//! Where memory for it ends, a total is lost, and the question goes over all.
+//! Stored totals: what each role with a limit consumes together with the roles below it. Without a stored total, the sum goes over all
+//! roles that consume something. If memory runs out, a total becomes unknown until it is computed again.
 ghost use Rattle.std.specs.Prelude.{◌≡◌, ◌+◌, ◌≤◌, List, IsTrue, IfSome, length, take};
 ghost use Rattle.drf_role.specs.Text.{Text};
 ghost use Rattle.drf_bundle.specs.Quantities.{amount_of};
@@ -16,14 +16,14 @@ use drf_rows::Limits;
 use indexmap::IndexMap;
 use std::alloc::{AllocError, Global};
 
-/// What a role consumes together with the roles below it, unless it was lost.
+/// What a role consumes together with the roles below it. If `is_known` is not set, the amounts are wrong.
 #[derive(Drop)]
 pub(crate) struct Total {
     is_known: bool,
     amounts: Quantities,
 }
 
-/// Forgets labels that have come to 0, where another label is about to be named.
+/// Drops the labels with the amount 0 if this label is new.
 fn make_room(sum: &mut Quantities, label: &str)
     ensures { (other : Text) → amount_of sum.new other ≡ amount_of sum.old other }
 {
@@ -33,7 +33,7 @@ fn make_room(sum: &mut Quantities, label: &str)
     }
 }
 
-/// Adds to the amount of a label. Whether it could be done.
+/// Adds to the amount of a label. Returns whether it succeeded; it can fail when out of memory.
 fn add_entry(sum: &mut Quantities, more: &Entry) -> bool
     ensures { IsTrue result → (label : Text)
         → amount_of sum.new label ≡ amount_of sum.old label + amount_of (one_entry more.now.label more.now.amount) label }
@@ -46,7 +46,7 @@ fn add_entry(sum: &mut Quantities, more: &Entry) -> bool
     sum.add_to(&more.label, thousandths)
 }
 
-/// Adds amounts, label by label. Whether it could be done.
+/// Adds amounts, label by label. Returns whether it succeeded; otherwise some labels can be added already.
 fn add(sum: &mut Quantities, more: &Quantities) -> bool
     ensures { IsTrue result → (label : Text) → amount_of sum.new label ≡ amount_of sum.old label + amount_of more.now label }
 {
@@ -58,7 +58,7 @@ fn add(sum: &mut Quantities, more: &Quantities) -> bool
     true
 }
 
-/// Adds what a role consumes to the total of the outer one, if it counts there. Whether it could be done.
+/// Adds the amounts to the sum if `role` is `outer` or below it. Returns whether it succeeded.
 fn add_within(sum: &mut Quantities, outer: &Role, role: &Role, amounts: &Quantities) -> bool
     ensures { IsTrue result → (label : Text)
         → amount_of sum.new label ≡ amount_of sum.old label + counted (is_within outer.now) role.now amounts.now label }
@@ -66,7 +66,7 @@ fn add_within(sum: &mut Quantities, outer: &Role, role: &Role, amounts: &Quantit
     !role.is_within(outer) || add(sum, amounts)
 }
 
-/// Takes so much of a label away, if there is as much. Whether it could be done. It needs no memory.
+/// Subtracts from the amount of a label, if that is enough. Returns whether it succeeded. It never allocates.
 fn take_entry(sum: &mut Quantities, label: &Label, thousandths: u64) -> bool
     ensures { IsTrue result → (other : Text)
         → amount_of sum.new other + amount_of (one_entry label.now thousandths) other ≡ amount_of sum.old other }
@@ -74,7 +74,7 @@ fn take_entry(sum: &mut Quantities, label: &Label, thousandths: u64) -> bool
     sum.take_from(label, thousandths)
 }
 
-/// Takes amounts away, label by label. Whether it could be done. It needs no memory.
+/// Subtracts amounts, label by label. Returns whether it succeeded; otherwise some labels can be lowered already. It never allocates.
 fn take(sum: &mut Quantities, less: &Quantities) -> bool
     ensures { IsTrue result → (label : Text) → amount_of sum.new label + amount_of less.now label ≡ amount_of sum.old label }
 {
@@ -86,7 +86,7 @@ fn take(sum: &mut Quantities, less: &Quantities) -> bool
     true
 }
 
-/// So much more is consumed.
+/// Adds amounts to a total. If that fails, the total becomes unknown.
 fn raise_total(total: &mut Total, amounts: &Quantities)
     ensures known { IsTrue total.new.is_known → IsTrue total.old.is_known }
     ensures sums { IsTrue total.new.is_known → (label : Text)
@@ -97,7 +97,7 @@ fn raise_total(total: &mut Total, amounts: &Quantities)
     }
 }
 
-/// So much less is consumed.
+/// Subtracts amounts from a total. If that fails, the total becomes unknown.
 fn lower_total(total: &mut Total, amounts: &Quantities)
     ensures known { IsTrue total.new.is_known → IsTrue total.old.is_known }
     ensures sums { IsTrue total.new.is_known → (label : Text)
@@ -108,7 +108,7 @@ fn lower_total(total: &mut Total, amounts: &Quantities)
     }
 }
 
-/// So much less is consumed of a scalar.
+/// Subtracts from the amount of one label of a total. If that fails, the total becomes unknown.
 fn reduce_total(total: &mut Total, label: &Label, thousandths: u64)
     ensures known { IsTrue total.new.is_known → IsTrue total.old.is_known }
     ensures sums { IsTrue total.new.is_known → (other : Text)
@@ -119,7 +119,7 @@ fn reduce_total(total: &mut Total, label: &Label, thousandths: u64)
     }
 }
 
-/// A role consumes so much more, and with it the role of its first parts, so many, whose total is raised.
+/// Adds amounts to the total of the role's first `len` parts, if it is stored.
 fn raise_front(totals: &mut ByRole<Total>, role: &Role, len: usize, amounts: &Quantities)
     requires { len ≤ length role.now }
     ensures { (old new : List Usage) → AreRaised old new role.now amounts.now
@@ -131,7 +131,7 @@ fn raise_front(totals: &mut ByRole<Total>, role: &Role, len: usize, amounts: &Qu
     raise_total(total, amounts);
 }
 
-/// A role consumes so much less, and with it the role of its first parts, so many, whose total is lowered.
+/// Subtracts amounts from the total of the role's first `len` parts, if it is stored.
 fn lower_front(totals: &mut ByRole<Total>, role: &Role, len: usize, amounts: &Quantities)
     requires { len ≤ length role.now }
     ensures { (old new : List Usage) → AreRaised new old role.now amounts.now
@@ -143,7 +143,7 @@ fn lower_front(totals: &mut ByRole<Total>, role: &Role, len: usize, amounts: &Qu
     lower_total(total, amounts);
 }
 
-/// A role consumes so much less of a scalar, and with it the role of its first parts, so many, whose total is lowered.
+/// Subtracts from the amount of one label of the total of the role's first `len` parts, if it is stored.
 fn reduce_front(
     totals: &mut ByRole<Total>,
     role: &Role,
@@ -161,7 +161,7 @@ fn reduce_front(
     reduce_total(total, label, thousandths);
 }
 
-/// A role consumes so much more, and with it the roles above it.
+/// Adds amounts to the stored totals of a role and of the roles above it.
 pub(crate) fn raise_totals(totals: &mut ByRole<Total>, role: &Role, amounts: &Quantities)
     ensures { (old new : List Usage) → AreRaised old new role.now amounts.now → AreExact old totals.old.entries → AreExact new totals.new.entries }
 {
@@ -171,7 +171,7 @@ pub(crate) fn raise_totals(totals: &mut ByRole<Total>, role: &Role, amounts: &Qu
     }
 }
 
-/// A role consumes so much less, and with it the roles above it. It needs no memory.
+/// Subtracts amounts from the stored totals of a role and of the roles above it. It never allocates.
 pub(crate) fn lower_totals(totals: &mut ByRole<Total>, role: &Role, amounts: &Quantities)
     ensures { (old new : List Usage) → AreRaised new old role.now amounts.now → AreExact old totals.old.entries → AreExact new totals.new.entries }
 {
@@ -181,7 +181,7 @@ pub(crate) fn lower_totals(totals: &mut ByRole<Total>, role: &Role, amounts: &Qu
     }
 }
 
-/// A role consumes so much less of a scalar, and with it the roles above it. It needs no memory.
+/// Subtracts from the amount of one label in the stored totals of a role and of the roles above it. It never allocates.
 pub(crate) fn reduce_totals(
     totals: &mut ByRole<Total>,
     role: &Role,
@@ -197,7 +197,7 @@ pub(crate) fn reduce_totals(
     }
 }
 
-/// What a role consumes of a scalar together with the roles below it, if that is kept.
+/// Returns what a role and the roles below it consume of a scalar, in thousandths, if the total is stored and known.
 pub(crate) fn kept(totals: &ByRole<Total>, role: &Role, label: &str) -> Option<u64>
     ensures { IfSome result (λ amount. (used : List Usage) → AreExact used totals.now.entries → amount ≡ used_at used role.now label.now) }
 {
@@ -209,7 +209,7 @@ pub(crate) fn kept(totals: &ByRole<Total>, role: &Role, label: &str) -> Option<u
     Some(total.amounts.get(label))
 }
 
-/// The same, if the total of the role stands at that place.
+/// Returns the same as `kept`, if the total of the role is at this position.
 pub(crate) fn kept_at(totals: &ByRole<Total>, place: usize, role: &Role, label: &str) -> Option<u64>
     ensures { IfSome result (λ amount. (used : List Usage) → AreExact used totals.now.entries → amount ≡ used_at used role.now label.now) }
 {
@@ -221,7 +221,7 @@ pub(crate) fn kept_at(totals: &ByRole<Total>, place: usize, role: &Role, label: 
     Some(total.amounts.get(label))
 }
 
-/// Whether the total of a role is known.
+/// Returns whether the total of a role is stored and known.
 fn is_kept(totals: &ByRole<Total>, role: &Role) -> bool {
     match totals.get(role) {
         Some(total) => total.is_known,
@@ -229,14 +229,14 @@ fn is_kept(totals: &ByRole<Total>, role: &Role) -> bool {
     }
 }
 
-/// Keeps the totals of other roles alone.
+/// Removes the total of a role.
 pub(crate) fn drop_total(totals: &mut ByRole<Total>, role: &Role)
     ensures { (used : List Usage) → AreExact used totals.old.entries → AreExact used totals.new.entries }
 {
     totals.swap_remove(role);
 }
 
-/// Adds to a sum what a role consumes together with the roles below it. Whether it could be done.
+/// Adds to a sum what a role and the roles below it consume. Returns whether it succeeded.
 fn add_used(sum: &mut Quantities, outer: &Role, used: &ByRole<Quantities>) -> bool
     ensures { IsTrue result → (label : Text)
         → amount_of sum.new label ≡ amount_of sum.old label + used_at used.now.entries outer.now label }
@@ -249,8 +249,7 @@ fn add_used(sum: &mut Quantities, outer: &Role, used: &ByRole<Quantities>) -> bo
     true
 }
 
-/// Puts the total of a role in the place of its former one, or behind those that are there, unless these are as many as roles may have
-/// limits.
+/// Stores the total of a role: replaces the old one, or appends it. No more totals are stored than roles can have limits.
 fn put_total(totals: &mut ByRole<Total>, role: &Role, total: Total) -> Result<(), AllocError>
     ensures { (used : List Usage) → IsExact used role.now total → AreExact used totals.old.entries → AreExact used totals.new.entries }
 {
@@ -260,7 +259,7 @@ fn put_total(totals: &mut ByRole<Total>, role: &Role, total: Total) -> Result<()
     Ok(())
 }
 
-/// Keeps the total of a role from now on, as far as there is memory.
+/// Stores the total of a role, unless it is stored and known already. When out of memory, it can be left out, or stored as unknown.
 pub(crate) fn keep_total(totals: &mut ByRole<Total>, used: &ByRole<Quantities>, role: &Role)
     ensures { AreExact used.now.entries totals.old.entries → AreExact used.now.entries totals.new.entries }
 {
@@ -272,7 +271,7 @@ pub(crate) fn keep_total(totals: &mut ByRole<Total>, used: &ByRole<Quantities>, 
     let _ = put_total(totals, role, Total { is_known, amounts });
 }
 
-/// The totals of the roles that have a limit, as far as there is memory.
+/// Returns the totals of the roles that have a limit. When out of memory, some are left out or unknown.
 pub(crate) fn totals_of(limits: &QuotaLimits, used: &ByRole<Quantities>) -> ByRole<Total>
     ensures { AreExact used.now.entries result.entries }
 {
@@ -283,7 +282,7 @@ pub(crate) fn totals_of(limits: &QuotaLimits, used: &ByRole<Quantities>) -> ByRo
     totals
 }
 
-/// Puts a copy of a total behind those that are there, if there is memory.
+/// Appends a copy of a total. When out of memory, it is left out.
 fn copy_total(copy: &mut ByRole<Total>, role: &Role, total: &Total)
     ensures { (used : List Usage) → IsExact used role.now total.now → AreExact used copy.old.entries → AreExact used copy.new.entries }
 {
@@ -297,7 +296,7 @@ fn copy_total(copy: &mut ByRole<Total>, role: &Role, total: &Total)
     let _ = put_total(copy, role, copied);
 }
 
-/// The totals, copied as far as there is memory.
+/// Returns copies of the totals. When out of memory, some are left out.
 pub(crate) fn copy_totals(totals: &ByRole<Total>, alloc: Global) -> ByRole<Total>
     ensures { (used : List Usage) → AreExact used totals.now.entries → AreExact used result.entries }
 {

@@ -1,4 +1,4 @@
-//! What roles consume, each by itself.
+//! What each role consumes itself, without the roles below it.
 ghost use Rattle.std.specs.Prelude.{◌≡◌, ◌+◌, ◌^◌, ◌<◌, ◌≤◌, ◌↔◌, Bool, false, [], IsTrue, IfOk, OnOk, OnErr};
 ghost use Rattle.drf_role.specs.Text.{Text};
 ghost use Rattle.drf_role.specs.Path.{Path};
@@ -12,7 +12,7 @@ use drf_role::{Label, Role};
 use indexmap::IndexMap;
 use std::alloc::AllocError;
 
-/// How much of a scalar a role adds to what the outer one consumes, in thousandths.
+/// Returns the amount of a scalar, in thousandths, if `role` is `outer` or below it, and 0 otherwise.
 fn counted(outer: &Role, role: &Role, amounts: &Quantities, label: &str) -> u64
     ensures { result ≡ counted (is_within outer.now) role.now amounts.now label.now }
 {
@@ -23,7 +23,7 @@ fn counted(outer: &Role, role: &Role, amounts: &Quantities, label: &str) -> u64
     }
 }
 
-/// What a role consumes of a scalar together with the roles below it, in thousandths.
+/// Returns what a role and the roles below it consume of a scalar, in thousandths.
 pub(crate) fn used_at(used: &ByRole<Quantities>, outer: &Role, label: &str) -> u64
     requires { used_at used.now.entries outer.now label.now < 2 ^ 64 }
     ensures { result ≡ used_at used.now.entries outer.now label.now }
@@ -35,7 +35,7 @@ pub(crate) fn used_at(used: &ByRole<Quantities>, outer: &Role, label: &str) -> u
     sum
 }
 
-/// What a role consumes itself, with so much more.
+/// Returns what a role consumes itself, plus these amounts.
 fn row_with(
     used: &ByRole<Quantities>,
     role: &Role,
@@ -51,7 +51,7 @@ fn row_with(
     }
 }
 
-/// Adds to the row of a role, if that names all labels. Whether it could be done. It needs no memory.
+/// Adds amounts to the row of a role, if the row has all their labels. Returns whether it did. It never allocates.
 fn raise_row(row: &mut Quantities, amounts: &Quantities) -> bool
     requires { (label : Text) → amount_of row.old label + amount_of amounts.now label < 2 ^ 64 }
     ensures done { IsTrue result → (label : Text) → amount_of row.new label ≡ amount_of row.old label + amount_of amounts.now label }
@@ -66,7 +66,7 @@ fn raise_row(row: &mut Quantities, amounts: &Quantities) -> bool
     true
 }
 
-/// Whether one of the amounts is above 0.
+/// Returns whether one of the amounts is greater than 0.
 fn is_something(amounts: &Quantities) -> bool
     ensures some { IsTrue result → IsSomething amounts.now }
     ensures none { result ≡ false → (label : Text) → amount_of amounts.now label ≡ 0 }
@@ -77,7 +77,7 @@ fn is_something(amounts: &Quantities) -> bool
         .any(|entry| entry.amount.thousandths() > 0)
 }
 
-/// Adds to what a role consumes, if it consumes something of each label. Whether it could be done. It needs no memory.
+/// Adds amounts to what a role consumes, if its row has all their labels. Returns whether it did. It never allocates.
 fn raise_there(used: &mut ByRole<Quantities>, role: &Role, amounts: &Quantities) -> bool
     requires { (label : Text) → used_by used.old.entries role.now label + amount_of amounts.now label < 2 ^ 64 }
     ensures done { IsTrue result → AreRaised used.old.entries used.new.entries role.now amounts.now }
@@ -90,7 +90,7 @@ fn raise_there(used: &mut ByRole<Quantities>, role: &Role, amounts: &Quantities)
     raise_row(row, amounts)
 }
 
-/// Adds to what a role consumes. An `Err` changes nothing.
+/// Adds amounts to what a role consumes. When out of memory, nothing changes.
 pub(crate) fn raise(
     used: &mut ByRole<Quantities>,
     role: &Role,
@@ -110,7 +110,7 @@ pub(crate) fn raise(
     Ok(())
 }
 
-/// Forgets the labels that came to 0. Whether nothing is left.
+/// Drops the labels with the amount 0. Returns whether the row is empty then.
 fn prune(row: &mut Quantities) -> bool
     ensures same { (label : Text) → amount_of row.new label ≡ amount_of row.old label }
     ensures empty { IsTrue result ↔ (row.new ≡ []) }
@@ -121,7 +121,7 @@ fn prune(row: &mut Quantities) -> bool
     row.entries().is_empty()
 }
 
-/// Takes amounts away. Whether nothing is left.
+/// Subtracts amounts. Returns whether the row is empty then.
 fn lower_row(row: &mut Quantities, amounts: &Quantities) -> bool
     requires { (label : Text) → amount_of amounts.now label ≤ amount_of row.old label }
     ensures left { (label : Text) → amount_of row.new label + amount_of amounts.now label ≡ amount_of row.old label }
@@ -133,7 +133,7 @@ fn lower_row(row: &mut Quantities, amounts: &Quantities) -> bool
     prune(row)
 }
 
-/// Takes so much of a label away. Whether nothing is left.
+/// Subtracts from the amount of one label. Returns whether the row is empty then.
 fn reduce_row(row: &mut Quantities, label: &Label, thousandths: u64) -> bool
     requires { thousandths ≤ amount_of row.old label.now }
     ensures left { (other : Text) → amount_of row.new other + amount_of (one_entry label.now thousandths) other ≡ amount_of row.old other }
@@ -144,7 +144,7 @@ fn reduce_row(row: &mut Quantities, label: &Label, thousandths: u64) -> bool
     prune(row)
 }
 
-/// Takes away from what a role consumes. A role that consumes nothing more leaves. It needs no memory.
+/// Subtracts amounts from what a role consumes. A role that then consumes nothing is removed. It never allocates.
 pub(crate) fn lower(used: &mut ByRole<Quantities>, role: &Role, amounts: &Quantities)
     requires { (label : Text) → amount_of amounts.now label ≤ used_by used.old.entries role.now label }
     ensures lowered { AreRaised used.new.entries used.old.entries role.now amounts.now }
@@ -158,7 +158,7 @@ pub(crate) fn lower(used: &mut ByRole<Quantities>, role: &Role, amounts: &Quanti
     }
 }
 
-/// Takes so much of a scalar away from what a role consumes. A role that consumes nothing more leaves. It needs no memory.
+/// Subtracts from what a role consumes of one scalar. A role that then consumes nothing is removed. It never allocates.
 pub(crate) fn reduce(used: &mut ByRole<Quantities>, role: &Role, label: &Label, thousandths: u64)
     requires { thousandths ≤ used_by used.old.entries role.now label.now }
     ensures lowered { AreRaised used.new.entries used.old.entries role.now (one_entry label.now thousandths) }
@@ -172,7 +172,7 @@ pub(crate) fn reduce(used: &mut ByRole<Quantities>, role: &Role, label: &Label, 
     }
 }
 
-/// What each role consumes, copied.
+/// Returns a copy of what each role consumes.
 pub(crate) fn copy_used(used: &ByRole<Quantities>) -> Result<ByRole<Quantities>, AllocError>
     requires { IsBounded used.now.entries }
     ensures same { IfOk result (λ copy. (test : Path → Bool) (label : Text)

@@ -1,4 +1,4 @@
-//! What changes a client whose row is known, so that it is looked up once.
+//! Changes of a client whose slot is known. The caller looks the slot up once.
 ghost use Rattle.std.specs.Prelude.{◌≡◌, OnErr, OnOk, true};
 ghost use Rattle.drf_hash.specs.Slots.{slot_of};
 ghost use Rattle.drf_role.specs.Path.{same_path};
@@ -13,7 +13,7 @@ use drf_role::ClientPath;
 use std::alloc::AllocError;
 
 impl Ledger {
-    /// Says whether a client is to be served.
+    /// Activates or suppresses the client in a slot.
     pub(crate) fn set_active_at(&mut self, row: Option<usize>, path: &ClientPath, active: bool)
         requires row { row ≡ slot_of same_path path_of path.now (rows_in self.old) }
         requires known { has_client (ledger_content self.old) path.now ≡ true }
@@ -24,7 +24,7 @@ impl Ledger {
         }
     }
 
-    /// A client got so many more offers, of these quantities together.
+    /// Adds these quantities and a number of offers to the client in a slot. When out of memory, nothing changes.
     pub(crate) fn charge_at(
         &mut self,
         row: Option<usize>,
@@ -44,7 +44,7 @@ impl Ledger {
         Ok(())
     }
 
-    /// Takes a charge of one offer back.
+    /// Undoes a charge of one offer to the client in a slot.
     pub(crate) fn undo_charge_at(
         &mut self,
         row: Option<usize>,
@@ -61,7 +61,7 @@ impl Ledger {
         }
     }
 
-    /// A client gives these quantities back.
+    /// Takes these quantities from the client in a slot. Its count of offers stays the same.
     pub(crate) fn refund_at(
         &mut self,
         row: Option<usize>,

@@ -1,4 +1,4 @@
--- What comes of one line more.
+-- The output after one more line.
 use Rattle.std.proofs.Common.{◌≡◌, ℕ, ◌+◌, ◌≤◌, Bool, List, [], ◌∷◌, ◌++◌, length, take, drop, Option, Result, Ok, Err, refl, sym, ap, ◌∙◌, subst, append_assoc, append-nil, take-append-drop, arith}
 use Rattle.std.specs.Io.KnownBytes.{Appends}
 use Rattle.std.proofs.KnownBytes.{Appends-nil}
@@ -54,7 +54,7 @@ part-other write number line other w0 w1 e0 e1 same short judged = record {
   told_front = judged.told_front;
 }
 
--- ---- one line more
+-- ---- one more line
 
 told-more : (number : ℕ) (lines : List (List ℕ)) (line text more : List ℕ) → AreTold number lines text
     → IsToldOf (number + length lines) line (meaning_of line) more → AreTold number (lines ++ line ∷ []) (text ++ more)
@@ -97,7 +97,7 @@ judged-more write lines line written told more faults next judged is_told count 
       count = let sum = count-more lines line in let before = judged.count in omega arith;
     }
 
--- of the line at hand fronts were written and told, before which all stands that comes of the lines before it
+-- prefixes of the output for the open line were written, after the complete output for the lines before it
 pub part-more : (write : Bool) (lines : List (List ℕ)) (line written told more : List ℕ) (faults : ℕ) (wrote tells : ℕ)
     → AreJudged write lines written told faults
     → IsToldOf (length lines + 1) line (meaning_of line) more
@@ -112,7 +112,7 @@ part-more write lines line written told more faults wrote tells judged is_told =
       told_front = (drop tells more, ap (λ l. told ++ l) (sym (take-append-drop tells more)) ∙ sym (append_assoc told (take tells more) (drop tells more)));
     }
 
--- ---- what comes of the first of some lines comes first
+-- ---- the output for the first of some lines is a prefix
 
 front-behind : (a b c : List ℕ) → IsFrontOf a b → IsFrontOf b c → IsFrontOf a c
 front-behind a b c one other = (one.0 ++ other.0, other.1 ∙ ap (λ l. l ++ other.0) one.1 ∙ append_assoc a one.0 other.0)
@@ -144,7 +144,7 @@ all-of-first write front more written told written_then told_then faults judged 
       tellings_first = front-behind tells.0 told told_then tells.1.1 told_grown;
     }
 
--- ---- what is done with a line
+-- ---- the effect of a line
 
 module _ (write : Bool) (number : ℕ) (line : List ℕ) where
   module _ (event : Event) (means : meaning_of line ≡ Ok event) where

@@ -1,4 +1,4 @@
--- Of a line as much is kept as its meaning asks for.
+-- As much of a line is stored as is needed to find its meaning.
 use Rattle.std.proofs.Common.{◌≡◌, ℕ, zero, suc, ◌≤◌, ◌<◌, List, [], ◌∷◌, ◌++◌, length, take, Err, ⊎_elim, refl, sym, ap, ◌∙◌, arith}
 use Rattle.std.proofs.lemmas.Bool.{lt-ltb, cases_lt}
 use Rattle.std.proofs.lemmas.List.{length-append, length-take-le, take_all}
@@ -35,7 +35,7 @@ meaning-kept line = (kept_or_whole line).0
 pub length-kept : (line : List ℕ) → length (kept_of line) ≤ length line
 length-kept line = (kept_or_whole line).1
 
--- what is kept of a line, and goes on, means what the line means that goes on
+-- the stored bytes of a line, continued by more bytes, mean the same as the whole line continued by them
 pub meaning-goes_on : (line more : List ℕ) → meaning_of (kept_of line ++ more) ≡ meaning_of (line ++ more)
 meaning-goes_on line more =
     sym (meaning-kept (kept_of line ++ more)) ∙ ap meaning_of (kept-append line more) ∙ meaning-kept (line ++ more)

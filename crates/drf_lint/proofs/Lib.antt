@@ -1,3 +1,4 @@
+-- Lemmas for the contracts of the lint.
 pub mod Kept
 pub mod Judges
 pub mod Pieces

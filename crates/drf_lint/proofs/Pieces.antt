@@ -1,4 +1,4 @@
--- A lint after a piece of its input.
+-- The state of a lint after a chunk of its input.
 use Rattle.std.proofs.Common.{◌≡◌, ℕ, ◌+◌, ◌≤◌, ◌<◌, Bool, true, false, ◌||◌, OnOk, IfErr, List, [], ◌∷◌, ◌++◌, length, get_or, take, drop, Option, Result, Ok, Err, refl, sym, ap, ◌∙◌, subst, append_assoc, append-nil, suc, add-one, take-append-drop, arith}
 use Rattle.std.proofs.Math.Seq.{drop-cons}
 use Rattle.std.proofs.KnownBytes.{Appends-nil, Appends-trans}
@@ -18,13 +18,13 @@ use Rattle.drf_lint.specs.Lint.{Lint, HasJudged, HasJudgedInPart, HasJudgedNothi
 use Rattle.drf_lint.proofs.Kept.{kept-append, length-goes_on, length-kept, meaning-goes_on, meaning-kept}
 use Rattle.drf_lint.proofs.Judges.{told-other, judged-other, part-other, judged-more, part-more}
 
--- what `line_law` tells
+-- the contract of `line_law`
 pub record Laws : Type 0 where
   pub feed : LineFeedEndsLine
   pub within : LineGoesOn
   pub stay : EndedLinesStay
 
--- ---- the line at hand ends
+-- ---- the open line ends
 
 module _ (read : List ℕ) (lint : Lint) (before told_then : List ℕ) (state : IsLintedTo read lint before told_then) (end : List ℕ) where
   abbrev line : List ℕ
@@ -33,7 +33,7 @@ module _ (read : List ℕ) (lint : Lint) (before told_then : List ℕ) (state : 
   number : lint.lines + 1 ≡ length (ended_lines_of read) + 1
   number = ap (λ n. n + 1) state.lines
 
-  -- the bytes that are kept, and the line, mean the same
+  -- the stored bytes and the line mean the same
   means : meaning_of (lint.front ++ end) ≡ meaning_of line
   means = ap (λ l. meaning_of (l ++ end)) state.front ∙ meaning-goes_on (open_line_of read) end
 
@@ -62,7 +62,7 @@ module _ (read : List ℕ) (lint : Lint) (before told_then : List ℕ) (state : 
         (sym means)
         (part-more lint.write (ended_lines_of read) line before told_then part.told lint.faults part.front.0 part.told_front.0 state.judged is_told)
 
--- ---- a lint goes on
+-- ---- a lint continues
 
 moved : (read other before before_other told told_other : List ℕ) (lint : Lint)
     → read ≡ other → before ≡ before_other → told ≡ told_other → IsLintedTo read lint before told → IsLintedTo other lint before_other told_other
@@ -103,7 +103,7 @@ taken-then a b old mid new w0 w1 w2 e0 e1 e2 one other = record {
       (other.goes_on (read ++ a) (before ++ one.written) (told ++ one.told) (one.goes_on read before told state));
 }
 
--- by a line
+-- after a line
 pub taken-line : (laws : Laws) (old : Lint) (end : List ℕ) (new : Lint) (w0 w1 e0 e1 : Option (List ℕ)) → IsWithinLine end
     → old.faults ≤ old.lines → HasEnded old end new w0 w1 e0 e1 → HasTaken (end ++ 10 ∷ []) old new w0 w1 e0 e1
 taken-line laws old end new w0 w1 e0 e1 within counted ends =
@@ -132,7 +132,7 @@ taken-line laws old end new w0 w1 e0 e1 within counted ends =
     one_at_most (Ok event) faults is = omega arith
     one_at_most (Err fault) faults is = omega arith
 
--- by bytes of the line at hand
+-- after bytes of the open line
 pub taken-rest : (laws : Laws) (old : Lint) (rest : List ℕ) (new : Lint) (w e : Option (List ℕ)) → IsWithinLine rest
     → old.faults ≤ old.lines → new ≡ record old { front = kept_of (old.front ++ rest) } → HasTaken rest old new w w e e
 taken-rest laws old rest new w e within counted is = record {
@@ -178,7 +178,7 @@ judged-nil write lines written told faults judged =
     subst (λ w. AreJudged write lines w (told ++ []) faults) (sym (append-nil written))
     (subst (λ t. AreJudged write lines written t faults) (sym (append-nil told)) judged)
 
--- before a line, or bytes of one, came
+-- before a line, or before bytes of one
 pub stopped-memory : (laws : Laws) (piece : List ℕ) (old : Lint) (w0 w1 e0 e1 : Option (List ℕ))
     → HasJudgedNothing w0 w1 e0 e1 → HasStoppedIn Memory piece old w0 w1 e0 e1
 stopped-memory laws piece old w0 w1 e0 e1 none = record {
@@ -225,7 +225,7 @@ stopped-line laws Read old end more w0 w1 e0 e1 within stop = absurd stop
 stopped-line laws Write old end more w0 w1 e0 e1 within stop = stopped-write laws old end more w0 w1 e0 e1 within stop
 stopped-line laws Memory old end more w0 w1 e0 e1 within stop = stopped-memory laws _ old w0 w1 e0 e1 stop
 
--- ---- a piece, of which a front was taken
+-- ---- a chunk of which a prefix was taken
 
 pub record TookFront (old now : Lint) (piece rest : List ℕ) (w0 w e0 e : Option (List ℕ)) : Type 0 where
   pub passed : List ℕ
@@ -273,7 +273,7 @@ module _ (laws : Laws) (old mid : Lint) (piece rest : List ℕ) (w0 w w1 e0 e e1
       subst (λ p. HasTaken p old new w0 w e0 e) (sym took.whole)
       (taken-then took.passed rest old mid new w0 w w e0 e e took.taken (taken-rest laws mid rest new w e within took.taken.counted is))
 
--- ---- of a line as much is judged as is kept
+-- ---- judging the stored bytes of a line is judging the line
 
 pub ended-kept : (old : Lint) (end : List ℕ) (new : Lint) (faults : ℕ) (w0 w1 e0 e1 : Option (List ℕ))
     → HasJudged old.write (old.lines + 1) (kept_of (old.front ++ end)) faults w0 w1 e0 e1
@@ -313,7 +313,7 @@ close-stopped old anything w0 w1 e0 e1 (Ok done) stop = tt
 close-stopped old anything w0 w1 e0 e1 (Err fault) stop =
     (anything, subst (λ l. HasStoppedAt fault old.write (old.lines + 1) l w0 w1 e0 e1) (append-nil old.front) stop)
 
--- ---- neither of two has failed
+-- ---- neither of two writers has failed
 
 pub or_false : (a b : Bool) → (a || b) ≡ false → (a ≡ false) × (b ≡ false)
 or_false false false none = (refl, refl)

@@ -1,4 +1,4 @@
--- What a lint has read, written and told so far, and how it ends.
+-- What a lint has read and written so far, and its result.
 use Rattle.std.proofs.Common.{◌≡◌, ℕ, ◌+◌, ◌-◌, ◌^◌, ◌≤◌, ◌<◌, Bool, true, false, List, [], ◌∷◌, ◌++◌, length, take, drop, Option, Ok, Err, ⊎_elim, inl, inr, refl, sym, ap, ◌∙◌, subst, append_assoc, append-nil, take-append-drop, if◌then◌else◌, ◌==◌, arith}
 use Rattle.std.specs.Io.KnownBytes.{Appends, Consumes, Keeps, IsAtEnd}
 use Rattle.std.proofs.KnownBytes.{Appends-nil, Appends-trans, Consumes-nil, Consumes-trans, Consumes-kept}
@@ -45,7 +45,7 @@ lines_open read some =
 few_lines : (all lines left : List (List ℕ)) → all ≡ lines ++ left → length lines ≤ length all
 few_lines all lines left whole = let same = ap length whole in let sum = length-append lines left in omega arith
 
--- what stands between reader and writers when a lint reads again
+-- the state of the reader and the writers before a lint reads again
 pub record IsLinting (write : Bool) (u0 u w0 w e0 e : Option (List ℕ)) (lint : Lint) : Type 0 where
   pub read : List ℕ
   pub written : List ℕ
@@ -90,7 +90,7 @@ module _ (laws : Laws) (write : Bool) (u0 u u1 w0 w w1 e0 e e1 : Option (List �
   judged_so_far =
       subst (λ wr. AreJudged wr (ended_lines_of linting.read) linting.written linting.told lint.faults) linting.write_is linting.state.judged
 
-  -- all is out that comes of the lines that had ended in a front of what was read
+  -- the output is complete for the lines that had ended in a prefix of what was read
   all_of_front : (count : ℕ) (written told : List ℕ) → IsFrontOf linting.written written → IsFrontOf linting.told told
       → HasAllOf write (ended_lines_of (take count linting.read)) written told
   all_of_front count written told grown told_grown =
@@ -110,7 +110,7 @@ module _ (laws : Laws) (write : Bool) (u0 u u1 w0 w w1 e0 e e1 : Option (List �
   are_reached Write read lines stop few = tt
   are_reached Memory read lines stop few = few
 
-  -- it stops within a piece
+  -- it stops within a chunk
   pub linted-stops : (fault : RunFault) (piece : List ℕ) → length piece ≤ 65536 → Consumes u u1 piece
       → HasStoppedIn fault piece lint w w1 e e1 → HasLinted write u0 u1 w0 w1 e0 e1 (Err fault)
   linted-stops fault piece short more stopped =
@@ -169,7 +169,7 @@ module _ (laws : Laws) (write : Bool) (u0 u u1 w0 w w1 e0 e e1 : Option (List �
     abbrev ended : List (List ℕ)
     ended = ended_lines_of linting.read
 
-    -- the line at hand
+    -- the open line
     abbrev last : List ℕ
     last = open_line_of linting.read
 
@@ -296,7 +296,7 @@ module _ (laws : Laws) (write : Bool) (u0 u u1 w0 w w1 e0 e e1 : Option (List �
     linted-close_stops Write stop = close-write stop.1 stop.0
     linted-close_stops Memory stop = close-memory stop.1 stop.0
 
--- a fault that a call on the writers told is one of the whole lint, where the reader has not failed
+-- an error that a call on the writers returned is an error of the whole lint, if the reader has not failed
 pub cause-moved : (fault : RunFault) (reader_failed : Bool) (reads : ℕ) (writer_failed : Bool) → reader_failed ≡ false
     → HasCause {T = Unit {0}} (Err fault) false 0 writer_failed → HasCause {T = ℕ} (Err fault) reader_failed reads writer_failed
 cause-moved Read reader_failed reads writer_failed sound cause =

@@ -1,4 +1,4 @@
--- What comes of lines: each that is an event is written in its written form, where that is asked for, and each that is none is told.
+-- The output for lines: with `write`, each event is written in its normal form; for each other line a diagnosis is written.
 use Rattle.std.specs.Prelude.{◌≡◌, ℕ, ◌+◌, Bool, List, [], ◌∷◌, ◌++◌, length, Result, Ok, Err, if◌then◌else◌}
 use Rattle.std.specs.List.{flat_map}
 use Rattle.drf_lines.specs.declared.fault.LineFault.{LineFault}
@@ -10,43 +10,43 @@ use Rattle.drf_lint.specs.declared.diagnosis.NoEvent.{NoEvent}
 use Rattle.drf_lint.specs.declared.diagnosis.NoEvent.TheVariants.{Fault, Memory}
 use Rattle.drf_lint.specs.Told.{AreWords, IsColumn, IsTelling}
 
--- what is said of a line that is no event
+-- what is reported about a line that is not an event
 pub record IsDiagnosis (line : List ℕ) (said : Diagnosis) : Type 0 where
   pub fault : meaning_of line ≡ Err said.fault
   pub place : IsColumn (length line) said.column
   pub words : AreWords said.words.items
 
--- a line is that event, or that is said of it, or memory ran out
+-- the line means this event, or this diagnosis is one of it, or memory ran out
 abbrev pub IsDiagnosed : List ℕ → Result Event NoEvent → Type 0
 IsDiagnosed line (Ok event) = meaning_of line ≡ Ok event
 IsDiagnosed line (Err (Fault said)) = IsDiagnosis line said
 IsDiagnosed line (Err Memory) = Unit {0}
 
--- what is written of a line that means this
+-- what is written for a line with this meaning
 abbrev pub form_of : Bool → Result Event LineFault → List ℕ
 form_of write (Ok event) = if write then event_line event ++ 10 ∷ [] else []
 form_of write (Err fault) = []
 
--- of some lines: the written forms of the events among them, in order, one a line
+-- the normal forms of the events among some lines, in order, one a line
 abbrev pub forms_of : Bool → List (List ℕ) → List ℕ
 forms_of write lines = flat_map (λ line. form_of write (meaning_of line)) lines
 
--- whether a line that means this is no event, as a number
+-- 1 if a line with this meaning is not an event, otherwise 0
 abbrev pub faults_of : Result Event LineFault → ℕ
 faults_of (Ok event) = 0
 faults_of (Err fault) = 1
 
--- how many of some lines are no events
+-- how many of some lines are not events
 abbrev pub fault_count : List (List ℕ) → ℕ
 fault_count [] = 0
 fault_count (line ∷ lines) = faults_of (meaning_of line) + fault_count lines
 
--- what is told of the line of that number, which means this: its fault, or nothing
+-- the diagnosis of the line with this number and meaning: nothing if it is an event
 abbrev pub IsToldOf : ℕ → List ℕ → Result Event LineFault → List ℕ → Type 0
 IsToldOf number line (Ok event) text = text ≡ []
 IsToldOf number line (Err fault) text = IsTelling number line fault text
 
--- a text begins with one of that kind, and goes on with one of the other
+-- the text is a text with one property, followed by a text with the other
 pub record IsOfTwo (One Other : List ℕ → Type 0) (text : List ℕ) : Type 0 where
   pub one : List ℕ
   pub other : List ℕ
@@ -54,12 +54,12 @@ pub record IsOfTwo (One Other : List ℕ → Type 0) (text : List ℕ) : Type 0 
   pub goes_on : Other other
   pub text_is : text ≡ one ++ other
 
--- what is told of some lines, of which the first has that number: each that is no event, in order
+-- the diagnoses of some lines, in order; the first of these lines has this number
 abbrev pub AreTold : ℕ → List (List ℕ) → List ℕ → Type 0
 AreTold number [] text = text ≡ []
 AreTold number (line ∷ lines) text = IsOfTwo (IsToldOf number line (meaning_of line)) (AreTold (number + 1) lines) text
 
--- all that comes of the first lines of an input
+-- the complete output for the first lines of an input, and how many of them are not events
 pub record AreJudged (write : Bool) (lines : List (List ℕ)) (written told : List ℕ) (faults : ℕ) : Type 0 where
   pub forms : written ≡ forms_of write lines
   pub tellings : AreTold 1 lines told

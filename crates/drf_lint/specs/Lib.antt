@@ -1,3 +1,4 @@
+-- Definitions of what a lint reports and writes.
 pub mod Told
 pub mod Judged
 pub mod Linted

@@ -1,4 +1,4 @@
--- A lint between two reads, and what a line and a piece of the input do to it.
+-- The state of a lint between two reads, and what a line and a chunk of the input do to it.
 use Rattle.std.specs.Prelude.{◌≡◌, ℕ, ◌+◌, ◌<◌, ◌≤◌, Bool, List, [], ◌++◌, length, Option, Err}
 use Rattle.std.specs.Io.KnownBytes.{Appends}
 use Rattle.drf_lines.specs.Meaning.{meaning_of}
@@ -11,7 +11,7 @@ use Rattle.drf_lint.specs.declared.linter.Linter.{Linter}
 use Rattle.drf_lint.specs.Judged.{form_of, faults_of, IsToldOf, AreJudged}
 use Rattle.drf_lint.specs.Linted.{AreLinted}
 
--- whether events are written, what is kept of the line at hand, how many lines have ended, and how many of these are no events
+-- whether events are written, the bytes stored of the open line, how many lines have ended, and how many of these are not events
 pub record Lint : Type 0 where
   pub write : Bool
   pub front : List ℕ
@@ -27,7 +27,7 @@ begun write = record { write = write; front = []; lines = 0; faults = 0 }
 
 -- ---- one line
 
--- all that comes of the line of that number was written and told
+-- the complete output for the line with this number was written
 pub record HasJudged (write : Bool) (number : ℕ) (line : List ℕ) (faults : ℕ)
     (written_before written_after told_before told_after : Option (List ℕ)) : Type 0 where
   pub told : List ℕ
@@ -36,7 +36,7 @@ pub record HasJudged (write : Bool) (number : ℕ) (line : List ℕ) (faults : �
   pub appended : Appends written_before written_after (form_of write (meaning_of line))
   pub told_appended : Appends told_before told_after told
 
--- fronts of it were
+-- prefixes of that output were written
 pub record HasJudgedInPart (write : Bool) (number : ℕ) (line : List ℕ)
     (written_before written_after told_before told_after : Option (List ℕ)) : Type 0 where
   pub told : List ℕ
@@ -44,12 +44,12 @@ pub record HasJudgedInPart (write : Bool) (number : ℕ) (line : List ℕ)
   pub front : AppendsFrontOf written_before written_after (form_of write (meaning_of line))
   pub told_front : AppendsFrontOf told_before told_after told
 
--- nothing was
+-- nothing was written
 pub record HasJudgedNothing (written_before written_after told_before told_after : Option (List ℕ)) : Type 0 where
   pub nothing : Appends written_before written_after []
   pub nothing_told : Appends told_before told_after []
 
--- at the line of that number a lint has stopped
+-- a lint stopped with this error at the line with this number
 abbrev pub HasStoppedAt : RunFault → Bool → ℕ → List ℕ → (written_before written_after told_before told_after : Option (List ℕ)) → Type 0
 HasStoppedAt Read write number line written_before written_after told_before told_after = ⊥
 HasStoppedAt Write write number line written_before written_after told_before told_after =
@@ -57,32 +57,32 @@ HasStoppedAt Write write number line written_before written_after told_before to
 HasStoppedAt Memory write number line written_before written_after told_before told_after =
     HasJudgedNothing written_before written_after told_before told_after
 
--- the line at hand has ended with these bytes, and was judged
+-- the open line ended with these bytes, and was judged
 pub record HasEnded (old : Lint) (end : List ℕ) (new : Lint)
     (written_before written_after told_before told_after : Option (List ℕ)) : Type 0 where
   pub faults : ℕ
   pub judged : HasJudged old.write (old.lines + 1) (old.front ++ end) faults written_before written_after told_before told_after
   pub new_is : new ≡ record { write = old.write; front = []; lines = old.lines + 1; faults = old.faults + faults }
 
--- the input has ended: what stands behind its last line feed was judged, if anything does
+-- the input ended, and the bytes after its last line feed were judged, if there were any
 pub record HasClosed (old new : Lint) (written_before written_after told_before told_after : Option (List ℕ)) : Type 0 where
   pub none : length old.front ≡ 0 → (new ≡ old) × HasJudgedNothing written_before written_after told_before told_after
   pub some : 0 < length old.front → HasEnded old [] new written_before written_after told_before told_after
 
--- ---- pieces of the input
+-- ---- chunks of the input
 
--- of the bytes that were read all lines that have ended were judged, to which this was written and told; the rest is of the line at hand
+-- of the bytes read, all lines that have ended were judged, with this output; the other bytes are the open line
 pub record IsLintedTo (read : List ℕ) (lint : Lint) (written told : List ℕ) : Type 0 where
   pub front : lint.front ≡ kept_of (open_line_of read)
   pub lines : lint.lines ≡ length (ended_lines_of read)
   pub judged : AreJudged lint.write (ended_lines_of read) written told lint.faults
 
--- no lint stops for a read fault within its input
+-- while a lint judges lines, the only errors are those of writes and of memory
 abbrev pub IsStop : RunFault → Type 0
 IsStop Read = ⊥
 IsStop fault = Unit {0}
 
--- of the first lines that had ended in the bytes this was written and told before a lint stopped
+-- before a lint stopped, this was written for some first lines among those that had ended in the bytes read
 pub record IsStoppedIn (fault : RunFault) (write : Bool) (read written told : List ℕ) : Type 0 where
   pub lines : List (List ℕ)
   pub left : List (List ℕ)
@@ -90,7 +90,7 @@ pub record IsStoppedIn (fault : RunFault) (write : Bool) (read written told : Li
   pub stop : IsStop fault
   pub linted : AreLinted write (Err fault) lines written told
 
--- a lint has gone on by a piece
+-- the lint has judged the lines that end in a chunk
 pub record HasTaken (piece : List ℕ) (old new : Lint)
     (written_before written_after told_before told_after : Option (List ℕ)) : Type 0 where
   pub written : List ℕ
@@ -103,7 +103,7 @@ pub record HasTaken (piece : List ℕ) (old new : Lint)
   pub goes_on : (read before told_then : List ℕ) → IsLintedTo read old before told_then
       → IsLintedTo (read ++ piece) new (before ++ written) (told_then ++ told)
 
--- it has stopped within a piece
+-- the lint stopped within a chunk
 pub record HasStoppedIn (fault : RunFault) (piece : List ℕ) (old : Lint)
     (written_before written_after told_before told_after : Option (List ℕ)) : Type 0 where
   pub written : List ℕ

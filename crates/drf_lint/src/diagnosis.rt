@@ -1,4 +1,4 @@
-//! Whether a line is an event, and else why it is none.
+//! Decides whether a line is an event and, if it is not, says why.
 ghost use Rattle.std.specs.Prelude.{◌≡◌, length, IfOk};
 ghost use Rattle.drf_lint.specs.Judged.{IsDiagnosed};
 ghost use Rattle.drf_lint.specs.Told.{AreWords, IsColumn};
@@ -12,18 +12,18 @@ use drf_rows::Event;
 use json::{Error, Scratch, Value};
 use std::alloc::{AllocError, Global};
 
-/// Why a line is no event, and what is wrong in it.
+/// Why a line is not an event, and what is wrong in it.
 #[derive(Drop)]
 pub struct Diagnosis {
-    /// The fault, as a run tells it.
+    /// The error, as a run reports it.
     pub fault: LineFault,
-    /// The place of the byte in the line at which what is wrong begins, from 1.
+    /// The position in bytes, from 1, of what is wrong; it is at most one byte after the end of the line.
     pub column: u64,
-    /// What is wrong: the key, or the piece of its text, and what is wanted there. At most 240 bytes of visible ASCII and blanks.
+    /// The hint: which key or part of a text is wrong, and what is expected there. At most 240 bytes of visible ASCII and spaces.
     pub words: Vec<u8>,
 }
 
-/// Why there is no event.
+/// Why there is no event: the line is not one, or memory ran out.
 #[derive(Drop)]
 pub enum NoEvent {
     Fault(Diagnosis),
@@ -41,8 +41,8 @@ impl From<AllocError> for NoEvent {
     }
 }
 
-/// The JSON value of a text; of one that is no JSON, which no hint is looked for here, `null`. Strings of it that have escapes are
-/// written to the scratch.
+/// Returns the JSON value of a text, or `null` if the text is not JSON; there is no hint from here in that case. Strings that have
+/// escapes are decoded into `scratch`.
 fn value_of<'a>(
     alloc: Global,
     scratch: &'a mut Scratch,
@@ -55,7 +55,7 @@ fn value_of<'a>(
     }
 }
 
-/// What is wrong with a line that is JSON, by its shape or by its texts.
+/// Returns a hint for a line that is JSON: about its shape if `is_shape` is set, and otherwise about its texts.
 fn value_hint(alloc: Global, line: &[u8], is_shape: bool) -> Result<Option<Hint>, AllocError> {
     let Ok(text) = std::str::from_utf8(line) else {
         return Ok(None);
@@ -68,7 +68,7 @@ fn value_hint(alloc: Global, line: &[u8], is_shape: bool) -> Result<Option<Hint>
     text_hint(alloc, text, &value)
 }
 
-/// What is wrong with a line that has that fault.
+/// Returns a hint for a line that has this error.
 fn find_hint(alloc: Global, line: &[u8], fault: LineFault) -> Result<Hint, AllocError> {
     let found = match fault {
         LineFault::LineTooLong => None,
@@ -85,17 +85,17 @@ fn find_hint(alloc: Global, line: &[u8], fault: LineFault) -> Result<Hint, Alloc
     }
 }
 
-/// How many bytes a line has at most.
+/// The greatest length of a line in bytes.
 const LONGEST_LINE: usize = 65_536;
 
-/// The place of a byte of a line, from 1.
+/// Returns the column of a byte: its position from 1, at most one byte after the end of the line.
 fn column_of(line: &[u8], place: usize) -> u64
     ensures { IsColumn (length line.now) result }
 {
     place.min(line.len()) as u64 + 1
 }
 
-/// What is told of a line that has that fault.
+/// Returns the diagnosis of a line that has this error.
 fn diagnosis_of(alloc: Global, line: &[u8], fault: LineFault) -> Result<Diagnosis, AllocError>
     ensures fault { IfOk result (λ d. d.fault ≡ fault) }
     ensures place { IfOk result (λ d. IsColumn (length line.now) d.column) }
@@ -109,7 +109,7 @@ fn diagnosis_of(alloc: Global, line: &[u8], fault: LineFault) -> Result<Diagnosi
     })
 }
 
-/// The event of a line, or why it is none and what is wrong in it. The reader may have read other lines before.
+/// Returns the event of a line, or the reason why it is not an event. The reader can have read other lines before.
 pub fn diagnose(alloc: Global, reader: &mut LineReader, line: &[u8]) -> Result<Event, NoEvent>
     ensures { IsDiagnosed line.now result }
 {

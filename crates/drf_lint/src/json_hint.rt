@@ -1,43 +1,43 @@
-//! Where a line stops being JSON, and what could stand there.
+//! Hints for lines that are not JSON: where a line stops being JSON, and what could be there.
 
 use crate::place::MOST_DEPTH;
 use crate::words::{Hint, plain_hint, say, show};
 use json::{Reader, Scratch, Token, Value};
 use std::alloc::{AllocError, Global};
 
-/// What a reader of JSON is in, and what it has read there.
+/// What the JSON reader is in, and what it expects next.
 #[derive(Clone, Copy, PartialEq, Eq)]
 enum Within {
     /// Before the value of the line.
     Start,
-    /// Behind the value of the line.
+    /// After the value of the line.
     End,
     /// In an array.
     Array,
-    /// In an object, where a key may come.
+    /// In an object, before a key.
     Object,
-    /// In an object, behind a key.
+    /// In an object, after a key.
     Key,
 }
 
-/// Why the line is no JSON at a place.
+/// Why a line is not JSON at a position.
 #[derive(Clone, Copy, PartialEq, Eq)]
 enum Stop {
-    /// It ends there, or what stands there is another thing than what is wanted.
+    /// The line ends there, or the token there is not one that is expected.
     Unfit(Within),
-    /// What stands there is nothing of JSON, or no comma stands before it.
+    /// There is no JSON token, or a comma is missing before it.
     Bad(Within),
-    /// A `:` stands behind a text that is no key.
+    /// A `:` comes after a text that is not a key.
     Colon,
-    /// A text stands where a key is wanted, with no `:` behind it.
+    /// A text is where a key is expected, but no `:` comes after it.
     NoColon,
-    /// An array or object too deep in others.
+    /// An array or object is nested too deeply.
     Deep,
-    /// A number that no double comes near.
+    /// A number is out of the range of a double.
     Large,
 }
 
-/// The arrays and objects that are open, the outermost first, and what comes next.
+/// The arrays and objects that are open, the outermost first, and what is expected next.
 #[derive(Drop)]
 struct Nest {
     open: Vec<Within>,
@@ -45,7 +45,7 @@ struct Nest {
 }
 
 impl Nest {
-    /// What is in it comes next, once a value has ended.
+    /// Continues in the enclosing array or object, after a value has ended.
     fn go_on(&mut self) {
         self.within = match self.open.last() {
             Some(outer) => *outer,
@@ -53,7 +53,7 @@ impl Nest {
         };
     }
 
-    /// An array or an object begins.
+    /// Opens an array or an object. Returns an error if it is nested too deeply.
     fn begin(&mut self, kind: Within) -> Result<Option<Stop>, AllocError> {
         if self.open.len() >= MOST_DEPTH {
             return Ok(Some(Stop::Deep));
@@ -63,12 +63,12 @@ impl Nest {
         Ok(None)
     }
 
-    /// Whether a value may come next.
+    /// Returns whether a value is allowed next.
     fn wants_value(&self) -> bool {
         matches!(self.within, Within::Start | Within::Array | Within::Key)
     }
 
-    /// An array or an object ends.
+    /// Closes an array or an object. Returns an error if the innermost open one is of the other kind, or if its end is not allowed here.
     fn end(&mut self, kind: Within) -> Option<Stop> {
         if self.within != kind {
             return Some(Stop::Unfit(self.within));
@@ -78,7 +78,7 @@ impl Nest {
         None
     }
 
-    /// A value of one token comes.
+    /// Reads a value of one token. Returns an error if no value is allowed here.
     fn pass(&mut self) -> Option<Stop> {
         if !self.wants_value() {
             return Some(Stop::Unfit(self.within));
@@ -87,7 +87,7 @@ impl Nest {
         None
     }
 
-    /// A text comes.
+    /// Reads a text that is not a key. Returns an error if no such text is allowed here.
     fn pass_text(&mut self) -> Option<Stop> {
         if let Within::Object = self.within {
             return Some(Stop::NoColon);
@@ -95,7 +95,7 @@ impl Nest {
         self.pass()
     }
 
-    /// A key comes.
+    /// Reads a key. Returns an error if no key is allowed here.
     fn pass_key(&mut self) -> Option<Stop> {
         match self.within {
             Within::Object => {
@@ -107,7 +107,7 @@ impl Nest {
         }
     }
 
-    /// A token comes: why it may not, if so.
+    /// Reads a token. Returns an error if it is not allowed here.
     fn take(&mut self, token: Token<'_>) -> Result<Option<Stop>, AllocError> {
         match token {
             Token::BeginObject | Token::BeginArray if !self.wants_value() => {
@@ -126,7 +126,7 @@ impl Nest {
     }
 }
 
-/// Whether a number is out of the range of a double.
+/// Returns whether a number is out of the range of a double.
 fn is_large(text: &str) -> bool {
     let number: Value<'_> = Value::Number(text);
     match number.as_f64() {
@@ -135,7 +135,7 @@ fn is_large(text: &str) -> bool {
     }
 }
 
-/// Where a text stops being JSON, and why.
+/// Returns the position at which a text stops being JSON, and the reason.
 fn stop_in(alloc: Global, text: &str) -> Result<(usize, Stop), AllocError> {
     let mut nest = Nest {
         open: Vec::new(alloc),
@@ -155,7 +155,7 @@ fn stop_in(alloc: Global, text: &str) -> Result<(usize, Stop), AllocError> {
     Ok((text.len(), Stop::Unfit(nest.within)))
 }
 
-/// The last byte before a place that is no blank.
+/// Returns the last byte before a position that is not a space, a tab or a carriage return.
 fn byte_before(bytes: &[u8], place: usize) -> Option<u8> {
     let front = bytes.get(..place)?;
     front
@@ -165,7 +165,7 @@ fn byte_before(bytes: &[u8], place: usize) -> Option<u8> {
         .copied()
 }
 
-/// What is wanted, behind that byte.
+/// Returns the message that says what is expected, given the last byte before the position.
 fn wanted(within: Within, before: Option<u8>) -> &'static str {
     match (within, before) {
         (Within::Start, _) => "an event is wanted, which is a JSON object",
@@ -180,7 +180,7 @@ fn wanted(within: Within, before: Option<u8>) -> &'static str {
     }
 }
 
-/// Whether the byte ends a piece that is shown.
+/// Returns whether the byte ends the part of the line that is shown.
 fn ends_piece(byte: u8) -> bool {
     matches!(
         byte,
@@ -188,7 +188,7 @@ fn ends_piece(byte: u8) -> bool {
     )
 }
 
-/// Where a piece ends that is no text: its length.
+/// Returns the length of the part to show, if it does not begin with a quote.
 fn piece_length(piece: &[u8]) -> usize {
     let behind = piece.get(1..).unwrap_or(&[]);
     behind
@@ -197,7 +197,7 @@ fn piece_length(piece: &[u8]) -> usize {
         .map_or(piece.len(), |end| end.saturating_add(1))
 }
 
-/// Where a text ends that begins a piece: its length, with its quotes.
+/// Returns the length of a string, with its quotes.
 fn string_length(piece: &[u8]) -> usize {
     let behind = piece.get(1..).unwrap_or(&[]);
     behind
@@ -206,7 +206,7 @@ fn string_length(piece: &[u8]) -> usize {
         .map_or(piece.len(), |end| end.saturating_add(2))
 }
 
-/// What stands at a place, up to where it may end.
+/// Returns the part of the line to show at a position: a string, or the bytes up to the next separator.
 fn piece_at(bytes: &[u8], place: usize) -> &[u8] {
     let rest = bytes.get(place..).unwrap_or(&[]);
     let length = if rest.starts_with(b"\"") {
@@ -217,7 +217,7 @@ fn piece_at(bytes: &[u8], place: usize) -> &[u8] {
     rest.get(..length).unwrap_or(rest)
 }
 
-/// Whether what stands behind a `\` is an escape.
+/// Returns whether the bytes after a `\` make it a valid escape.
 fn is_escape(behind: &[u8]) -> bool {
     match behind.first() {
         Some(b'u') => match behind.get(1..5) {
@@ -232,12 +232,12 @@ fn is_escape(behind: &[u8]) -> bool {
     }
 }
 
-/// Whether a text may stand behind that byte, the last one that is no blank.
+/// Returns whether a text is allowed after this byte, which is the last one that is not blank.
 fn may_begin_behind(before: Option<u8>) -> bool {
     matches!(before, None | Some(b':' | b',' | b'[' | b'{'))
 }
 
-/// Why a string is none, and the piece of it that is to be shown.
+/// Why a string is not valid, and the part of the line to show.
 #[derive(Clone, Copy)]
 struct StringStop {
     place: usize,
@@ -245,7 +245,7 @@ struct StringStop {
     why: &'static str,
 }
 
-/// What is wrong with the string that begins at a place.
+/// Returns what is wrong with the string that begins at a position.
 fn string_stop(bytes: &[u8], place: usize) -> StringStop {
     let mut at = place.saturating_add(1);
     for _turn in 0..bytes.len() {
@@ -283,7 +283,7 @@ fn string_stop(bytes: &[u8], place: usize) -> StringStop {
     }
 }
 
-/// A hint of a piece that stands at a place, or of the end of the line.
+/// Returns a hint that shows the part at a position, or says that the line ends there, and then says what is expected.
 fn hint_at(alloc: Global, piece: &[u8], place: usize, wanted: &str) -> Result<Hint, AllocError> {
     let mut words = Vec::new(alloc);
     if piece.is_empty() {
@@ -296,7 +296,7 @@ fn hint_at(alloc: Global, piece: &[u8], place: usize, wanted: &str) -> Result<Hi
     Ok(Hint { place, words })
 }
 
-/// A hint of what is nothing of JSON at a place.
+/// Returns a hint for a position at which there is no JSON token.
 fn bad_hint(alloc: Global, bytes: &[u8], place: usize, within: Within) -> Result<Hint, AllocError> {
     let before = byte_before(bytes, place);
     let rest = bytes.get(place..).unwrap_or(&[]);
@@ -308,7 +308,7 @@ fn bad_hint(alloc: Global, bytes: &[u8], place: usize, within: Within) -> Result
     hint_at(alloc, piece_at(bytes, place), place, wanted(within, before))
 }
 
-/// What is wrong with a line that is UTF-8 and no JSON.
+/// Returns a hint for a line that is UTF-8 but not JSON.
 fn text_hint(alloc: Global, line: &str) -> Result<Hint, AllocError> {
     let bytes = line.as_bytes();
     let (place, stop) = stop_in(alloc, line)?;
@@ -336,7 +336,7 @@ fn text_hint(alloc: Global, line: &str) -> Result<Hint, AllocError> {
     }
 }
 
-/// What is wrong with a line that is no JSON.
+/// Returns a hint for a line that is not JSON.
 pub(crate) fn json_hint(alloc: Global, line: &[u8]) -> Result<Hint, AllocError> {
     match std::str::from_utf8(line) {
         Ok(text) => text_hint(alloc, text),

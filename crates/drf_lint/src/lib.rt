@@ -1,4 +1,4 @@
-//! What is wrong with lines that are no events, told for those who write them; and events in their written form, for those who judge them.
+//! Diagnoses of lines that are not events, for the people who write them, and events in their normal form, for those who check them.
 #![tactic(auto)]
 
 mod diagnosis;

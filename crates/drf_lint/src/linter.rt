@@ -1,4 +1,4 @@
-//! What a lint keeps between reads.
+//! The state of a lint between two reads.
 ghost use Rattle.std.specs.Prelude.{◌≡◌, ◌+◌, ◌<◌, ◌≤◌, ◌^◌, ◌++◌, ◌||◌, [], Ok, length, false, true, if◌then◌else◌, IfOk, IfErr, OnOk, OnErr};
 ghost use Rattle.std.specs.Io.KnownBytes.{Appends};
 ghost use Rattle.drf_journal.specs.declared.fault.RunFault.TheVariants.{Memory};
@@ -16,7 +16,7 @@ use drf_rows::Event;
 use std::alloc::Global;
 use std::io::Write;
 
-/// Writes an event in its written form, where events are written.
+/// Writes an event in its normal form if `write` is set.
 fn write_form<W: Write>(
     alloc: Global,
     write: bool,
@@ -38,7 +38,7 @@ fn write_form<W: Write>(
     write_whole(writer, &text)
 }
 
-/// Tells what is wrong with the line of that number.
+/// Writes the diagnosis of the line with this number.
 fn tell<E: Write>(
     alloc: Global,
     number: u64,
@@ -56,8 +56,8 @@ fn tell<E: Write>(
     write_whole(errors, &text)
 }
 
-/// Judges the line of that number: an event is written in its written form, where events are written, and what is wrong with another line is
-/// told. Tells whether it is an event.
+/// Judges the line with this number. Writes an event in its normal form if `write` is set, and a diagnosis if the line is not an event.
+/// Returns whether it is an event.
 fn judge<W: Write, E: Write>(
     alloc: Global,
     reader: &mut LineReader,
@@ -88,22 +88,22 @@ fn judge<W: Write, E: Write>(
     }
 }
 
-/// A lint between two reads.
+/// The state of a lint between two reads.
 #[derive(Drop)]
 pub(crate) struct Linter {
     /// Whether events are written.
     write: bool,
-    /// What is kept of the line that is not whole yet.
+    /// The bytes that are stored of the last line, which has not ended yet.
     front: OpenLine,
     /// How many lines have ended.
     lines: u64,
-    /// How many of these are no events.
+    /// How many of these lines are not events.
     faults: u64,
     reader: LineReader,
 }
 
 impl Linter {
-    /// A lint that has read nothing.
+    /// Returns a lint that has read nothing.
     pub(crate) fn begin(alloc: Global, write: bool) -> Linter
         ensures begun { lint_of result ≡ begun result.write }
         ensures write { result.write ≡ write }
@@ -117,14 +117,14 @@ impl Linter {
         }
     }
 
-    /// How many lines are no events.
+    /// Returns how many lines are not events.
     pub(crate) fn faults(&self) -> u64
         ensures { result ≡ self.now.faults }
     {
         self.faults
     }
 
-    /// The bytes end the line at hand: judges it.
+    /// Judges the open line, which ends with these bytes.
     fn end_line<W: Write, E: Write>(
         &mut self,
         alloc: Global,
@@ -161,7 +161,7 @@ impl Linter {
         Ok(())
     }
 
-    /// Judges the lines that end in the next piece of the input.
+    /// Judges the lines that end in the next chunk of the input.
     pub(crate) fn take<W: Write, E: Write>(
         &mut self,
         alloc: Global,
@@ -179,7 +179,7 @@ impl Linter {
         ensures flushed { writer.old.flushed ≡ true → HasFlushed result writer.new.flushed }
         ensures told_flushed { errors.old.flushed ≡ true → HasFlushed result errors.new.flushed }
     {
-        // The contract of this call tells how lines come in pieces.
+        // The contract of this call says how the lines of an input follow from its chunks.
         line_law();
         let mut rest = piece;
         while let Some(at) = line_feed_in(rest) {
@@ -190,7 +190,7 @@ impl Linter {
         Ok(())
     }
 
-    /// The input ended: judges what stands behind its last line feed.
+    /// Judges the bytes after the last line feed, if there are any, at the end of the input.
     pub(crate) fn close<W: Write, E: Write>(
         &mut self,
         alloc: Global,

@@ -1,24 +1,24 @@
-//! Where the keys and the values of a line stand. The line is JSON when a place is looked for; where it is not, none is found.
+//! Positions of keys and values in a line that is JSON. If it is not JSON, nothing is found.
 
 use json::{Reader, Scratch, Token};
 use std::alloc::{AllocError, Global};
 
-/// How deep the arrays and objects of a line may nest.
+/// The greatest depth to which the arrays and objects of a line can nest.
 pub(crate) const MOST_DEPTH: usize = 127;
 
-/// Where a member of an object stands in a line.
+/// The position of a member of an object: the bytes of the line, from 0, at which its key and its value begin.
 #[derive(Clone, Copy)]
 pub(crate) struct Spot {
     pub key: usize,
     pub value: usize,
 }
 
-/// What stands in a line from a place on.
+/// Returns the rest of the line from a position. Returns `None` if the position is not in the line or is within a character.
 fn text_from(line: &str, place: usize) -> Option<&str> {
     std::str::from_utf8(line.as_bytes().get(place..)?).ok()
 }
 
-/// The last member of a key, in the object that the reader has opened.
+/// Returns the position of the last member with this key, in the object that the reader has just opened.
 fn last_member(reader: &mut Reader<'_>, most: usize, key: &str) -> Option<Spot> {
     let mut found = None;
     for _turn in 0..most {
@@ -37,7 +37,7 @@ fn last_member(reader: &mut Reader<'_>, most: usize, key: &str) -> Option<Spot> 
     found
 }
 
-/// Where the last member of a key stands, in the object that begins at a place of the line.
+/// Returns the position of the last member with this key, in the object that begins at `place`.
 pub(crate) fn member_at(
     alloc: Global,
     line: &str,
@@ -59,7 +59,7 @@ pub(crate) fn member_at(
     }))
 }
 
-/// Where an item stands, in the array that begins at a place of the line. Items are counted from 0.
+/// Returns the position of an item, counted from 0, in the array that begins at `place`. Returns `place` if there is no such item.
 pub(crate) fn item_at(
     alloc: Global,
     line: &str,
@@ -80,7 +80,7 @@ pub(crate) fn item_at(
     Ok(place.saturating_add(reader.offset()))
 }
 
-/// Where the value of a key stands, or the object itself where it has no such key.
+/// Returns the position of the value of a key in the object that begins at `place`, or `place` if it has no such key.
 pub(crate) fn value_at(
     alloc: Global,
     line: &str,
@@ -93,7 +93,7 @@ pub(crate) fn value_at(
     }
 }
 
-/// Where a byte of a text stands in the line, whose string begins at a place. Behind an escape it is told as the place of the string.
+/// Returns the position in the line of a byte of a text, whose string begins at `place`. If an escape comes before that byte, returns `place`.
 pub(crate) fn text_at(line: &str, place: usize, text: &str, byte: usize) -> usize {
     let begin = place.saturating_add(1);
     let Some(behind) = line.as_bytes().get(begin..) else {

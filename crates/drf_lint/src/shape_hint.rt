@@ -1,4 +1,4 @@
-//! What is wrong with the shape of a line that is JSON.
+//! Hints for lines that are JSON but do not have the shape of an event.
 
 use crate::place::{item_at, member_at, value_at};
 use crate::shapes::{EVENTS, Kind, OPTIONAL, TASK_KEYS, keys_of, kind_of};
@@ -10,20 +10,20 @@ use std::alloc::{AllocError, Global};
 #[derive(Clone, Copy)]
 struct Shaped<'v, 'a> {
     line: &'v str,
-    /// Where it begins.
+    /// The position in the line at which it begins.
     place: usize,
-    /// How its members are told, as `"tasks" item 2 `.
+    /// The prefix of its keys in hints, such as `"tasks" item 2 `.
     path: &'v str,
-    /// What it is called.
+    /// What it is called in hints.
     name: &'a str,
     value: &'v Value<'a>,
-    /// The keys that it is to have besides `event`, in the order in which a reader looks for them, blanks between them.
+    /// The keys that it must have besides `event`, separated by spaces, in the order in which a reader looks for them.
     keys: &'v str,
-    /// Whether it is to have `event` too.
+    /// Whether it must have `event` too.
     has_event: bool,
 }
 
-/// What a value is, in words.
+/// Returns what a value is, in words.
 fn kind_word(value: &Value<'_>) -> &'static str {
     match value {
         Value::Null => "null",
@@ -35,7 +35,7 @@ fn kind_word(value: &Value<'_>) -> &'static str {
     }
 }
 
-/// Whether a key is one of some that blanks separate.
+/// Returns whether a key is in a list that is separated by spaces.
 fn is_among(keys: &str, key: &str) -> bool {
     for name in keys.split(' ') {
         if name == key && !key.is_empty() {
@@ -45,17 +45,17 @@ fn is_among(keys: &str, key: &str) -> bool {
     false
 }
 
-/// Whether the object is to have that key.
+/// Returns whether the object can have that key.
 fn is_known(shaped: &Shaped<'_, '_>, key: &str) -> bool {
     is_among(shaped.keys, key) || (shaped.has_event && key == "event")
 }
 
-/// Whether the object lacks that key.
+/// Returns whether the object lacks that key, which is not optional.
 fn is_missing(shaped: &Shaped<'_, '_>, key: &str) -> bool {
     !key.is_empty() && key != OPTIONAL && shaped.value.get(key).is_none()
 }
 
-/// The first of its keys that the object lacks.
+/// Returns the first key that the object lacks.
 fn first_missing<'v>(shaped: &Shaped<'v, '_>) -> Option<&'v str> {
     for key in shaped.keys.split(' ') {
         if is_missing(shaped, key) {
@@ -65,7 +65,7 @@ fn first_missing<'v>(shaped: &Shaped<'v, '_>) -> Option<&'v str> {
     None
 }
 
-/// How many of its keys the object lacks.
+/// Returns how many keys the object lacks.
 fn missing_count(shaped: &Shaped<'_, '_>) -> usize {
     let mut count = 0_usize;
     for key in shaped.keys.split(' ') {
@@ -76,7 +76,7 @@ fn missing_count(shaped: &Shaped<'_, '_>) -> usize {
     count
 }
 
-/// The different keys of the object that it is not to have, in the order of the line, one more than `most` of them at most.
+/// Returns the distinct keys that the object must not have, in the order of the line, and at most `most` + 1 of them.
 fn unknown_keys<'a>(
     alloc: Global,
     shaped: &Shaped<'_, 'a>,
@@ -104,7 +104,7 @@ fn has_text(texts: &[&str], text: &str) -> bool {
     false
 }
 
-/// Says words that blanks separate, a comma before each that stands behind another.
+/// Appends a list that is separated by spaces, with commas instead. If `has_any` is set, a comma comes first.
 fn say_list(words: &mut Vec<u8>, has_any: bool, list: &str) -> Result<(), AllocError> {
     let mut has_any = has_any;
     for word in list.split(' ') {
@@ -117,7 +117,7 @@ fn say_list(words: &mut Vec<u8>, has_any: bool, list: &str) -> Result<(), AllocE
     Ok(())
 }
 
-/// Says which key the object is not to have.
+/// Appends that a key is not one of the object's, and which keys it has.
 fn say_unknown(words: &mut Vec<u8>, shaped: &Shaped<'_, '_>, key: &str) -> Result<(), AllocError> {
     say(words, shaped.path)?;
     quote(words, key.as_bytes())?;
@@ -130,7 +130,7 @@ fn say_unknown(words: &mut Vec<u8>, shaped: &Shaped<'_, '_>, key: &str) -> Resul
     say_list(words, shaped.has_event, shaped.keys)
 }
 
-/// Where a key of the object stands, or the object, where it has no such key.
+/// Returns the position of a key of the object, or of the object if it has no such key.
 fn key_place(alloc: Global, shaped: &Shaped<'_, '_>, key: &str) -> Result<usize, AllocError> {
     match member_at(alloc, shaped.line, shaped.place, key)? {
         Some(spot) => Ok(spot.key),
@@ -138,7 +138,7 @@ fn key_place(alloc: Global, shaped: &Shaped<'_, '_>, key: &str) -> Result<usize,
     }
 }
 
-/// The object has a key that it is not to have.
+/// Returns the hint that the object has a key that it must not have.
 fn unknown_hint(alloc: Global, shaped: &Shaped<'_, '_>, key: &str) -> Result<Hint, AllocError> {
     let mut words = Vec::new(alloc);
     say_unknown(&mut words, shaped, key)?;
@@ -146,7 +146,7 @@ fn unknown_hint(alloc: Global, shaped: &Shaped<'_, '_>, key: &str) -> Result<Hin
     Ok(Hint { place, words })
 }
 
-/// The object lacks a key. Where it has one that it is not to have, that may be the one that is meant.
+/// Returns the hint that the object lacks a key. If it has an unknown key, that key may be a misspelling, so the hint names it too.
 fn missing_hint(
     alloc: Global,
     shaped: &Shaped<'_, '_>,
@@ -167,7 +167,7 @@ fn missing_hint(
     Ok(Hint { place, words })
 }
 
-/// Another value stands at a place than the one that is wanted under a key.
+/// Returns the hint that the value at a position is not of the kind that is expected.
 fn kind_hint(
     alloc: Global,
     place: usize,
@@ -198,7 +198,7 @@ const TASKS: &str = "an array of 1 to 16 objects";
 
 const AN_OBJECT: &str = "an object";
 
-/// How a member of an object is told, as `"tasks" item 2 "use"`.
+/// Returns the name of a member in hints, such as `"tasks" item 2 "use"`.
 fn path_of(alloc: Global, path: &str, key: &str) -> Result<String, AllocError> {
     let mut text = String::new(alloc);
     text.push_str(path)?;
@@ -208,7 +208,7 @@ fn path_of(alloc: Global, path: &str, key: &str) -> Result<String, AllocError> {
     Ok(text)
 }
 
-/// How an item under a key is told, as `"tasks" item 2`. Items are counted from 0, and told from 1.
+/// Returns the name of an item in hints, such as `"tasks" item 2`. The argument is counted from 0, the text from 1.
 fn item_path(alloc: Global, key: &str, item: usize) -> Result<String, AllocError> {
     let mut words = Vec::new(alloc);
     quote(&mut words, key.as_bytes())?;
@@ -220,7 +220,7 @@ fn item_path(alloc: Global, key: &str, item: usize) -> Result<String, AllocError
     }
 }
 
-/// What is wrong with roles.
+/// Returns a hint if the value of `roles` is not an array of texts.
 fn roles_hint(
     alloc: Global,
     line: &str,
@@ -240,7 +240,7 @@ fn roles_hint(
     Ok(None)
 }
 
-/// What is wrong with a task of a list.
+/// Returns a hint if an item of `tasks` does not have the shape of a task.
 fn task_hint(
     alloc: Global,
     line: &str,
@@ -276,7 +276,7 @@ fn task_hint(
     }
 }
 
-/// What is wrong with a list of tasks.
+/// Returns a hint if the value of `tasks` is not an array of 1 to 16 tasks.
 fn tasks_hint(
     alloc: Global,
     line: &str,
@@ -301,8 +301,8 @@ fn tasks_hint(
     Ok(None)
 }
 
-/// What is wrong with the keys of an object by their number: the first that it is not to have, where it has too many, and the first that it lacks,
-/// where it has too few.
+/// Returns a hint if an object has too many or too few keys. With too many, it names the first unknown key; with too few, the first that
+/// is missing.
 fn keys_hint(alloc: Global, shaped: &Shaped<'_, '_>) -> Result<Option<Hint>, AllocError> {
     let missing = missing_count(shaped);
     let unknown = unknown_keys(alloc, shaped, missing)?;
@@ -320,7 +320,7 @@ fn keys_hint(alloc: Global, shaped: &Shaped<'_, '_>) -> Result<Option<Hint>, All
     Ok(None)
 }
 
-/// What is wrong with what stands under a key where a text is wanted.
+/// Returns a hint if a key is missing or its value is not a text.
 fn text_kind_hint(
     alloc: Global,
     shaped: &Shaped<'_, '_>,
@@ -339,7 +339,7 @@ fn text_kind_hint(
     Ok(Some(kind_hint(alloc, place, &path, value, A_TEXT)?))
 }
 
-/// What is wrong with what stands under a key where a whole number is wanted.
+/// Returns a hint if the value of a key is not a whole number below 2^64.
 fn number_hint(
     alloc: Global,
     shaped: &Shaped<'_, '_>,
@@ -354,7 +354,7 @@ fn number_hint(
     Ok(Some(kind_hint(alloc, place, &path, value, A_NUMBER)?))
 }
 
-/// What is wrong with what stands under a key, or that nothing does.
+/// Returns a hint if the value of a key is of the wrong kind, or if a required key is missing.
 fn key_hint(alloc: Global, shaped: &Shaped<'_, '_>, key: &str) -> Result<Option<Hint>, AllocError> {
     let Some(value) = shaped.value.get(key) else {
         if key.is_empty() || key == OPTIONAL {
@@ -376,7 +376,7 @@ fn key_hint(alloc: Global, shaped: &Shaped<'_, '_>, key: &str) -> Result<Option<
     }
 }
 
-/// How many bytes at the beginning are the same.
+/// Returns the length of the longest common prefix.
 fn common_front(a: &[u8], b: &[u8]) -> usize {
     let mut count = 0_usize;
     for (x, y) in a.iter().zip(b.iter()) {
@@ -388,7 +388,7 @@ fn common_front(a: &[u8], b: &[u8]) -> usize {
     count
 }
 
-/// How many bytes at the end are the same.
+/// Returns the length of the longest common suffix.
 fn common_back(a: &[u8], b: &[u8]) -> usize {
     let mut count = 0_usize;
     for (x, y) in a.iter().rev().zip(b.iter().rev()) {
@@ -400,7 +400,7 @@ fn common_back(a: &[u8], b: &[u8]) -> usize {
     count
 }
 
-/// The event whose word has the most in common with a word at its beginning and its end, where that is more than half of it.
+/// Returns the event whose name shares the longest prefix and suffix with a word. These must be more than half of the word.
 fn near_event(word: &str) -> Option<&'static str> {
     let bytes = word.as_bytes();
     let mut best = None;
@@ -416,7 +416,7 @@ fn near_event(word: &str) -> Option<&'static str> {
     best
 }
 
-/// The word of an event is none.
+/// Returns the hint that the value of `event` is not the name of an event. It names the nearest event, or all of them.
 fn event_hint(alloc: Global, line: &str, word: &str) -> Result<Hint, AllocError> {
     let mut words = Vec::new(alloc);
     say(&mut words, "\"event\": ")?;
@@ -435,7 +435,7 @@ fn event_hint(alloc: Global, line: &str, word: &str) -> Result<Hint, AllocError>
     Ok(Hint { place, words })
 }
 
-/// The first byte of a line that is no blank.
+/// Returns the position of the first byte that is not blank.
 fn first_byte(line: &str) -> usize {
     line.as_bytes()
         .iter()
@@ -443,7 +443,7 @@ fn first_byte(line: &str) -> usize {
         .unwrap_or(0)
 }
 
-/// What is wrong with the shape of an object that has an event's word.
+/// Returns a hint if an object does not have the shape of the event that it names.
 fn object_hint(alloc: Global, shaped: &Shaped<'_, '_>) -> Result<Option<Hint>, AllocError> {
     if let Some(hint) = keys_hint(alloc, shaped)? {
         return Ok(Some(hint));
@@ -456,7 +456,7 @@ fn object_hint(alloc: Global, shaped: &Shaped<'_, '_>) -> Result<Option<Hint>, A
     Ok(None)
 }
 
-/// What is wrong with the shape of a line, which is that JSON, if anything is.
+/// Returns a hint if a line, whose JSON value is `value`, does not have the shape of an event.
 pub(crate) fn shape_hint<'v, 'a>(
     alloc: Global,
     line: &'v str,

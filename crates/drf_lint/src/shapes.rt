@@ -1,6 +1,6 @@
-//! What keys the events have, and what stands under a key. The order is that in which a reader looks at them.
+//! The keys of each event and the kinds of their values. The keys are in the order in which `drf_lines` reads them.
 
-/// What stands under a key.
+/// The kind of the value of a key.
 #[derive(Clone, Copy, PartialEq, Eq)]
 pub(crate) enum Kind {
     Name,
@@ -13,7 +13,7 @@ pub(crate) enum Kind {
     Tasks,
 }
 
-/// What stands under a key, in each event that has it.
+/// Returns the kind of the value of a key. It is the same in all events that have the key.
 pub(crate) fn kind_of(key: &str) -> Kind {
     match key {
         "role" => Kind::Role,
@@ -27,14 +27,14 @@ pub(crate) fn kind_of(key: &str) -> Kind {
     }
 }
 
-/// The key that may be left out.
+/// The only optional key.
 pub(crate) const OPTIONAL: &str = "refuse_ms";
 
-/// The words of all events.
+/// The names of all events.
 pub(crate) const EVENTS: &str =
     "add_agent remove_agent activate_agent deactivate_agent set_agent add_framework set_framework remove_framework suppress revive accept decline rescind finish reserve unreserve set_weight set_limit cycle report";
 
-/// The keys of an event besides `event`, those of an accept of several tasks or of one.
+/// Returns the keys of an event other than `event`. An accept of several tasks and an accept of one task have different keys.
 pub(crate) fn keys_of(event: &str, has_tasks: bool) -> Option<&'static str> {
     match event {
         "add_agent" | "set_agent" => Some("agent total"),
@@ -56,7 +56,7 @@ pub(crate) fn keys_of(event: &str, has_tasks: bool) -> Option<&'static str> {
     }
 }
 
-/// The keys whose texts are read once all shapes are right: of an accept the framework comes first.
+/// Returns the keys whose texts are read after all shapes have been found valid. For an accept, `framework` comes first.
 pub(crate) fn text_keys_of(event: &str, has_tasks: bool) -> &'static str {
     match event {
         "accept" if has_tasks => "framework tasks",
@@ -65,5 +65,5 @@ pub(crate) fn text_keys_of(event: &str, has_tasks: bool) -> &'static str {
     }
 }
 
-/// The keys of a task in a list.
+/// The keys of a task in a list of tasks.
 pub(crate) const TASK_KEYS: &str = "task use";

@@ -1,4 +1,4 @@
-//! A lint of a stream of lines.
+//! Lints a stream of lines.
 ghost use Rattle.std.specs.Prelude.{◌≡◌, ◌≤◌, ◌^◌, ◌||◌, true};
 ghost use Rattle.drf_journal.specs.Device.{IsNew};
 ghost use Rattle.drf_journal.specs.Ended.{HasCause, HasFlushed};
@@ -10,13 +10,13 @@ use drf_journal::{Device, RunFault, line_law};
 use std::alloc::Global;
 use std::io::{Read, Write};
 
-/// How many bytes a read asks for.
+/// How many bytes each read asks for.
 const CHUNK: usize = 65_536;
 
-/// How often a lint reads at most.
+/// The greatest number of reads.
 const MAX_READS: u64 = 1_099_511_627_776;
 
-/// Judges the lines of a reader by a lint that has read nothing.
+/// Lints the lines of a reader, with a linter that has read nothing.
 fn lint<R: Read, W: Write, E: Write>(
     alloc: Global,
     linter: &mut Linter,
@@ -36,7 +36,7 @@ fn lint<R: Read, W: Write, E: Write>(
     ensures told_flushed { errors.old.flushed ≡ true → HasFlushed result errors.new.flushed }
     ensures reads { reader.new.calls ≤ 2 ^ 40 }
 {
-    // The contract of this call tells how lines come in pieces.
+    // The contract of this call says how the lines of an input follow from its chunks.
     line_law();
     let mut buffer = vec![in alloc; 0u8; CHUNK]?;
     let chunk = buffer.as_mut_slice();
@@ -53,8 +53,9 @@ fn lint<R: Read, W: Write, E: Write>(
     Err(RunFault::Read)
 }
 
-/// Judges the lines of a reader, cut as a run cuts them. Each that is an event is written in its written form on `writer`, where `write` says
-/// so, one a line; of each that is none it is told on `errors` why, and what is wrong in it. Tells how many are no events.
+/// Lints the lines of a reader, which are cut as a run cuts them. For each line that is not an event, writes a diagnosis to `errors`. If
+/// `write` is set, writes each event in its normal form to `writer`, one a line. Returns how many lines are not events.
+/// Returns an error if a read or a write fails, or if memory runs out.
 pub fn run_lint<R: Read, W: Write, E: Write>(
     alloc: Global,
     write: bool,

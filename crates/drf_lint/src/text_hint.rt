@@ -1,4 +1,4 @@
-//! What is wrong with the texts of a line whose shape is right.
+//! Hints for lines that have the shape of an event, but a text that is not valid.
 
 use crate::place::{item_at, text_at, value_at};
 use crate::shapes::{Kind, TASK_KEYS, kind_of, text_keys_of};
@@ -8,12 +8,12 @@ use drf_text::{TextFault, read_bundle, read_quantities, read_weight};
 use json::Value;
 use std::alloc::{AllocError, Global};
 
-/// A piece of a text that is wrong: where it begins in the text and how long it is, in bytes, and what it is not.
+/// The part of a text that is not valid: where it begins in the text and how long it is, in bytes, and why.
 #[derive(Clone, Copy)]
 struct Wrong {
     begin: usize,
     size: usize,
-    /// Where in the text the fault is told.
+    /// The position in the text that the column of the hint names.
     at: usize,
     why: &'static str,
 }
@@ -49,7 +49,7 @@ const NO_LIMIT: &str = " is no amount: a limit is amounts alone, as cpus:4;mem:1
 
 const TWICE: &str = " has a member that stands under another reservation of this name before";
 
-/// All of a text is wrong.
+/// Returns that the whole text is not valid.
 fn whole(text: &str, at: usize, why: &'static str) -> Option<Wrong> {
     Some(Wrong {
         begin: 0,
@@ -59,7 +59,7 @@ fn whole(text: &str, at: usize, why: &'static str) -> Option<Wrong> {
     })
 }
 
-/// What is wrong with a name: told at its first byte that no name has.
+/// Returns what is wrong with a name. The position is the first byte that is not allowed in names.
 fn name_wrong(alloc: Global, text: &str) -> Result<Option<Wrong>, AllocError> {
     match Name::read(alloc, text) {
         Ok(_) => Ok(None),
@@ -91,7 +91,7 @@ fn weight_wrong(text: &str) -> Result<Option<Wrong>, AllocError> {
     }
 }
 
-/// The first fault of a text of resources or of a limit, if it has one.
+/// Returns the first error of a resource text or of a limit, if it has one.
 fn fault_in(alloc: Global, kind: Kind, text: &[u8]) -> Result<Option<TextFault>, AllocError> {
     let Ok(text) = std::str::from_utf8(text) else {
         return Ok(None);
@@ -106,7 +106,7 @@ fn fault_in(alloc: Global, kind: Kind, text: &[u8]) -> Result<Option<TextFault>,
     }
 }
 
-/// Where the pieces of a text end.
+/// Returns the positions at which the parts of a text, separated by `;`, end.
 fn piece_ends(alloc: Global, text: &[u8]) -> Result<Vec<usize>, AllocError> {
     let mut ends = Vec::new(alloc);
     for (i, byte) in text.iter().enumerate() {
@@ -118,14 +118,14 @@ fn piece_ends(alloc: Global, text: &[u8]) -> Result<Vec<usize>, AllocError> {
     Ok(ends)
 }
 
-/// What a text has up to the end of a piece.
+/// Returns the text up to the end of a part.
 fn up_to<'t>(text: &'t [u8], ends: &[usize], piece: usize) -> &'t [u8] {
     let end = ends.get(piece).copied().unwrap_or(text.len());
     text.get(..end).unwrap_or(text)
 }
 
-/// The first piece with a fault, of a text that has one. The pieces are read from the left, so that a front of the text has a fault
-/// just where that piece is in it: of the fronts half are passed by at a time.
+/// Returns the number of the first part that has an error, in a text that has one. Parts are read from the left, so a prefix of the text
+/// has an error exactly if it includes that part; this is a binary search over the prefixes.
 fn first_bad_piece(
     alloc: Global,
     kind: Kind,
@@ -147,7 +147,7 @@ fn first_bad_piece(
     Ok(low)
 }
 
-/// What is wrong with a piece that has that fault.
+/// Returns the message for a part that has this error.
 fn why_of(kind: Kind, piece: &[u8], fault: TextFault) -> &'static str {
     match (fault, kind) {
         (TextFault::Syntax, _) => NO_FORM,
@@ -167,7 +167,7 @@ fn is_blank(byte: u8) -> bool {
     (byte == b' ') | (byte == b'\t')
 }
 
-/// What is wrong with a text of resources or of a limit: its first piece with a fault, and that fault.
+/// Returns what is wrong with a resource text or with a limit: its first part that has an error, and that error.
 fn pieces_wrong(alloc: Global, kind: Kind, text: &str) -> Result<Option<Wrong>, AllocError> {
     let bytes = text.as_bytes();
     if fault_in(alloc, kind, bytes)?.is_none() {
@@ -200,7 +200,7 @@ fn pieces_wrong(alloc: Global, kind: Kind, text: &str) -> Result<Option<Wrong>, 
     }))
 }
 
-/// What is wrong with a text that stands under a key.
+/// Returns what is wrong with a text, given the kind of its key.
 fn wrong_in(alloc: Global, kind: Kind, text: &str) -> Result<Option<Wrong>, AllocError> {
     match kind {
         Kind::Name => name_wrong(alloc, text),
@@ -211,18 +211,18 @@ fn wrong_in(alloc: Global, kind: Kind, text: &str) -> Result<Option<Wrong>, Allo
     }
 }
 
-/// A text of a line, which stands under a key, or in an item there, or under a key of an item there.
+/// A text of a line, which is the value of a key, an item of its array, or the value of a key in such an item.
 #[derive(Clone, Copy)]
 struct Told<'v, 'a> {
     line: &'v str,
     key: &'v str,
-    /// Items are counted from 0, and told from 1.
+    /// Counted from 0; in hints, items are counted from 1.
     item: Option<usize>,
     inner: Option<&'v str>,
     text: &'a str,
 }
 
-/// Says where the text stands, as `"tasks" item 2 "use": `.
+/// Appends where the text is, such as `"tasks" item 2 "use": `.
 fn say_path(words: &mut Vec<u8>, told: &Told<'_, '_>) -> Result<(), AllocError> {
     quote(words, told.key.as_bytes())?;
     if let Some(item) = told.item {
@@ -236,7 +236,7 @@ fn say_path(words: &mut Vec<u8>, told: &Told<'_, '_>) -> Result<(), AllocError> 
     say(words, ": ")
 }
 
-/// Where the string of the text begins.
+/// Returns the position in the line at which the string of the text begins.
 fn place_of(alloc: Global, told: &Told<'_, '_>) -> Result<usize, AllocError> {
     let mut place = value_at(alloc, told.line, 0, told.key)?;
     if let Some(item) = told.item {
@@ -248,7 +248,7 @@ fn place_of(alloc: Global, told: &Told<'_, '_>) -> Result<usize, AllocError> {
     Ok(place)
 }
 
-/// What is wrong with a text of the line.
+/// Returns a hint if a text of the line is not valid.
 fn told_hint(alloc: Global, told: &Told<'_, '_>) -> Result<Option<Hint>, AllocError> {
     let kind = kind_of(told.inner.unwrap_or(told.key));
     let Some(wrong) = wrong_in(alloc, kind, told.text)? else {
@@ -265,7 +265,7 @@ fn told_hint(alloc: Global, told: &Told<'_, '_>) -> Result<Option<Hint>, AllocEr
     Ok(Some(Hint { place, words }))
 }
 
-/// What is wrong with the roles of a framework.
+/// Returns a hint if a role of the framework is not valid.
 fn roles_hint(alloc: Global, line: &str, items: &[Value<'_>]) -> Result<Option<Hint>, AllocError> {
     for (i, item) in items.iter().enumerate() {
         let told = Told {
@@ -282,7 +282,7 @@ fn roles_hint(alloc: Global, line: &str, items: &[Value<'_>]) -> Result<Option<H
     Ok(None)
 }
 
-/// What is wrong with a task of a list.
+/// Returns a hint if a text of a task is not valid.
 fn task_hint(
     alloc: Global,
     line: &str,
@@ -304,7 +304,7 @@ fn task_hint(
     Ok(None)
 }
 
-/// What is wrong with a list of tasks.
+/// Returns a hint if a text of a list of tasks is not valid.
 fn tasks_hint(alloc: Global, line: &str, items: &[Value<'_>]) -> Result<Option<Hint>, AllocError> {
     for (i, item) in items.iter().enumerate() {
         if let Some(hint) = task_hint(alloc, line, i, item)? {
@@ -314,7 +314,7 @@ fn tasks_hint(alloc: Global, line: &str, items: &[Value<'_>]) -> Result<Option<H
     Ok(None)
 }
 
-/// What is wrong with the texts under a key of an event.
+/// Returns a hint if a text under a key of the event is not valid.
 fn key_hint<'v>(
     alloc: Global,
     line: &'v str,
@@ -340,7 +340,7 @@ fn key_hint<'v>(
     }
 }
 
-/// What is wrong with the texts of a line, which is that JSON and has the shape of an event, if anything is.
+/// Returns a hint if a text of a line is not valid. The line's JSON value is `value`, and it has the shape of an event.
 pub(crate) fn text_hint(
     alloc: Global,
     line: &str,

@@ -1,4 +1,4 @@
-//! The line that tells what is wrong with a line.
+//! The line that reports what is wrong with a line of the input.
 ghost use Rattle.std.specs.Prelude.{◌≡◌, ◌++◌, OnOk, IfOk, decimal};
 ghost use Rattle.drf_lint.specs.Told.{told_line};
 
@@ -6,7 +6,7 @@ use crate::diagnosis::Diagnosis;
 use itoa::Buffer;
 use std::alloc::{AllocError, Global};
 
-/// Adds a word and a number.
+/// Appends a label and a decimal number.
 fn push_number(text: &mut Vec<u8>, word: &str, number: u64) -> Result<(), AllocError>
     ensures { OnOk result (text.new.items ≡ text.old.items ++ (word.now ++ decimal number)) }
 {
@@ -14,7 +14,7 @@ fn push_number(text: &mut Vec<u8>, word: &str, number: u64) -> Result<(), AllocE
     text.extend_from_slice(Buffer::new().format(number).as_bytes())
 }
 
-/// The line that tells what is wrong with the line of that number, from 1.
+/// Returns the line that reports a diagnosis of the line with this number. Lines are counted from 1.
 pub(crate) fn told_line(alloc: Global, number: u64, told: &Diagnosis) -> Result<Vec<u8>, AllocError>
     ensures { IfOk result (λ text. text.items ≡ told_line number told.now.fault told.now.column told.now.words.items) }
 {

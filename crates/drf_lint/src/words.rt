@@ -1,36 +1,36 @@
-//! What is wrong in a line, in words.
+//! The text of hints.
 ghost use Rattle.std.specs.Prelude.{◌≡◌, IfOk, true};
 ghost use Rattle.drf_lint.specs.Told.{AreWords, is_seen};
 
 use itoa::Buffer;
 use std::alloc::{AllocError, Global};
 
-/// What is wrong in a line, in words, and where.
+/// A text that says what is wrong in a line, and the position at which it is wrong.
 #[derive(Drop)]
 pub(crate) struct Hint {
-    /// The byte in the line, from 0.
+    /// The position in the line in bytes, from 0.
     pub place: usize,
     pub words: Vec<u8>,
 }
 
-/// A hint of one text.
+/// Returns a hint with a fixed text.
 pub(crate) fn plain_hint(alloc: Global, place: usize, text: &str) -> Result<Hint, AllocError> {
     let mut words = Vec::new(alloc);
     say(&mut words, text)?;
     Ok(Hint { place, words })
 }
 
-/// Says a text.
+/// Appends a text.
 pub(crate) fn say(words: &mut Vec<u8>, text: &str) -> Result<(), AllocError> {
     words.extend_from_slice(text.as_bytes())
 }
 
-/// Says a number.
+/// Appends a decimal number.
 pub(crate) fn say_number(words: &mut Vec<u8>, number: usize) -> Result<(), AllocError> {
     say(words, Buffer::new().format(number as u64))
 }
 
-/// Whether a byte is shown as it is.
+/// Returns whether a byte is visible ASCII or a space, so that it can be shown as it is.
 fn is_seen(byte: u8) -> bool
     ensures { result ≡ is_seen byte }
 {
@@ -39,7 +39,7 @@ fn is_seen(byte: u8) -> bool
 
 const DIGITS: &[u8; 16] = b"0123456789abcdef";
 
-/// Shows a byte, as `\x0a` where it is no visible ASCII.
+/// Appends a byte, written like `\x0a` if it is neither visible ASCII nor a space.
 fn show_byte(words: &mut Vec<u8>, byte: u8) -> Result<(), AllocError> {
     if is_seen(byte) {
         words.push(byte)?;
@@ -51,10 +51,10 @@ fn show_byte(words: &mut Vec<u8>, byte: u8) -> Result<(), AllocError> {
     Ok(())
 }
 
-/// How many bytes of a piece of a line are shown.
+/// How many bytes of a part of a line are shown.
 const MOST_SHOWN: usize = 40;
 
-/// Shows a piece of the line, cut where it is long.
+/// Appends a part of the line; a long one is cut.
 pub(crate) fn show(words: &mut Vec<u8>, piece: &[u8]) -> Result<(), AllocError> {
     let shown = piece.len().min(MOST_SHOWN);
     for byte in &piece[..shown] {
@@ -66,17 +66,17 @@ pub(crate) fn show(words: &mut Vec<u8>, piece: &[u8]) -> Result<(), AllocError> 
     Ok(())
 }
 
-/// Shows a text of the line between quotes.
+/// Appends a text of the line in quotes.
 pub(crate) fn quote(words: &mut Vec<u8>, text: &[u8]) -> Result<(), AllocError> {
     say(words, "\"")?;
     show(words, text)?;
     say(words, "\"")
 }
 
-/// How many bytes of words are told.
+/// The greatest length of a hint in bytes.
 const MOST_WORDS: usize = 240;
 
-/// A byte that is seen.
+/// Returns the byte, or `?` if it is neither visible ASCII nor a space.
 fn seen_byte(byte: u8) -> u8
     ensures { is_seen result ≡ true }
 {
@@ -86,7 +86,7 @@ fn seen_byte(byte: u8) -> u8
     b'?'
 }
 
-/// Words as they are told: as many as fit, and all of them seen.
+/// Returns the text cut to the greatest length of a hint, with each byte that is not visible replaced by `?`.
 pub(crate) fn fitted(alloc: Global, said: &[u8]) -> Result<Vec<u8>, AllocError>
     ensures { IfOk result (λ words. AreWords words.items) }
 {

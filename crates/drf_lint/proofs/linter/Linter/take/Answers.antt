@@ -5,7 +5,7 @@ use Rattle.drf_lint.specs.Lint.{Lint, lint_of}
 use Rattle.drf_lint.proofs.Pieces.{front-begins, front-line, front-memory, front-rest, front-stopped, judged-nothing, or_false, or_none}
 use Rattle.drf_lint.proofs.linter.Linter.take.Goals as goal
 
--- what is left behind a byte is all of it
+-- what remains after a byte
 tail_of : (rest : List ℕ) (at : ℕ) → at < length rest → take (length rest - (at + 1)) (drop (at + 1) rest) ≡ drop (at + 1) rest
 tail_of rest at inside = take_all _ _ (simp length-drop (omega arith))
 

@@ -1,4 +1,4 @@
--- The first element that passes a test: the head, or behind a front in which none does.
+-- The first element that passes a test is the head, or comes after elements that do not pass it.
 use Rattle.std.specs.Prelude.{◌≡◌, ℕ, suc, ◌+◌, Bool, true, false, List, [], ◌∷◌, ◌++◌, length, Option, Some, None, if◌then◌else◌, take, drop}
 use Rattle.std.specs.List.{list_any, position, position_from}
 use Rattle.std.specs.Option.{option_map, option_map_or}
@@ -10,7 +10,7 @@ use Rattle.drf_role.specs.Path.{Path}
 use Rattle.drf_explain.specs.declared.finding.Finding.{Finding}
 use Rattle.drf_summary.specs.Pick.{earlier_at, earlier_on, is_of_client, own_at, own_on}
 
--- a search that begins one place later
+-- a search whose indexes begin one higher
 searched_later : {X : Type 0} (test : X → Bool) (i : ℕ) (xs : List X) → position_from test (i + 1) xs ≡ option_map suc (position_from test i xs)
 searched_later test i [] = refl
 searched_later test i (x ∷ xs) = by (test x) (searched_later test (i + 1) xs)
@@ -41,7 +41,7 @@ module _ {X : Type 0} (test : X → Bool) where
       let parts = or_parts (test x) (list_any test xs) none in
       position-cons x xs ∙ (λ i. cond (parts.0 i) (Some 0) (option_map suc (position-none xs parts.1 i)))
 
--- the first of a client is the head, or the first behind it
+-- the first finding about a client is the head, or is in the tail
 pub own-cons : (path : Path) (finding : Finding) (findings : List Finding)
     → own_on path (finding ∷ findings) ≡ (if is_of_client path finding then finding ∷ [] else own_on path findings)
 own-cons path finding findings =

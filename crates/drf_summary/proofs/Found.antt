@@ -1,4 +1,4 @@
--- Clients and grants, as they are found among the findings of a turn.
+-- The stored clients and grants are those of the findings of a turn.
 use Rattle.std.specs.Prelude.{◌≡◌, ℕ, ◌+◌, ◌<◌, ◌≤◌, Bool, true, false, List, [], ◌∷◌, ◌++◌, length, filter, flat_map, take, drop, Option, Some, None, IfSome, if◌then◌else◌, nat_lt, slice_index}
 use Rattle.std.specs.List.{position, position_from, position_or_len}
 use Rattle.std.specs.Borrow.{Bor}
@@ -18,9 +18,9 @@ use Rattle.drf_summary.specs.Places.{AreGrantsIn, ArePlacesIn, findings_of, plac
 use Rattle.drf_summary.specs.declared.grants.Grants.{Grants}
 use Rattle.drf_summary.specs.declared.places.Places.{Places}
 
--- ---- places
+-- ---- indexes
 
--- one finding more is looked at, from the last one on
+-- the index after one finding more; findings are read from the last to the first
 pub place_more : (test : Finding → Bool) (findings : List Finding) (i j : ℕ) (finding : Finding) → i ≡ j + 1 → j < length findings
     → finding ≡ get_or findings j finding
     → cond (test finding) (Some j) (position_from test i (drop i findings)) ≡ position_from test j (drop j findings)
@@ -38,7 +38,7 @@ position-within test findings place = by (nat_lt (position_or_len test findings)
         omega (arith, same, ltb-true (position_or_len test findings) (length findings) is)
     by false is found = absurd cc
 
--- the place that is kept for a client is one of the findings
+-- a stored index is less than the number of findings
 pub place-within : (findings : List Finding) (places : Places) (path : Path) (place : Option ℕ) → ArePlacesIn findings places
     → place ≡ place_in places path → IfSome place (λ p. p < length findings)
 place-within findings places path None are is = tt
@@ -50,13 +50,13 @@ place-inside findings places path found place are is some = position-within (is_
 
 -- ---- grants
 
--- the grants before a place begin all grants
+-- the grants before an index are a prefix of all grants
 pub front-kept : {X : Type 0} (test : X → Bool) (xs : List X) (n : ℕ) → take (length (filter test (take n xs))) (filter test xs) ≡ filter test (take n xs)
 front-kept test xs n =
     ap (take (length (filter test (take n xs)))) (ap (filter test) (sym (take-append-drop n xs)) ∙ filter-append test (take n xs) (drop n xs))
     ∙ take_at (filter test (take n xs)) (filter test (drop n xs)) (length (filter test (take n xs))) refl
 
--- and are no more of them
+-- and their number is at most that of all grants
 pub front-few : {X : Type 0} (test : X → Bool) (xs : List X) (n : ℕ) → length (filter test (take n xs)) ≤ length (filter test xs)
 front-few test xs n =
     let whole : length (filter test xs) ≡ length (filter test (take n xs)) + length (filter test (drop n xs)) =
@@ -64,7 +64,7 @@ front-few test xs n =
     ∙ length-append (filter test (take n xs)) (filter test (drop n xs)) in
     omega (arith, whole)
 
--- one grant more, or none
+-- the grants after one finding more
 pub grant_more : (findings : List Finding) (i : ℕ) (finding : Finding) (old new : List Finding) → i < length findings → finding ≡ get_or findings i finding
     → old ≡ filter is_grant (take i findings) → new ≡ old ++ (if is_grant finding then finding ∷ [] else [])
     → new ≡ filter is_grant (take (i + 1) findings)
@@ -73,7 +73,7 @@ grant_more findings i finding old new inside is so_far added =
     ∙ (λ k. so_far k ++ (if is_grant (is k) then is k ∷ [] else []))
     ∙ sym (filter_more is_grant findings i finding inside)
 
--- the grants are those of the first findings, and of each of these it is known how many stand before it
+-- the grants are those of the first findings, and `before` is right for each of these
 pub record AreGrantsTo (findings : List Finding) (i : ℕ) (grants : Grants) : Type 0 where
   pub all : findings_of grants.all.items ≡ filter is_grant (take i findings)
   pub long : length grants.before.items ≡ i
@@ -116,7 +116,7 @@ module _ (findings : List Finding) (grants : Grants) (place before : ℕ) (are :
   before-known : before ≡ length (filter is_grant (take place findings))
   before-known = read ∙ get_or_default grants.before.items place before 0 (omega (arith, inside, are.long)) ∙ are.before place inside
 
-  -- the grants before a place, as they are cut out
+  -- the slice of all grants that come before an index
   pub grants_front : findings_of (take before grants.all.items) ≡ filter is_grant (take place findings)
   grants_front =
       sym (take-map (λ (f : Bor Finding). f.now) before grants.all.items)
@@ -129,7 +129,7 @@ module _ (findings : List Finding) (grants : Grants) (place before : ℕ) (are :
       sym (length-map grants.all.items (λ (f : Bor Finding). f.now)) ∙ ap length are.all in
       omega (arith, before-known, front-few is_grant findings place, many)
 
--- only grants take anything
+-- only grants take anything from a bundle
 pub granted-takers : (bundle : List Resource) (findings : List Finding)
     → flat_map (taker_in bundle) (filter is_grant findings) ≡ flat_map (taker_in bundle) findings
 granted-takers bundle [] = refl
@@ -148,7 +148,7 @@ granted-takers bundle (Tried agent client ReservedForOthers ∷ findings) = gran
 pub granted-passers : (own earlier : List Finding) (bundle : List Resource) → passers_by own (filter is_grant earlier) bundle ≡ passers_by own earlier bundle
 granted-passers own earlier bundle = ap (λ (paths : List Path). if begins_with_grant own then [] else paths) (granted-takers bundle earlier)
 
--- ---- lent findings
+-- ---- borrowed findings
 
 pub lent-takers : (bundle : List Resource) (findings : List (Bor Finding))
     → flat_map (taker_in bundle) (findings_of findings) ≡ flat_map (λ f. taker_in bundle f.now) findings

@@ -1,3 +1,4 @@
+-- Lemmas for the contracts of selections and tallies.
 mod Picked
 mod Tallied
 mod Firsts

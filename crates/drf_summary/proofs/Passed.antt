@@ -1,4 +1,4 @@
--- Clients that pass, finding by finding; and the parts that two paths share.
+-- The clients that pass over a client, finding by finding; and the parts that two paths have in common.
 use Rattle.std.proofs.Common.{◌≡◌, ℕ, suc, ◌+◌, ◌<◌, ◌≤◌, Bool, true, false, List, [], ◌∷◌, ◌++◌, Some, cond, length, drop, get_or, inl, inr, sym, ap, ◌∙◌, refl, arith}
 use Rattle.std.specs.Prelude.{fold, map, min, not, ◌&&◌, ◌||◌, slice_get, if◌then◌else◌, nat_lt}
 use Rattle.std.specs.List.{flat_map, list_any}
@@ -31,7 +31,7 @@ module _ {X : Type 0} (clients_in : X → List Path) (whole : List Passer) (xs :
   pub counted_over : (passers : List Passer) → length xs ≤ i → fold with_passer passers (flat_map clients_in (drop i xs)) ≡ whole → passers ≡ whole
   counted_over passers past so_far = sym (ap (λ ys. fold with_passer passers (flat_map clients_in ys)) (drop_all i xs past)) ∙ so_far
 
--- some element has a client just where there is one of them
+-- some element has a client exactly if the list of all clients is not empty
 pub any_client : {X : Type 0} (clients_in : X → List Path) (xs : List X)
     → list_any (λ x. not (is_empty (clients_in x))) xs ≡ not (is_empty (flat_map clients_in xs))
 any_client clients_in [] = refl
@@ -41,7 +41,7 @@ any_client clients_in (x ∷ xs) = ap (λ b. not (is_empty (clients_in x)) || b)
     by [] = refl
     by (path ∷ paths) = refl
 
--- one agent more of a client, as it is put into a map
+-- one agent more for a client, stored in the map
 pub passer_put : (entries : List (Path × ℕ)) (client : Path)
     → map passer_of (insert_entry same_path entries client (next_agents (lookup (same_path client) entries))) ≡ with_passer (map passer_of entries) client
 passer_put [] client = refl
@@ -56,7 +56,7 @@ passer_put (e ∷ es) client = by (same_path client e.0) (passer_put es client)
     by true later = refl
     by false later = ap (λ (ps : List Passer). passer_of e ∷ ps) later
 
--- ---- of nothing nobody takes anything
+-- ---- no client takes a part of an empty bundle
 
 and-false : (b : Bool) → (b && false) ≡ false
 and-false true = refl
@@ -82,7 +82,7 @@ no_passers own earlier = ap (λ (paths : List Path). if begins_with_grant own th
     by true = refl
     by false = refl
 
--- ---- the parts that two paths share
+-- ---- the parts that two paths have in common
 
 shared-none : (path : Path) → shared_parts path [] ≡ 0
 shared-none [] = refl

@@ -1,4 +1,4 @@
--- Who is told to pass a client on an agent: just those who take something of what it would be granted, were it the first.
+-- The clients that are reported to pass over a client are those that are granted a part of what it would be granted if it were tried first.
 use Rattle.std.specs.Prelude.{◌≡◌, zero, suc, ◌<◌, Bool, true, false, not, ◌||◌, List, [], ◌∷◌, ◌++◌, length, map, Option, Some, None, Contains, if◌then◌else◌, slice_get}
 use Rattle.std.specs.List.{flat_map, list_any}
 use Rattle.std.proofs.Common.{refl, sym, ap, subst, ◌∙◌, inl, inr, cond, arith}
@@ -48,7 +48,7 @@ module _ (agent : AgentRow) where
     any-first rows [] = refl
     any-first rows (client ∷ clients) = ap (λ b. is_at path client || b) (any-first rows clients)
 
--- the first client of a path among some
+-- the first of some clients with this path
 record Split (path : Path) (clients : List Client) : Type 0 where
   front : List Client
   client : Client
@@ -72,9 +72,9 @@ split path (c ∷ cs) some = elim (cases_Bool (is_at path c)) [
       }
 ]
 
--- ---- who takes something of a bundle
+-- ---- which clients take a part of a bundle
 
--- one of some clients is granted something of a bundle, as its moment comes
+-- one of some clients is granted a part of a bundle when it is tried
 record HasTaker (rows : Rows) (agent : AgentRow) (bundle : List Resource) (passer : Path) (clients : List Client) : Type 0 where
   front : List Client
   taker : Client
@@ -128,10 +128,10 @@ module _ (agent : AgentRow) (bundle : List Resource) (passer : Path) where
       Contains-append_right front (one ++ back) (path_of t.taker) (Contains-append_left one back (path_of t.taker) (0, inside, refl)) in
       subst (λ (ps : List Path). Contains ps passer) (sym parts) (subst (Contains (front ++ (one ++ back))) t.its its)
 
--- ---- what is told is what the cycle grants
+-- ---- the reported outcome is what the cycle grants
 
 module _ (says : GrantIsGranted) (rows : Rows) (agent : AgentRow) (client : Client) where
-  -- a taking is a grant
+  -- an outcome that takes a part of a bundle is a grant
   taking-grant : (bundle : List Resource) → takes_of (bundle_of (outcome rows agent client)) bundle ≡ true
       → grant rows agent client ≡ Some (bundle_of (outcome rows agent client))
   taking-grant bundle takes = by (outcome rows agent client) refl takes
@@ -144,7 +144,7 @@ module _ (says : GrantIsGranted) (rows : Rows) (agent : AgentRow) (client : Clie
       by NothingLeft is takes = absurd (false≢true takes)
       by ReservedForOthers is takes = absurd (false≢true takes)
 
-  -- so is that of which something is taken
+  -- an outcome from which a part is taken is a grant
   due-grant : (taken : List Resource) → takes_of taken (bundle_of (outcome rows agent client)) ≡ true
       → grant rows agent client ≡ Some (bundle_of (outcome rows agent client))
   due-grant taken takes = by (outcome rows agent client) refl takes
@@ -157,7 +157,7 @@ module _ (says : GrantIsGranted) (rows : Rows) (agent : AgentRow) (client : Clie
       by NothingLeft is takes = absurd (false≢true (sym (takes-nothing taken) ∙ takes))
       by ReservedForOthers is takes = absurd (false≢true (sym (takes-nothing taken) ∙ takes))
 
-  -- where no grant is told there is none
+  -- if no grant is reported, there is none
   none-granted : is_granted (outcome rows agent client) ≡ false → grant rows agent client ≡ None
   none-granted nothing = by (grant rows agent client) refl
     where
@@ -187,7 +187,7 @@ module _ (rows : Rows) (agent : AgentRow) (path : Path) where
   abbrev first : List Client → List Finding
   first clients = map (told_here rows agent) clients
 
-  -- those who take, before the client, something of what it would be granted, if it is granted nothing
+  -- the clients before this one that take a part of what it would be granted, if it is granted nothing
   abbrev passers_at : List Client → Client → List Path
   passers_at front client =
       passers_by (told_here (all_tried rows agent front) agent client ∷ []) (told front) (bundle_of (outcome rows agent client))
@@ -208,7 +208,7 @@ module _ (rows : Rows) (agent : AgentRow) (path : Path) where
       ∙ own-behind path (first s.front) (told_here rows agent s.client) (first s.back) (any-first agent path rows s.front ∙ s.first) s.its in
       λ i. passers_by (own i) (earlier i) (bundle_in (due i))
 
-  -- nobody passes who is not tried
+  -- a client that is not tried is not passed over
   passers-none : (clients : List Client) → list_any (is_at path) clients ≡ false → passers_on path (told clients, first clients) ≡ []
   passers-none clients none =
       ap (λ earlier. passers_by (own_on path (told clients)) earlier (bundle_in (own_on path (first clients))))
@@ -315,7 +315,7 @@ module _ (says : GrantIsGranted) (rows : Rows) (agent : AgentRow) (path passer :
 pub each_passer_passes : GrantIsGranted → EachPasserPasses
 each_passer_passes says rows agent path passer = (passed says rows agent path passer, passes says rows agent path passer)
 
--- ---- somebody passes it
+-- ---- some client passes over it
 
 record HasOne (ps : List Path) : Type 0 where
   one : Path

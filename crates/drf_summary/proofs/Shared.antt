@@ -1,4 +1,4 @@
--- Weighted shares, as they are found by the texts of nodes.
+-- The stored weighted shares are those of the report.
 use Rattle.std.specs.Prelude.{◌≡◌, ℕ, ◌+◌, ◌<◌, Bool, true, false, List, [], length, drop, find, Option, Some, None, string_bytes}
 use Rattle.std.specs.HashMap.{HashMap, UpdatesBy, get_by_text}
 use Rattle.std.specs.Option.{option_map, option_map_or}
@@ -18,7 +18,7 @@ map-cond : {X Y : Type 0} (f : X → Y) (b : Bool) (x : X) (o : Option X) → op
 map-cond f true x o = refl
 map-cond f false x o = refl
 
--- one share more is kept
+-- one more share is stored
 pub share_put : {Y Z S : Type 0} (old new : HashMap (String Y) (String Z) S) (key : String Y) (share : String Z) (text told : Text)
     → UpdatesBy string_eq (string_eq key) old new (Some share) → string_bytes key ≡ text → string_bytes share ≡ told
     → (node : Text) → share_at new node ≡ cond (same_text text node) (Some told) (share_at old node)
@@ -27,7 +27,7 @@ share_put old new key share text told updates its says node =
     ∙ map-cond string_bytes (bytes_eq (string_bytes key) node) share (get_by_text old node)
     ∙ (λ i. cond (same_text (its i) node) (Some (says i)) (share_at old node))
 
--- one line more is looked at, from the last one on
+-- the shares after one line more; lines are read from the last to the first
 pub share_more : (lines : List NodeLine) (i j : ℕ) (line : NodeLine) (node : Text) → i ≡ j + 1 → j < length lines → line ≡ get_or lines j line
     → cond (same_text (text_of line.path) node) (Some (fraction_text line.weighted)) (told_share (drop i lines) node) ≡ told_share (drop j lines) node
 share_more lines i j line node next inside is =
@@ -37,7 +37,7 @@ share_more lines i j line node next inside is =
     (find (λ (l : NodeLine). same_text (text_of l.path) node) (drop (j + 1) lines)))
     ∙ sym (ap (λ (ls : List NodeLine). told_share ls node) (drop_more lines j line inside))
 
--- what is kept of a node is what the report tells of it
+-- the stored share of a node is that of the report
 pub share-told : {Z : Type 0} (found : Option (String Z)) (lines : List NodeLine) (node : Text) → option_map string_bytes found ≡ told_share lines node
     → option_map_or string_bytes found []
     ≡ option_map_or (λ (line : NodeLine). fraction_text line.weighted) (find (λ (line : NodeLine). same_text (text_of line.path) node) lines) []

@@ -1,4 +1,4 @@
--- Each agent is counted once of a client, and who passes it is told where it is passed.
+-- Each agent is counted once for a client, and a client is counted as passed over exactly if some client passes over it.
 use Rattle.std.specs.Prelude.{◌≡◌, ℕ, suc, ◌+◌, ◌-◌, ◌^◌, ◌<◌, min, Bool, true, false, not, ◌||◌, List, [], ◌∷◌, length, filter, fold, Option, Some, if◌then◌else◌}
 use Rattle.std.specs.List.{AllByRecursion, list_all, list_any}
 use Rattle.std.specs.Option.{option_map_or}
@@ -27,7 +27,7 @@ use Rattle.drf_summary.specs.Tally.{comes_to, is_below_threshold, is_held_back, 
 abbrev one_if : Bool → ℕ
 one_if test = if test then 1 else 0
 
--- by how much one agent raises the counts of a client's outcomes
+-- how much one agent adds to the sum of a client's outcomes
 abbrev outcomes_in : Option Outcome → ℕ
 outcomes_in o =
     one_if (option_map_or is_granted o false) + one_if (option_map_or is_held_back o false) + one_if (option_map_or is_over_limit o false)
@@ -97,7 +97,7 @@ length-on_all : (rows : Rows) (agents : List AgentRow) → length (turns_on_all 
 length-on_all rows [] = refl
 length-on_all rows (agent ∷ agents) = ap suc (length-on_all (after_agent rows agent) agents)
 
--- the agents that pass a test, without a bound
+-- the number of agents that pass a test, without an upper bound
 abbrev all_where : (Turn → Bool) → List Turn → ℕ
 all_where test turns = length (filter test turns)
 
@@ -151,7 +151,7 @@ counts_add_up rows at path below all =
       few (all_where (tells_of is_nothing_free) turns) (omega (arith, whole, long, below)),
     )
 
--- ---- who is passed has one who passes it
+-- ---- some client passes over a client that is passed over
 
 some_passer : (passers : List Passer) (path : Path) → 0 < length (with_passer passers path)
 some_passer [] path = omega arith

@@ -58,7 +58,7 @@ pub tallies-next : (rows : Rows) (turns : List Turn) (turn : Turn)
     → map (with_turn turn) (tallies_of rows turns) ≡ tallies_of rows (turns ++ turn ∷ [])
 tallies-next rows turns turn = each_next (active_clients rows) turns turn
 
--- the elements before a place are changed, and one more is
+-- the elements before an index have been changed, and now one more
 module _ {X : Type 0} (f : X → X) where
   pub map_next : (xs ys : List X) (i n : ℕ) (d : X) → n ≡ i + 1 → i < length xs → ys ≡ map f (take i xs) ++ drop i xs
       → set ys i (f (get_or ys i d)) ≡ map f (take n xs) ++ drop n xs
@@ -75,9 +75,9 @@ module _ {X : Type 0} (f : X → X) where
       at (x ∷ xs) (suc i) zero next within = absurd (omega arith)
       at (x ∷ xs) (suc i) (suc n) next within = ap (λ l. f x ∷ l) (at xs i n (omega arith) (omega arith))
 
--- ---- the tallies before anything is told
+-- ---- the empty tallies
 
--- what is added of each element
+-- what is added for each element
 module _ {A B : Type 0} (f : A → List B) (whole : List B) (xs : List A) (i : ℕ) where
   pub added_more : (old new : List B) (x : A) → i < length xs → x ≡ get_or xs i x → new ≡ old ++ f x
       → old ++ flat_map f (drop i xs) ≡ whole → new ++ flat_map f (drop (i + 1) xs) ≡ whole

@@ -1,3 +1,4 @@
+-- Definitions of the parts and sums of an explanation.
 pub mod Pick
 pub mod Passers
 pub mod Places

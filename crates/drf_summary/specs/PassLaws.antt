@@ -1,4 +1,4 @@
--- Who passes a client: who stands before it in the turn, and is granted something of what it would be granted, were it the first.
+-- Which clients pass over a client: those before it in the turn that are granted a part of what it would be granted if it were tried first.
 use Rattle.std.specs.Prelude.{◌≡◌, ◌↔◌, Bool, true, false, List, ◌∷◌, ◌++◌, Some, None, Contains}
 use Rattle.std.specs.List.{list_any}
 use Rattle.drf_role.specs.Path.{Path, same_path}
@@ -11,13 +11,12 @@ use Rattle.drf_rows.specs.declared.rows.AgentRow.{AgentRow}
 use Rattle.drf_rows.specs.declared.rows.Rows.{Rows}
 use Rattle.drf_summary.specs.Passers.{is_passed, passers_on, takes_of}
 
--- a client of that path
+-- the client has this path
 abbrev pub is_at : Path → Client → Bool
 is_at path client = same_path (path_of client) path
 
--- In the turn that begins on an agent of which something is free, the taker stands before the client, which is the first of its path. It is
--- granted a bundle, as its moment comes, with something of what the client would be granted, were it the first; and the client, as its own
--- comes, is granted nothing.
+-- In the turn of an agent on which something is free, the passer comes before the client, which is the first with its path. The passer is
+-- granted a part of what the client would be granted if it were tried first, and the client is granted nothing when it is tried.
 pub record IsPassedBy (rows : Rows) (agent : AgentRow) (path passer : Path) : Type 0 where
   pub opened : IsOpen rows agent
   pub before : List Client
@@ -36,18 +35,18 @@ pub record IsPassedBy (rows : Rows) (agent : AgentRow) (path passer : Path) : Ty
   pub of_it : takes_of taken bundle ≡ true
   pub nothing : grant (all_tried rows agent (before ++ taker ∷ between)) agent client ≡ None
 
--- these, and nobody else, are told to pass a client
+-- exactly these clients pass over a client
 abbrev pub EachPasserPasses : Type 0
 EachPasserPasses =
     (rows : Rows) (agent : AgentRow) (path passer : Path)
     → Contains (passers_on path (turn_on rows agent)) passer ↔ IsPassedBy rows agent path passer
 
--- somebody passes it
+-- some client passes over it
 pub record IsPassed (rows : Rows) (agent : AgentRow) (path : Path) : Type 0 where
   pub passer : Path
   pub passes : IsPassedBy rows agent path passer
 
--- a client is told to be passed just where somebody passes it
+-- a client is reported as passed over exactly if some client passes over it
 abbrev pub EachIsPassedBySomebody : Type 0
 EachIsPassedBySomebody =
     (rows : Rows) (agent : AgentRow) (path : Path) → (is_passed path (turn_on rows agent) ≡ true) ↔ IsPassed rows agent path

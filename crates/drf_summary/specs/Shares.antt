@@ -1,4 +1,4 @@
--- The weighted shares that a report tells, as they are found by the texts of nodes.
+-- The weighted shares of a report by the texts of nodes, as the code stores them.
 use Rattle.std.specs.Prelude.{◌≡◌, List, Option, find, string_bytes}
 use Rattle.std.specs.HashMap.{HashMap, get_by_text}
 use Rattle.std.specs.declared.string.String.{String}
@@ -9,14 +9,14 @@ use Rattle.drf_role.specs.Parts.{text_of}
 use Rattle.drf_rows.specs.declared.report.NodeLine.{NodeLine}
 use Rattle.drf_summary.specs.declared.shares.Shares.{Shares}
 
--- the share that is kept for a node's text
+-- the stored share of a node, by its text
 abbrev pub share_at : {Y Z S : Type 0} → HashMap (String Y) (String Z) S → Text → Option Text
 share_at by_node node = option_map string_bytes (get_by_text by_node node)
 
--- the share that the first line of a node tells, of some lines
+-- the share in the first line of a node
 abbrev pub told_share : List NodeLine → Text → Option Text
 told_share lines node = option_map (λ line. fraction_text line.weighted) (find (λ line. same_text (text_of line.path) node) lines)
 
--- it is the share that the report tells first
+-- each stored share is the one in the report's first line of the node
 abbrev pub AreSharesIn : Shares → Type 0
 AreSharesIn s = (node : Text) → share_at s.by_node node ≡ told_share s.report.now.nodes node

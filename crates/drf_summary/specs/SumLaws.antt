@@ -1,4 +1,4 @@
--- The counts of a summary add up to the agents; who is passed has somebody who passes it, and would be granted something, were it tried first.
+-- The counts of a summary add up to the agents. A client that is passed over would be granted something if it were tried first.
 use Rattle.std.specs.Prelude.{◌≡◌, ◌≢◌, ℕ, ◌+◌, ◌^◌, ◌<◌, Bool, true, ◌||◌, List, [], Some, length, slice_get}
 use Rattle.std.specs.List.{list_all}
 use Rattle.drf_role.specs.Path.{Path}
@@ -13,21 +13,21 @@ use Rattle.drf_summary.specs.Pick.{bars_all, is_of_client}
 use Rattle.drf_summary.specs.Tally.{tally_of, tells_of}
 use Rattle.drf_summary.specs.declared.tally.Tally.{Tally}
 
--- nobody is tried on the agent, or the client is
+-- no client is tried on the agent, or this client is
 abbrev pub is_accounted : Path → Turn → Bool
 is_accounted path turn = tells_of bars_all turn || tells_of (is_of_client path) turn
 
--- on how many agents it gets something, or nothing for a cause that is counted
+-- the sum of the counts
 abbrev pub accounted : Tally → ℕ
 accounted t =
     t.granted + t.held_back + t.over_limit + t.below_threshold + t.nothing_left + t.reserved + t.inactive + t.nothing_free
 
--- of a client that is tried wherever somebody is, these are all agents, each counted once
+-- for a client that is tried wherever any client is, the counts add up to the number of agents
 abbrev pub CountsAddUp : Type 0
 CountsAddUp = (rows : Rows) (at : ℕ) (path : Path) → length rows.agents < 2 ^ 64
     → list_all (is_accounted path) (turns_by_agent rows at) ≡ true → accounted (tally_of (turns_by_agent rows at) path) ≡ length rows.agents
 
--- a client is passed on an agent just where it has passers
+-- a client is counted as passed over exactly if some client passes over it
 pub record HasItsPassers (t : Tally) : Type 0 where
   pub some : 0 < t.passed → t.passers ≢ []
   pub none : t.passed ≡ 0 → t.passers ≡ []
@@ -35,7 +35,7 @@ pub record HasItsPassers (t : Tally) : Type 0 where
 abbrev pub EachHasItsPassers : Type 0
 EachHasItsPassers = (turns : List Turn) (path : Path) → HasItsPassers (tally_of turns path)
 
--- a client of the turn that begins would be granted a bundle by the cycle, were it the first to be tried
+-- the cycle would grant a bundle to a client of the turn if it were tried first
 pub record WouldBeGranted (rows : Rows) (agent : AgentRow) (path : Path) : Type 0 where
   pub place : ℕ
   pub client : Client
@@ -44,6 +44,6 @@ pub record WouldBeGranted (rows : Rows) (agent : AgentRow) (path : Path) : Type 
   pub bundle : List Resource
   pub granted : grant rows agent client ≡ Some bundle
 
--- whoever is passed on an agent is passed over something that it could have had
+-- a client that is passed over on an agent could have been granted something there
 abbrev pub EachIsPassedRightly : Type 0
 EachIsPassedRightly = (rows : Rows) (agent : AgentRow) (path : Path) → is_passed path (turn_on rows agent) ≡ true → WouldBeGranted rows agent path

@@ -1,4 +1,4 @@
--- What comes of each client, counted over agents.
+-- The outcomes of each client, counted over the agents.
 use Rattle.std.specs.Prelude.{ℕ, ◌-◌, ◌^◌, min, Bool, true, false, not, List, [], ◌∷◌, ◌++◌, Option, length, map, filter, fold, if◌then◌else◌, codes}
 use Rattle.std.specs.List.{flat_map, list_any}
 use Rattle.std.specs.Option.{option_map_or}
@@ -24,7 +24,7 @@ use Rattle.drf_summary.specs.Passers.{Turn, is_passed, one_more, passer_text, pa
 use Rattle.drf_summary.specs.Pick.{is_granted, is_inactive, is_nothing_free, outcome_on}
 use Rattle.drf_summary.specs.declared.tally.Tally.{Tally}
 
--- ---- what comes of a client on an agent
+-- ---- the outcome of a client on an agent
 
 abbrev pub is_held_back : Outcome → Bool
 is_held_back (Grant bundle) = false
@@ -66,17 +66,17 @@ is_reserved BelowThreshold = false
 is_reserved NothingLeft = false
 is_reserved ReservedForOthers = true
 
--- the client is tried in a turn, and what comes of it passes a test
+-- the client is tried in a turn, and its outcome passes a test
 abbrev pub comes_to : (Outcome → Bool) → Path → Turn → Bool
 comes_to test path turn = option_map_or test (outcome_on path turn.0) false
 
--- a turn in which a finding passes a test
+-- a finding of the turn passes a test
 abbrev pub tells_of : (Finding → Bool) → Turn → Bool
 tells_of test turn = list_any test turn.0
 
 -- ---- over agents
 
--- on how many agents; the number stays at 2^64 - 1 once there
+-- the number of agents whose turns pass a test, but at most 2^64 - 1
 abbrev pub agents_where : (Turn → Bool) → List Turn → ℕ
 agents_where test turns = min (length (filter test turns)) (2 ^ 64 - 1)
 
@@ -95,11 +95,11 @@ tally_of turns path = record {
   passers = passers_of turns path;
 }
 
--- of all clients that want offers, in order of registration
+-- the tallies of all clients that are not suppressed, in order of registration
 abbrev pub tallies_of : Rows → List Turn → List Tally
 tallies_of rows turns = map (λ c. tally_of turns (path_of c)) (active_clients rows)
 
--- the clients of a framework that want offers
+-- the clients of a framework that are not suppressed
 abbrev pub active_one : FrameworkRow → ClientRow → List Client
 active_one f c = if not c.suppressed then client_of f c ∷ [] else []
 
@@ -108,11 +108,11 @@ active_in f = map (client_of f) (filter (λ c. not c.suppressed) f.clients)
 
 -- ---- one agent more
 
--- a number, and one more if a test holds
+-- a number plus 1 if a test holds, but at most 2^64 - 1
 abbrev pub more_if : Bool → ℕ → ℕ
 more_if test count = if test then one_more count else count
 
--- what comes of the client there is counted
+-- counts the outcome of the client
 abbrev pub with_outcome : Option Outcome → Tally → Tally
 with_outcome outcome t = record t {
   granted = more_if (option_map_or is_granted outcome false) t.granted;
@@ -123,11 +123,11 @@ with_outcome outcome t = record t {
   reserved = more_if (option_map_or is_reserved outcome false) t.reserved;
 }
 
--- and who passes it there
+-- counts the clients that pass over the client
 abbrev pub with_passed : List Path → Tally → Tally
 with_passed passers t = record t { passed = more_if (not (is_empty passers)) t.passed; passers = fold with_passer t.passers passers }
 
--- and all that is told of the turn
+-- counts a turn
 abbrev pub with_turn : Turn → Tally → Tally
 with_turn turn t = record (with_outcome (outcome_on t.client turn.0) t) {
   inactive = more_if (tells_of is_inactive turn) t.inactive;
@@ -138,7 +138,7 @@ with_turn turn t = record (with_outcome (outcome_on t.client turn.0) t) {
 
 -- ---- the lines
 
--- compact JSON, the keys in order of bytes
+-- compact JSON, with keys in byte order
 abbrev pub tally_value : Tally → Data
 tally_value t = object (
     member (codes "BelowThreshold") (number (unsigned t.below_threshold))
@@ -153,7 +153,7 @@ tally_value t = object (
     (member (codes "passed") (number (unsigned t.passed))
     no_members))))))))))
 
--- the members of an object, with its counts at their names
+-- adds the counts to the members of an object
 abbrev pub with_counts : Tally → Members → Members
 with_counts t members =
     put (codes "passed") (number (unsigned t.passed))
@@ -169,12 +169,12 @@ with_counts t members =
 unfoldable pub tally_text : Tally → List ℕ
 tally_text t = compact_text (tally_value t) ++ 10 ∷ []
 
--- the line of a client, and one for each that passes it, with the shares that a report tells
+-- the line of a client, and a line for each client that passes over it, with the shares of the report
 abbrev pub tally_lines : Report → Tally → List ℕ
 tally_lines report t = tally_text t ++ flat_map (passer_text report t.client) t.passers
 
--- What is told of the cycle at a moment, summed up: those who want no offers, and the others with who passes them. Shares are those before
--- the cycle.
+-- The summary of the cycle at a timestamp: the suppressed clients, and then the other clients with those that pass over them. The shares
+-- are those before the cycle.
 abbrev pub summary_text : Rows → ℕ → List ℕ
 summary_text rows at =
     explained_text (suppressed_of rows) ++ flat_map (tally_lines (report_of rows)) (tallies_of rows (turns_by_agent rows at))

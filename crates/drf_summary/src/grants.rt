@@ -1,4 +1,4 @@
-//! The findings that tell of grants.
+//! The findings that are grants.
 ghost use Rattle.std.specs.Prelude.{◌≡◌, [], ◌∷◌, ◌++◌, if◌then◌else◌, length, IfOk, OnOk};
 ghost use Rattle.drf_summary.specs.Pick.{is_grant};
 ghost use Rattle.drf_summary.specs.Places.{AreGrantsIn, findings_of};
@@ -7,16 +7,16 @@ use crate::pick::is_grant;
 use drf_explain::Finding;
 use std::alloc::{AllocError, Global};
 
-/// The findings that tell of grants, of some findings.
+/// The grants among some findings.
 #[derive(Drop)]
 pub(crate) struct Grants<'a> {
     pub(crate) all: Vec<&'a Finding>,
-    /// How many of them stand before each of the findings.
+    /// For each finding, how many grants come before it.
     pub(crate) before: Vec<usize>,
 }
 
 impl<'a> Grants<'a> {
-    /// Adds a finding behind the others.
+    /// Adds the next finding. Returns an error if memory runs out.
     fn add(&mut self, finding: &'a Finding) -> Result<(), AllocError>
         ensures all { OnOk result (findings_of self.new.all.items
             ≡ findings_of self.old.all.items ++ (if is_grant finding.now then finding.now ∷ [] else [])) }
@@ -29,7 +29,7 @@ impl<'a> Grants<'a> {
         Ok(())
     }
 
-    /// Those of some findings.
+    /// Returns the grants among some findings.
     pub(crate) fn of(alloc: Global, findings: &'a [Finding]) -> Result<Grants<'a>, AllocError>
         ensures { IfOk result (AreGrantsIn findings.now) }
     {

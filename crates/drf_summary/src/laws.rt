@@ -1,12 +1,13 @@
-//! Laws of the sums. The functions do nothing: what they promise is proved of the definition alone.
+//! Theorems about summaries. The functions do nothing; their contracts are proved of the definition alone.
 ghost use Rattle.drf_summary.specs.PassLaws.{EachIsPassedBySomebody, EachPasserPasses};
 ghost use Rattle.drf_summary.specs.SumLaws.{CountsAddUp, EachHasItsPassers, EachIsPassedRightly};
 
 use drf_explain::reasons_law;
 
-/// Of a client that is tried wherever somebody is, the counts of what comes of it and of the agents on which nobody is tried are together the
-/// number of agents, if that is below 2^64. Somebody passes a client just where it is counted as passed. A client that is passed on an agent
-/// is one of the turn, and the cycle would grant it something there, were it the first to be tried.
+/// Proves that counts and clients of a summary are consistent. For a client that is tried on every agent on which any client is tried, the
+/// counts of its outcomes and of the agents on which no client is tried add up to the number of agents, if that is below 2^64. A client is
+/// counted as passed over exactly if some client passes it over. A client that is passed over on an agent is in the turn there, and the cycle
+/// would grant it something if it were tried first.
 pub fn summary_law()
     ensures counts { CountsAddUp }
     ensures passers { EachHasItsPassers }
@@ -15,8 +16,8 @@ pub fn summary_law()
     reasons_law();
 }
 
-/// Just those pass a client on an agent who stand before it in the turn and are granted there, by the cycle, something of what it would be granted,
-/// were it the first to be tried, while it is granted nothing; and it is passed just where somebody does.
+/// Proves which clients pass over a client on an agent: the client is granted nothing there, and they come before it in the turn and are granted
+/// a part of what it would be granted if it were tried first. The client is passed over exactly if there is such a client.
 pub fn passers_law()
     ensures each { EachPasserPasses }
     ensures some { EachIsPassedBySomebody }

@@ -1,4 +1,4 @@
-//! What is asked of a telling of the next cycle: one agent, one client, or sums.
+//! Parts and sums of an explanation of the next cycle: for one agent, for one client, or in counts for each client.
 #![tactic(auto)]
 
 mod grants;

@@ -1,4 +1,4 @@
-//! Who passes a client (`specs/Passers`).
+//! Which clients pass over a client (`specs/Passers`).
 ghost use Rattle.std.specs.Prelude.{◌≡◌, [], fold, map, slice_get, OnOk};
 ghost use Rattle.std.specs.List.{flat_map};
 ghost use Rattle.std.specs.Map.{lookup};
@@ -17,8 +17,8 @@ use indexmap::IndexMap;
 use std::alloc::{AllocError, Global};
 use std::marker::Model;
 
-/// The clients that pass one client, each once, in the order in which they first do, and on how many agents. The numbers stay at 2^64 - 1 once
-/// there.
+/// The clients that pass over one client, each once, in the order in which they first do, with the number of agents on which they do. A
+/// number does not rise above 2^64 - 1.
 #[derive(Drop)]
 pub struct Passers {
     by_client: IndexMap<ClientPath, u64, HashKey>,
@@ -33,7 +33,7 @@ impl Model for Passers {
     ghost view = { λ p. map passer_of p.by_client.entries };
 }
 
-/// One agent more than a client has, or the first.
+/// Returns the number of agents of a client plus 1, or 1 if the client is not stored.
 fn next_agents(by_client: &IndexMap<ClientPath, u64, HashKey>, client: &ClientPath) -> u64
     ensures { result ≡ next_agents (lookup (same_path client.now) by_client.now.entries) }
 {
@@ -43,7 +43,7 @@ fn next_agents(by_client: &IndexMap<ClientPath, u64, HashKey>, client: &ClientPa
     }
 }
 
-/// Counts an agent of a client.
+/// Adds 1 to the number of agents of a client. Returns an error if memory runs out.
 fn count_in(
     by_client: &mut IndexMap<ClientPath, u64, HashKey>,
     client: &ClientPath,
@@ -58,7 +58,7 @@ fn count_in(
 }
 
 impl Passers {
-    /// Nobody.
+    /// Returns an empty map. Clients are hashed with `key`.
     pub(crate) fn new(alloc: Global, key: HashKey) -> Passers
         ensures { result ≡ [] }
     {
@@ -67,13 +67,14 @@ impl Passers {
         }
     }
 
+    /// Returns the map from clients to numbers of agents.
     pub(crate) fn entries(&self) -> &IndexMap<ClientPath, u64, HashKey>
         ensures { map passer_of result.now.entries ≡ self.now }
     {
         &self.by_client
     }
 
-    /// The client at a place, and on how many agents it passes.
+    /// Returns the client at an index, and on how many agents it passes the other one over.
     pub fn get(&self, place: usize) -> Option<(&ClientPath, u64)>
         ensures { option_map (λ p. record { client = p.0.now; agents = p.1 }) result ≡ slice_get self.now place }
     {
@@ -83,7 +84,7 @@ impl Passers {
         }
     }
 
-    /// Counts an agent on which that client passes.
+    /// Adds an agent on which that client passes the other one over.
     fn count(&mut self, client: &ClientPath) -> Result<(), AllocError>
         ensures { OnOk result (self.new ≡ with_passer self.old client.now) }
     {
@@ -91,7 +92,7 @@ impl Passers {
         Ok(())
     }
 
-    /// Counts the client that a finding grants something of a bundle, if it does.
+    /// Counts the client of a finding, if the finding grants it a part of the bundle.
     fn count_taker(&mut self, finding: &Finding, bundle: &Bundle) -> Result<(), AllocError>
         ensures { OnOk result (self.new ≡ fold with_passer self.old (taker_in bundle.now finding.now)) }
     {
@@ -101,7 +102,7 @@ impl Passers {
         }
     }
 
-    /// Counts the clients that findings grant something of a bundle.
+    /// Counts the clients of those findings that grant a part of the bundle.
     pub(crate) fn count_takers(
         &mut self,
         findings: &[&Finding],

@@ -1,4 +1,4 @@
-//! The lines of those who pass a client.
+//! The lines of the clients that pass over a client.
 ghost use Rattle.std.specs.Prelude.{◌≡◌, ◌≤◌, ◌++◌, IfOk, OnOk};
 ghost use Rattle.std.specs.List.{flat_map};
 ghost use Rattle.serde_json.specs.View.{view};
@@ -11,7 +11,7 @@ use drf_role::{ClientPath, NodePath};
 use serde_json::{Value, json};
 use std::alloc::{AllocError, Global};
 
-/// How many parts two paths share from the beginning.
+/// Returns how many parts two paths have in common at their beginning.
 fn shared_parts(path: &ClientPath, other: &ClientPath) -> usize
     ensures value { result ≡ shared_parts path.now other.now }
     ensures few { result ≤ 10 }
@@ -25,7 +25,7 @@ fn shared_parts(path: &ClientPath, other: &ClientPath) -> usize
     most
 }
 
-/// The first node on the way to a client that is not on the way to the other one.
+/// Returns the first node of a path that is not a node of the other path.
 fn parting(path: &ClientPath, other: &ClientPath) -> Result<NodePath, AllocError>
     ensures { IfOk result (λ node. node ≡ parting path.now other.now) }
 {
@@ -72,7 +72,7 @@ fn passer_line(
     Ok(text)
 }
 
-/// Writes a line for each that passes a client, with the weighted shares of both where their paths part, as a report tells them.
+/// Appends a line for each client that passes a client over, with the weighted shares of both at the first nodes at which their paths differ.
 pub(crate) fn write_passers(
     alloc: Global,
     shares: &Shares,

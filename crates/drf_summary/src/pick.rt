@@ -1,4 +1,4 @@
-//! What is picked of a telling.
+//! Selects a part of an explanation.
 ghost use Rattle.std.specs.Prelude.{◌≡◌, ◌<◌, ◌++◌, [], filter, if◌then◌else◌, length, IfSome, OnOk};
 ghost use Rattle.std.specs.List.{position};
 ghost use Rattle.std.specs.Option.{option_copied};
@@ -9,19 +9,18 @@ use drf_explain::{Finding, Outcome, write_explained_line, write_explained_lines}
 use drf_role::{ClientPath, Name};
 use std::alloc::{AllocError, Global};
 
-/// Whom to tell of.
+/// Which part of an explanation is selected.
 #[derive(Drop)]
 pub enum Pick {
     /// All agents and clients.
     All,
-    /// The agent of that name.
+    /// The findings of the agent of that name.
     Agent(Name),
-    /// The client of that path, and on each agent those that are granted something there before it is told of. Agents on which nobody is tried
-    /// are told of too.
+    /// The findings of the client of that path, and on each agent the grants before it. Agents on which no client is tried are included.
     Client(ClientPath),
 }
 
-/// Whether the finding is of the agent.
+/// Returns whether the finding is about the agent.
 fn is_of_agent(name: &Name, finding: &Finding) -> bool
     ensures { result ≡ is_of_agent name.now finding.now }
 {
@@ -34,7 +33,7 @@ fn is_of_agent(name: &Name, finding: &Finding) -> bool
     }
 }
 
-/// Whether the finding is of the client.
+/// Returns whether the finding is about the client.
 fn is_of_client(path: &ClientPath, finding: &Finding) -> bool
     ensures { result ≡ is_of_client path.now finding.now }
 {
@@ -51,7 +50,7 @@ pub(crate) fn is_granted(outcome: &Outcome) -> bool
     matches!(outcome, Outcome::Grant(_))
 }
 
-/// Whether the finding tells of a grant.
+/// Returns whether the finding is a grant.
 pub(crate) fn is_grant(finding: &Finding) -> bool
     ensures { result ≡ is_grant finding.now }
 {
@@ -73,14 +72,14 @@ pub(crate) fn is_nothing_free(finding: &Finding) -> bool
     matches!(finding, Finding::NothingFree { .. })
 }
 
-/// Whether the finding is of an agent on which nobody is tried.
+/// Returns whether the finding is that no client is tried on its agent.
 fn bars_all(finding: &Finding) -> bool
     ensures { result ≡ bars_all finding.now }
 {
     is_inactive(finding) || is_nothing_free(finding)
 }
 
-/// Writes the line of a finding, if it is wanted.
+/// Appends the line of a finding if `is_wanted` is set.
 fn write_if(
     alloc: Global,
     is_wanted: bool,
@@ -95,7 +94,7 @@ fn write_if(
     write_explained_line(alloc, finding, text)
 }
 
-/// Writes the lines of the findings of an agent.
+/// Appends the lines of those findings that are about the agent.
 fn write_agent(
     alloc: Global,
     name: &Name,
@@ -110,7 +109,7 @@ fn write_agent(
     Ok(())
 }
 
-/// Writes the lines of grants.
+/// Appends the lines of those findings that are grants.
 fn write_grants(alloc: Global, findings: &[Finding], text: &mut Vec<u8>) -> Result<(), AllocError>
     ensures { OnOk result (text.new.items ≡ text.old.items ++ explained_text (filter is_grant findings.now)) }
 {
@@ -120,7 +119,7 @@ fn write_grants(alloc: Global, findings: &[Finding], text: &mut Vec<u8>) -> Resu
     Ok(())
 }
 
-/// Writes the line of an agent on which nobody is tried.
+/// Appends the lines of those findings that say that no client is tried on an agent.
 fn write_barred(alloc: Global, findings: &[Finding], text: &mut Vec<u8>) -> Result<(), AllocError>
     ensures { OnOk result (text.new.items ≡ text.old.items ++ explained_text (filter bars_all findings.now)) }
 {
@@ -130,7 +129,7 @@ fn write_barred(alloc: Global, findings: &[Finding], text: &mut Vec<u8>) -> Resu
     Ok(())
 }
 
-/// Writes the lines of findings.
+/// Appends the lines of all findings.
 fn write_all(alloc: Global, findings: &[Finding], text: &mut Vec<u8>) -> Result<(), AllocError>
     ensures { OnOk result (text.new.items ≡ text.old.items ++ explained_text findings.now) }
 {
@@ -138,7 +137,7 @@ fn write_all(alloc: Global, findings: &[Finding], text: &mut Vec<u8>) -> Result<
     text.extend_from_slice(&lines)
 }
 
-/// Where the client is first told of.
+/// Returns the index of the first finding about the client.
 pub(crate) fn place_of(path: &ClientPath, findings: &[Finding]) -> Option<usize>
     ensures place { result ≡ position (is_of_client path.now) findings.now }
     ensures within { IfSome result (λ p. p < length findings.now) }
@@ -148,7 +147,7 @@ pub(crate) fn place_of(path: &ClientPath, findings: &[Finding]) -> Option<usize>
         .position(|finding| is_of_client(path, finding))
 }
 
-/// The finding at a place, if there is one.
+/// Returns the finding at an index as a slice, or an empty slice if there is no index.
 pub(crate) fn own_at(findings: &[Finding], place: Option<usize>) -> &[Finding]
     requires { IfSome place (λ p. p < length findings.now) }
     ensures { result.now ≡ own_at findings.now place }
@@ -160,7 +159,7 @@ pub(crate) fn own_at(findings: &[Finding], place: Option<usize>) -> &[Finding]
     &rest[..1]
 }
 
-/// Those before it.
+/// Returns the findings before an index, or an empty slice if there is no index.
 pub(crate) fn earlier_at(findings: &[Finding], place: Option<usize>) -> &[Finding]
     requires { IfSome place (λ p. p < length findings.now) }
     ensures { result.now ≡ earlier_at findings.now place }
@@ -171,7 +170,7 @@ pub(crate) fn earlier_at(findings: &[Finding], place: Option<usize>) -> &[Findin
     &findings[..place]
 }
 
-/// The outcome of the first of the findings, if that tries a client.
+/// Returns the outcome of the first of the findings, if that finding has one.
 pub(crate) fn first_outcome(findings: &[Finding]) -> Option<&Outcome>
     ensures { option_copied result ≡ outcome_in findings.now }
 {
@@ -181,7 +180,7 @@ pub(crate) fn first_outcome(findings: &[Finding]) -> Option<&Outcome>
     }
 }
 
-/// Writes the line of the client, if it is told of, behind those of the grants before it.
+/// Appends the line of the client's first finding, if there is one, after the lines of the grants before it.
 fn write_tries(
     alloc: Global,
     path: &ClientPath,
@@ -197,7 +196,7 @@ fn write_tries(
     write_all(alloc, own, text)
 }
 
-/// Writes the line of an agent on which nobody is tried, or else of the client, behind those of the grants before it.
+/// Appends the line of an agent on which no client is tried, or else the lines that `write_tries` writes.
 fn write_client(
     alloc: Global,
     path: &ClientPath,
@@ -210,7 +209,7 @@ fn write_client(
     write_tries(alloc, path, findings, text)
 }
 
-/// Writes the lines of what is picked of one list of findings behind a text: of those of one agent, or of the clients that want no offers.
+/// Appends the lines of the selected findings. The findings are those of one agent, or those of the suppressed clients.
 pub fn write_picked(
     alloc: Global,
     pick: &Pick,

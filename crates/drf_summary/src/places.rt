@@ -1,4 +1,4 @@
-//! Where clients are first told of among findings.
+//! The position of each client among findings.
 ghost use Rattle.std.specs.Prelude.{◌≡◌, Some, None, cond, IfOk, OnOk};
 ghost use Rattle.drf_role.specs.Path.{Path, same_path};
 ghost use Rattle.drf_summary.specs.Pick.{is_of_client};
@@ -10,7 +10,7 @@ use drf_role::ClientPath;
 use indexmap::IndexMap;
 use std::alloc::{AllocError, Global};
 
-/// Where each client is first told of among some findings, found by its path.
+/// The index of the first finding of each client among some findings, by the client's path.
 #[derive(Drop)]
 pub(crate) struct Places {
     pub(crate) by_client: IndexMap<ClientPath, usize, HashKey>,
@@ -25,7 +25,7 @@ impl Places {
         }
     }
 
-    /// Keeps that place for a client.
+    /// Stores an index for a client, and replaces an earlier one.
     fn put(&mut self, client: &ClientPath, place: usize) -> Result<(), AllocError>
         ensures { OnOk result ((path : Path) → place_in self.new path ≡ cond (same_path client.now path) (Some place) (place_in self.old path)) }
     {
@@ -34,7 +34,7 @@ impl Places {
         Ok(())
     }
 
-    /// Keeps that place for the client of a finding, if it is of one.
+    /// Stores an index for the client of a finding, if the finding has a client.
     fn put_finding(&mut self, finding: &Finding, place: usize) -> Result<(), AllocError>
         ensures { OnOk result ((path : Path) → place_in self.new path ≡ cond (is_of_client path finding.now) (Some place) (place_in self.old path)) }
     {
@@ -45,7 +45,7 @@ impl Places {
         }
     }
 
-    /// The places of all clients of findings: from the last one on, so that the first of a client is kept.
+    /// Returns the indexes of all clients of some findings. Goes from the last finding to the first, so that the first index of a client remains.
     pub(crate) fn of(
         alloc: Global,
         key: HashKey,
@@ -60,7 +60,7 @@ impl Places {
         Ok(places)
     }
 
-    /// The place that is kept for a client.
+    /// Returns the index of a client's first finding, if there is one.
     pub(crate) fn get(&self, client: &ClientPath) -> Option<usize>
         ensures { result ≡ place_in self.now client.now }
     {

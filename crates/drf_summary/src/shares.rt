@@ -1,4 +1,4 @@
-//! The weighted shares that a report tells, by node.
+//! The weighted shares of nodes in a report.
 ghost use Rattle.std.specs.Prelude.{◌≡◌, Some, None, cond, IfOk, OnOk, string_bytes};
 ghost use Rattle.drf_lines.specs.ReportLine.{fraction_text};
 ghost use Rattle.drf_role.specs.Parts.{text_of};
@@ -13,14 +13,14 @@ use drf_rows::{NodeLine, Report};
 use indexmap::IndexMap;
 use std::alloc::{AllocError, Global};
 
-/// The weighted shares that a report tells, as texts, found by the texts of the nodes.
+/// The weighted shares of a report as texts, by the texts of the nodes.
 #[derive(Drop)]
 pub(crate) struct Shares<'a> {
     pub(crate) report: &'a Report,
     pub(crate) by_node: IndexMap<String, String, HashKey>,
 }
 
-/// Keeps the share of a node.
+/// Stores the share of a node, and replaces an earlier one.
 fn put_share(
     alloc: Global,
     by_node: &mut IndexMap<String, String, HashKey>,
@@ -36,7 +36,7 @@ fn put_share(
 }
 
 impl<'a> Shares<'a> {
-    /// Those of a report: from the last line on, so that the first of a node is kept.
+    /// Returns the shares of a report. Goes from the last line to the first, so that the first share of a node remains.
     pub(crate) fn of(
         alloc: Global,
         key: HashKey,
@@ -53,7 +53,7 @@ impl<'a> Shares<'a> {
         Ok(Shares { report, by_node })
     }
 
-    /// The weighted share of a node.
+    /// Returns the weighted share of a node, or an empty text if the report does not have the node.
     pub(crate) fn weighted(&self, node: &NodePath) -> &str
         requires { AreSharesIn self.now }
         ensures { result.now ≡ weighted_in self.now.report.now node.now }

@@ -1,4 +1,4 @@
-//! Who takes something of what a client would have been granted (`specs/Passers`).
+//! Which clients are granted a part of what another client could have been granted (`specs/Passers`).
 ghost use Rattle.std.specs.Prelude.{◌≡◌, [], not};
 ghost use Rattle.std.specs.List.{flat_map, list_any};
 ghost use Rattle.std.specs.Option.{option_copied, option_map_or, option_to_list};
@@ -11,7 +11,7 @@ use drf_bundle::{Bundle, Resource};
 use drf_explain::{Finding, Outcome};
 use drf_role::ClientPath;
 
-/// Whether there is something of the resource, and of the bundle something under the same name and reservation.
+/// Returns whether the resource is not empty, and the bundle has some of the same name and reservation.
 fn is_in_both(bundle: &Bundle, resource: &Resource) -> bool
     ensures { result ≡ is_in_both bundle.now resource.now }
 {
@@ -21,7 +21,7 @@ fn is_in_both(bundle: &Bundle, resource: &Resource) -> bool
     }
 }
 
-/// Whether who is granted the first bundle takes something of the second.
+/// Returns whether the first bundle has some of a resource that the second bundle has too.
 fn takes_of(taken: &Bundle, bundle: &Bundle) -> bool
     ensures { result ≡ takes_of taken.now bundle.now }
 {
@@ -31,7 +31,7 @@ fn takes_of(taken: &Bundle, bundle: &Bundle) -> bool
         .any(|resource| is_in_both(bundle, resource))
 }
 
-/// Whether an outcome grants something of a bundle.
+/// Returns whether an outcome grants a part of the bundle.
 fn is_taking(outcome: &Outcome, bundle: &Bundle) -> bool
     ensures { result ≡ takes_of (bundle_of outcome.now) bundle.now }
 {
@@ -41,7 +41,7 @@ fn is_taking(outcome: &Outcome, bundle: &Bundle) -> bool
     }
 }
 
-/// The client that a finding grants something of a bundle, if it does.
+/// Returns the client of a finding, if the finding grants it a part of the bundle.
 pub(crate) fn taker_in<'a>(finding: &'a Finding, bundle: &Bundle) -> Option<&'a ClientPath>
     ensures { option_to_list (option_copied result) ≡ taker_in bundle.now finding.now }
 {
@@ -71,14 +71,14 @@ fn any_taker(findings: &[&Finding], bundle: &Bundle) -> bool
     findings.iter().any(|finding| is_taker(finding, bundle))
 }
 
-/// Whether any of the findings grants somebody something of a bundle.
+/// Returns whether one of the findings grants a part of the bundle.
 pub(crate) fn has_taker(findings: &[&Finding], bundle: &Bundle) -> bool
     ensures { result ≡ not (is_empty (flat_map (taker_in bundle.now) (findings_of findings.now))) }
 {
     any_taker(findings, bundle)
 }
 
-/// Whether the first of the findings tells of a grant.
+/// Returns whether the first of the findings is a grant.
 pub(crate) fn begins_with_grant(findings: &[Finding]) -> bool
     ensures { result ≡ begins_with_grant findings.now }
 {
@@ -88,7 +88,7 @@ pub(crate) fn begins_with_grant(findings: &[Finding]) -> bool
     }
 }
 
-/// What the first of the findings grants, if it does.
+/// Returns the bundle that the first of the findings grants, if it is a grant.
 pub(crate) fn bundle_in(findings: &[Finding]) -> Option<&Bundle>
     ensures { option_map_or (λ bundle. bundle) (option_copied result) [] ≡ bundle_in findings.now }
 {

@@ -1,4 +1,4 @@
-//! What comes of each client, counted over agents.
+//! The outcomes of each client, counted over the agents.
 ghost use Rattle.std.specs.Prelude.{◌≡◌, codes, map, List, [], ◌∷◌, ◌++◌, IfOk, OnOk};
 ghost use Rattle.std.specs.List.{flat_map};
 ghost use Rattle.std.specs.Option.{option_copied, option_map_or};
@@ -27,40 +27,40 @@ use drf_rows::{ClientRow, FrameworkRow, Report, Rows};
 use serde_json::{Map, Value, json, put};
 use std::alloc::{AllocError, Global};
 
-/// On how many agents a client is told what. A number stays at 2^64 - 1 once there.
+/// The outcomes of a client, counted in agents. No count rises above 2^64 - 1.
 #[derive(Drop)]
 pub struct Tally {
     pub client: ClientPath,
     /// It is granted something.
     pub granted: u64,
-    /// It refused what it may have there.
+    /// A filter covers what it could have there.
     pub held_back: u64,
     /// A limit leaves too little.
     pub over_limit: u64,
-    /// What it may have is not worth an offer.
+    /// What it could have is less than the smallest offer.
     pub below_threshold: u64,
-    /// All that was free has been granted.
+    /// Everything that was free has been granted.
     pub nothing_left: u64,
-    /// Nothing that is free is for its role.
+    /// Everything that is free is reserved for other roles.
     pub reserved: u64,
-    /// Nobody is tried, as the agent is inactive.
+    /// The agent is inactive, so no client is tried.
     pub inactive: u64,
-    /// Nobody is tried, as nothing of it is free.
+    /// Nothing is free on the agent, so no client is tried.
     pub nothing_free: u64,
-    /// It is granted nothing, and somebody before it something of what it would be granted, were it the first to be tried.
+    /// It is granted nothing, and a client before it is granted a part of what it would be granted if it were tried first.
     pub passed: u64,
-    /// Who is granted that.
+    /// The clients that pass it over.
     pub passers: Passers,
 }
 
-/// One more.
+/// Adds 1, up to 2^64 - 1.
 fn raise(count: &mut u64)
     ensures { count.new ≡ one_more count.old }
 {
     *count = count.saturating_add(1);
 }
 
-/// One more, if there is one more to count.
+/// Adds 1 if `more` is set, up to 2^64 - 1.
 fn raise_if(more: bool, count: &mut u64)
     ensures { count.new ≡ more_if more count.old }
 {
@@ -70,7 +70,7 @@ fn raise_if(more: bool, count: &mut u64)
 }
 
 impl Tally {
-    /// The tally of a client before it is told of.
+    /// Returns the tally of a client before any agent is counted.
     fn new(alloc: Global, key: HashKey, client: ClientPath) -> Tally
         ensures { result ≡ tally_of [] client }
     {
@@ -89,7 +89,7 @@ impl Tally {
         }
     }
 
-    /// Counts what comes of the client on one agent, if it is tried there.
+    /// Counts the outcome of the client on one agent, if the client is tried there.
     fn count_outcome(&mut self, outcome: Option<&Outcome>)
         ensures { self.new ≡ with_outcome (option_copied outcome.entry) self.old }
     {
@@ -106,8 +106,8 @@ impl Tally {
         }
     }
 
-    /// Counts who passes the client on one agent, by what is told of it there, by the grants that are told before that, and by what it would be
-    /// granted, were it the first.
+    /// Counts the clients that pass this client over on one agent. `own` is the client's own finding there, `earlier` are the grants before it,
+    /// and `bundle` is what it would be granted if it were tried first.
     fn count_passers(
         &mut self,
         own: &[Finding],
@@ -127,7 +127,7 @@ impl Tally {
         self.passers.count_takers(earlier, bundle)
     }
 
-    /// Counts what is told of the client's turn on one agent.
+    /// Counts the client's result in one agent's turn.
     fn take(&mut self, turn: &FoundTurn) -> Result<(), AllocError>
         requires { IsFound turn.now }
         ensures { OnOk result (self.new ≡ with_turn (turn_of turn.now) self.old) }
@@ -143,7 +143,7 @@ impl Tally {
     }
 }
 
-/// Counts in each tally what is told of a turn.
+/// Counts a turn in each tally.
 fn take_in_each(tallies: &mut [Tally], turn: &FoundTurn) -> Result<(), AllocError>
     requires { IsFound turn.now }
     ensures { OnOk result (tallies.new ≡ map (with_turn (turn_of turn.now)) tallies.old) }
@@ -154,7 +154,7 @@ fn take_in_each(tallies: &mut [Tally], turn: &FoundTurn) -> Result<(), AllocErro
     Ok(())
 }
 
-/// Counts what is told of each client in a turn. Clients are found by hashes that begin with the key.
+/// Counts a turn in each tally. Clients are found by hashes that begin with `key`. Returns an error if memory runs out.
 pub fn take_turn(tallies: &mut [Tally], key: HashKey, turn: &TurnTold) -> Result<(), AllocError>
     ensures { OnOk result ((rows : Rows) (turns : List Turn) → tallies.old ≡ tallies_of rows turns
         → tallies.new ≡ tallies_of rows (turns ++ (turn.now.told.items, turn.now.untouched.items) ∷ [])) }
@@ -164,7 +164,7 @@ pub fn take_turn(tallies: &mut [Tally], key: HashKey, turn: &TurnTold) -> Result
     Ok(())
 }
 
-/// Adds the tally of a client of a framework, if it wants offers.
+/// Adds the tally of a client of a framework, unless the client is suppressed.
 fn add_tally(
     alloc: Global,
     key: HashKey,
@@ -181,7 +181,7 @@ fn add_tally(
     Ok(())
 }
 
-/// Adds the tallies of the clients of a framework that want offers, in their order.
+/// Adds the tallies of those clients of a framework that are not suppressed, in their order.
 fn add_tallies(
     alloc: Global,
     key: HashKey,
@@ -197,7 +197,7 @@ fn add_tallies(
     Ok(())
 }
 
-/// The tallies of all clients that want offers, in order of registration, before anything is told.
+/// Returns empty tallies of all clients that are not suppressed, in order of registration.
 pub fn tallies(alloc: Global, key: HashKey, rows: &Rows) -> Result<Vec<Tally>, AllocError>
     ensures { IfOk result (λ tallies. tallies.items ≡ tallies_of rows.now []) }
 {
@@ -209,7 +209,7 @@ pub fn tallies(alloc: Global, key: HashKey, rows: &Rows) -> Result<Vec<Tally>, A
     Ok(tallies)
 }
 
-/// Puts a number under a name.
+/// Adds a member with a number to a JSON object.
 fn put_count(
     alloc: Global,
     members: &mut Map<String, Value>,
@@ -222,7 +222,7 @@ fn put_count(
     put(members, alloc, name, count)
 }
 
-/// Puts the counts of a tally.
+/// Adds the counts of a tally to a JSON object.
 fn put_counts(
     alloc: Global,
     members: &mut Map<String, Value>,
@@ -242,7 +242,7 @@ fn put_counts(
     Ok(())
 }
 
-/// Puts the client of a tally.
+/// Adds the client of a tally to a JSON object.
 fn put_client(
     alloc: Global,
     members: &mut Map<String, Value>,
@@ -302,8 +302,8 @@ fn write_each(
     Ok(())
 }
 
-/// Writes the lines of tallies behind a text, each before those of who passes the client: compact JSON, the keys in order of bytes. The shares are
-/// those that a report tells, not those of the turn in which one passes another.
+/// Appends a line of compact JSON for each tally, with keys in byte order, followed by the lines of the clients that pass that client over.
+/// The shares are those of the report, not those of the turn in which a client is passed over.
 pub fn write_tallies(
     alloc: Global,
     key: HashKey,

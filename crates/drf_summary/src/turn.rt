@@ -1,4 +1,4 @@
-//! What is told of a turn, with where each client is found there.
+//! The findings of a turn, with an index of clients and grants.
 ghost use Rattle.std.specs.Prelude.{◌≡◌, [], filter, IfOk};
 ghost use Rattle.std.specs.List.{list_any};
 ghost use Rattle.std.specs.Option.{option_copied, option_map_or};
@@ -16,7 +16,7 @@ use drf_hash::HashKey;
 use drf_role::ClientPath;
 use std::alloc::{AllocError, Global};
 
-/// What is told of a turn: the places of the clients, and the grants.
+/// The findings of a turn, the index of each client, and the grants.
 #[derive(Drop)]
 pub(crate) struct FoundTurn<'a> {
     pub(crate) turn: &'a TurnTold,
@@ -40,7 +40,7 @@ fn has_nothing_free(findings: &[Finding]) -> bool
 }
 
 impl<'a> FoundTurn<'a> {
-    /// Looks at each finding once.
+    /// Builds the index. Each finding is looked at once.
     pub(crate) fn of(
         alloc: Global,
         key: HashKey,
@@ -63,7 +63,7 @@ impl<'a> FoundTurn<'a> {
         })
     }
 
-    /// What is told of a client at its moment, if it is.
+    /// Returns the client's first finding in the turn, or an empty slice.
     pub(crate) fn own(&self, client: &ClientPath) -> &[Finding]
         requires { IsFound self.now }
         ensures { result.now ≡ own_on client.now self.now.turn.now.told.items }
@@ -71,7 +71,7 @@ impl<'a> FoundTurn<'a> {
         own_at(self.turn.told.as_slice(), self.told.get(client))
     }
 
-    /// The grants that are told before that.
+    /// Returns the grants before the client's first finding.
     pub(crate) fn grants_before(&self, client: &ClientPath) -> &[&'a Finding]
         requires { IsFound self.now }
         ensures { findings_of result.now ≡ filter is_grant (earlier_on client.now self.now.turn.now.told.items) }
@@ -84,7 +84,7 @@ impl<'a> FoundTurn<'a> {
         &all[..before]
     }
 
-    /// What a client would be granted, were it the first to be tried, if that is something.
+    /// Returns what a client would be granted if it were tried first, if that is anything.
     pub(crate) fn first_bundle(&self, client: &ClientPath) -> Option<&Bundle>
         requires { IsFound self.now }
         ensures { option_map_or (λ bundle. bundle) (option_copied result) [] ≡ bundle_in (own_on client.now self.now.turn.now.untouched.items) }

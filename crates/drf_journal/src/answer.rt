@@ -1,4 +1,4 @@
-//! What a line is answered.
+//! Answers a line: takes its event and appends its reply.
 ghost use Rattle.std.specs.Prelude.{◌≡◌, ◌++◌, IfOk, OnOk, OnErr};
 ghost use Rattle.drf_rows.specs.Step.{reply_to};
 ghost use Rattle.drf_core.specs.Machine.{live, after};
@@ -14,7 +14,7 @@ use drf_rows::{Event, Reply};
 use drf_sorter::Sorter;
 use std::alloc::AllocError;
 
-/// Takes an event, as it is seen from outside.
+/// Applies an event to the allocator and returns the reply. Fails only if memory runs out, and then changes nothing.
 fn take_event<S: Sorter>(core: &mut Core<S>, event: Event) -> Result<Reply, AllocError>
     ensures told { IfOk result (λ reply. reply ≡ reply_to (live core.old).limits (live core.old).rows event) }
     ensures ok { OnOk result (live core.new ≡ after (live core.old) event) }
@@ -23,7 +23,7 @@ fn take_event<S: Sorter>(core: &mut Core<S>, event: Event) -> Result<Reply, Allo
     core.step(event)
 }
 
-/// Takes a line's event, and adds its reply line to the text.
+/// Takes the event of a line, and appends the reply line to the text.
 fn take_line<S: Sorter>(
     reader: &mut LineReader,
     core: &mut Core<S>,
@@ -46,7 +46,7 @@ fn take_line<S: Sorter>(
     }
 }
 
-/// Adds the line itself, where lines are told too.
+/// Appends the line itself, cut to 65,537 bytes, if `echo` is set.
 fn push_echo(text: &mut Vec<u8>, echo: bool, line: &[u8]) -> Result<(), AllocError>
     ensures told { OnOk result (text.new.items ≡ text.old.items ++ echo_of echo line.now) }
     ensures front { KeepsFront text.old.items text.new.items }
@@ -59,7 +59,8 @@ fn push_echo(text: &mut Vec<u8>, echo: bool, line: &[u8]) -> Result<(), AllocErr
     Ok(())
 }
 
-/// Takes a line's event, and adds the text for the line. Where memory ends, a part of it may stand there.
+/// Takes the event of a line, and appends the text for the line: the line itself if `echo` is set, and the reply line.
+/// If memory runs out, a part of the text may have been appended.
 fn push_answer<S: Sorter>(
     reader: &mut LineReader,
     core: &mut Core<S>,
@@ -76,7 +77,7 @@ fn push_answer<S: Sorter>(
     take_line(reader, core, line, text)
 }
 
-/// Takes a line's event, and adds the text for the line, all of it or nothing.
+/// Takes the event of a line, and appends the whole text for the line, or nothing if memory runs out.
 fn answer<S: Sorter>(
     reader: &mut LineReader,
     core: &mut Core<S>,
@@ -97,8 +98,8 @@ fn answer<S: Sorter>(
     told
 }
 
-/// Takes the event of the line that some bytes end, of which `front` came before, and adds the text for the line, all of it
-/// or nothing. A line that came whole is read where it lies.
+/// Takes the event of the line that consists of `front` and `end`, and appends the whole text for the line, or nothing
+/// if memory runs out. If `front` is empty, the line is read without a copy.
 pub fn answer_end<S: Sorter>(
     reader: &mut LineReader,
     core: &mut Core<S>,

@@ -1,4 +1,4 @@
-//! An audit of the agents, as they stand after the events of a stream of lines.
+//! Audits the agents after the events of a stream of lines.
 ghost use Rattle.std.specs.Prelude.{◌≡◌, ◌+◌, ◌<◌, ◌≤◌, ◌^◌, [], length, true, false, OnOk, OnErr};
 ghost use Rattle.std.specs.List.{flat_map};
 ghost use Rattle.std.specs.Io.KnownBytes.{Appends};
@@ -20,7 +20,7 @@ use std::alloc::{AllocError, Global};
 use std::io::{Read, Write};
 use std::thread::Threads;
 
-/// Takes the events of the lines that end in the next piece of the input. Their replies are forgotten.
+/// Takes the events of the lines that end in the next chunk of the input. Their replies are discarded.
 fn take_piece<S: Sorter>(session: &mut Session<S>, piece: &[u8]) -> Result<(), AllocError>
     requires few { session.old.lines + length piece.now < 2 ^ 64 }
     requires sent { session.old.unsent ≡ [] }
@@ -35,7 +35,7 @@ fn take_piece<S: Sorter>(session: &mut Session<S>, piece: &[u8]) -> Result<(), A
     Ok(())
 }
 
-/// Takes the events of a reader's lines.
+/// Takes the events of all lines of a reader. Their replies are discarded.
 pub(crate) fn take_lines<S: Sorter, R: Read>(
     alloc: Global,
     session: &mut Session<S>,
@@ -62,6 +62,7 @@ pub(crate) fn take_lines<S: Sorter, R: Read>(
     Err(RunFault::Read)
 }
 
+/// Writes the audit line of an agent.
 fn write_line<W: Write>(
     alloc: Global,
     line: &AuditLine,
@@ -77,7 +78,7 @@ fn write_line<W: Write>(
     write_whole(writer, &text)
 }
 
-/// Writes the lines of agents, one after another.
+/// Writes the audit lines of agents.
 fn write_lines<W: Write>(
     alloc: Global,
     lines: &[AuditLine],
@@ -94,8 +95,8 @@ fn write_lines<W: Write>(
     Ok(())
 }
 
-/// Takes the events of a reader's lines, and then writes what each agent has, what is free of it and how much is out, a line for each.
-/// Lines that are no events are passed over.
+/// Takes the events of all lines of a reader, and then writes a line for each agent: what it has, what is free, and how
+/// much is out. Lines that are not events are skipped.
 fn serve_audit<S: Sorter, R: Read, W: Write>(
     rt: &(impl Threads + Sync),
     alloc: Global,
@@ -117,7 +118,7 @@ fn serve_audit<S: Sorter, R: Read, W: Write>(
     write_lines(alloc, &lines, writer)
 }
 
-/// Audits the agents of an allocator after a reader's lines, by the sorter that the program uses.
+/// Audits the agents of an allocator after the lines of a reader, with the sorter that the program uses.
 pub fn run_audit<R: Read, W: Write>(
     rt: &(impl Threads + Sync),
     alloc: Global,

@@ -1,4 +1,4 @@
-//! A check of a journal between two reads.
+//! Checks a journal chunk by chunk.
 ghost use Rattle.std.specs.Prelude.{◌≡◌, ℕ, ◌+◌, ◌*◌, ◌^◌, ◌<◌, ◌≤◌, [], ◌∷◌, ◌++◌, List, length, OnOk, IfOk};
 ghost use Rattle.drf_core.specs.Machine.{Machine, live};
 ghost use Rattle.drf_journal.specs.Lines.{IsWithinLine};
@@ -15,18 +15,18 @@ use drf_sorter::Sorter;
 use std::alloc::{AllocError, Global};
 use std::marker::Model;
 
-/// Room for each reply line but offers and reports, so that it need not grow.
+/// The initial capacity for a reply line. Only offers and reports are longer.
 const SHORT_LINE: usize = 64;
 
-/// A check of a journal between two reads.
+/// The check of a journal between two reads.
 #[derive(Drop)]
 pub(crate) struct Checker<S: Sorter> {
     core: Core<S>,
-    /// What is kept of an event line that is not whole yet.
+    /// The bytes of an event line that has not ended yet.
     line: OpenLine,
-    /// The reply line that has to come; none while an event line comes.
+    /// The reply line that is expected, or none while an event line is expected.
     due: Due,
-    /// How many event lines have ended.
+    /// The number of event lines that have ended.
     events: u64,
     reader: LineReader,
 }
@@ -48,7 +48,7 @@ impl<S: Sorter> Model for Checker<S> {
 }
 
 impl<S: Sorter> Checker<S> {
-    /// A check of a journal that begins with an allocator. It has read nothing.
+    /// Creates the check of a journal that begins with this allocator. Nothing has been read yet.
     pub(crate) fn begin(alloc: Global, core: Core<S>) -> Checker<S>
         ensures { IsCheckedTo (live core) [] result }
     {
@@ -89,7 +89,7 @@ impl<S: Sorter> Checker<S> {
         Ok(())
     }
 
-    /// The bytes end the line at hand. Tells whether it is right.
+    /// Ends the current line with these bytes, and returns whether the line is right.
     fn end_line(&mut self, alloc: Global, end: &[u8]) -> Result<bool, AllocError>
         requires within { IsWithinLine end.now }
         requires few { self.old.events + 1 < 2 ^ 63 }
@@ -107,7 +107,7 @@ impl<S: Sorter> Checker<S> {
         Ok(true)
     }
 
-    /// The bytes are of the line at hand, which does not end in them. Tells whether they are right.
+    /// Adds bytes to the current line, which does not end in them, and returns whether they are right.
     fn go_on(&mut self, more: &[u8]) -> Result<bool, AllocError>
         requires { IsWithinLine more.now }
         ensures checked { IfOk result (HasChecked more.now self.old self.new) }
@@ -120,7 +120,7 @@ impl<S: Sorter> Checker<S> {
         Ok(self.due.takes(more))
     }
 
-    /// Goes over the next piece of the journal, up to the first wrong line. Tells whether it is right.
+    /// Checks the next chunk of the journal, up to the first wrong line, and returns whether all of it is right.
     pub(crate) fn take(&mut self, alloc: Global, piece: &[u8]) -> Result<bool, AllocError>
         requires { self.old.events + length piece.now < 2 ^ 63 }
         ensures checked { IfOk result (HasChecked piece.now self.old self.new) }
@@ -137,7 +137,7 @@ impl<S: Sorter> Checker<S> {
         self.go_on(rest)
     }
 
-    /// The journal ended.
+    /// Returns the verdict at the end of the journal.
     pub(crate) fn verdict(&mut self) -> Verdict
         requires { self.old.events + 1 < 2 ^ 63 }
         ensures { (start : Machine) (read : List ℕ) → IsCheckedTo start read self.old → IsVerdict start read result }

@@ -1,4 +1,4 @@
-//! Readers and writers that remember whether a call failed.
+//! Readers and writers that record whether a call has failed.
 ghost use Rattle.std.specs.Prelude.{◌≡◌, ◌+◌, ◌-◌, ◌^◌, ◌||◌, true, false, min, is_err, is_ok, OnOk, OnErr, IfErr};
 ghost use Rattle.std.specs.Io.{ReadsAtMost, WritesAtMost};
 ghost use Rattle.std.specs.Io.KnownBytes.{Appends, Keeps, ReadConsumes, WriteAppends};
@@ -8,8 +8,8 @@ use crate::fault::RunFault;
 use std::io;
 use std::io::{Read, Write};
 
-/// A reader or a writer, how often it was called, whether a call has failed, and whether what was written has been
-/// flushed. An interrupted call has failed like any other.
+/// A reader or writer that records the number of its calls, whether a call has failed, and whether everything that was
+/// written has been flushed. An interrupted call counts as failed.
 #[derive(Drop)]
 pub struct Device<T> {
     inner: T,
@@ -19,7 +19,7 @@ pub struct Device<T> {
 }
 
 impl<T> Device<T> {
-    /// A device that was not called yet.
+    /// Creates a device that has not been called yet.
     pub fn new(inner: T) -> Device<T>
         ensures { result ≡ record { inner = inner; calls = 0; failed = false; flushed = true } }
     {
@@ -31,28 +31,28 @@ impl<T> Device<T> {
         }
     }
 
-    /// What the device reads from or writes to.
+    /// Returns the reader or writer inside.
     pub fn into_inner(self) -> T
         ensures { result ≡ self.inner }
     {
         self.inner
     }
 
-    /// How often it was called; the number stays at 2^64 - 1 once it is there.
+    /// Returns the number of calls, which stops at 2^64 - 1.
     pub fn calls(&self) -> u64
         ensures { result ≡ self.now.calls }
     {
         self.calls
     }
 
-    /// Whether a call has failed, or a write has taken no bytes.
+    /// Returns whether a call has failed, or a write has taken no bytes.
     pub fn failed(&self) -> bool
         ensures { result ≡ self.now.failed }
     {
         self.failed
     }
 
-    /// Whether all that was written has been flushed, as it has before the first write.
+    /// Returns whether everything that was written has been flushed. This holds before the first write.
     pub fn flushed(&self) -> bool
         ensures { result ≡ self.now.flushed }
     {
@@ -61,7 +61,7 @@ impl<T> Device<T> {
 }
 
 impl<T: Read> Device<T> {
-    /// Reads some bytes, none only at the end or into no room.
+    /// Reads some bytes. It returns 0 only at the end of the input or for an empty buffer.
     pub fn read(&mut self, buf: &mut [u8]) -> io::Result<usize>
         ensures bound { ReadsAtMost result buf.new }
         ensures bytes { ReadConsumes (T.remaining self.old.inner) (T.remaining self.new.inner) result buf.new }
@@ -77,7 +77,7 @@ impl<T: Read> Device<T> {
 }
 
 impl<T: Write> Device<T> {
-    /// Writes some bytes.
+    /// Writes some of the bytes, and returns how many.
     pub fn write(&mut self, bytes: &[u8]) -> io::Result<usize>
         ensures bound { WritesAtMost result bytes.now }
         ensures bytes { WriteAppends (T.contents self.old.inner) (T.contents self.new.inner) result bytes.now }
@@ -92,7 +92,7 @@ impl<T: Write> Device<T> {
         told
     }
 
-    /// Hands on what was written.
+    /// Flushes what was written.
     pub fn flush(&mut self) -> io::Result<()>
         ensures bytes { Keeps (T.contents self.old.inner) (T.contents self.new.inner) }
         ensures calls { self.new.calls ≡ min (self.old.calls + 1) (2 ^ 64 - 1) }
@@ -107,7 +107,8 @@ impl<T: Write> Device<T> {
     }
 }
 
-/// Writes all of some bytes and hands them on. Where that fails, their front was written.
+/// Writes all bytes and flushes them. Fails with `Write` if a call fails or takes no bytes; then a prefix of the bytes
+/// was written.
 pub fn write_whole<W: Write>(writer: &mut Device<W>, bytes: &[u8]) -> Result<(), RunFault>
     ensures ok { OnOk result (Appends (W.contents writer.old.inner) (W.contents writer.new.inner) bytes.now) }
     ensures err { OnErr result (AppendsFrontOf (W.contents writer.old.inner) (W.contents writer.new.inner) bytes.now) }

@@ -1,11 +1,12 @@
-//! The reply line that a journal has to have next.
+//! The reply line that a journal must have next.
 ghost use Rattle.std.specs.Prelude.{◌≡◌, ℕ, ◌<◌, List, [], ◌∷◌, ◌++◌, length, true, false, IsTrue, ◌↔◌};
 ghost use Rattle.drf_journal.specs.Checking.{HasCome};
 
 use std::alloc::Global;
 use std::marker::Model;
 
-/// A reply line that is due, and how many of its bytes have come. None is due while the text is empty.
+/// A reply line that is expected, and how many of its bytes have arrived. If the text is empty, no reply line is
+/// expected.
 #[derive(Drop)]
 pub(crate) struct Due {
     text: Vec<u8>,
@@ -26,7 +27,7 @@ impl Model for Due {
 }
 
 impl Due {
-    /// Nothing is due.
+    /// Creates the value for which no reply line is expected.
     pub(crate) fn none(alloc: Global) -> Due
         ensures { result ≡ record { text = []; come = 0 } }
     {
@@ -36,28 +37,28 @@ impl Due {
         }
     }
 
-    /// This line is due.
+    /// Creates the expectation of this reply line.
     pub(crate) fn of(text: Vec<u8>) -> Due
         ensures { result ≡ record { text = text.items; come = 0 } }
     {
         Due { text, come: 0 }
     }
 
-    /// Whether nothing is due.
+    /// Returns whether no reply line is expected.
     pub(crate) fn is_none(&self) -> bool
         ensures { IsTrue result ↔ (length self.now.text ≡ 0) }
     {
         self.text.is_empty()
     }
 
-    /// Whether any of it has come.
+    /// Returns whether any byte of the reply line has arrived.
     pub(crate) fn has_begun(&self) -> bool
         ensures { IsTrue result ↔ (0 < self.now.come) }
     {
         self.come > 0
     }
 
-    /// Takes bytes that come next, and tells whether they are its own.
+    /// Takes the next bytes, and returns whether they are those of the expected line.
     pub(crate) fn takes(&mut self, bytes: &[u8]) -> bool
         ensures text { self.new.text ≡ self.old.text }
         ensures right { result ≡ true → (line : List ℕ) → HasCome self.old line → HasCome self.new (line ++ bytes.now) }
@@ -71,7 +72,7 @@ impl Due {
         true
     }
 
-    /// Takes bytes with which the line at hand ends, and tells whether it is the one that is due.
+    /// Takes the last bytes of the current line, and returns whether the whole line is the expected one.
     pub(crate) fn ends(&mut self, end: &[u8]) -> bool
         ensures right { result ≡ true → (line : List ℕ) → HasCome self.old line → self.old.text ≡ line ++ (end.now ++ 10 ∷ []) }
         ensures wrong { result ≡ false → (line : List ℕ) → HasCome self.old line

@@ -1,4 +1,4 @@
-//! The engine: lines in, reply lines out.
+//! Runs an allocator over lines: event lines in, reply lines out.
 ghost use Rattle.std.specs.Prelude.{◌≡◌, ◌+◌, ◌<◌, ◌≤◌, ◌^◌, [], length, take, true, false, OnOk, IfOk, IfErr};
 ghost use Rattle.std.specs.Io.KnownBytes.{Appends, IsAtEnd};
 ghost use Rattle.drf_core.specs.Machine.{live};
@@ -18,14 +18,14 @@ use std::io::{Read, Write};
 /// The sorter that the program uses.
 pub type ProgramSorter = TreeSorter;
 
-/// How many bytes a read asks for.
+/// The number of bytes that a read asks for.
 pub(crate) const CHUNK: usize = 65_536;
 
-/// How often a run or a check reads at most.
+/// The greatest number of reads of a run or a check.
 pub(crate) const MAX_READS: u64 = 1_099_511_627_776;
 
-/// Answers lines that end in the next piece of the input, all of them or until much text waits to be written, and tells
-/// how many bytes that took. What was answered before memory ran out is written too.
+/// Answers the lines that end in the next chunk of the input, until all are answered or at least 64 KiB of text waits
+/// to be written. Returns how many bytes were taken. If memory runs out, the earlier answers are written too.
 #[tactic(auto, using(crate::proofs::Parts::stopped_write, crate::proofs::Parts::stopped_memory))]
 fn answer_part<S: Sorter, W: Write>(
     session: &mut Session<S>,
@@ -48,7 +48,7 @@ fn answer_part<S: Sorter, W: Write>(
     Ok(count)
 }
 
-/// Answers the lines that end in the next piece of the input, part by part.
+/// Answers the lines that end in the next chunk of the input, part by part.
 fn answer_piece<S: Sorter, W: Write>(
     session: &mut Session<S>,
     piece: &[u8],
@@ -71,8 +71,10 @@ fn answer_piece<S: Sorter, W: Write>(
     Ok(())
 }
 
-/// Answers the lines of a reader's bytes on a writer, and tells how many lines there were. The answers to all lines that
-/// a read brought are written and flushed before the next read, so that none waits for more input.
+/// Answers the lines of a reader on a writer, and returns the number of lines. The answers to all lines that a read
+/// brought are written and flushed before the next read, so no answer waits for more input. Fails with `Read` if a read
+/// fails or 2^40 reads do not reach the end, with `Write` if a write or flush fails, and with `Memory` if memory runs
+/// out.
 pub fn serve<S: Sorter, R: Read, W: Write>(
     alloc: Global,
     session: &mut Session<S>,
@@ -105,8 +107,8 @@ pub fn serve<S: Sorter, R: Read, W: Write>(
     Err(RunFault::Read)
 }
 
-/// Serves a session that begins with an allocator, by the sorter that the program uses. With `echo` each line is written before its
-/// answer.
+/// Runs an allocator over the lines of a reader, with the sorter that the program uses; see `serve`. If `echo` is set,
+/// each line is written before its answer.
 pub fn run<R: Read, W: Write>(
     alloc: Global,
     core: Core<ProgramSorter>,

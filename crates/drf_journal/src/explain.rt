@@ -1,4 +1,4 @@
-//! An explanation of the next cycle, as it would come after the events of a stream of lines.
+//! Explains the next cycle after the events of a stream of lines.
 ghost use Rattle.std.specs.Prelude.{◌≡◌, ◌≤◌, ◌^◌, true};
 ghost use Rattle.drf_core.specs.Machine.{live};
 ghost use Rattle.drf_rows.specs.declared.limits.TheConstants.{LATEST_MOMENT};
@@ -17,9 +17,9 @@ use drf_sorter::Sorter;
 use std::alloc::Global;
 use std::io::{Read, Write};
 
-/// Takes the events of a reader's lines, and then writes what a cycle at that moment, in milliseconds, would offer and to whom, and
-/// where it would offer nothing, why. The clock never goes back: 0 is the moment at which it stands. Lines that are no events are
-/// passed over.
+/// Takes the events of all lines of a reader, and then writes what a cycle at the timestamp `at`, in milliseconds,
+/// would offer to whom, and why other clients would get nothing. The clock never goes back, so 0 means its current
+/// time. Lines that are not events are skipped.
 fn serve_explain<S: Sorter, R: Read, W: Write>(
     alloc: Global,
     session: &mut Session<S>,
@@ -42,7 +42,8 @@ fn serve_explain<S: Sorter, R: Read, W: Write>(
     write_whole(writer, &text)
 }
 
-/// Explains the cycle of an allocator at a moment, as it would come after a reader's lines, by the sorter that the program uses.
+/// Explains the next cycle of an allocator after the lines of a reader, with the sorter that the program uses. `at` is
+/// its timestamp in milliseconds.
 pub fn run_explain<R: Read, W: Write>(
     alloc: Global,
     core: Core<ProgramSorter>,

@@ -1,13 +1,13 @@
-//! Why a run ends.
+//! The errors of a run.
 ghost use Rattle.std.specs.Prelude.{◌≡◌};
 
 use std::alloc::{AllocError, AllocFailed};
 use thiserror::Error;
 
-/// Why a run did not answer all of its input.
+/// Why a run has not answered all of its input.
 #[derive(Clone, Copy, Debug, PartialEq, Eq, Error)]
 pub enum RunFault {
-    /// A read failed, or 2^40 reads did not come to the end.
+    /// A read failed, or 2^40 reads did not reach the end.
     #[error("read fault")]
     Read,
     #[error("write fault")]

@@ -1,4 +1,4 @@
-//! The check of a journal.
+//! Checks a journal.
 ghost use Rattle.std.specs.Prelude.{◌≡◌, ◌≤◌, ◌^◌, [], false, IfOk, IfSome};
 ghost use Rattle.drf_core.specs.Machine.{Machine, live};
 ghost use Rattle.drf_journal.specs.Checking.{IsCheckedTo};
@@ -15,16 +15,16 @@ use drf_sorter::Sorter;
 use std::alloc::Global;
 use std::io::Read;
 
-/// What is to be said of a journal.
+/// The result of checking a journal.
 #[derive(Clone, Copy, PartialEq, Eq)]
 pub enum Verdict {
-    /// Each line is right, and there are so many event lines.
+    /// Each reply line is right; the number is that of the event lines.
     Good(u64),
-    /// The number of the first line that is wrong or missing, from 1.
+    /// The first reply line that is wrong or missing, as a line number that counts from 1.
     Bad(u64),
 }
 
-/// Checks the lines of a reader's bytes, up to the first wrong one.
+/// Checks the lines of a reader, up to the first wrong one.
 fn check<S: Sorter, R: Read>(
     alloc: Global,
     checker: &mut Checker<S>,
@@ -54,8 +54,9 @@ fn check<S: Sorter, R: Read>(
     Err(RunFault::Read)
 }
 
-/// Tells whether a journal that begins with an allocator is right, by the sorter that the program uses. It reads up to the first
-/// wrong line, and keeps of a line no more than a run does, and of a reply line no more than the right one has.
+/// Checks a journal that begins with this allocator, with the sorter that the program uses. It reads up to the first
+/// wrong line. Of an event line it keeps no more bytes than a run does, and of a reply line no more than the right one
+/// has. Fails with `Read` if a read fails or 2^40 reads do not reach the end, and with `Memory` if memory runs out.
 pub fn verify<R: Read>(
     alloc: Global,
     core: Core<ProgramSorter>,

@@ -1,5 +1,5 @@
-//! A run of the allocator over a stream of lines, the check of what it wrote, an audit of where it stands, an explanation of the cycle that comes next, and
-//! the allocator after the lines, from which a later run goes on.
+//! Runs an allocator over a stream of lines. It can also check a journal, audit the agents, explain the next cycle, or
+//! return the allocator after the lines, from which a later run resumes.
 #![tactic(auto)]
 
 mod answer;

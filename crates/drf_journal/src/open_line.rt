@@ -1,4 +1,4 @@
-//! How a stream is cut into lines: what is kept of the line at hand, and where it ends.
+//! Cuts a stream into lines: keeps the current line, and finds where it ends.
 ghost use Rattle.std.specs.Prelude.{◌≡◌, ◌++◌, ◌<◌, [], length, take, slice_index, IsTrue, ◌↔◌, OnOk, IfSome, IfNone};
 ghost use Rattle.drf_journal.specs.Lines.{IsWithinLine};
 ghost use Rattle.drf_journal.specs.Output.{kept_of};
@@ -7,17 +7,17 @@ use memchr::memchr;
 use std::alloc::{AllocError, Global};
 use std::marker::Model;
 
-/// How many bytes of a line are kept: one more than it may have, so that one that is too long is told from the longest.
+/// How many bytes of a line are kept: one more than a line may have, so that a line that is too long can be recognized.
 const KEPT: usize = 65_537;
 
-/// A line as far as it is kept.
+/// Returns the bytes of a line that are kept.
 pub(crate) fn kept_front(line: &[u8]) -> &[u8]
     ensures { result.now ≡ kept_of line.now }
 {
     &line[..line.len().min(KEPT)]
 }
 
-/// What is kept of the line at hand, which comes in pieces.
+/// The kept bytes of the current line, which arrives in chunks.
 #[derive(Drop)]
 pub struct OpenLine {
     kept: Vec<u8>,
@@ -32,7 +32,7 @@ impl Model for OpenLine {
 }
 
 impl OpenLine {
-    /// Nothing of a line.
+    /// Creates an empty line.
     pub fn new(alloc: Global) -> OpenLine
         ensures { result ≡ [] }
     {
@@ -41,21 +41,21 @@ impl OpenLine {
         }
     }
 
-    /// Whether nothing is kept.
+    /// Returns whether no bytes are kept.
     pub fn is_empty(&self) -> bool
         ensures { IsTrue result ↔ (length self.now ≡ 0) }
     {
         self.kept.is_empty()
     }
 
-    /// The bytes that are kept.
+    /// Returns the kept bytes.
     pub fn bytes(&self) -> &[u8]
         ensures { result.now ≡ self.now }
     {
         &self.kept
     }
 
-    /// Adds bytes of the line, as far as they are kept.
+    /// Adds bytes of the line, up to the number that is kept.
     pub fn keep(&mut self, more: &[u8]) -> Result<(), AllocError>
         ensures { OnOk result (self.new ≡ kept_of (self.old ++ more.now)) }
     {
@@ -64,7 +64,7 @@ impl OpenLine {
         Ok(())
     }
 
-    /// The next line begins.
+    /// Removes the kept bytes, so that the next line can begin.
     pub fn clear(&mut self)
         ensures { self.new ≡ [] }
     {
@@ -72,7 +72,7 @@ impl OpenLine {
     }
 }
 
-/// Where the first line feed stands.
+/// Returns the index of the first line feed.
 pub fn line_feed_in(bytes: &[u8]) -> Option<usize>
     ensures found { IfSome result (λ at. (at < length bytes.now) × (slice_index bytes.now at ≡ 10) × IsWithinLine (take at bytes.now)) }
     ensures none { IfNone result (IsWithinLine bytes.now) }

@@ -1,4 +1,4 @@
-//! The allocator after a stream of lines.
+//! Returns the allocator after a stream of lines.
 ghost use Rattle.std.specs.Prelude.{◌≤◌, ◌^◌, false};
 ghost use Rattle.drf_core.specs.Machine.{live};
 ghost use Rattle.drf_journal.specs.Device.{IsNew};
@@ -14,8 +14,8 @@ use drf_core::Core;
 use std::alloc::Global;
 use std::io::Read;
 
-/// Takes the events of a reader's lines, and hands out the allocator after them. Lines that are no events are passed over, as the
-/// reply lines of a journal are.
+/// Takes the events of all lines of a reader, and returns the allocator after them. Lines that are not events are
+/// skipped, such as the reply lines of a journal.
 pub fn advance<R: Read>(
     alloc: Global,
     core: Core<ProgramSorter>,

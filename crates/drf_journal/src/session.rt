@@ -1,4 +1,4 @@
-//! What a run keeps between reads.
+//! Keeps the state of a run between two reads.
 ghost use Rattle.std.specs.Prelude.{◌≡◌, ◌⊎◌, ◌+◌, ◌^◌, ◌<◌, ◌≤◌, [], ◌∷◌, ◌++◌, true, false, is_err, length, map, take, IfOk, OnOk, OnErr, IfErr};
 ghost use Rattle.std.specs.Io.KnownBytes.{Appends};
 ghost use Rattle.drf_audit.specs.Audit.{line_of};
@@ -24,23 +24,23 @@ use std::io::Write;
 use std::marker::Model;
 use std::thread::Threads;
 
-/// One more line is answered only while less text than this waits to be written.
+/// If at least this many bytes wait to be written, no more lines are answered.
 const MOST_UNSENT: usize = 65_536;
 
 /// A run between two reads.
 pub struct Session<S: Sorter> {
     core: Core<S>,
     echo: bool,
-    /// What is kept of the line that is not whole yet.
+    /// The bytes of the line that has not ended yet.
     pending: OpenLine,
-    /// The text that is not written yet.
+    /// The text that has not been written yet.
     unsent: Vec<u8>,
-    /// How many lines were answered.
+    /// The number of lines that were answered.
     lines: u64,
     reader: LineReader,
 }
 
-// Written out, so that the proof of whoever drops a session sees one call, and not the drop of each field.
+// Written by hand, so that the proof of code that drops a session sees one call instead of the drop of each field.
 impl<S: Sorter> Drop for Session<S> {
     fn drop(self) {
         let Session {
@@ -72,7 +72,7 @@ impl<S: Sorter> Model for Session<S> {
 }
 
 impl<S: Sorter> Session<S> {
-    /// A run of an allocator that has read nothing.
+    /// Creates a run of this allocator that has read nothing.
     pub fn begin(alloc: Global, core: Core<S>, echo: bool) -> Session<S>
         ensures { result ≡ begun (live core) echo }
     {
@@ -86,7 +86,7 @@ impl<S: Sorter> Session<S> {
         }
     }
 
-    /// The allocator, as it stands.
+    /// Returns the allocator in its current state.
     pub(crate) fn into_core(self) -> Core<S>
         ensures { live result ≡ self.machine }
     {
@@ -101,14 +101,14 @@ impl<S: Sorter> Session<S> {
         core
     }
 
-    /// How many lines were answered.
+    /// Returns the number of lines that were answered.
     pub fn lines(&self) -> u64
         ensures { result ≡ self.now.lines }
     {
         self.lines
     }
 
-    /// The bytes end the line at hand: answers it.
+    /// Ends the current line with these bytes, and answers it.
     fn end_line(&mut self, end: &[u8]) -> Result<(), AllocError>
         requires within { IsWithinLine end.now }
         requires few { self.old.lines + 1 < 2 ^ 64 }
@@ -129,8 +129,8 @@ impl<S: Sorter> Session<S> {
         Ok(())
     }
 
-    /// Takes a piece of the input and answers each line that ends in it, or stops behind the line where much text waits to
-    /// be written, and tells how many bytes it took.
+    /// Takes a chunk of the input and answers each line that ends in it. It stops after a line if at least 64 KiB of
+    /// text waits to be written. Returns how many bytes it took.
     pub(crate) fn take(&mut self, piece: &[u8]) -> Result<usize, AllocError>
         requires { self.old.lines + length piece.now < 2 ^ 64 }
         ensures part { IfOk result (λ count. (count ≤ length piece.now) × (0 < length piece.now → 0 < count)) }
@@ -153,7 +153,7 @@ impl<S: Sorter> Session<S> {
         Ok(piece.len())
     }
 
-    /// The input ended: answers what stands behind its last line feed.
+    /// Answers the bytes after the last line feed, if there are any, at the end of the input.
     pub(crate) fn close(&mut self) -> Result<(), AllocError>
         requires { self.old.lines + 1 < 2 ^ 64 }
         ensures ok { OnOk result (self.new ≡ at_end self.old) }
@@ -166,14 +166,14 @@ impl<S: Sorter> Session<S> {
         self.end_line(&[])
     }
 
-    /// Forgets the text that is not written yet.
+    /// Discards the text that has not been written yet.
     pub(crate) fn forget(&mut self)
         ensures { self.new ≡ record self.old { unsent = [] } }
     {
         self.unsent.clear();
     }
 
-    /// A line for each agent, in order of registration.
+    /// Returns the audit line of each agent, in order of registration.
     pub(crate) fn audit(
         &self,
         rt: &(impl Threads + Sync),
@@ -185,7 +185,7 @@ impl<S: Sorter> Session<S> {
         audit(rt, alloc, self.core.key(), &rows)
     }
 
-    /// The lines that tell of the cycle at a moment, in milliseconds.
+    /// Returns the lines that explain a cycle at the timestamp `at`, in milliseconds.
     pub(crate) fn explain(&self, alloc: Global, at: u64) -> Result<Vec<u8>, AllocError>
         requires { at ≤ LATEST_MOMENT }
         ensures { IfOk result (λ text. text.items ≡ explained_text (explained self.now.machine.rows at)) }
@@ -194,7 +194,7 @@ impl<S: Sorter> Session<S> {
         write_explained_lines(alloc, &findings)
     }
 
-    /// Writes the text that is not written yet, all in one. Where that fails, its front was written.
+    /// Writes the text that has not been written yet. If that fails, a prefix of it was written.
     pub(crate) fn send<W: Write>(&mut self, writer: &mut Device<W>) -> Result<(), RunFault>
         ensures ok { OnOk result (self.new ≡ record self.old { unsent = [] }) }
         ensures kept { OnErr result (self.new ≡ self.old) }

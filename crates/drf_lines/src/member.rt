@@ -136,7 +136,7 @@ pub fn put_bundle(
     ensures text { OnOk result (IsText (bundle_text bundle.now)) }
 {
     bundle_round_trip_law();
-    // What is written of a bundle is read where it is one.
+    // `bundle_round_trip_law` needs the invariant of the bundle.
     bundle.recall();
     text.clear();
     push_bundle(text, bundle)?;

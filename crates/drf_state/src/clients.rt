@@ -1,4 +1,4 @@
-//! The clients of a framework that is put back, and what they are to the sorter.
+//! Restores the clients of a framework in the sorter.
 ghost use Rattle.std.specs.Prelude.{◌≡◌, ◌≤◌, OnOk};
 ghost use Rattle.drf_content.specs.Putting.{CanAllBeBack, CanBeLast, put_back, with_all_back, with_last};
 
@@ -8,7 +8,7 @@ use drf_rows::ClientRow;
 use drf_sorter::Sorter;
 use std::alloc::{AllocError, Global};
 
-/// Puts a client back that holds nothing.
+/// Adds a client that holds nothing, with its count, to the sorter.
 fn put_client<S: Sorter>(
     alloc: Global,
     sorter: &mut S,
@@ -27,7 +27,7 @@ fn put_client<S: Sorter>(
     Ok(())
 }
 
-/// Puts the clients of a framework back, of which none holds anything.
+/// Adds the clients of a framework, which hold nothing, to the sorter.
 pub(crate) fn put_clients<S: Sorter>(
     alloc: Global,
     sorter: &mut S,

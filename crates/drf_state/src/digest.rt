@@ -7,7 +7,7 @@ ghost use Rattle.sha2.specs.Sha256.{sha256};
 use sha2::{Digest, Sha256};
 use std::alloc::{AllocError, Global};
 
-/// The SHA-256 of a text (FIPS 180-4), in lower hexadecimal digits.
+/// Returns the SHA-256 of a text (FIPS 180-4), in lower-case hexadecimal digits.
 pub(crate) fn digest_of(alloc: Global, text: &[u8]) -> Result<String, AllocError>
     ensures { IfOk result (λ digits. string_bytes digits ≡ encode_lower (sha256 text.now)) }
 {

@@ -1,11 +1,11 @@
-//! An epoch: how a cluster outlives a history that is full.
+//! Begins an epoch, by which a cluster continues when its history is full.
 ghost use Rattle.std.specs.Prelude.{◌≡◌, map, IfOk, OnOk, OnErr};
 ghost use Rattle.drf_saved.specs.Epoch.{begun_anew, epoch, uncounted};
 
 use drf_rows::{ClientRow, FrameworkRow, Rows, Table};
 use std::alloc::{AllocError, Global};
 
-/// Clients as they are, but that no offer was made to them.
+/// Returns the clients with a count of 0.
 fn uncounted(alloc: Global, clients: &[ClientRow]) -> Result<Table<ClientRow>, AllocError>
     ensures { IfOk result (λ rows. rows ≡ map uncounted clients.now) }
 {
@@ -20,7 +20,7 @@ fn uncounted(alloc: Global, clients: &[ClientRow]) -> Result<Table<ClientRow>, A
     Ok(Table::from_vec(rows))
 }
 
-/// Frameworks whose clients are so.
+/// Returns the frameworks, whose clients all have a count of 0.
 fn begun_anew(alloc: Global, frameworks: &[FrameworkRow]) -> Result<Table<FrameworkRow>, AllocError>
     ensures { IfOk result (λ rows. rows ≡ map begun_anew frameworks.now) }
 {
@@ -34,7 +34,8 @@ fn begun_anew(alloc: Global, frameworks: &[FrameworkRow]) -> Result<Table<Framew
     Ok(Table::from_vec(rows))
 }
 
-/// Begins an epoch: offers are rescinded, and counts, numbers and accepted events begin anew. An `Err` changes nothing.
+/// Begins an epoch: all offers are rescinded, the counts of clients and of accepted events become 0, and offers are
+/// numbered from 1 again. If memory runs out, nothing is changed.
 pub fn begin_epoch(alloc: Global, rows: &mut Rows) -> Result<(), AllocError>
     ensures ok { OnOk result (rows.new ≡ epoch rows.old) }
     ensures err { OnErr result (rows.new ≡ rows.old) }

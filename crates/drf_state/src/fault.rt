@@ -1,4 +1,4 @@
-//! Why a text is no state.
+//! The errors of reading a state.
 ghost use Rattle.std.specs.Prelude.{◌≡◌};
 ghost use Rattle.drf_state.specs.Fault.{state_fault_number, state_fault_name};
 
@@ -6,21 +6,22 @@ use drf_lines::{LineError, LineFault};
 use drf_saved::RowFault;
 use std::alloc::{AllocError, AllocFailed};
 
-/// Why a line may not stand where it stands in a state.
+/// Why a line is not allowed at its place in a state.
 #[derive(Clone, Copy, PartialEq, Eq)]
 pub enum StateFault {
-    /// It is no line of a state.
+    /// It is not a line of a state.
     Line(LineFault),
-    /// What it says is written otherwise.
+    /// It is not in normal form: its content would be written differently.
     NotWritten,
-    /// What it says may not stand behind the lines before it.
+    /// Its row, or its head, is not allowed after the lines before it.
     Row(RowFault),
-    /// It is a last line, of another number of lines or another digest than those of the lines before it.
+    /// It is a last line, but its number of lines or its digest differs from those of the lines before it, or it is not
+    /// in normal form.
     BadEnd,
 }
 
 impl StateFault {
-    /// The number that the fault is told by.
+    /// Returns the number with which the error is reported.
     pub fn number(self) -> u64
         ensures { result ≡ state_fault_number self }
     {
@@ -32,7 +33,7 @@ impl StateFault {
         }
     }
 
-    /// The name that the fault is told by.
+    /// Returns the name with which the error is reported.
     pub fn name(self) -> &'static str
         ensures { result.now ≡ state_fault_name self }
     {
@@ -48,7 +49,7 @@ impl StateFault {
 /// Why a state was not read.
 #[derive(Clone, Copy, PartialEq, Eq)]
 pub enum StateError {
-    /// The number of the first line that has a fault, from 1 on, and its first fault.
+    /// The number of the first wrong line, which counts from 1, and its first error.
     Line { number: u64, fault: StateFault },
     /// Memory ran out.
     Memory,
@@ -74,10 +75,10 @@ impl<T: Drop> From<AllocFailed<T>> for StateError {
     }
 }
 
-/// Why a row was not put behind others, or numbers not at the head.
+/// Why a row was not added, or a head not accepted.
 #[derive(Clone, Copy, PartialEq, Eq)]
 pub enum RestoreError {
-    /// The first case in which it may not stand there.
+    /// The first check that fails.
     Fault(RowFault),
     /// Memory ran out.
     Memory,
@@ -106,7 +107,7 @@ impl<T: Drop> From<AllocFailed<T>> for RestoreError {
 /// Why a line was not taken.
 #[derive(Clone, Copy, PartialEq, Eq)]
 pub(crate) enum LineStop {
-    /// Its first fault.
+    /// Its first error.
     Fault(StateFault),
     /// Memory ran out.
     Memory,

@@ -1,4 +1,4 @@
-//! Why a row may not stand behind others, or numbers not at the head.
+//! Decides why a row is not allowed after the rows before it, or why a head is not allowed.
 ghost use Rattle.std.specs.Prelude.{◌≡◌, ◌+◌, ◌*◌, ◌^◌, ◌∷◌, [], ◌++◌, ◌||◌, true, length, map, nat_le, nat_lt, not, IfOk};
 ghost use Rattle.std.specs.List.{list_all};
 ghost use Rattle.drf_role.specs.Path.{same_path};
@@ -19,27 +19,27 @@ use drf_saved::{Head, RowFault, SavedRow};
 use drf_tables::{Tables, is_too_large, offers_with};
 use std::alloc::AllocError;
 
-/// Each event makes at most so many offers: active agents times clients.
+/// An upper bound on the offers that one event makes: the number of agents times the number of clients.
 const MOST_OFFERS: u64 = 1 << 24;
 
-/// A filter ends before this moment, in milliseconds.
+/// The timestamp, in milliseconds, before which every filter ends.
 const LATEST_END: u64 = 1 << 63;
 
-/// The first of some cases that holds.
+/// Returns the error of the first case that holds, or `None`.
 fn first_fault(cases: &[(bool, RowFault)]) -> Option<RowFault>
     ensures { result ≡ first_fault cases.now }
 {
     cases.iter().find(|case| case.0).map(|case| case.1)
 }
 
-/// The number of the next offer is 0, or more than so many events can have made.
+/// Returns whether the number of the next offer is 0, or is higher than this number of events can lead to.
 fn is_bad_number(head: Head) -> bool
     ensures { result ≡ (not (nat_le 1 head.next_offer) || nat_lt (1 + head.events * 2 ^ 24) head.next_offer) }
 {
     head.next_offer == 0 || head.next_offer - 1 > head.events.saturating_mul(MOST_OFFERS)
 }
 
-/// Why numbers may not stand at the head.
+/// Returns the first error of a head, or `None` if it is allowed.
 pub(crate) fn head_fault(limits: &Limits, head: Head) -> Option<RowFault>
     ensures { result ≡ head_fault limits.now head }
 {
@@ -56,7 +56,7 @@ pub(crate) fn head_fault(limits: &Limits, head: Head) -> Option<RowFault>
     ])
 }
 
-/// Why an agent may not stand behind others.
+/// Returns the first error of an agent's row after the rows in the tables.
 fn agent_fault(limits: &Limits, tables: &Tables, row: &AgentRow) -> Option<RowFault>
     ensures { result ≡ row_fault limits.now tables.now.rows (Agent row.now) }
 {
@@ -77,7 +77,7 @@ fn agent_fault(limits: &Limits, tables: &Tables, row: &AgentRow) -> Option<RowFa
     ])
 }
 
-/// With one more framework the frameworks, its clients, or all clients would be too many.
+/// Returns whether one more framework would be too many, or its clients, or all clients with them.
 fn has_too_many_clients(limits: &Limits, tables: &Tables, row: &FrameworkRow) -> bool
     ensures { result ≡ has_too_many_clients limits.now tables.now.rows row.now }
 {
@@ -88,14 +88,14 @@ fn has_too_many_clients(limits: &Limits, tables: &Tables, row: &FrameworkRow) ->
     limits.clients() < clients || limits.clients() - clients < tables.client_count() as u64
 }
 
-/// The client is in the role.
+/// Returns whether the client is in the role.
 fn is_in(role: &Role, client: &ClientRow) -> bool
     ensures { result ≡ same_path role.now client.now.role }
 {
     *role == client.role
 }
 
-/// None of some clients is in the role.
+/// Returns whether none of the clients is in the role.
 fn are_apart(role: &Role, clients: &[ClientRow]) -> bool
     ensures { result ≡ list_all (λ c. not (same_path role.now c.role)) clients.now }
 {
@@ -107,7 +107,7 @@ fn are_apart(role: &Role, clients: &[ClientRow]) -> bool
     true
 }
 
-/// No two of some clients are in one role.
+/// Returns whether no two clients are in the same role.
 fn are_distinct(clients: &[ClientRow]) -> bool
     ensures { result ≡ are_distinct_roles (map (λ c. c.role) clients.now) }
 {
@@ -117,7 +117,8 @@ fn are_distinct(clients: &[ClientRow]) -> bool
     are_apart(&first.role, rest) & are_distinct(rest)
 }
 
-/// With the offers that were made to the framework's clients there would be as many as numbers of offers so far.
+/// Returns whether the counts of all clients, with those of this framework, sum to `next_offer` or more. `counted` is
+/// the sum without this framework.
 fn has_bad_counts(tables: &Tables, counted: u64, row: &FrameworkRow) -> bool
     requires { counted ≡ offers_counted tables.now.rows.frameworks }
     ensures { result ≡ nat_le tables.now.rows.next_offer (offers_counted (tables.now.rows.frameworks ++ row.now ∷ [])) }
@@ -129,14 +130,14 @@ fn has_bad_counts(tables: &Tables, counted: u64, row: &FrameworkRow) -> bool
     }
 }
 
-/// Two clients of a framework are in one role.
+/// Returns whether two clients of the framework are in the same role.
 fn has_known_role(row: &FrameworkRow) -> bool
     ensures { result ≡ not (are_distinct_roles (roles_of row.now)) }
 {
     !are_distinct(row.clients.as_slice())
 }
 
-/// Why a framework may not stand behind others. So many offers were made to their clients.
+/// Returns the first error of a framework's row. `counted` is the sum of the counts of the clients in the tables.
 fn framework_fault(
     limits: &Limits,
     tables: &Tables,
@@ -160,28 +161,28 @@ fn framework_fault(
     if let Some(fault) = first {
         return Some(fault);
     }
-    // Few clients are compared with one another.
+    // The clients are compared in pairs only after their number has been checked.
     first_fault(&[
         (has_known_role(row), RowFault::KnownRole),
         (has_bad_counts(tables, counted, row), RowFault::BadNumber),
     ])
 }
 
-/// The weight is below a thousandth or above 1000.
+/// Returns whether the weight, in thousandths, is below 0.001 or above 1000.
 fn is_bad_weight(weight: u64) -> bool
     ensures { result ≡ not (is_weight weight) }
 {
     !(1 <= weight && weight <= 1_000_000)
 }
 
-/// With one more weight there would be too many.
+/// Returns whether one more weight would be too many.
 fn are_weights_too_many(limits: &Limits, tables: &Tables) -> bool
     ensures { result ≡ nat_lt limits.now.weights (length tables.now.rows.weights + 1) }
 {
     limits.weights() <= tables.weight_count() as u64
 }
 
-/// Why a weight may not stand behind others.
+/// Returns the first error of a weight's row after the rows in the tables.
 fn weight_fault(limits: &Limits, tables: &Tables, row: &WeightRow) -> Option<RowFault>
     ensures { result ≡ row_fault limits.now tables.now.rows (Weight row.now) }
 {
@@ -199,7 +200,7 @@ fn weight_fault(limits: &Limits, tables: &Tables, row: &WeightRow) -> Option<Row
     ])
 }
 
-/// With one more limit there would be too many, or it names too many scalars.
+/// Returns whether one more limit would be too many, or the limit names too many scalars.
 fn is_limit_too_many(limits: &Limits, tables: &Tables, limit: &Quantities) -> bool
     ensures { result ≡ (nat_lt limits.now.limits (length tables.now.rows.limits + 1) || nat_lt limits.now.scalar_names (length limit.now)) }
 {
@@ -207,14 +208,14 @@ fn is_limit_too_many(limits: &Limits, tables: &Tables, limit: &Quantities) -> bo
         || limits.scalar_names() < limit.entries().len() as u64
 }
 
-/// The limit names nothing.
+/// Returns whether the limit names nothing.
 fn names_nothing(limit: &Quantities) -> bool
     ensures { result ≡ is_empty limit.now }
 {
     limit.entries().first().is_none()
 }
 
-/// Why a limit may not stand behind others.
+/// Returns the first error of a limit's row after the rows in the tables.
 fn limit_fault(limits: &Limits, tables: &Tables, row: &LimitRow) -> Option<RowFault>
     ensures { result ≡ row_fault limits.now tables.now.rows (Limit row.now) }
 {
@@ -233,14 +234,14 @@ fn limit_fault(limits: &Limits, tables: &Tables, row: &LimitRow) -> Option<RowFa
     ])
 }
 
-/// The number of an offer is not above those before it, or is one that is still to come.
+/// Returns whether the number of an offer is not above those before it, or is not below the next offer number.
 fn is_bad_offer(tables: &Tables, number: u64) -> bool
     ensures { result ≡ (not (list_all (λ o. nat_lt o.number number) tables.now.rows.offers) || nat_le tables.now.rows.next_offer number) }
 {
     !tables.are_offers_below(number) || tables.next_offer() <= number
 }
 
-/// Why an offer may not stand behind others.
+/// Returns the first error of an offer's row after the rows in the tables.
 fn offer_fault(tables: &Tables, row: &OfferRow) -> Result<Option<RowFault>, AllocError>
     requires { tables.now.settled ≡ true }
     ensures { IfOk result (λ fault. (limits : LimitNumbers) → fault ≡ row_fault limits tables.now.rows (Offer row.now)) }
@@ -265,7 +266,7 @@ fn offer_fault(tables: &Tables, row: &OfferRow) -> Result<Option<RowFault>, Allo
     ]))
 }
 
-/// Why a task may not stand behind others.
+/// Returns the first error of a task's row after the rows in the tables.
 fn task_fault(tables: &Tables, row: &TaskRow) -> Result<Option<RowFault>, AllocError>
     requires { tables.now.settled ≡ true }
     ensures { IfOk result (λ fault. (limits : LimitNumbers) → fault ≡ row_fault limits tables.now.rows (Task row.now)) }
@@ -293,14 +294,14 @@ fn task_fault(tables: &Tables, row: &TaskRow) -> Result<Option<RowFault>, AllocE
     ]))
 }
 
-/// A filter that ends then has run out, or ends too late.
+/// Returns whether a filter with this end has expired, or ends too late.
 fn is_bad_end(tables: &Tables, until: u64) -> bool
     ensures { result ≡ (nat_le until tables.now.rows.clock || nat_le (2 ^ 63) until) }
 {
     until <= tables.clock() || LATEST_END <= until
 }
 
-/// Why a filter may not stand behind others.
+/// Returns the first error of a filter's row after the rows in the tables.
 fn filter_fault(limits: &Limits, tables: &Tables, row: &FilterRow) -> Option<RowFault>
     ensures { result ≡ row_fault limits.now tables.now.rows (Filter row.now) }
 {
@@ -325,7 +326,8 @@ fn filter_fault(limits: &Limits, tables: &Tables, row: &FilterRow) -> Option<Row
     ])
 }
 
-/// Why a row may not stand behind others. So many offers were made to the clients of those.
+/// Returns the first error of a row after the rows in the tables, or `None` if it is allowed. `counted` is the sum of
+/// the counts of the clients in the tables. Fails if memory runs out.
 pub(crate) fn row_fault(
     limits: &Limits,
     tables: &Tables,

@@ -1,4 +1,4 @@
-//! The state of an allocator as a text: written of its rows, and read back into an allocator that goes on from them.
+//! Writes the state of an allocator as text, and reads it back into an allocator that can be resumed.
 #![tactic(auto)]
 
 mod clients;

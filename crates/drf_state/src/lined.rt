@@ -1,4 +1,4 @@
-//! Rows that have a line.
+//! Rows that are written as lines.
 ghost use Rattle.std.specs.Prelude.{OnOk};
 ghost use Rattle.drf_lines.specs.StateLine.{row_line};
 ghost use Rattle.drf_lines.specs.Written.{AppendsText};
@@ -12,13 +12,13 @@ use drf_lines::{
 use drf_rows::{AgentRow, FilterRow, FrameworkRow, LimitRow, OfferRow, TaskRow, WeightRow};
 use std::alloc::AllocError;
 
-/// A row that has a line.
+/// A row that is written as a line.
 pub(crate) trait Lined {
     ghost use Rattle.drf_saved.specs.declared.saved.SavedRow.{SavedRow};
 
     ghost saved: { Self → SavedRow };
 
-    /// Adds its line, without a line feed.
+    /// Appends its line, without a line feed.
     fn push(&self, text: &mut Vec<u8>) -> Result<(), AllocError>
         ensures appends { AppendsText result text.old.items text.new.items (row_line (saved self.now)) }
         ensures read { OnOk result (IsRead (saved self.now)) };

@@ -1,4 +1,4 @@
-//! How a row that may stand behind others is put into the tables, and what it is to the sorter.
+//! Adds the rows of a state to the tables and the sorter.
 ghost use Rattle.std.specs.Prelude.{◌≡◌, ◌<◌, ◌≤◌, ◌∷◌, ◌++◌, [], false, length, IfOk, OnOk};
 ghost use Rattle.drf_role.specs.Text.{Text};
 ghost use Rattle.drf_bundle.specs.Bundle.{quantities_of};
@@ -19,16 +19,16 @@ use drf_sorter::Sorter;
 use drf_tables::{Tables, offers_with};
 use std::alloc::{AllocError, Global};
 
-/// The parts of an allocator that is put together.
+/// The parts of an allocator that is being restored.
 #[derive(Drop)]
 pub(crate) struct Parts<S: Sorter> {
     pub(crate) tables: Tables,
     pub(crate) sorter: S,
-    /// How many offers were made to all clients.
+    /// The sum of the counts of all clients.
     pub(crate) counted: u64,
 }
 
-/// Registers an agent, active or not.
+/// Registers an agent, active or inactive.
 fn register(tables: &mut Tables, agent: AgentRow) -> Result<(), AllocError>
     requires new { has_agent tables.old.rows agent.name ≡ false }
     requires small { (label : Text) → amount_of (quantities_of agent.total) label ≤ LARGEST_AMOUNT }
@@ -52,7 +52,7 @@ fn register(tables: &mut Tables, agent: AgentRow) -> Result<(), AllocError>
 }
 
 impl<S: Sorter> Parts<S> {
-    /// Parts with these numbers and no rows.
+    /// Creates parts with the numbers of a head and no rows.
     pub(crate) fn begin(alloc: Global, key: HashKey, head: Head) -> Result<Parts<S>, AllocError>
         requires early { head.clock ≤ LATEST_MOMENT }
         requires numbered { 1 ≤ head.next_offer }
@@ -151,7 +151,7 @@ impl<S: Sorter> Parts<S> {
         Ok(())
     }
 
-    /// Puts a row behind the others that may stand there. At an `Err` the parts are of no use any more.
+    /// Adds a row, which must be allowed after the rows before it. After an error the parts must not be used any more.
     pub(crate) fn put(&mut self, alloc: Global, row: SavedRow) -> Result<(), AllocError>
         requires agree { PartsAgree self.old.tables (S.content self.old.sorter) self.old.counted }
         requires fits { FitsBehind self.old.tables.rows row }

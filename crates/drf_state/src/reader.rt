@@ -1,4 +1,4 @@
-//! The reader of a state.
+//! Reads a state.
 ghost use Rattle.std.specs.Prelude.{◌≡◌, ◌+◌, ◌∷◌, [], ◌<◌, ◌≤◌, Ok, drop, length, take, IfErr, IfNone, IfOk, IfSome, MatchResult};
 ghost use Rattle.drf_role.specs.Text.{same_text};
 ghost use Rattle.drf_rows.specs.LimitNumbers.{LimitNumbers};
@@ -22,7 +22,7 @@ use drf_sorter::Sorter;
 use memchr::memchr;
 use std::alloc::{AllocError, Global};
 
-/// What is used for one line after another.
+/// Values that are reused for each line.
 #[derive(Drop)]
 struct Scratch {
     alloc: Global,
@@ -31,7 +31,7 @@ struct Scratch {
     written: Vec<u8>,
 }
 
-/// Whether what a line says has just this line as its written form. The last line is known by another.
+/// Returns whether the line is in normal form. The last line is checked elsewhere.
 fn is_written(written: &mut Vec<u8>, line: &[u8], said: &StateLine) -> Result<bool, AllocError>
     ensures { IfOk result (λ yes. yes ≡ is_written line.now said.now) }
 {
@@ -44,7 +44,7 @@ fn is_written(written: &mut Vec<u8>, line: &[u8], said: &StateLine) -> Result<bo
     Ok(line == written.as_slice())
 }
 
-/// What a line says that is in its written form.
+/// Returns the content of a line. Fails with an error of lines, or with `NotWritten` if the line is not in normal form.
 fn said_by(scratch: &mut Scratch, line: &[u8]) -> Result<StateLine, LineStop>
     ensures { MatchResult result (λ said. said_by line.now ≡ Ok said) (IsStop (said_by line.now)) }
 {
@@ -55,7 +55,7 @@ fn said_by(scratch: &mut Scratch, line: &[u8]) -> Result<StateLine, LineStop>
     Ok(said)
 }
 
-/// Whether a line is the last one behind a text of so many lines.
+/// Returns whether the line is the right last line after `text`, which has `lines` lines.
 fn is_closing(
     scratch: &mut Scratch,
     line: &[u8],
@@ -71,7 +71,7 @@ fn is_closing(
     Ok(line == written.as_slice())
 }
 
-/// The allocator that the first line makes.
+/// Creates the allocator from the first line, which must be a head.
 fn begin<S: Sorter>(
     scratch: &mut Scratch,
     limits: Limits,
@@ -88,7 +88,8 @@ fn begin<S: Sorter>(
     }
 }
 
-/// The allocator with what a later line says, and whether that line is the last one. `text` is what stands before it, of so many lines.
+/// Adds the content of a later line to the allocator, and returns whether this is the last line. `text` is everything
+/// before it, and has `lines` lines.
 fn take_line<S: Sorter>(
     scratch: &mut Scratch,
     restoring: Restoring<S>,
@@ -111,7 +112,7 @@ fn take_line<S: Sorter>(
     }
 }
 
-/// Where the first line ends, by a line feed.
+/// Returns the index of the first line feed.
 fn line_end(bytes: &[u8]) -> Option<usize>
     ensures found { IfSome result (λ at. (at < length bytes.now) × (parts_of_text bytes.now ≡ take at bytes.now ∷ parts_of_text (drop (at + 1) bytes.now))) }
     ensures one { IfSome result (λ at. take (at + 1) bytes.now ≡ ended (take at bytes.now)) }
@@ -120,7 +121,7 @@ fn line_end(bytes: &[u8]) -> Option<usize>
     memchr(b'\n', bytes)
 }
 
-/// What stands behind the first bytes.
+/// Returns the bytes after the first `count` bytes.
 fn behind(bytes: &[u8], count: usize) -> &[u8]
     requires { count ≤ length bytes.now }
     ensures { result.now ≡ drop count bytes.now }
@@ -128,7 +129,7 @@ fn behind(bytes: &[u8], count: usize) -> &[u8]
     &bytes[count..]
 }
 
-/// The first bytes.
+/// Returns the first `count` bytes.
 fn front(bytes: &[u8], count: usize) -> &[u8]
     requires { count ≤ length bytes.now }
     ensures { result.now ≡ take count bytes.now }
@@ -136,7 +137,7 @@ fn front(bytes: &[u8], count: usize) -> &[u8]
     &bytes[..count]
 }
 
-/// The fault of a text in which a line stands where none may, or lacks: that of this number.
+/// Returns the error of a line with this number that is missing or not allowed at its place.
 fn out_of_order(number: u64) -> StateError
     ensures { result ≡ error.Line number (Row OutOfOrder) }
 {
@@ -146,7 +147,7 @@ fn out_of_order(number: u64) -> StateError
     }
 }
 
-/// The fault of a text whose line of this number was not taken.
+/// Returns the error of reading, given why the line with this number was not taken.
 fn stopped_at(number: u64, stop: LineStop) -> StateError
     ensures { result ≡ stopped_at number stop }
 {
@@ -156,7 +157,7 @@ fn stopped_at(number: u64, stop: LineStop) -> StateError
     }
 }
 
-/// The allocator with what the lines say that stand behind the first `start` bytes, the first line.
+/// Adds the content of all lines after the first, which has `start` bytes.
 fn take_lines<S: Sorter>(
     scratch: &mut Scratch,
     begun: Restoring<S>,
@@ -192,7 +193,8 @@ fn take_lines<S: Sorter>(
     Err(out_of_order(lines + 1))
 }
 
-/// Reads a state: the allocator with just its rows, or the first line that has a fault. Its names are found by hashes that begin with the key.
+/// Reads a state and returns the allocator with exactly its rows. Names are hashed with `key`. Fails with the first
+/// wrong line and its first error, or with `Memory` if memory runs out.
 pub fn read_state<S: Sorter>(
     alloc: Global,
     limits: Limits,

@@ -1,4 +1,4 @@
-//! An allocator that is put together again, row by row.
+//! Restores an allocator row by row.
 ghost use Rattle.std.specs.Prelude.{◌≡◌, IfOk, MatchResult};
 ghost use Rattle.drf_rows.specs.Step.{live_rows};
 ghost use Rattle.drf_saved.specs.Saved.{head_fault, row_fault};
@@ -16,7 +16,7 @@ use drf_sorter::Sorter;
 use std::alloc::{AllocError, Global};
 use std::marker::Model;
 
-/// An allocator whose rows come one by one, each behind those that it rests on.
+/// An allocator that is being restored: each row is added after the rows on which it depends.
 #[derive(Drop)]
 pub struct Restoring<S: Sorter> {
     alloc: Global,
@@ -38,7 +38,9 @@ impl<S: Sorter> Model for Restoring<S> {
 }
 
 impl<S: Sorter> Restoring<S> {
-    /// An allocator with these numbers and no rows. Who chooses names and does not know the key cannot slow it down by them.
+    /// Creates an allocator with the numbers of a head and no rows. The hashes of names begin with `key`, so someone
+    /// who chooses names, but does not know the key, cannot slow the allocator down. Fails with the first error of the
+    /// head.
     pub fn begin(
         alloc: Global,
         limits: Limits,
@@ -47,7 +49,7 @@ impl<S: Sorter> Restoring<S> {
     ) -> Result<Restoring<S>, RestoreError>
         ensures { MatchResult result (IsBegunWith limits head) (IsTold (head_fault limits head)) }
     {
-        // The contract of this call tells that the limits are within the ceilings.
+        // The contract of this call says that the capacities are within their upper bounds.
         let _ = limits.agents();
         if let Some(fault) = head_fault(&limits, head) {
             return Err(RestoreError::Fault(fault));
@@ -59,7 +61,8 @@ impl<S: Sorter> Restoring<S> {
         })
     }
 
-    /// The same with one more row, which may stand behind those before it.
+    /// Adds a row, which must be allowed after the rows before it. Fails with the first error of the row, or with
+    /// `Memory` if memory runs out.
     pub fn put(self, row: SavedRow) -> Result<Restoring<S>, RestoreError>
         ensures { MatchResult result (IsPut self row) (IsTold (row_fault self.limits self.rows row)) }
     {
@@ -80,7 +83,7 @@ impl<S: Sorter> Restoring<S> {
         })
     }
 
-    /// The allocator that goes on from the rows, over the sorter that was charged with them.
+    /// Returns the allocator with the restored rows.
     pub fn end(self) -> Result<Core<S>, AllocError>
         ensures limits { IfOk result (λ core. core.limits ≡ self.limits) }
         ensures rows { IfOk result (λ core. core.rows ≡ self.rows) }

@@ -13,7 +13,7 @@ use drf_saved::Head;
 use std::alloc::{AllocError, Global};
 use std::marker::Model;
 
-/// A text, and how many lines it has.
+/// A text and the number of its lines.
 #[derive(Drop)]
 pub(crate) struct LinedText {
     pub(crate) bytes: Vec<u8>,
@@ -34,7 +34,7 @@ impl Model for LinedText {
 }
 
 impl LinedText {
-    /// A text with the first line of a state, that of its numbers.
+    /// Creates a text with the first line of a state, which has the numbers of the head.
     pub(crate) fn begin(alloc: Global, rows: &Rows) -> Result<LinedText, AllocError>
         ensures begun { IfOk result (λ text. text ≡ begun_text rows.now) }
         ensures read { OnOk result (IsHeadRead rows.now) }
@@ -50,14 +50,14 @@ impl LinedText {
         Ok(LinedText { bytes, lines: 1 })
     }
 
-    /// How many lines it has.
+    /// Returns the number of lines.
     pub(crate) fn lines(&self) -> u64
         ensures { result ≡ self.now.lines }
     {
         self.lines
     }
 
-    /// Its bytes.
+    /// Returns the bytes of the text.
     pub(crate) fn into_bytes(self) -> Vec<u8>
         ensures { result.items ≡ self.bytes }
     {
@@ -65,7 +65,7 @@ impl LinedText {
         bytes
     }
 
-    /// Adds the line of a row.
+    /// Appends the line of a row.
     fn push<T: Lined>(&mut self, row: &T) -> Result<(), AllocError>
         ensures ok { OnOk result (self.new ≡ with_rows self.old (T.saved row.now ∷ [])) }
         ensures read { OnOk result (IsRead (T.saved row.now)) }
@@ -76,7 +76,7 @@ impl LinedText {
         Ok(())
     }
 
-    /// Adds the lines of rows.
+    /// Appends the lines of rows.
     pub(crate) fn push_all<T: Lined>(&mut self, rows: &[T]) -> Result<(), AllocError>
         ensures ok { OnOk result (self.new ≡ with_rows self.old (map T.saved rows.now)) }
         ensures read { OnOk result (AreRead (map T.saved rows.now)) }
@@ -87,7 +87,7 @@ impl LinedText {
         Ok(())
     }
 
-    /// Adds the lines of the filters in force.
+    /// Appends the lines of the filters that have not expired.
     pub(crate) fn push_in_force(
         &mut self,
         clock: u64,

@@ -1,4 +1,4 @@
-//! The writer of a state.
+//! Writes a state.
 ghost use Rattle.std.specs.Prelude.{◌≡◌, Ok, IfOk, OnOk};
 ghost use Rattle.drf_rows.specs.LimitNumbers.{LimitNumbers};
 ghost use Rattle.drf_rows.specs.Step.{live_rows};
@@ -15,7 +15,7 @@ use drf_lines::push_end;
 use drf_rows::Rows;
 use std::alloc::{AllocError, Global};
 
-/// Adds the lines of the live rows, each table behind those that it rests on.
+/// Appends the lines of the current state, each table after those on which it depends.
 fn push_rows(text: &mut LinedText, rows: &Rows) -> Result<(), AllocError>
     ensures ok { OnOk result (text.new ≡ with_rows text.old (saved_rows rows.now)) }
     ensures read { OnOk result (AreRead (saved_rows rows.now)) }
@@ -29,13 +29,13 @@ fn push_rows(text: &mut LinedText, rows: &Rows) -> Result<(), AllocError>
     text.push_in_force(rows.clock, rows.filters.as_slice())
 }
 
-/// The text of a state: a line for each live row, and a last one with the number and the digest of those before it. Where the rows can be
-/// saved, it says them.
+/// Returns the text of a state: a line for each row of the current state, and a last line with the number and the
+/// digest of the lines before it. If the rows can be saved, the text means exactly these rows.
 pub fn write_state(alloc: Global, rows: &Rows) -> Result<Vec<u8>, AllocError>
     ensures text { IfOk result (λ text. text.items ≡ state_text rows.now) }
     ensures said { IfOk result (λ text. (limits : LimitNumbers) → IsSaveable limits rows.now → state_in limits text.items ≡ Ok (live_rows rows.now)) }
 {
-    // The contract of this call tells what the text says.
+    // The contract of this call says what the text means.
     state_law();
     let mut text = LinedText::begin(alloc, rows)?;
     push_rows(&mut text, rows)?;

@@ -1,4 +1,4 @@
--- The steps of the history keep its rule, and a pen that may write adds to all that its chain has.
+-- The steps of the log keep its rule, and a pen that can write adds a link after all links of its chain.
 use Rattle.std.proofs.Common.{◌≡◌, ℕ, zero, suc, ◌<◌, ◌≤◌, ◌==◌, Bool, true, false, List, [], ◌∷◌, ◌++◌, length, map, refl, ap, sym, ◌∙◌, subst, arith, inl, None, length-append}
 use Rattle.std.specs.Prelude.{slice_set}
 use Rattle.std.specs.List.{AllByRecursion}
@@ -44,7 +44,7 @@ all-more P Q (k ∷ keys) more all = (more k all.0, all-more P Q keys more all.1
 
 -- ---- a chain that grows
 
--- whoever may write the last word of what was seen of a chain has seen all of it
+-- if the last word of what was seen of a chain is not at home, all of the chain was seen
 chain-whole : (cells : List Cell) (word : ℕ) (seen more : List Link) → AllByRecursion (IsHome cells) (spent_by word (seen ++ more))
     → (cell cells (end_from word seen)).1 ≡ false → more ≡ []
 chain-whole cells word [] [] home away = refl
@@ -69,7 +69,7 @@ entries-prefix chain seen whole begins = (
       ∙ (ap (λ links. map (λ l. l.entry) links) (sym (filter-append (λ l. l.chain == chain) seen begins.0)) ∙ ap (entries_of chain) begins.1),
 )
 
--- ---- one link more
+-- ---- one more link
 
 links-own : (link : Link) → links_of link.chain (link ∷ []) ≡ link ∷ []
 links-own link = let same : (link.chain == link.chain) ≡ true = grind (arith, nat_tests) in rw same refl
@@ -83,7 +83,7 @@ links-others chain log link other =
     let none : links_of chain (link ∷ []) ≡ [] = rw other refl in
     filter-append (λ l. l.chain == chain) log (link ∷ []) ∙ (ap (λ links. links_of chain log ++ links) none ∙ append-nil (links_of chain log))
 
--- the pen's chain has no link that was not seen
+-- if the word at the end of what was seen of a chain is not at home, the chain has no other links
 links-seen : (cells : List Cell) (log seen : List Link) (chain : ℕ) → IsChained cells log → IsPrefix seen log
     → (cell cells (end_of chain seen)).1 ≡ false → links_of chain log ≡ links_of chain seen
 links-seen cells log seen chain chained begins away =
@@ -94,7 +94,7 @@ links-seen cells log seen chain chained begins away =
     let none : links_of chain begins.0 ≡ [] = chain-whole cells chain (links_of chain seen) (links_of chain begins.0) home away in
     parts ∙ (ap (λ links. links_of chain seen ++ links) none ∙ append-nil (links_of chain seen))
 
--- each chain's words are at home after a link that the word of its chain's end added
+-- if the end of its chain is at home when a link is added, the spent words of every chain are still at home
 spent-after : (cells : List Cell) (log : List Link) (link : Link) (chain : ℕ) (b : Bool) → (link.chain == chain) ≡ b
     → AllByRecursion (IsHome cells) (spent_by chain (links_of chain log)) → IsHome cells (end_of link.chain log)
     → AllByRecursion (IsHome cells) (spent_by chain (links_of chain (log ++ link ∷ [])))
@@ -120,7 +120,7 @@ moves before after answer = Unit {0}
 abbrev same_word : ℕ → ℕ
 same_word n = either (n == 0) 0 n
 
--- the cells once the first word was gone over, and the pen's word came home
+-- the cells after the first word was passed and the pen's word is at home
 abbrev cells_then : List Cell → ℕ → ℕ → List Cell
 cells_then cells key value = slice_set (slice_set cells 0 (same_word (cell cells 0).0, true)) key (value, true)
 
@@ -147,7 +147,7 @@ chained-then cells log link key value chained inside last =
           (all-more (IsHome cells) (IsHome (cells_then cells key value)) (spent_by chain (links_of chain log)) (home-then cells key value) (chained.spent chain)) home_last;
     }
 
--- whatever the book is, who has the pen of the end of what was seen of a chain adds a link to all that the chain has
+-- for every book: the owner of the pen at the end of what was seen of a chain can add a link after all links of the chain
 pub links_moves : (seen : List Link) (link : Link) (key value : ℕ) → end_of link.chain seen ≡ key
     → Moves IsChained shows moves 0 (seen, (nib may_write key value, None)) same_word (HasLinked (step 0 0 0 link) (seen, (nib may_write key value, None)))
 links_moves seen link key value last cells log chained begins away =
@@ -187,7 +187,7 @@ chained-home cells log chained =
       spent = λ chain. all-more (IsHome cells) (IsHome (slice_set cells 0 (same_word (cell cells 0).0, true))) (spent_by chain (links_of chain log)) home (chained.spent chain);
     }
 
--- Who has the pen of the end of what it has seen of a chain finds that others have seen no more of it, and keeps the pen.
+-- the owner of the pen at the end of what it has seen of a chain learns that nobody has seen more of it, and keeps the pen
 pub looks_moves : (own both : List Link) (ask : Link) (pen : Nib) → pen.right ≡ may_write → pen.key ≡ end_of ask.chain own → IsPrefix own both
     → ask.next ≡ length (links_of ask.chain own)
     → Moves IsChained shows moves 0 (both, (pen, None)) same_word (HasLooked (step 0 0 0 ask) (both, (pen, None)))
@@ -207,7 +207,7 @@ looks_moves own both ask pen right last less count cells log chained begins away
       (keeps, [], None, tt, subst (λ (l : List Link). IsChained (slice_set cells 0 (same_word (cell cells 0).0, true)) l) (sym (append-nil log)) (chained-home cells log chained), inl (refl, refl), looked),
     )
 
--- whatever the book is, there is a pen for a new word
+-- for every book, there is a pen for a new word
 pub pen_moves : (seen : List Link) (ask : Link)
     → Moves IsChained shows moves 0 (seen, (no_nib, None)) same_word (HasNewPen (step 0 0 0 ask) (seen, (no_nib, None)))
 pen_moves seen ask cells log chained begins away =
@@ -222,7 +222,7 @@ pen_moves seen ask cells log chained begins away =
       (adds, [], None, tt, subst (λ (l : List Link). IsChained (slice_set cells 0 (same_word (cell cells 0).0, true) ++ (0, false) ∷ []) l) (sym (append-nil log)) kept, inl (refl, refl), refl),
     )
 
--- the same with any pen that may write
+-- `links_moves` for any pen that can write
 pub adds_moves : (seen : List Link) (link : Link) (pen : Nib) → pen.right ≡ may_write → pen.key ≡ end_of link.chain seen
     → Moves IsChained shows moves 0 (seen, (pen, None)) same_word (HasLinked (step 0 0 0 link) (seen, (pen, None)))
 adds_moves seen link pen right last =

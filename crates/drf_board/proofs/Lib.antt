@@ -1,2 +1,3 @@
+-- Lemmas about the chains and prefixes of a board's history.
 pub mod Prefixes
 pub mod Chaining

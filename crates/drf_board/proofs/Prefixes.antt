@@ -1,8 +1,8 @@
--- Lists with which one list begins.
+-- Prefixes of lists.
 use Rattle.std.proofs.Common.{◌≡◌, ◌≤◌, List, [], ◌∷◌, ◌++◌, length, refl, ap, sym, ◌∙◌, append_assoc, arith}
 use mathlib.Core.List.{IsPrefix}
 
--- where two lists go on to the same list, the shorter begins the longer
+-- if two lists can be continued to the same list, the shorter is a prefix of the longer
 shorter-begins : {A : Type 0} (xs ys r s : List A) → xs ++ r ≡ ys ++ s → length xs ≤ length ys → IsPrefix xs ys
 shorter-begins [] ys r s same few = (ys, refl)
 shorter-begins (x ∷ xs) [] r s same few = absurd (omega arith)
@@ -19,7 +19,7 @@ begins-trans xs ys zs first second =
 pub prefixes-compare : {A : Type 0} (xs ys whole : List A) → IsPrefix xs whole → IsPrefix ys whole → length xs ≤ length ys → IsPrefix xs ys
 prefixes-compare xs ys whole begins ends few = shorter-begins xs ys begins.0 ends.0 (begins.1 ∙ sym ends.1) few
 
--- a beginning that is no shorter is all of it
+-- a prefix that is not shorter is the whole list
 pub prefix-all : {A : Type 0} (xs whole : List A) → IsPrefix xs whole → length whole ≤ length xs → xs ≡ whole
 prefix-all [] [] begins few = refl
 prefix-all [] (y ∷ ys) begins few = absurd (omega arith)

@@ -1,4 +1,4 @@
--- Histories that grow.
+-- Theorems about histories to which an entry is added.
 use Rattle.std.specs.Prelude.{◌≡◌, List, [], ◌∷◌, ◌++◌}
 use Rattle.std.proofs.Common.{refl, ap, sym, ◌∙◌}
 use Rattle.std.proofs.lemmas.List.{map-append}
@@ -10,16 +10,17 @@ use Rattle.drf_board.specs.History.{IsLegal, rows_of, events_of}
 use Rattle.drf_board.specs.declared.entry.Entry.{Entry}
 
 module _ (limits : LimitNumbers) (start : Rows) where
-  -- the history of no entries
+  -- the empty history is legal
   pub legal-nil : IsLegal limits start []
   unfolding IsLegal
   legal-nil = refl
 
+  -- the rows after the empty history
   pub rows_of-nil : rows_of limits start [] ≡ start
   unfolding rows_of
   rows_of-nil = refl
 
-  -- a legal history and an event, with the definition's reply, are a legal history
+  -- a legal history, extended by an event with the reply that the definition gives, is legal
   pub legal-push : (entries : List Entry) (e : Entry) → IsLegal limits start entries
       → e.reply ≡ reply_to limits (rows_of limits start entries) e.event → IsLegal limits start (entries ++ e ∷ [])
   unfolding IsLegal rows_of
@@ -28,6 +29,7 @@ module _ (limits : LimitNumbers) (start : Rows) where
       ∙ ((λ i. legal i ++ told i ∷ [])
       ∙ sym (ap (replies_to limits start) (map-append (λ x. x.event) entries (e ∷ [])) ∙ replies_to-append limits start (events_of entries) (e.event ∷ [])))
 
+  -- the rows after one more entry
   pub rows_of-push : (entries : List Entry) (e : Entry)
       → rows_of limits start (entries ++ e ∷ []) ≡ rows_after limits (rows_of limits start entries) e.event
   unfolding rows_of

@@ -1,3 +1,4 @@
+-- What a board publishes, as its contracts describe it.
 pub mod History
 pub mod HistoryLaws
 pub mod Sheets

@@ -1,11 +1,11 @@
--- What tells one slate from another.
+-- The state of a slate, as its contracts see it, and its name.
 use Rattle.std.specs.Prelude.{ℕ, refl}
 use Rattle.std.specs.Coded.{Coded, code_by, coded×, coded_ℕ}
 use Rattle.logbook.specs.Pages.{Book, book_coded}
 use Rattle.drf_rows.specs.LimitNumbers.{LimitNumbers}
 use Rattle.drf_rows.specs.contracts.limits.Limits as limits
 
--- the name of a slate: where its history stands (the chain of a book), and the limits under which that is legal
+-- the name of a slate: the place of its history (the chain of a book), and the limits under which the history is legal
 pub record SlateName : Type 0 where
   pub book : Book
   pub chain : ℕ
@@ -16,7 +16,7 @@ pub record SlateState : Type 0 where
   pub name : SlateName
   pub viewers : ℕ
 
--- by it a proof tells two of them apart
+-- an encoding of such states, by which proofs distinguish them
 abbrev pub slate_code : Coded SlateState
 slate_code = code_by (Book × (ℕ × (LimitNumbers × ℕ))) (coded× book_coded (coded× coded_ℕ (coded× limits.the_row.coded coded_ℕ)))
     (λ s. (s.name.book, (s.name.chain, (s.name.limits, s.viewers))))

@@ -1,4 +1,4 @@
--- Files that are read one after the other.
+-- Lemmas about reading files in order.
 use Rattle.std.proofs.Common.{◌≡◌, ℕ, ◌+◌, ◌<◌, List, [], ◌∷◌, ◌++◌, length, map, get_or, take, drop, sym, ap, ◌∙◌, subst, suc, add-one, take-append-drop, refl, arith}
 use Rattle.std.proofs.Math.Seq.{take-suc, drop-cons}
 use Rattle.std.proofs.lemmas.List.{map-append}
@@ -43,7 +43,7 @@ contents-count known [] (c ∷ contents) are = absurd are
 contents-count known (n ∷ names) [] are = absurd are
 contents-count known (n ∷ names) (c ∷ contents) are = let same = contents-count known names contents are.1 in omega arith
 
--- one file more
+-- after one more file was read
 pub contents-next : {X : Type 0} (text : X → List ℕ) (known : Known) (xs : List X) (i : ℕ) (x : X) → i < length xs → x ≡ get_or xs i x
     → (contents : List (Vec ℕ)) (bytes : Vec ℕ) → AreContents known (map text (take i xs)) (bytes_of contents)
     → MayHave (known (text x)) bytes.items
@@ -55,7 +55,7 @@ contents-next text known xs i x inside is contents bytes are one =
     (subst (AreContents known (map text (take i xs) ++ text x ∷ [])) (sym added)
     (contents-push known (map text (take i xs)) (bytes_of contents) (text x) bytes.items are one))
 
--- or one that gives none
+-- after a file could not be read
 pub contents-fault : {X : Type 0} (text : X → List ℕ) (known : Known) (xs : List X) (i : ℕ) (x : X) → i < length xs → x ≡ get_or xs i x
     → (contents : List (List ℕ)) → AreContents known (map text (take i xs)) contents
     → (fault : RunFault) → IsFileFault (known (text x)) fault → IsUnread known (map text xs) (fault_of (length contents) fault)

@@ -1,4 +1,4 @@
--- Where bytes are cut into lines.
+-- Lemmas about splitting bytes into lines.
 use Rattle.std.proofs.Common.{◌≡◌, ◌==◌, if◌then◌else◌, ℕ, ◌+◌, ◌<◌, Bool, false, List, [], ◌∷◌, ◌++◌, length, get_or, take, drop, refl, sym, ap, ◌∙◌, suc, add-one, take-append-drop, arith}
 use Rattle.std.proofs.Math.Seq.{drop-cons}
 use Rattle.std.specs.List.{slice_split}
@@ -22,7 +22,7 @@ pub lines-nil : lines_of [] ≡ []
 unfolding lines_of ended_lines_of open_line_of
 lines-nil = refl
 
--- a line that a line feed ends is the first
+-- a line that ends with a line feed is the first line
 pub lines-feed : (line rest : List ℕ) → IsWithinLine line → lines_of (line ++ 10 ∷ rest) ≡ line ∷ lines_of rest
 unfolding lines_of ended_lines_of open_line_of
 lines-feed line rest within =
@@ -32,7 +32,7 @@ lines-feed line rest within =
     let open_part = ap last_part parts ∙ first_passed line (slice_split is_line_feed rest) some in
     λ i. ended i ++ last_line (open_part i)
 
--- a line that goes on to the end is the only one
+-- bytes without a line feed are the only line
 pub lines-alone : (line : List ℕ) → IsWithinLine line → 0 < length line → lines_of line ≡ line ∷ lines_of []
 unfolding lines_of ended_lines_of open_line_of
 lines-alone line within some =
@@ -40,7 +40,7 @@ lines-alone line within some =
     let test : (length line == 0) ≡ false = ne_eqb (length line) 0 (λ e. omega arith) in
     (λ i. ap all_but_last parts i ++ last_line (ap last_part parts i)) ∙ ap (λ (t : Bool). if t then [] else line ∷ []) test
 
--- bytes that are cut at a line feed
+-- bytes that are split at a line feed
 pub lines-cut : (bytes : List ℕ) (at : ℕ) → at < length bytes → get_or bytes at 0 ≡ 10 → IsWithinLine (take at bytes)
     → lines_of bytes ≡ take at bytes ∷ lines_of (drop (at + 1) bytes)
 lines-cut bytes at inside feed within =

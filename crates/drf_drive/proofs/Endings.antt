@@ -1,4 +1,4 @@
--- What was written of scripts that ran.
+-- Lemmas about what a drive has written when it returns.
 use Rattle.std.proofs.Common.{◌≡◌, ℕ, ◌+◌, List, [], ◌∷◌, length, Option, refl, sym, ◌∙◌, subst, inl, inr, arith}
 use Rattle.std.specs.Prelude.{All, Result, Ok, Err, OnOk, IfErr}
 use Rattle.std.specs.Global.{Vec}
@@ -34,13 +34,13 @@ use Rattle.drf_drive.specs.declared.script.ScriptFault.TheVariants.{Run, Unread,
 use Rattle.drf_drive.proofs.Contents.{contents-count}
 use Rattle.drf_drive.proofs.Scripts.{scripts-count}
 
--- a script for each file
+-- there is a script for each file
 pub scripts-few : (known : Known) (names : List (List ℕ)) (scripts : List (Vec Event)) → HasScripts known names scripts
     → length scripts ≡ length names
 scripts-few known names scripts has =
     scripts-count has.contents scripts has.meant ∙ contents-count known names has.contents has.read
 
--- no scripts, no journal
+-- without scripts, the journal is empty
 shuffle-none : (scripts : List (Vec Event)) → length scripts ≡ 0 → IsShuffleOf scripts []
 shuffle-none [] none = record {
   passes = [];
@@ -63,7 +63,7 @@ journal-none start known names scripts has none = record {
   shuffle = shuffle-none scripts none;
 }
 
--- how the writing of a journal ends
+-- after the journal was written, or writing it failed
 pub written-ends : (start : Machine) (known : Known) (names : List (List ℕ)) (journal : List Entry) → IsJournalOfFiles start known names journal
     → (r : Result (Unit {0}) ScriptFault) (old new : Option (List ℕ)) → OnOk r (Appends old new (journal_text journal))
     → IfErr r (IsCutOff old new (journal_text journal)) → HasDrivenFiles start known names old new r
@@ -75,12 +75,12 @@ written-ends start known names journal right (Err (Run Memory)) old new ok err =
 written-ends start known names journal right (Err (Line bad)) old new ok err = absurd err
 written-ends start known names journal right (Err (Close misfit)) old new ok err = absurd err
 
--- no files have no scripts
+-- without files, there are no scripts
 pub scripts-none : (known : Known) (names : List (List ℕ)) → length names ≡ 0 → HasScripts known names []
 scripts-none known [] none = record { contents = []; read = tt; meant = tt }
 scripts-none known (n ∷ names) none = absurd (omega arith)
 
--- ---- under a gate that is open
+-- ---- under a gate that allows all calls
 
 abbrev never : ℕ → ℕ → Type 0
 never worker call = ⊥
@@ -90,7 +90,7 @@ not-stopped asked worker [] stopped = stopped
 not-stopped asked worker (s ∷ scripts) (inl stop) = stop.stopped
 not-stopped asked worker (s ∷ scripts) (inr later) = not-stopped asked (worker + 1) scripts later.1
 
--- no worker is stopped, and no pass is another master's
+-- no worker is stopped, and no pass has another key
 module _ (limits : LimitNumbers) (start : Rows) (asked : ℕ → ℕ → Type 0) (key : ℕ) (passes : List Held) (scripts : List (Vec Event)) (new : All (IsNewPass key) passes) where
   pub tellable : {K : Type 0} (undriven : Undriven K) → IsUndriven limits start asked never key passes scripts undriven → IsTellable undriven
   tellable (Undone driving.Stopped) is = not-stopped asked 0 scripts is.1
@@ -139,7 +139,7 @@ module _ (limits : LimitNumbers) (start : Rows) (asked : ℕ → ℕ → Type 0)
   no-journal (Undone fault) is told on = subst (IsRunFault limits start scripts) (sym on) tt
   no-journal (Unfit refused) is told on = unfit-told refused is told on
 
--- scripts that gave no journal leave nothing written
+-- if the scripts gave no journal, nothing was written
 pub unrun-ends : (start : Machine) (known : Known) (names : List (List ℕ)) (scripts : List (Vec Event)) → HasScripts known names scripts
     → (old new : Option (List ℕ)) → new ≡ old → (fault : ScriptFault) → IsRunFault start.limits start.rows scripts fault
     → HasDrivenFiles start known names old new (Err fault)
@@ -156,7 +156,7 @@ pub live-limits : (engine : Engine) → (live engine).limits ≡ engine.limits
 unfolding live
 live-limits engine = refl
 
--- it begins with its live rows
+-- it begins with its current state
 pub begins-live : (given : LimitNumbers) (engine : Engine) → engine.limits ≡ given → Begins given (live engine).rows engine
 unfolding live
 begins-live given engine limits = record { limits = limits; rows = sym (live_rows-twice engine.rows) }

@@ -1,3 +1,4 @@
+-- Lemmas about reading files and writing journals.
 pub mod Cuts
 pub mod Contents
 pub mod Scripts

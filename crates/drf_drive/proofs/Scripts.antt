@@ -1,4 +1,4 @@
--- Scripts, file by file and line by line.
+-- Lemmas about reading scripts, file by file and line by line.
 use Rattle.std.proofs.Common.{◌≡◌, ℕ, suc, List, [], ◌∷◌, ◌++◌, length, map, refl, sym, ap, subst, ◌∙◌, append-nil, arith}
 use Rattle.std.specs.List.{AllZip}
 use Rattle.std.specs.Global.{Vec}
@@ -14,7 +14,7 @@ use Rattle.drf_drive.proofs.Cuts.{lines-nil}
 
 -- ---- the lines of a file
 
--- some lines are these events, and the rest is left
+-- the first lines are these events, and the others are left
 abbrev pub ReadFront : List ℕ → List ℕ → List Event → Type 0
 ReadFront bytes rest events = meanings_of bytes ≡ as_meant events ++ meanings_of rest
 
@@ -38,7 +38,7 @@ whole-count [] (e ∷ events) are = absurd are
 whole-count (s ∷ scripts) [] are = absurd are
 whole-count (s ∷ scripts) (e ∷ events) are = ap (λ (n : ℕ). suc n) (whole-count scripts events are.1)
 
--- the next one is not whole
+-- the next file has a line that is not an event
 pub stopped-next : (scripts before : List Script) (script : Script) (after : List Script) (events : List (Vec Event)) (fault : ScriptFault)
     → scripts ≡ before ++ script ∷ after → AreWhole before events → IsStoppedBy (length events) script fault → HaveStopped scripts fault
 stopped-next scripts before script after events (Unread file) split whole stopped = stopped
@@ -56,7 +56,7 @@ stopped-next scripts before script after events (Line bad) split whole stopped =
   stopped = (stopped.0 ∙ whole-count before events whole, stopped.1);
 }
 
--- the scripts of these files
+-- these are the scripts of these files
 abbrev pub AreScriptsOf : List (Vec ℕ) → List Script → Type 0
 AreScriptsOf files scripts = AllZip (λ (file : Vec ℕ) (script : Script). IsScriptOf file.items script) files scripts
 
@@ -70,7 +70,7 @@ script-whole : (bytes : List ℕ) (script : Script) (events : Vec Event) → IsS
 script-whole bytes script events of whole =
     subst (λ (v : Vec Event). IsScript bytes v.items) whole.same (subst (AreEventsOf bytes script.events.items) whole.whole of)
 
--- if all are whole, they are what the lines mean
+-- if all lines are events, the scripts have the events of the files
 pub scripts-whole : (files : List (Vec ℕ)) (scripts : List Script) (events : List (Vec Event)) → AreScriptsOf files scripts → AreWhole scripts events
     → AreScripts (bytes_of files) events
 scripts-whole [] [] [] of whole = tt
@@ -81,7 +81,7 @@ scripts-whole (f ∷ files) (s ∷ scripts) [] of whole = absurd whole
 scripts-whole (f ∷ files) (s ∷ scripts) (e ∷ events) of whole =
     (script-whole f.items s e of.0 whole.0, scripts-whole files scripts events of.1 whole.1)
 
--- The files up to one that is not whole.
+-- the files before the first that has a line that is not an event
 record IsCutAt (files : List (Vec ℕ)) (before : List Script) (script : Script) (events : List (Vec Event)) : Type 0 where
   front : List (List ℕ)
   bytes : List ℕ
@@ -118,7 +118,7 @@ cut-at (f ∷ files) (s ∷ before) script after (e ∷ events) of whole =
       of = cut.of;
     }
 
--- if one is not, its line is the first that is no event
+-- otherwise, this is the first line that is not an event
 pub scripts-stopped : (files : List (Vec ℕ)) (scripts : List Script) → AreScriptsOf files scripts → (fault : ScriptFault) → HaveStopped scripts fault
     → HaveBadLine (bytes_of files) fault
 scripts-stopped files scripts of (Unread file) stopped = stopped

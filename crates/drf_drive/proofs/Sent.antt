@@ -1,4 +1,4 @@
--- A journal that is written in pieces.
+-- Lemmas about a journal that is written in chunks.
 use Rattle.std.proofs.Common.{◌≡◌, ℕ, ◌+◌, ◌<◌, List, [], ◌∷◌, ◌++◌, length, get_or, take, drop, Option, sym, ap, ◌∙◌, subst, append_assoc, append-nil, take-append-drop}
 use Rattle.std.proofs.Math.Seq.{take-append_seam}
 use Rattle.std.proofs.lemmas.Grind.{flat_map-append}
@@ -12,7 +12,7 @@ use Rattle.drf_drive.proofs.Contents.{take-next}
 pub sent-begins : (old : Option (List ℕ)) (text waits : List ℕ) → text ≡ waits → HasSent old old text waits
 sent-begins old text waits same = record { sent = []; appended = Appends-nil old; whole = same }
 
--- more text waits
+-- more text is collected
 pub sent-waits : (old now : Option (List ℕ)) (text waits more next waiting : List ℕ) → HasSent old now text waits → next ≡ text ++ more
     → waiting ≡ waits ++ more → HasSent old now next waiting
 sent-waits old now text waits more next waiting sent longer waits_longer = record {
@@ -21,7 +21,7 @@ sent-waits old now text waits more next waiting sent longer waits_longer = recor
   whole = longer ∙ ap (λ l. l ++ more) sent.whole ∙ append_assoc sent.sent waits more ∙ ap (λ l. sent.sent ++ l) (sym waits_longer);
 }
 
--- a front of what waits is written
+-- a part of the collected text is written
 pub sent-more : (old now next : Option (List ℕ)) (text waits rest : List ℕ) → HasSent old now text waits → HasSent now next waits rest
     → HasSent old next text rest
 sent-more old now next text waits rest sent more = record {
@@ -30,13 +30,13 @@ sent-more old now next text waits rest sent more = record {
   whole = sent.whole ∙ ap (λ l. sent.sent ++ l) more.whole ∙ sym (append_assoc sent.sent more.sent rest);
 }
 
--- all that waits is written
+-- all collected text is written
 pub sent-whole : (old now next : Option (List ℕ)) (text waits : List ℕ) → HasSent old now text waits → Appends now next waits
     → Appends old next text
 sent-whole old now next text waits sent appended =
     subst (Appends old next) (sym sent.whole) (Appends-trans old now next sent.sent waits sent.appended appended)
 
--- a front of what waits is written, and more text was to come
+-- a prefix of the collected text is written, and more text was to come
 pub sent-front : (old now next : Option (List ℕ)) (text waits more whole : List ℕ) → HasSent old now text waits
     → AppendsFrontOf now next waits → whole ≡ text ++ more → AppendsFrontOf old next whole
 sent-front old now next text waits more whole sent front longer =

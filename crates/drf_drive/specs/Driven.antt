@@ -1,4 +1,4 @@
--- A drive of files: each runs on a thread of its own, on one master.
+-- What a drive of files does: each file runs on its own thread, on one master.
 use Rattle.std.specs.Prelude.{◌≡◌, ⊤, ◌⊎◌, ℕ, List, [], Option, Result, Ok, Err, All}
 use Rattle.std.specs.Global.{Vec}
 use Rattle.std.specs.Io.KnownBytes.{Appends}
@@ -27,23 +27,23 @@ use Rattle.drf_drive.specs.declared.script.Misfit.{Misfit}
 use Rattle.drf_drive.specs.declared.script.ScriptFault.{ScriptFault}
 use Rattle.drf_drive.specs.declared.script.ScriptFault.TheVariants.{Run, Unread, Line, Close}
 
--- the journal is a shuffle of scripts: each entry is an event of one of them, with its reply, and those of each stand in its order.
--- The scripts were called by passes that had not called before.
+-- the journal is a shuffle of scripts: each entry is an event of one script, with its reply, and the entries of a script are in its order;
+-- the scripts were called with new passes
 pub record IsShuffleOf (scripts : List (Vec Event)) (journal : List Entry) : Type 0 where
   pub passes : List Held
   pub unused : All (λ pass. pass.receipts ≡ []) passes
   pub replies : List (Vec Reply)
   pub driven : HasDriven passes scripts replies journal
 
--- a legal journal, of an allocator that began so, that is a shuffle of what the lines of the files of these names mean
+-- a legal journal, from this starting state, that is a shuffle of the events of the files with these names
 pub record IsJournalOfFiles (start : Machine) (known : Known) (names : List (List ℕ)) (journal : List Entry) : Type 0 where
   pub scripts : List (Vec Event)
   pub meant : HasScripts known names scripts
   pub legal : IsLegal start.limits start.rows journal
   pub shuffle : IsShuffleOf scripts journal
 
--- The passes have made all calls of the scripts, and none before, and the journal is legal, of an allocator that began so; but it is no shuffle
--- of their receipts, for that fault, which is not want of memory.
+-- the passes have made all calls of the scripts, and no others; the journal is legal, from these rows, but it is not a shuffle of their receipts,
+-- for this reason, which is not `Memory`
 pub record HasMisfit (limits : LimitNumbers) (start : Rows) (scripts : List (Vec Event)) (misfit : Misfit) : Type 0 where
   pub passes : List Held
   pub unused : All (λ pass. pass.receipts ≡ []) passes
@@ -53,31 +53,33 @@ pub record HasMisfit (limits : LimitNumbers) (start : Rows) (scripts : List (Vec
   pub fault : IsFault misfit.journal.items (receipts_of misfit.passes.items) misfit.fault
   pub found : ¬ (misfit.fault ≡ why.Memory)
 
--- why scripts gave no journal: memory ran out, or passes did not fit, which are handed back
+-- why scripts gave no journal: memory ran out, or passes did not fit the journal; then both are returned
 abbrev pub IsRunFault : LimitNumbers → Rows → List (Vec Event) → ScriptFault → Type 0
 IsRunFault limits start scripts (Run Memory) = ⊤
 IsRunFault limits start scripts (Close misfit) = HasMisfit limits start scripts misfit
 IsRunFault limits start scripts _ = ⊥
 
--- ---- how a master's drive is told
+-- ---- how the errors of `drf_master::drive` are reported
 
--- it is told as what was handed back, where memory was not wanting
+-- what was returned is passed on, and the error was not `Memory`
 pub record IsHandedOn {K : Type 0} (refused : CloseRefused K) (misfit : Misfit) : Type 0 where
   pub fault : misfit.fault ≡ refused.fault
   pub journal : misfit.journal.items ≡ refused.book.entries
   pub passes : misfit.passes ≡ refused.passes
   pub found : ¬ (refused.fault ≡ why.Memory)
 
+-- the error for passes that do not fit
 abbrev pub IsToldUnfit : {K : Type 0} → CloseRefused K → ScriptFault → Type 0
 IsToldUnfit refused (Run Memory) = ⊤
 IsToldUnfit refused (Close misfit) = IsHandedOn refused misfit
 IsToldUnfit refused _ = ⊥
 
+-- the error for a drive that returned no book
 abbrev pub IsToldAs : {K : Type 0} → Undriven K → ScriptFault → Type 0
 IsToldAs (Undone fault) told = told ≡ Run Memory
 IsToldAs (Unfit refused) told = IsToldUnfit refused told
 
--- no worker was stopped, and no pass was another master's
+-- no worker was stopped, and no pass has another key
 abbrev pub IsTellable : {K : Type 0} → Undriven K → Type 0
 IsTellable (Undone driving.Memory) = ⊤
 IsTellable (Undone _) = ⊥
@@ -85,26 +87,26 @@ IsTellable (Unfit refused) = ⊤
 
 -- ---- what was written
 
--- the files of these names were read, and all their lines are events, but passes that ran them do not fit
+-- the files with these names were read, and all their lines are events, but the passes that ran them do not fit the journal
 pub record HasNotClosed (start : Machine) (known : Known) (names : List (List ℕ)) (misfit : Misfit) : Type 0 where
   pub scripts : List (Vec Event)
   pub meant : HasScripts known names scripts
   pub handed_back : HasMisfit start.limits start.rows scripts misfit
 
--- such a journal was written
+-- the text of such a journal was written
 pub record HasWritten (start : Machine) (known : Known) (names : List (List ℕ)) (old new : Option (List ℕ)) : Type 0 where
   pub journal : List Entry
   pub right : IsJournalOfFiles start known names journal
   pub appended : Appends old new (journal_text journal)
 
--- or a front of it
+-- a prefix of such a text was written
 pub record HasWrittenFront (start : Machine) (known : Known) (names : List (List ℕ)) (old new : Option (List ℕ)) : Type 0 where
   pub journal : List Entry
   pub right : IsJournalOfFiles start known names journal
   pub appended : AppendsFrontOf old new (journal_text journal)
 
--- What was written of the files of these names. Without a fault it is a whole journal. Nothing was written where a file could not be read, a
--- line is no event, or the journal that was found does not fit; where memory ran out nothing, or a front of a journal.
+-- What was written for the files with these names. Without an error it is a whole journal. Nothing was written if a file could not be read,
+-- a line is not an event, or the passes do not fit the journal. If a write failed, a prefix was written. If memory ran out, a prefix or nothing was.
 abbrev pub HasDrivenFiles : Machine → Known → List (List ℕ) → Option (List ℕ) → Option (List ℕ) → Result (Unit {0}) ScriptFault → Type 0
 HasDrivenFiles start known names old new (Ok done) = HasWritten start known names old new
 HasDrivenFiles start known names old new (Err (Unread file)) = (new ≡ old) × HasUnread known names file

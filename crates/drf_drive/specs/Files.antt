@@ -1,4 +1,4 @@
--- The bytes of files, one after the other.
+-- The bytes of files.
 use Rattle.std.specs.Prelude.{◌≡◌, ⊤, ℕ, List, [], ◌∷◌, ◌++◌, length, map}
 use Rattle.std.specs.Global.{Vec}
 use Rattle.drf_files.specs.Files.{Known, MayBeUnreadable, MayHave}
@@ -7,16 +7,17 @@ use Rattle.drf_journal.specs.declared.fault.RunFault.TheVariants.{Read, Write, M
 use Rattle.drf_drive.specs.declared.script.ScriptFault.{ScriptFault}
 use Rattle.drf_drive.specs.declared.script.ScriptFault.TheVariants.{Run, Unread}
 
+-- the bytes as lists
 abbrev pub bytes_of : List (Vec ℕ) → List (List ℕ)
 bytes_of contents = map (λ bytes. bytes.items) contents
 
--- what the files of these names have, in their order; all of them were read
+-- the files with these names were read, in order, and these are their bytes
 abbrev pub AreContents : Known → List (List ℕ) → List (List ℕ) → Type 0
 AreContents known [] [] = Unit {0}
 AreContents known (name ∷ names) (bytes ∷ contents) = MayHave (known name) bytes × AreContents known names contents
 AreContents known _ _ = ⊥
 
--- the file at that place, from 0, cannot be read; all before it were
+-- the file at this index, from 0, cannot be read, and all before it were read
 pub record HasUnread (known : Known) (names : List (List ℕ)) (file : ℕ) : Type 0 where
   pub before : List (List ℕ)
   pub name : List ℕ
@@ -27,13 +28,13 @@ pub record HasUnread (known : Known) (names : List (List ℕ)) (file : ℕ) : Ty
   pub read : AreContents known before contents
   pub unread : MayBeUnreadable (known name)
 
--- what is told where the file at that place gave no bytes
+-- the error for the file at this index, which could not be read
 abbrev pub fault_of : ℕ → RunFault → ScriptFault
 fault_of file Read = Unread file
 fault_of file Write = Run Write
 fault_of file Memory = Run Memory
 
--- why not all were read
+-- why not all files were read
 abbrev pub IsUnread : Known → List (List ℕ) → ScriptFault → Type 0
 IsUnread known names (Unread file) = HasUnread known names file
 IsUnread known names (Run Memory) = ⊤

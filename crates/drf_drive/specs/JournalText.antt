@@ -10,21 +10,21 @@ use Rattle.drf_lines.specs.ReplyLine.{reply_line}
 use Rattle.drf_drive.specs.declared.script.ScriptFault.{ScriptFault}
 use Rattle.drf_drive.specs.declared.script.ScriptFault.TheVariants.{Run}
 
--- the line of an event, and that of its reply
+-- the line of an event, and the line of its reply
 abbrev pub entry_text : Entry → List ℕ
 entry_text entry = event_line entry.event ++ 10 ∷ reply_line entry.reply
 
--- all entries, one after the other
+-- the lines of all entries, in order
 abbrev pub journal_text : List Entry → List ℕ
 journal_text entries = flat_map entry_text entries
 
--- some front of a text was written, and the rest waits
+-- a prefix of a text was written, and the rest is still to be written
 pub record HasSent (old new : Option (List ℕ)) (text waits : List ℕ) : Type 0 where
   pub sent : List ℕ
   pub appended : Appends old new sent
   pub whole : text ≡ sent ++ waits
 
--- a front of a text was written, as the writer failed or memory ran out
+-- a prefix of a text was written before the writer failed or memory ran out
 abbrev pub IsCutOff : Option (List ℕ) → Option (List ℕ) → List ℕ → ScriptFault → Type 0
 IsCutOff old new text (Run Write) = AppendsFrontOf old new text
 IsCutOff old new text (Run Memory) = AppendsFrontOf old new text

@@ -1,4 +1,4 @@
--- What the lines of files mean.
+-- The events of files.
 use Rattle.std.specs.Prelude.{◌≡◌, ⊤, ℕ, ◌+◌, List, [], ◌∷◌, ◌++◌, length, map, Option, None, Some, Result, Ok, Err}
 use Rattle.std.specs.Global.{Vec}
 use Rattle.drf_journal.specs.Lines.{lines_of}
@@ -16,25 +16,25 @@ use Rattle.drf_drive.specs.declared.script.Script.{Script}
 use Rattle.drf_drive.specs.declared.script.ScriptFault.{ScriptFault}
 use Rattle.drf_drive.specs.declared.script.ScriptFault.TheVariants.{Run, Unread, Line}
 
--- what the lines of a file mean, line by line
+-- what each line of a file means: an event, or an error
 abbrev pub meanings_of : List ℕ → List (Result Event LineFault)
 meanings_of bytes = map meaning_of (lines_of bytes)
 
--- that these are all events
+-- the same for lines that are all events
 abbrev pub as_meant : List Event → List (Result Event LineFault)
 as_meant events = map (λ (event : Event). Ok event) events
 
--- the events are what the lines of a file mean
+-- the events are those of the file's lines, all of which are events
 abbrev pub IsScript : List ℕ → List Event → Type 0
 IsScript bytes events = meanings_of bytes ≡ as_meant events
 
--- each of the scripts is what the lines of its file mean
+-- each script has the events of its file
 abbrev pub AreScripts : List (List ℕ) → List (Vec Event) → Type 0
 AreScripts [] [] = Unit {0}
 AreScripts (bytes ∷ contents) (script ∷ scripts) = IsScript bytes script.items × AreScripts contents scripts
 AreScripts _ _ = ⊥
 
--- ---- the first line that is no event
+-- ---- the first line that is not an event
 
 -- the lines before it are these events
 pub record IsStoppedAt (bytes : List ℕ) (before : List Event) (fault : LineFault) : Type 0 where
@@ -47,7 +47,7 @@ pub record IsFirstBadLine (bytes : List ℕ) (number : ℕ) (fault : LineFault) 
   pub stopped : IsStoppedAt bytes before fault
   pub place : number ≡ length before + 1
 
--- all lines of the files before it are events; its file counts from 0
+-- all lines of the files before it are events; the index of its file counts from 0
 pub record IsFirstBad (contents : List (List ℕ)) (bad : BadLine) : Type 0 where
   pub before : List (List ℕ)
   pub bytes : List ℕ
@@ -60,38 +60,38 @@ pub record IsFirstBad (contents : List (List ℕ)) (bad : BadLine) : Type 0 wher
 
 -- ---- why there are no scripts
 
--- a line is no event, or memory ran out
+-- the line is not an event, or memory ran out
 abbrev pub IsNoEvent : List ℕ → LineError → Type 0
 IsNoEvent line (Fault fault) = meaning_of line ≡ Err fault
 IsNoEvent line errors.Memory = ⊤
 
--- the lines before the first that is no event are these events, or memory ran out
+-- the lines before the first that is not an event are these events, or memory ran out
 abbrev pub IsStoppedAfter : List ℕ → List Event → LineError → Type 0
 IsStoppedAfter bytes events (Fault fault) = IsStoppedAt bytes events fault
 IsStoppedAfter bytes events errors.Memory = ⊤
 
--- the events of a file, all of them or those before the line that is none
+-- the events of a file: all of them, or those before the first line that is not an event
 abbrev pub AreEventsOf : List ℕ → List Event → Option LineError → Type 0
 AreEventsOf bytes events None = IsScript bytes events
 AreEventsOf bytes events (Some error) = IsStoppedAfter bytes events error
 
--- what was read of a file's bytes
+-- what was read of a file
 abbrev pub IsScriptOf : List ℕ → Script → Type 0
 IsScriptOf bytes script = AreEventsOf bytes script.events.items script.stop
 
--- one of the files has a bad line, and this is the first
+-- this is the first line that is not an event, in the first such file, or memory ran out
 abbrev pub HaveBadLine : List (List ℕ) → ScriptFault → Type 0
 HaveBadLine contents (Run Memory) = ⊤
 HaveBadLine contents (Line bad) = IsFirstBad contents bad
 HaveBadLine contents _ = ⊥
 
--- the files of these names were read, and one of them has a bad line
+-- the files with these names were read, and this is the first line that is not an event
 pub record HasRefused (known : Known) (names : List (List ℕ)) (bad : BadLine) : Type 0 where
   pub contents : List (List ℕ)
   pub read : AreContents known names contents
   pub first : IsFirstBad contents bad
 
--- a file cannot be read, or one has a bad line, or memory ran out
+-- a file cannot be read, a line is not an event, or memory ran out
 abbrev pub IsUnreadable : Known → List (List ℕ) → ScriptFault → Type 0
 IsUnreadable known names (Unread file) = HasUnread known names file
 IsUnreadable known names (Run Memory) = ⊤
@@ -100,13 +100,13 @@ IsUnreadable known names _ = ⊥
 
 -- ---- scripts
 
--- the scripts are what the lines of the files of these names mean
+-- the scripts have the events of the files with these names
 pub record HasScripts (known : Known) (names : List (List ℕ)) (scripts : List (Vec Event)) : Type 0 where
   pub contents : List (List ℕ)
   pub read : AreContents known names contents
   pub meant : AreScripts contents scripts
 
--- the event of a line comes last
+-- the event of a line was appended
 pub record Takes (line : List ℕ) (old new : List Event) : Type 0 where
   pub event : Event
   pub meant : meaning_of line ≡ Ok event
@@ -114,24 +114,25 @@ pub record Takes (line : List ℕ) (old new : List Event) : Type 0 where
 
 -- ---- files that were all read
 
--- all lines of a file were events, and these are they
+-- all lines of a file are events, namely these
 pub record IsWhole (script : Script) (events : Vec Event) : Type 0 where
   pub whole : script.stop ≡ None
   pub same : script.events ≡ events
 
+-- the same for each file
 abbrev pub AreWhole : List Script → List (Vec Event) → Type 0
 AreWhole [] [] = Unit {0}
 AreWhole (script ∷ scripts) (events ∷ more) = IsWhole script events × AreWhole scripts more
 AreWhole _ _ = ⊥
 
--- why not all lines of the file at that place were
+-- why not all lines of the file at this index are events
 abbrev pub IsStoppedBy : ℕ → Script → ScriptFault → Type 0
 IsStoppedBy file script (Run Memory) = script.stop ≡ Some errors.Memory
 IsStoppedBy file script (Line bad) =
     (bad.file ≡ file) × ((bad.line ≡ length script.events.items + 1) × (script.stop ≡ Some (Fault bad.fault)))
 IsStoppedBy file script _ = ⊥
 
--- the file of the line is the first of which not all were
+-- all lines of the files before this one are events
 pub record IsFirstStop (scripts : List Script) (bad : BadLine) : Type 0 where
   pub before : List Script
   pub script : Script
@@ -141,7 +142,7 @@ pub record IsFirstStop (scripts : List Script) (bad : BadLine) : Type 0 where
   pub whole : AreWhole before events
   pub stopped : IsStoppedBy (length before) script (Line bad)
 
--- which that is, or memory ran out
+-- the first file with a line that is not an event, or memory ran out
 abbrev pub HaveStopped : List Script → ScriptFault → Type 0
 HaveStopped scripts (Run Memory) = ⊤
 HaveStopped scripts (Line bad) = IsFirstStop scripts bad

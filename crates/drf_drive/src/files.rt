@@ -1,4 +1,4 @@
-//! The bytes of files, one after the other.
+//! Reads the bytes of files.
 ghost use Rattle.std.specs.Prelude.{◌≡◌, map, IfOk, IfErr};
 ghost use Rattle.drf_drive.specs.Files.{AreContents, IsUnread, bytes_of, fault_of};
 
@@ -8,7 +8,7 @@ use drf_journal::RunFault;
 use std::alloc::Global;
 use std::convert::AsStr;
 
-// What is told where the file at that place gave no bytes.
+// Returns the error for the file at this index, which could not be read.
 fn fault_of(file: usize, fault: RunFault) -> ScriptFault
     ensures { result ≡ fault_of file fault }
 {
@@ -18,7 +18,7 @@ fn fault_of(file: usize, fault: RunFault) -> ScriptFault
     }
 }
 
-/// The bytes of all files, in order.
+/// Returns the bytes of all files, in order. Errors: the first file that cannot be read, or out of memory.
 pub(crate) fn read_files<F: FileBytes, S: AsStr>(
     alloc: Global,
     files: &mut F,

@@ -1,4 +1,4 @@
-//! The text of a journal.
+//! Writes the text of a journal.
 ghost use Rattle.std.specs.Prelude.{◌≡◌, ◌++◌, [], true, false, OnOk, OnErr, IfErr};
 ghost use Rattle.std.specs.Io.KnownBytes.{Appends};
 ghost use Rattle.drf_journal.specs.Device.{AppendsFrontOf};
@@ -12,10 +12,10 @@ use drf_lines::{push_event, push_reply};
 use std::alloc::{AllocError, Global};
 use std::io::Write;
 
-/// Text is written once there is so much of it.
+/// The number of bytes from which on text is written rather than collected further.
 const LARGE: usize = 65_536;
 
-// Adds the lines of an entry: that of the event, and that of the reply.
+// Appends the line of an entry's event and the line of its reply.
 fn push_entry(entry: &Entry, text: &mut Vec<u8>) -> Result<(), AllocError>
     ensures { OnOk result (text.new.items ≡ text.old.items ++ entry_text entry.now) }
 {
@@ -24,7 +24,7 @@ fn push_entry(entry: &Entry, text: &mut Vec<u8>) -> Result<(), AllocError>
     push_reply(text, &entry.reply)
 }
 
-// Writes the text that waits, if it is long.
+// Writes and clears the collected text if it is long enough.
 fn send_long<W: Write>(text: &mut Vec<u8>, writer: &mut Device<W>) -> Result<(), RunFault>
     requires { writer.old.failed ≡ false }
     ensures ok { OnOk result (HasSent (W.contents writer.old.inner) (W.contents writer.new.inner) text.old.items text.new.items) }
@@ -40,7 +40,7 @@ fn send_long<W: Write>(text: &mut Vec<u8>, writer: &mut Device<W>) -> Result<(),
     Ok(())
 }
 
-// Writes the lines of entries, in large pieces.
+// Writes the lines of entries, in large chunks.
 fn write_entries<W: Write>(
     alloc: Global,
     entries: &[Entry],
@@ -60,7 +60,7 @@ fn write_entries<W: Write>(
     write_whole(writer, &text)
 }
 
-/// Writes a journal: for each entry the line of its event and that of its reply.
+/// Writes a journal: for each entry the line of its event and the line of its reply. After an error, a prefix has been written.
 pub(crate) fn write_journal<W: Write>(
     alloc: Global,
     entries: &[Entry],
@@ -76,7 +76,7 @@ pub(crate) fn write_journal<W: Write>(
     Ok(())
 }
 
-/// Writes the journal of no calls.
+/// Writes the journal without entries.
 pub(crate) fn write_nothing<W: Write>(
     alloc: Global,
     writer: &mut Device<W>,

@@ -1,4 +1,4 @@
-//! Scripts of events in files: each file runs on a thread of its own, on one master, whose journal is written.
+//! Runs files of event lines, each on its own thread, on one master, and writes the master's journal.
 #![tactic(auto)]
 
 mod files;

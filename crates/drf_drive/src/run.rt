@@ -1,4 +1,4 @@
-//! Files that are run on threads.
+//! Runs the scripts of files on threads.
 ghost use Rattle.std.specs.Prelude.{◌≡◌, ◌<◌, ◌≤◌, ℕ, List, length, map, true, false, IfOk, IfErr};
 ghost use Rattle.drf_board.specs.History.{IsLegal};
 ghost use Rattle.drf_core.specs.Machine.{live};
@@ -25,10 +25,10 @@ use std::mem;
 use std::sync::Wait;
 use std::thread::Threads;
 
-/// The key of the one master and its passes.
+/// The key of the only master and of its passes.
 const KEY: u64 = 0;
 
-// The journal and the passes that were handed back. The core goes.
+// Returns the error, the journal and the passes. The core is dropped.
 fn misfit_of<K: Naming>(refused: CloseRefused<K>) -> Misfit
     ensures fault { result.fault ≡ refused.fault }
     ensures journal { result.journal.items ≡ refused.book.entries }
@@ -47,7 +47,7 @@ fn misfit_of<K: Naming>(refused: CloseRefused<K>) -> Misfit
     }
 }
 
-// What is told of passes that do not fit.
+// Returns the error for passes that do not fit the journal.
 fn tell_unfit<K: Naming>(refused: CloseRefused<K>) -> ScriptFault
     ensures { IsToldUnfit refused result }
 {
@@ -58,7 +58,7 @@ fn tell_unfit<K: Naming>(refused: CloseRefused<K>) -> ScriptFault
     ScriptFault::Close(misfit_of(refused))
 }
 
-// What is told of scripts that gave no book, where no worker was stopped and no pass was another master's.
+// Returns the error for a drive that returned no book. No worker was stopped, and no pass has another key.
 fn tell_undriven<K: Naming>(undriven: Undriven<K>) -> ScriptFault
     requires { IsTellable undriven }
     ensures { IsToldAs undriven result }
@@ -70,7 +70,7 @@ fn tell_undriven<K: Naming>(undriven: Undriven<K>) -> ScriptFault
     }
 }
 
-// Runs scripts on a master whose slate has that name, which nobody looks at, and which begins with the core's rows.
+// Runs scripts on a master that begins with the core's rows and has no viewers. `K` names its slate. Returns the journal.
 fn run_named<K: Naming + Send + Sync, W: Threads + Wait + Sync>(
     rt: &W,
     alloc: Global,
@@ -95,7 +95,7 @@ fn run_named<K: Naming + Send + Sync, W: Threads + Wait + Sync>(
     }
 }
 
-// Runs each script on a thread of its own.
+// Runs each script on its own thread, and returns the journal.
 fn run_scripts<W: Threads + Wait + Sync>(
     rt: &W,
     alloc: Global,
@@ -113,7 +113,7 @@ fn run_scripts<W: Threads + Wait + Sync>(
     run_named::<Brand, W>(rt, alloc, core, slate, scripts)
 }
 
-// Runs scripts, which are what the lines of some files mean, and writes the journal.
+// Runs the scripts of files, and writes the journal.
 fn drive_scripts<W: Threads + Wait + Sync, O: Write>(
     rt: &W,
     alloc: Global,
@@ -131,15 +131,15 @@ fn drive_scripts<W: Threads + Wait + Sync, O: Write>(
 {
     let journal = run_scripts(rt, alloc, limits, core, scripts)?;
     let written = write_journal(alloc, journal.as_slice(), writer);
-    // Its memory is left to the system: the command ends behind it, and entry by entry that takes a while.
+    // The memory of the journal is not released: the program ends afterwards, and dropping each entry is slow.
     mem::forget(journal);
     written
 }
 
-/// Reads files of event lines, at most 64, runs each on a thread of its own, on one master that begins with a core, and writes the journal:
-/// for each call the line of the event and that of the reply. The first file that cannot be read is told, before any line that is no event,
-/// and of such lines the first one of the first file that has one. Nothing is written then, nor where the passes of the threads do not fit the
-/// journal: both are handed back. It is for a program that ends behind it: the memory of a journal that was written is not given back.
+/// Reads at most 64 files of event lines, runs each on its own thread, on one master that begins with `core`, and writes the journal: for each call
+/// the line of the event and the line of the reply. Errors: the first file that cannot be read; otherwise the first line that is not an event, of the
+/// first file with such a line; or passes that do not fit the journal, which are returned with the journal. In these cases nothing is written. The
+/// memory of the written journal is not released, because the program is expected to end afterwards.
 pub fn run_drive<W: Threads + Wait + Sync, F: FileBytes, S: AsStr, O: Write>(
     rt: &W,
     alloc: Global,

@@ -1,4 +1,4 @@
-//! Scripts: the events of the lines of a file.
+//! Reads the events of files.
 ghost use Rattle.std.specs.Prelude.{◌≡◌, [], map, OnOk, OnErr, IfOk, IfErr};
 ghost use Rattle.drf_drive.specs.Files.{bytes_of};
 ghost use Rattle.drf_drive.specs.Scripts.{AreScripts, AreWhole, HasScripts, HaveBadLine, HaveStopped, IsNoEvent, IsScript, IsScriptOf, IsStoppedAfter, IsStoppedBy, IsUnreadable, IsWhole, Takes};
@@ -16,17 +16,17 @@ use std::alloc::{AllocError, Global};
 use std::convert::AsStr;
 use std::thread::Threads;
 
-/// A line that is no event.
+/// A line that is not an event.
 #[derive(Clone, Copy, PartialEq, Eq)]
 pub struct BadLine {
-    /// The place of its file, from 0.
+    /// The index of its file, from 0.
     pub file: usize,
-    /// Its number in this file, from 1.
+    /// Its number in the file, from 1.
     pub line: u64,
     pub fault: LineFault,
 }
 
-/// A journal that was found at the end, the passes of the threads, and why they do not fit.
+/// A journal that the passes do not fit, the passes, and the error of `Book::matches` or `Master::close`.
 #[derive(Drop)]
 pub struct Misfit {
     pub fault: CloseFault,
@@ -34,16 +34,16 @@ pub struct Misfit {
     pub passes: Vec<Pass>,
 }
 
-/// Why files were not run to their ends, or their journal was not written whole.
+/// Why files were not run to the end, or their journal was not written completely.
 #[derive(Drop)]
 pub enum ScriptFault {
-    /// The file at that place, from 0, cannot be read. All before it were.
+    /// The file at this index, from 0, cannot be read. All files before it were read.
     Unread(usize),
-    /// The stream failed, or memory ran out.
+    /// Writing failed, or memory ran out.
     Run(RunFault),
-    /// A line is no event: the first one of the first file that has such a line.
+    /// A line is not an event: the first such line of the first file that has one.
     Line(BadLine),
-    /// All lines are events, and each was called, but the journal that was found is no shuffle of what the threads were told.
+    /// All calls were made, but the journal is not a shuffle of the receipts of the threads.
     Close(Misfit),
 }
 
@@ -68,14 +68,14 @@ impl From<AllocError> for ScriptFault {
     }
 }
 
-// The events of the first lines of a file, and why no more were read, if there are more.
+// The events of a file up to the first line that is not an event, and the error of that line, if there is one.
 #[derive(Drop)]
 pub struct Script {
     pub events: Vec<Event>,
     pub stop: Option<LineError>,
 }
 
-// Adds the event of the next line of a file.
+// Appends the event of a line.
 fn take_line(reader: &mut LineReader, line: &[u8], events: &mut Vec<Event>) -> Result<(), LineError>
     ensures ok { OnOk result (Takes line.now events.old.items events.new.items) }
     ensures err { IfErr result (IsNoEvent line.now) }
@@ -87,7 +87,7 @@ fn take_line(reader: &mut LineReader, line: &[u8], events: &mut Vec<Event>) -> R
     Ok(())
 }
 
-// Adds the events of the lines of a file, up to the first that is none.
+// Appends the events of the lines of a file, up to the first line that is not an event.
 fn take_lines(
     reader: &mut LineReader,
     bytes: &[u8],
@@ -106,7 +106,7 @@ fn take_lines(
     Ok(())
 }
 
-// Reads the lines of a file.
+// Returns the events of a file, and where it stopped.
 fn read_script(alloc: Global, bytes: &[u8]) -> Script
     ensures { IsScriptOf bytes.now result }
 {
@@ -116,7 +116,7 @@ fn read_script(alloc: Global, bytes: &[u8]) -> Script
     Script { events, stop }
 }
 
-// The events of the file at that place, if all its lines are events.
+// Returns the events of the file at this index, or the error of its first line that is not an event.
 fn whole(file: usize, script: Script) -> Result<Vec<Event>, ScriptFault>
     ensures ok { IfOk result (IsWhole script) }
     ensures err { IfErr result (IsStoppedBy file script) }
@@ -132,7 +132,7 @@ fn whole(file: usize, script: Script) -> Result<Vec<Event>, ScriptFault>
     }
 }
 
-// The events of each file, if all lines of all files are events.
+// Returns the events of each file, or the first error.
 fn all_whole(alloc: Global, scripts: Vec<Script>) -> Result<Vec<Vec<Event>>, ScriptFault>
     ensures ok { IfOk result (λ whole. AreWhole scripts.items whole.items) }
     ensures err { IfErr result (HaveStopped scripts.items) }
@@ -145,7 +145,8 @@ fn all_whole(alloc: Global, scripts: Vec<Script>) -> Result<Vec<Vec<Event>>, Scr
     Ok(events)
 }
 
-// The scripts of files with these bytes. Several threads read them: a file is work enough for one, which `rayon` expects of a thousand items.
+// Returns the scripts of files with these bytes. The files are parsed in parallel: by default, `rayon` would give a thread many items, but one file
+// is enough work.
 fn scripts_of(
     rt: &(impl Threads + Sync),
     alloc: Global,
@@ -166,7 +167,7 @@ fn scripts_of(
     all_whole(alloc, scripts)
 }
 
-/// Reads all files, in order, and then the lines of each.
+/// Returns the events of all files. All files are read, in order, before any line is parsed.
 pub(crate) fn read_scripts<W: Threads + Sync, F: FileBytes, S: AsStr>(
     rt: &W,
     alloc: Global,

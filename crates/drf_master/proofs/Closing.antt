@@ -1,4 +1,4 @@
--- What a master that is closed answers.
+-- Lemmas about closing a master.
 use Rattle.std.proofs.Common.{◌≡◌, ℕ, List, subst}
 use Rattle.drf_board.specs.History.{IsLegal}
 use Rattle.drf_board.specs.declared.entry.Entry.{Entry}

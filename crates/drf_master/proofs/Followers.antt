@@ -1,4 +1,4 @@
--- A second core that takes what it lacks of a journal, and then an event.
+-- Lemmas about a second core that takes the entries that it lacks, and then an event.
 use Rattle.std.proofs.Common.{◌≡◌, ℕ, ◌+◌, ◌<◌, ◌≤◌, List, [], ◌∷◌, ◌++◌, length, take, get_or, Option, None, sym, ap, subst, ◌∙◌, take_all, arith}
 use Rattle.std.proofs.lemmas.List.{take_more}
 use Rattle.drf_board.specs.History.{IsLegal, entry}
@@ -17,7 +17,7 @@ pub taken-at : (given : LimitNumbers) (start : Rows) (entries : List Entry) (eng
     → HasTaken given start entries engine taken
 taken-at given start entries engine taken place is has = subst (λ (k : ℕ). HasTaken given start entries engine k) (sym is) has
 
--- one entry more
+-- after it has taken one more entry
 pub taken-next : (given : LimitNumbers) (start : Rows) (entries : List Entry) (old new : Engine) (place : ℕ) (at : Entry) (event : Event) → HasTaken given start entries old place
     → place < length entries → at ≡ get_or entries place at → event ≡ (get_or entries place at).event → IsAfter old new event → HasTaken given start entries new (place + 1)
 taken-next given start entries old new place at event has less here copied after =
@@ -29,7 +29,7 @@ pub caught-up : (given : LimitNumbers) (start : Rows) (entries : List Entry) (en
     → IsRunOf given start entries engine
 caught-up given start entries engine taken has past = subst (λ (l : List Entry). IsRunOf given start l engine) (take_all taken entries past) has.run
 
--- the event after all entries
+-- after it has taken the event that follows all entries
 pub next-asked : (given : LimitNumbers) (start : Rows) (entries : List Entry) (old new : Engine) (taken : ℕ) (event asked : Event) (reply : Reply) → IsLegal given start entries
     → HasTaken given start entries old taken → taken ≡ length entries → asked ≡ event → reply ≡ reply_to old.limits old.rows asked → IsAfter old new asked
     → IsNext given start entries new (entry event reply)
@@ -48,7 +48,7 @@ book-begun start engine items second taken begins empty none =
       second_run = tt;
     })
 
--- a core that took an event, whose entry was added, is the run of the journal
+-- a core that took an event is in the state after the journal to which the event's entry was added
 pub book-recorded : (start : Rows) (entries items : List Entry) (old new : Engine) (second : Option Engine) (taken : ℕ) (event : Event) (reply : Reply)
     → IsLegal old.limits start entries → IsRunOf old.limits start entries old → reply ≡ reply_to old.limits old.rows event → IsAfter old new event
     → items ≡ entries ++ entry event reply ∷ [] → second ≡ None → IsBook start items new second taken

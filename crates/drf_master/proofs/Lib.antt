@@ -1,3 +1,4 @@
+-- Lemmas about journals, receipts and drives.
 pub mod Tallying
 pub mod Paths
 pub mod Runs

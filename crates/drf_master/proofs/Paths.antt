@@ -1,4 +1,4 @@
--- Paths that are the same.
+-- Equality of paths.
 use Rattle.std.proofs.Common.{◌≡◌, ℕ, ◌↔◌, IsTrue, Bool, List, ◌==◌, sym, subst}
 use Rattle.std.specs.Cmp.Lexicographic.{pointwise, bytes_decides, pointwise_decides}
 

@@ -1,4 +1,4 @@
--- A core that takes entries of a journal.
+-- Lemmas about a core that takes the entries of a journal.
 use Rattle.std.proofs.Common.{◌≡◌, ℕ, ◌+◌, ◌<◌, List, [], ◌∷◌, ◌++◌, length, take, refl, sym, ap, subst, ◌∙◌, arith}
 use Rattle.drf_board.specs.History.{IsLegal, entry, rows_of}
 use Rattle.drf_board.specs.HistoryLaws.{legal-push, rows_of-nil, rows_of-push}
@@ -32,7 +32,7 @@ run-push given start entries e old new run after = record {
       ∙ ap live_rows (sym (rows_of-push given start entries e))));
 }
 
--- the core after an event, with its reply
+-- a core after an event, with the reply to it, is the next state of the journal
 pub is_next : (given : LimitNumbers) (start : Rows) (entries : List Entry) (old new : Engine) (event : Event) (reply : Reply) → IsLegal given start entries
     → IsRunOf given start entries old → reply ≡ reply_to old.limits old.rows event → IsAfter old new event → IsNext given start entries new (entry event reply)
 is_next given start entries old new event reply legal run is after = record {
@@ -41,7 +41,7 @@ is_next given start entries old new event reply legal run is after = record {
   run = run-push given start entries (entry event reply) old new run after;
 }
 
--- ---- a second core that is behind
+-- ---- a second core that lacks some entries
 
 pub taken-more : (given : LimitNumbers) (start : Rows) (entries : List Entry) (e : Entry) (old new : Engine) (taken : ℕ) → HasTaken given start entries old taken
     → taken < length entries → take (taken + 1) entries ≡ take taken entries ++ e ∷ [] → IsAfter old new e.event → HasTaken given start entries new (taken + 1)
@@ -54,7 +54,7 @@ pub taken-same : (given : LimitNumbers) (start : Rows) (entries : List Entry) (o
     → HasTaken given start entries new taken
 taken-same given start entries old new taken has same = record { few = has.few; run = run-same given start (take taken entries) old new has.run same }
 
--- ---- what is shown
+-- ---- reports
 
 pub reported : (given : LimitNumbers) (start : Rows) (entries : List Entry) (engine : Engine) → IsRunOf given start entries engine
     → report_of engine.rows ≡ report_of (rows_of given start entries)

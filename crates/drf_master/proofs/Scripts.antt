@@ -1,4 +1,4 @@
--- Scripts that are run.
+-- Lemmas about drives.
 use Rattle.std.proofs.Common.{◌≡◌, ℕ, suc, ◌+◌, ◌<◌, ◌⊎◌, inl, inr, List, [], ◌∷◌, ◌++◌, length, Result, Ok, Err, map, slice_index_or, refl, sym, ap, subst, ◌∙◌, append_assoc, arith}
 use Rattle.std.proofs.Math.Nat.{eq-or-lt_of_le}
 use Rattle.std.proofs.lemmas.List.{append-nil, length-append, length-map, map_push}
@@ -130,7 +130,7 @@ cut-at asked stops key old mid new script es rest ys fault own split so_far same
   cause = cut-cause asked stops key old mid (length script) es ys fault own so_far few stop;
 }
 
--- so does want of memory before the first
+-- running out of memory before the first call does, too
 pub cut-before : (asked stops : ℕ → Type 0) (old new : Held) (script : List Event) → IsSamePass old new → IsCutShort asked stops old script new Memory
 cut-before asked stops old new script same = record {
   made = [];
@@ -158,7 +158,7 @@ numbered-push : (n : ℕ) (jobs : List Job) (job : Job) → AreNumbered n jobs �
 numbered-push n [] job are next = (omega (arith, next), tt)
 numbered-push n (j ∷ jobs) job are next = (are.0, numbered-push (n + 1) jobs job are.1 (omega (arith, next)))
 
--- what jobs were made of, and what is left
+-- the passes and scripts of the jobs made so far, and those that are left
 pub record IsShared (passes : List Held) (scripts : List (Vec Event)) (jobs : List Job) (ps : List Held) (ss : List (Vec Event)) : Type 0 where
   pub own : passes ≡ map (λ j. j.pass) jobs ++ ps
   pub given : scripts ≡ map (λ j. j.script) jobs ++ ss
@@ -213,7 +213,7 @@ done-push [] [] (y ∷ ys) done are = absurd are
 done-push [] (p ∷ ps) [] done are = absurd are
 done-push [] (p ∷ ps) (y ∷ ys) done are = absurd are
 
--- after results that are done the next one's fault is the first
+-- after results that succeeded, the next error is the first
 pub first-fault : (results : List (Result Done DriveFault)) (passes : List Held) (replies : List (Vec Reply)) (fault : DriveFault)
     (rest : List (Result Done DriveFault)) → AreDone results passes replies → IsFirstFault (results ++ Err fault ∷ rest) fault
 first-fault [] passes replies fault rest are = refl
@@ -237,7 +237,7 @@ done-lengths [] [] (y ∷ ys) are = absurd are
 done-lengths [] (p ∷ ps) [] are = absurd are
 done-lengths [] (p ∷ ps) (y ∷ ys) are = absurd are
 
--- What all jobs that were done come to.
+-- what holds if all jobs succeeded
 record IsAllThrough (asked : ℕ → ℕ → Type 0) (worker key : ℕ) (jobs : List Job) (passes : List Held) (replies : List (Vec Reply)) : Type 0 where
   own : AreOf key passes
   run : HaveRun (map (λ j. j.pass) jobs) (map (λ j. j.script) jobs) replies (receipts_of passes)
@@ -281,9 +281,9 @@ own-jobs key (j ∷ jobs) own =
     All-cons (λ (j : Job). j.pass.key ≡ key) j jobs (All-head (λ (h : Held). h.key ≡ key) j.pass (map (λ j. j.pass) jobs) own)
     (own-jobs key jobs (All-tail (λ (h : Held). h.key ≡ key) j.pass (map (λ j. j.pass) jobs) own))
 
--- ---- faults
+-- ---- errors
 
--- why the first job that was not done to its end was not
+-- why the first job that failed did
 abbrev job-fault : (asked stops : ℕ → ℕ → Type 0) → ℕ → List (Vec Event) → DriveFault → Type 0
 job-fault asked stops n scripts Stopped = HasStopped asked stops n scripts
 job-fault asked stops n scripts Memory = Unit {0}
@@ -326,7 +326,7 @@ run-fault asked stops key jobs results own scripts fault are_own same_scripts nu
     as-run-fault asked stops key own scripts fault are_own
     (subst (λ (ss : List (Vec Event)). job-fault asked stops 0 ss fault) same_scripts (first-job asked stops 0 jobs results fault numbers did first))
 
--- what the closing handed back is what the drive hands back
+-- what `Master::close` returns with an error is what the drive returns
 pub drive-refused : {K : Type 0} (given : LimitNumbers) (start : Rows) (asked stops : ℕ → ℕ → Type 0) (key : ℕ) (own : List Held) (scripts : List (Vec Event)) (done : List Held)
     (replies : List (Vec Reply)) → HaveAllRun asked key own scripts done replies → (r : Undriven K) → IsRefused given start key done r
     → IsUndriven given start asked stops key own scripts r
@@ -341,7 +341,7 @@ pub has-driven : (asked : ℕ → ℕ → Type 0) (key : ℕ) (own : List Held) 
     (journal : List Entry) → HaveAllRun asked key own scripts done replies → IsShuffle journal (receipts_of done) → HasDriven own scripts replies journal
 has-driven asked key own scripts done replies journal all shuffle = record { lists = receipts_of done; run = all.run; shuffle = shuffle }
 
--- ---- at Ok
+-- ---- results that are `Ok`
 
 pub keeps-same : (old mid new : Held) (place : ℕ) (e : Entry) → IsSamePass old mid → Keeps mid new place e → Keeps old new place e
 keeps-same old mid new place e same kept = record {

@@ -1,4 +1,4 @@
--- A tally that takes one receipt more.
+-- Lemmas about a tally that examines one more receipt.
 use Rattle.std.proofs.Common.{◌≡◌, ℕ, zero, suc, ◌+◌, ◌<◌, ◌≤◌, ◌==◌, ◌⊎◌, ◌↔◌, IsTrue, inl, inr, Bool, true, false, cond, nat_le, List, [], ◌∷◌, ◌++◌, length, Option, Some, None, MatchBool, slice_get, slice_set, refl, ap, sym, ◌∙◌, subst, arith}
 use Rattle.std.proofs.lemmas.Bool.Decides.{nat_tests}
 use Rattle.std.proofs.lemmas.Option.{slice_get_within}
@@ -14,7 +14,7 @@ either_way (inr b) f g = g b
 pub differ : (m n : ℕ) → (m == n) ≡ false → ¬ (m ≡ n)
 differ m n is same = let yes : (m == n) ≡ true = grind (arith, nat_tests) in absurd (cc (sym yes ∙ is))
 
--- ---- how often a place is named
+-- ---- the number of receipts for a place
 
 pub times-last : (place : ℕ) (lists : List (List Receipt)) (rs : List Receipt) → times place (lists ++ rs ∷ []) ≡ times place lists + times_in place rs
 times-last place [] rs = omega arith
@@ -36,7 +36,7 @@ times-same : (place : ℕ) (lists : List (List Receipt)) (rs : List Receipt) (r 
     → times place (lists ++ (rs ++ r ∷ []) ∷ []) ≡ times place (lists ++ rs ∷ [])
 times-same place lists rs r is = let none : ◌≡◌ {A = ℕ} (cond (r.place == place) 1 0) 0 = rw is refl in omega (arith, times-push place lists rs r, none)
 
--- ---- receipts that are not the journal's
+-- ---- receipts that do not equal the journal's entries
 
 broken-old : (journal : List Entry) (place least : ℕ) (rs : List Receipt) (r : Receipt) → HasBroken journal place least rs
     → HasBroken journal place least (rs ++ r ∷ [])
@@ -89,7 +89,7 @@ all-open : (journal : List Entry) (lists : List (List Receipt)) → AreAllJourna
 all-open journal [] are = (tt, tt)
 all-open journal (l ∷ lists) are = (are.0, all-open journal lists are.1)
 
--- ---- places that are wrong
+-- ---- places at which something is wrong
 
 wrong-old : (journal : List Entry) (lists : List (List Receipt)) (rs : List Receipt) (r : Receipt) (place : ℕ)
     → IsWrong journal (lists ++ rs ∷ []) place → IsWrong journal (lists ++ (rs ++ r ∷ []) ∷ []) place
@@ -98,7 +98,7 @@ wrong-old journal lists rs r place (inl broken) =
     (λ last. inl (any-new journal place lists (rs ++ r ∷ []) (broken-old journal place 0 rs r last)))
 wrong-old journal lists rs r place (inr twice) = inr (omega (arith, times-push place lists rs r, twice))
 
--- a place that was not wrong is the receipt's, which is not the journal's or names a place that was named
+-- a newly wrong place is that of the receipt, which does not equal the journal's entry or is not the first for its place
 abbrev IsNewlyWrong : List Entry → List (List Receipt) → List Receipt → Receipt → ℕ → Type 0
 IsNewlyWrong journal lists rs r place =
     (r.place ≡ place) × ((¬ IsJournals journal (least_after 0 rs) r) ⊎ (0 < times place (lists ++ rs ∷ [])))
@@ -137,7 +137,7 @@ lowered : (P Q : ℕ → Type 0) (n : ℕ) (w : Option ℕ) → ((k : ℕ) → P
 lowered P Q n None more less here none = record { holds = here; least = λ k q. either_way (less k q) (λ p. absurd (none k p)) (λ same. omega (arith, same)) }
 lowered P Q n (Some m) more less here least = lowered-some P Q n m (nat_le m n) refl more less here least
 
--- ---- marks
+-- ---- the list `named`
 
 length-marks : (named : List Bool) (k : ℕ) → length (slice_set named k true) ≡ length named
 length-marks [] k = refl
@@ -174,7 +174,7 @@ seen-one journal lists rs r named place false is size inside old =
 
 -- ---- the tally
 
--- with one receipt more, each part of a tally
+-- each part of a tally, after one more receipt
 module _ (journal : List Entry) (lists : List (List Receipt)) (rs : List Receipt) (r : Receipt) (named : List Bool) (wrong : Option ℕ) (tally : IsTally journal (lists ++ rs ∷ []) named wrong) where
   abbrev before : List (List Receipt)
   before = lists ++ rs ∷ []
@@ -188,7 +188,7 @@ module _ (journal : List Entry) (lists : List (List Receipt)) (rs : List Receipt
   abbrev seen_after : (place : ℕ) → place < length journal → MatchBool (marked (slice_set named r.place true) place) (0 < times place after) (times place after ≡ 0)
   seen_after place inside = seen-one journal lists rs r named place (r.place == place) refl tally.places inside (tally.seen place inside)
 
-  -- it names a wrong place
+  -- the receipt is for a wrong place
   abbrev lowers : IsWrong journal after r.place → IsTally journal after (slice_set named r.place true) (Some (lesser wrong r.place))
   lowers here = record {
     places = places_after;
@@ -229,7 +229,7 @@ pub tally-push : (journal : List Entry) (lists : List (List Receipt)) (rs : List
 tally-push journal lists rs r named wrong true tally its = tally-entry journal lists rs r named wrong tally (marked named r.place) refl its
 tally-push journal lists rs r named wrong false tally not_its = tally-broken journal lists rs r named wrong tally not_its
 
--- a pass is begun
+-- a new pass, of which no receipt was examined
 times-open : (place : ℕ) (lists : List (List Receipt)) → times place (lists ++ [] ∷ []) ≡ times place lists
 times-open place lists = omega (arith, times-last place lists [])
 

@@ -1,4 +1,4 @@
--- When a master is closed.
+-- When a master can be closed.
 use Rattle.std.specs.Prelude.{◌≡◌, ℕ, List, All}
 use Rattle.drf_board.specs.History.{IsLegal}
 use Rattle.drf_board.specs.declared.entry.Entry.{Entry}
@@ -10,7 +10,7 @@ use Rattle.drf_master.specs.Receipts.{Held}
 use Rattle.drf_master.specs.declared.matching.CloseFault.{CloseFault}
 use Rattle.drf_master.specs.declared.matching.CloseFault.TheVariants.{Stranger, Missing, Mismatch, Memory}
 
--- passes of the master with the key
+-- all passes have the key of the master
 abbrev pub AreOf : ℕ → List Held → Type 0
 AreOf key passes = All (λ h. h.key ≡ key) passes
 
@@ -21,7 +21,7 @@ pub record IsClosed (given : LimitNumbers) (start : Rows) (book : Journal) (key 
   pub own : AreOf key passes
   pub shuffle : IsShuffle book.entries (receipts_of passes)
 
--- the first fault that holds of a journal and passes, except that want of memory may come before a mismatch
+-- the first error that holds of a journal and passes, except that `Memory` can come before a mismatch
 abbrev pub IsCloseFault : List Entry → ℕ → List Held → CloseFault → Type 0
 IsCloseFault journal key passes Stranger = ¬ AreOf key passes
 IsCloseFault journal key passes Missing = AreOf key passes × IsFault journal (receipts_of passes) Missing

@@ -1,4 +1,4 @@
--- What a book is to its callers.
+-- The state of a book, as its contracts see it.
 use Rattle.std.specs.Prelude.{◌≡◌, ℕ, ◌≤◌, List, [], ◌∷◌, ◌++◌, length, take, Option, Some, None, refl}
 use Rattle.std.specs.Coded.{Coded, code_by, coded×, coded_ℕ}
 use Rattle.drf_board.specs.Boards.{entries_code}
@@ -10,18 +10,18 @@ use Rattle.drf_rows.specs.Step.{live_rows}
 use Rattle.drf_rows.specs.contracts.limits.Limits as limits
 use Rattle.drf_rows.specs.declared.rows.Rows.{Rows}
 
--- its limits, its journal, and for how many more entries it has room
+-- its limits, its journal, and the number of entries for which it has room
 pub record Journal : Type 0 where
   pub limits : LimitNumbers
   pub entries : List Entry
   pub room : ℕ
 
--- by it a proof tells two of them apart
+-- an encoding of such states, by which proofs distinguish them
 abbrev pub journal_code : Coded Journal
 journal_code = code_by (LimitNumbers × (List Entry × ℕ)) (coded× limits.the_row.coded (coded× entries_code coded_ℕ)) (λ j. (j.limits, (j.entries, j.room)))
     (λ p. record { limits = p.0; entries = p.1.0; room = p.1.1 }) (λ _. refl)
 
--- the same journal, perhaps with more room
+-- the same journal, possibly with more room
 pub record IsSameJournal (old new : Journal) : Type 0 where
   pub limits : new.limits ≡ old.limits
   pub entries : new.entries ≡ old.entries
@@ -32,32 +32,33 @@ pub record Adds (old new : Journal) (entry : Entry) : Type 0 where
   pub limits : new.limits ≡ old.limits
   pub entries : new.entries ≡ old.entries ++ entry ∷ []
 
--- a core under these limits with these rows, as far as its live rows tell
+-- a core with these limits, whose current state is that of these rows
 pub record Begins (given : LimitNumbers) (start : Rows) (engine : Engine) : Type 0 where
   pub limits : engine.limits ≡ given
   pub rows : live_rows engine.rows ≡ live_rows start
 
--- a core under these limits that began with the rows `start` has taken exactly the events of these entries, as far as its live rows tell
+-- a core with these limits, whose current state is the one after these entries, from the rows `start`
 pub record IsRunOf (given : LimitNumbers) (start : Rows) (entries : List Entry) (engine : Engine) : Type 0 where
   pub limits : engine.limits ≡ given
   pub rows : live_rows engine.rows ≡ live_rows (rows_of given start entries)
 
--- the entry may be added to the entries, after which this is the core
+-- the entry can be added to the entries, and the core is in the state after it
 pub record IsNext (given : LimitNumbers) (start : Rows) (entries : List Entry) (engine : Engine) (entry : Entry) : Type 0 where
   pub legal : IsLegal given start (entries ++ entry ∷ [])
   pub run : IsRunOf given start (entries ++ entry ∷ []) engine
 
--- a core that has taken the first so many of the entries
+-- a core that has taken the first `taken` entries
 pub record HasTaken (given : LimitNumbers) (start : Rows) (entries : List Entry) (engine : Engine) (taken : ℕ) : Type 0 where
   pub few : taken ≤ length entries
   pub run : IsRunOf given start (take taken entries) engine
 
+-- the same, if there is such a core
 abbrev pub HasTakenIfAny : LimitNumbers → Rows → List Entry → Option Engine → ℕ → Type 0
 HasTakenIfAny given start entries None taken = Unit {0}
 HasTakenIfAny given start entries (Some engine) taken = HasTaken given start entries engine taken
 
--- What holds at all times of a book that began with the rows `start`: its journal is legal, its core is the run of that, and its second core,
--- if there is one, has taken the first so many entries.
+-- The invariant of a book that began with the rows `start`: its journal is legal, its core is in the state after the journal, and its second core,
+-- if there is one, has taken the first `taken` entries.
 pub record IsBook (start : Rows) (entries : List Entry) (core : Engine) (second : Option Engine) (taken : ℕ) : Type 0 where
   pub legal : IsLegal core.limits start entries
   pub run : IsRunOf core.limits start entries core

@@ -1,3 +1,4 @@
+-- What a master, its passes and its drives do, as their contracts describe it.
 pub mod Receipts
 pub mod Matching
 pub mod Tallies

@@ -1,4 +1,4 @@
--- What follows from the definition of a shuffle.
+-- Theorems about shuffles.
 use Rattle.std.proofs.Common.{◌≡◌, ℕ, zero, suc, ◌+◌, ◌<◌, ◌≤◌, ◌==◌, ◌⊎◌, ⊎_elim, inl, inr, true, false, cond, List, [], ◌∷◌, length, refl, subst, arith}
 use Rattle.std.proofs.lemmas.Bool.Decides.{nat_tests}
 use Rattle.std.proofs.lemmas.Option.{slice_get_within}
@@ -8,14 +8,14 @@ use Rattle.drf_master.specs.declared.matching.CloseFault.{CloseFault}
 use Rattle.drf_master.specs.declared.matching.CloseFault.TheVariants.{Stranger, Missing, Mismatch, Memory}
 use Rattle.drf_master.specs.declared.pass.Receipt.{Receipt}
 
--- ---- receipts by the places below n that they name
+-- ---- receipts, counted by their places below n
 
 below-or-past : (n k : ℕ) → (k < n) ⊎ (n ≤ k)
 below-or-past zero k = inr (omega arith)
 below-or-past (suc n) zero = inl (omega arith)
 below-or-past (suc n) (suc k) = ⊎_elim (λ below. inl (omega (arith, below))) (λ past. inr (omega (arith, past))) (below-or-past n k)
 
--- how many of the places below n are this one
+-- the number of places below n that equal this one
 abbrev is_below : ℕ → ℕ → ℕ
 is_below zero place = 0
 is_below (suc n) place = is_below n place + cond (place == n) 1 0
@@ -65,7 +65,7 @@ named-cons : (n : ℕ) (rs : List Receipt) (lists : List (List Receipt)) → nam
 named-cons zero rs lists = refl
 named-cons (suc n) rs lists = let rest = named-cons n rs lists in omega (arith, rest)
 
--- all receipts name places below the journal's length, so there are as many as they name of those
+-- all receipts are for places below the journal's length, so counting by these places counts all receipts
 counted_in : (journal : List Entry) (least : ℕ) (rs : List Receipt) → AreJournals journal least rs → named_in (length journal) rs ≡ length rs
 counted_in journal least [] are = named_in-nil (length journal)
 counted_in journal least (r ∷ rs) are =
@@ -90,7 +90,7 @@ once-at n place lists (inl less) below last rest = rest place less
 once-at n place lists (inr past) below last rest =
     let same : n ≡ place = omega (arith, past, below) in subst (λ (k : ℕ). times k lists ≡ 1) same last
 
--- where no place is named twice, and as many are named as there are, each is named once
+-- if no place has two receipts, and there are as many receipts as places, each place has one
 each-once : (n : ℕ) (lists : List (List Receipt)) → ((place : ℕ) → place < n → times place lists ≤ 1) → n ≤ named n lists
     → (place : ℕ) → place < n → times place lists ≡ 1
 each-once zero lists most enough place below = absurd (omega arith)
@@ -151,7 +151,7 @@ not-missing : (journal : List Entry) (lists : List (List Receipt)) → IsShuffle
 not-missing journal lists shuffle missing =
     absurd (omega (arith, counted journal lists shuffle.entries, ones (length journal) lists shuffle.once, missing))
 
--- of a shuffle nothing but want of memory can be told
+-- for a shuffle, the only possible error is `Memory`
 pub no_fault : (journal : List Entry) (lists : List (List Receipt)) (fault : CloseFault) → IsShuffle journal lists → IsFault journal lists fault → fault ≡ Memory
 no_fault journal lists Stranger shuffle is = absurd is
 no_fault journal lists Missing shuffle is = absurd (not-missing journal lists shuffle is)

@@ -1,4 +1,4 @@
-//! What a question is answered.
+//! Answers questions.
 ghost use Rattle.std.specs.Prelude.{◌≡◌, ◌≤◌, ◌++◌, [], true, Some, OnOk};
 ghost use Rattle.drf_core.specs.Machine.{live};
 ghost use Rattle.drf_lines.specs.ReplyLine.{line_of};
@@ -18,10 +18,10 @@ use drf_sorter::Sorter;
 use drf_state::write_state;
 use std::alloc::AllocError;
 
-/// How many bytes a question has at most, without its line feed.
+/// The greatest length of a question, in bytes and without its line feed.
 const LONGEST_LINE: usize = 65_536;
 
-/// The word for what was asked.
+/// Returns the word of a question with which its answer begins, or `?` if the question is unknown.
 fn word_at(kind: Option<Kind>) -> &'static str
     ensures { result.now ≡ word_at kind }
 {
@@ -31,7 +31,7 @@ fn word_at(kind: Option<Kind>) -> &'static str
     }
 }
 
-/// Adds the line that says why nothing is told.
+/// Appends the line that reports why a question has no answer.
 fn push_not_told(text: &mut Vec<u8>, kind: Option<Kind>, fault: Fault) -> Result<(), AllocError>
     ensures { OnOk result (text.new.items ≡ text.old.items ++ line_of (not_told (word_at kind) (fault_name fault))) }
 {
@@ -42,7 +42,7 @@ fn push_not_told(text: &mut Vec<u8>, kind: Option<Kind>, fault: Fault) -> Result
     put(text, "\"}\n")
 }
 
-/// Adds what stands before what is told.
+/// Appends the beginning of an answer, up to its value.
 fn push_opening(text: &mut Vec<u8>, kind: Kind) -> Result<(), AllocError>
     ensures { OnOk result (text.new.items ≡ text.old.items ++ opening (word_of kind)) }
 {
@@ -53,6 +53,7 @@ fn push_opening(text: &mut Vec<u8>, kind: Kind) -> Result<(), AllocError>
     put(text, "\":")
 }
 
+/// Appends the answer to `?report`.
 fn push_report<S: Sorter>(core: &Core<S>, text: &mut Vec<u8>) -> Result<(), AllocError>
     ensures { OnOk result (text.new.items ≡ text.old.items ++ line_of (answer_of_kind (live core.now) Kind.Report [])) }
 {
@@ -63,6 +64,7 @@ fn push_report<S: Sorter>(core: &Core<S>, text: &mut Vec<u8>) -> Result<(), Allo
     put(text, "}\n")
 }
 
+/// Appends the answer to `?explain` for the timestamp `at`, in milliseconds.
 fn push_findings<S: Sorter>(core: &Core<S>, at: u64, text: &mut Vec<u8>) -> Result<(), AllocError>
     requires { at ≤ LATEST_MOMENT }
     ensures { OnOk result (text.new.items ≡ text.old.items ++ line_of (explained_told (live core.now).rows (Some at))) }
@@ -73,6 +75,7 @@ fn push_findings<S: Sorter>(core: &Core<S>, at: u64, text: &mut Vec<u8>) -> Resu
     put(text, "}\n")
 }
 
+/// Appends the answer to `?explain`, or an error if the argument is not a timestamp.
 fn push_explained<S: Sorter>(
     core: &Core<S>,
     argument: &[u8],
@@ -86,7 +89,7 @@ fn push_explained<S: Sorter>(
     }
 }
 
-/// Whether a framework is registered under a name.
+/// Returns whether a framework is registered under this name.
 fn has_framework(rows: &Rows, name: &[u8]) -> bool
     ensures { result ≡ has_framework rows.now name.now }
 {
@@ -94,14 +97,15 @@ fn has_framework(rows: &Rows, name: &[u8]) -> bool
     frameworks.iter().any(|row| has_name(&row.name, name))
 }
 
-/// Whether a framework that is named is registered.
+/// Returns whether the framework is registered, or none is named.
 fn is_known(rows: &Rows, framework: &[u8]) -> bool
     ensures { result ≡ is_known rows.now framework.now }
 {
     framework.is_empty() || has_framework(rows, framework)
 }
 
-/// Adds the answer that lists some items: those of a framework, or all where none is named.
+/// Appends an answer that lists items: those of the framework, or all if none is named. If the framework is not
+/// registered, it appends an error.
 fn push_listed<T: Listed>(
     rows: &Rows,
     kind: Kind,
@@ -120,6 +124,7 @@ fn push_listed<T: Listed>(
     push_not_told(text, Some(kind), Fault::UnknownFramework)
 }
 
+/// Appends the answer to `?offers`.
 fn push_offers<S: Sorter>(
     core: &Core<S>,
     framework: &[u8],
@@ -131,6 +136,7 @@ fn push_offers<S: Sorter>(
     push_listed(&rows, Kind::Offers, rows.offers.as_slice(), framework, text)
 }
 
+/// Appends the answer to `?tasks`.
 fn push_tasks<S: Sorter>(
     core: &Core<S>,
     framework: &[u8],
@@ -142,6 +148,7 @@ fn push_tasks<S: Sorter>(
     push_listed(&rows, Kind::Tasks, rows.tasks.as_slice(), framework, text)
 }
 
+/// Appends the answer to `?tables`.
 fn push_how_full<S: Sorter>(
     core: &Core<S>,
     limits: &Limits,
@@ -150,7 +157,7 @@ fn push_how_full<S: Sorter>(
     requires { limits.now ≡ (live core.now).limits }
     ensures { OnOk result (text.new.items ≡ text.old.items ++ line_of (answer_of_kind (live core.now) Kind.Tables [])) }
 {
-    // The contract of this call tells that the limits are within the ceilings.
+    // The contract of this call says that the capacities are within their upper bounds.
     let _ = limits.agents();
     push_opening(text, Kind::Tables)?;
     let rows = core.rows()?;
@@ -159,6 +166,7 @@ fn push_how_full<S: Sorter>(
     put(text, "}\n")
 }
 
+/// Appends the answer to `?state`.
 fn push_saved<S: Sorter>(core: &Core<S>, text: &mut Vec<u8>) -> Result<(), AllocError>
     ensures { OnOk result (text.new.items ≡ text.old.items ++ line_of (answer_of_kind (live core.now) Kind.State [])) }
 {
@@ -189,7 +197,7 @@ fn push_answer_of_kind<S: Sorter>(
     }
 }
 
-/// Adds the line that answers a question.
+/// Appends the line that answers a question.
 #[tactic(auto, unfolding(crate::specs::Answer::answer_value))]
 fn push_answer_line<S: Sorter>(
     core: &Core<S>,
@@ -214,7 +222,7 @@ fn push_answer_line<S: Sorter>(
     push_answer_of_kind(core, limits, kind, question.argument, text)
 }
 
-/// Adds the line that answers a question; where lines are told too, it begins with `?`.
+/// Appends the line that answers a question. If `echo` is set, it begins with `?`.
 pub(crate) fn push_answer<S: Sorter>(
     core: &Core<S>,
     limits: &Limits,

@@ -1,4 +1,4 @@
-//! What a run that is asked keeps between reads.
+//! Keeps the state of a run with questions between two reads.
 ghost use Rattle.std.specs.Prelude.{◌≡◌, ℕ, ◌+◌, ◌^◌, ◌<◌, ◌≤◌, ◌++◌, Bool, true, false, List, length, Option, OnOk, IfErr};
 ghost use Rattle.std.specs.Io.KnownBytes.{Appends};
 ghost use Rattle.drf_core.specs.Machine.{Machine, live};
@@ -19,7 +19,7 @@ use std::alloc::{AllocError, Global};
 use std::io::Write;
 use std::marker::Model;
 
-/// Takes a line's event, or answers its question, and adds the text for the line.
+/// Takes the event of a line, or answers its question, and appends the text for the line.
 fn push_text_for<S: Sorter>(
     reader: &mut LineReader,
     core: &mut Core<S>,
@@ -39,8 +39,8 @@ fn push_text_for<S: Sorter>(
     answer_end(reader, core, echo, line, &[], text)
 }
 
-/// Takes a line's event, or answers its question, and writes the text for the line. The text that is lent is room for it. Where memory runs
-/// out for an answer the run ends, as for a reply: no line is passed over.
+/// Takes the event of a line, or answers its question, and writes the text for the line. `text` is a buffer that is
+/// overwritten. If memory runs out for an answer, the run ends as it does for a reply: no line is skipped.
 #[tactic(auto, unfolding(crate::specs::Asking::HasPart))]
 fn answer_line<S: Sorter, W: Write>(
     reader: &mut LineReader,
@@ -66,7 +66,7 @@ fn answer_line<S: Sorter, W: Write>(
     Ok(())
 }
 
-/// 1 for an event line, and 0 for a question.
+/// Returns 0 for a question, and 1 for any other line.
 fn count_of(line: &[u8]) -> u64
     ensures count { result ≡ count_of line.now }
     ensures few { result ≤ 1 }
@@ -77,22 +77,22 @@ fn count_of(line: &[u8]) -> u64
     1
 }
 
-/// A run that is asked, between two reads.
+/// A run with questions, between two reads.
 pub(crate) struct Asking<S: Sorter> {
     core: Core<S>,
-    /// The limits of that allocator.
+    /// The capacities of the allocator.
     limits: Limits,
     echo: bool,
-    /// What is kept of the line that is not whole yet.
+    /// The kept bytes of the line that has not ended yet.
     pending: OpenLine,
-    /// How many event lines were answered.
+    /// The number of lines that were answered and are not questions.
     events: u64,
     reader: LineReader,
-    /// Room for the text for a line.
+    /// The buffer for the text of a line.
     text: Vec<u8>,
 }
 
-// Written out, so that the proof of whoever drops one sees one call, and not the drop of each field.
+// Written by hand, so that the proof of code that drops one sees one call instead of the drop of each field.
 impl<S: Sorter> Drop for Asking<S> {
     fn drop(self) {
         let Asking {
@@ -122,7 +122,7 @@ impl<S: Sorter> Model for Asking<S> {
 }
 
 impl<S: Sorter> Asking<S> {
-    /// A run of an allocator that has read nothing.
+    /// Creates a run of this allocator that has read nothing.
     pub(crate) fn begin(alloc: Global, core: Core<S>, limits: Limits, echo: bool) -> Asking<S>
         requires { limits ≡ (live core).limits }
         ensures { result ≡ not_asked (live core) echo }
@@ -138,14 +138,14 @@ impl<S: Sorter> Asking<S> {
         }
     }
 
-    /// How many event lines were answered.
+    /// Returns the number of lines that were answered and are not questions.
     pub(crate) fn events(&self) -> u64
         ensures { result ≡ self.now.events }
     {
         self.events
     }
 
-    /// The bytes end the line at hand: answers it, and writes the text for it.
+    /// Ends the current line with these bytes, answers it, and writes the text for it.
     fn end_line<W: Write>(&mut self, end: &[u8], writer: &mut Device<W>) -> Result<(), RunFault>
         requires few { self.old.events + 1 < 2 ^ 64 }
         ensures ok { OnOk result (self.new ≡ after_line self.old (kept_of (self.old.pending ++ end.now))) }
@@ -172,14 +172,14 @@ impl<S: Sorter> Asking<S> {
         Ok(())
     }
 
-    /// Keeps bytes of the line at hand.
+    /// Adds bytes to the current line, up to the number that is kept.
     fn keep(&mut self, more: &[u8]) -> Result<(), AllocError>
         ensures { OnOk result (self.new ≡ record self.old { pending = kept_of (self.old.pending ++ more.now) }) }
     {
         self.pending.keep(more)
     }
 
-    /// Takes the next piece of the input, and answers each line that ends in it.
+    /// Takes the next chunk of the input, and answers each line that ends in it.
     pub(crate) fn take<W: Write>(
         &mut self,
         piece: &[u8],
@@ -192,7 +192,7 @@ impl<S: Sorter> Asking<S> {
         ensures cause { writer.old.failed ≡ false → HasCause result false 0 writer.new.failed }
         ensures flushed { writer.old.flushed ≡ true → HasFlushed result writer.new.flushed }
     {
-        // The contract of this call tells how lines come in pieces.
+        // The contract of this call says how lines arrive in chunks.
         line_law();
         let mut rest = piece;
         while let Some(at) = line_feed_in(rest) {
@@ -203,7 +203,7 @@ impl<S: Sorter> Asking<S> {
         Ok(())
     }
 
-    /// The input ended: answers what stands behind its last line feed.
+    /// Answers the bytes after the last line feed, if there are any, at the end of the input.
     pub(crate) fn close<W: Write>(&mut self, writer: &mut Device<W>) -> Result<(), RunFault>
         requires few { self.old.events + 1 < 2 ^ 64 }
         ensures ok { OnOk result ((start : Machine) (echo : Bool) (read : List ℕ) (first : Option (List ℕ))
@@ -215,7 +215,7 @@ impl<S: Sorter> Asking<S> {
         ensures cause { writer.old.failed ≡ false → HasCause result false 0 writer.new.failed }
         ensures flushed { writer.old.flushed ≡ true → HasFlushed result writer.new.flushed }
     {
-        // The contract of this call tells what is kept of a line.
+        // The contract of this call says what is kept of a line.
         line_law();
         if self.pending.is_empty() {
             return Ok(());

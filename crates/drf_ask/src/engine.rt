@@ -1,4 +1,4 @@
-//! The engine: lines in, replies and answers out.
+//! Runs an allocator over lines with questions: events and questions in, replies and answers out.
 ghost use Rattle.std.specs.Prelude.{◌≡◌, ◌≤◌, ◌^◌, true, OnOk};
 ghost use Rattle.std.specs.Io.KnownBytes.{IsAtEnd};
 ghost use Rattle.drf_core.specs.Machine.{live};
@@ -15,14 +15,14 @@ use drf_sorter::Sorter;
 use std::alloc::Global;
 use std::io::{Read, Write};
 
-/// How many bytes a read asks for.
+/// The number of bytes that a read asks for.
 const CHUNK: usize = 65_536;
 
-/// How often a run reads at most.
+/// The greatest number of reads of a run.
 const MAX_READS: u64 = 1_099_511_627_776;
 
-/// Answers the lines of a reader's bytes on a writer, and tells how many of them are no questions. However it ends, the text is out for all
-/// lines that had ended before the last 65,536 bytes.
+/// Answers the lines of a reader on a writer, and returns how many of them are not questions. Even after an error, the
+/// text has been written for all lines that ended before the last 65,536 bytes read.
 fn serve_asked<S: Sorter, R: Read, W: Write>(
     alloc: Global,
     asking: &mut Asking<S>,
@@ -39,7 +39,7 @@ fn serve_asked<S: Sorter, R: Read, W: Write>(
     ensures flushed { writer.old.flushed ≡ true → HasFlushed result writer.new.flushed }
     ensures reads { reader.new.calls ≤ 2 ^ 40 }
 {
-    // The contract of this call tells how lines come in pieces.
+    // The contract of this call says how lines arrive in chunks.
     line_law();
     let mut buffer = vec![in alloc; 0u8; CHUNK]?;
     let chunk = buffer.as_mut_slice();
@@ -56,11 +56,13 @@ fn serve_asked<S: Sorter, R: Read, W: Write>(
     Err(RunFault::Read)
 }
 
-/// Runs an allocator that can be asked over the lines of a reader, by the sorter that the program uses, and tells how many of them are no
-/// questions. The limits are those of the allocator. With `echo` each event line is written before its reply, and answers to questions begin
-/// with `?`, as no event line does then. However it ends, the text is out for all lines that had ended before the last 65,536 bytes, and
-/// flushed, unless the writer failed or began unflushed. `Memory` is told also where memory runs out for an answer: no later line is answered
-/// then.
+/// Runs an allocator over the lines of a reader, with the sorter that the program uses, and answers questions. Returns
+/// the number of lines that are not questions. `limits` must be the capacities of the allocator. If `echo` is set, each
+/// event line is written before its reply, and answers to questions begin with `?`, as no event line does.
+/// Even after an error, the text has been written for all lines that ended before the last 65,536 bytes read. It has
+/// been flushed, unless the writer failed or was not flushed at the beginning. Fails with `Read` if a read fails or
+/// 2^40 reads do not reach the end, with `Write` if a write or flush fails, and with `Memory` if memory runs out, also
+/// for an answer; then no later line is answered.
 pub fn run_asked<R: Read, W: Write>(
     alloc: Global,
     core: Core<ProgramSorter>,

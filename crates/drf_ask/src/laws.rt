@@ -1,11 +1,11 @@
-//! Laws of the definitions. The function does nothing: what it promises is proved of the definitions alone.
+//! A theorem about the definitions. The function does nothing but call another theorem; its contract is the statement.
 ghost use Rattle.drf_ask.specs.Asked.{IsWrittenInLines, EachIsLine, AnswersAreMarked, AnswersStandBeside, QuestionsChangeNothing};
 
 use drf_journal::line_law;
 
-/// What is written is lines, each with one line feed, at its end, and a reader of the stream knows the answers by how they begin. With them
-/// taken out, what is written is, byte for byte, what a run writes for the event lines alone: the journal of these, where lines are told too.
-/// And the allocator is the same after both.
+/// Proves that the output consists of lines, each with one line feed at its end, and that answers to questions are
+/// recognized by how they begin. Without the answers, the output is byte for byte that of a run over the event lines
+/// alone, and the allocator at the end is the same.
 pub fn asked_law()
     ensures lines { IsWrittenInLines }
     ensures whole { EachIsLine }
@@ -13,6 +13,6 @@ pub fn asked_law()
     ensures beside { AnswersStandBeside }
     ensures allocator { QuestionsChangeNothing }
 {
-    // The contract of this call tells that the output is made line by line.
+    // The contract of this call says that the output is made line by line.
     line_law();
 }

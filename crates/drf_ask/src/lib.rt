@@ -1,5 +1,5 @@
-//! A run that can be asked: beside the event lines its input has questions, lines that begin with `?`, which are answered of the rows as they
-//! stand. They are no events: the replies to event lines, and the rows after them, are those without the questions.
+//! Runs that also answer questions, which are input lines that begin with `?`. An answer is computed from the current
+//! state. Questions are not events: they change neither the replies to event lines nor the allocator.
 #![tactic(auto)]
 
 mod answer;

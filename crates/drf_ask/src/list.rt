@@ -1,4 +1,4 @@
-//! Lists of rows and findings, as JSON.
+//! Writes lists of rows and findings as JSON.
 ghost use Rattle.std.specs.Prelude.{◌≡◌, ◌++◌, true, OnOk};
 ghost use Rattle.serde_json.specs.Written.{comma_if, compact_text};
 ghost use Rattle.drf_explain.specs.ExplainedText.{finding_value};
@@ -13,7 +13,7 @@ use drf_role::Name;
 use drf_rows::{OfferRow, TaskRow};
 use std::alloc::AllocError;
 
-/// What stands in the list of an answer.
+/// An item in the list of an answer.
 pub(crate) trait Listed {
     ghost use Rattle.std.specs.Prelude.{Bool};
     ghost use Rattle.serde_json.specs.Data.{Data};
@@ -21,18 +21,19 @@ pub(crate) trait Listed {
 
     ghost value: { Self → Data };
 
-    /// Which of them are listed, where a framework is named.
+    /// Says which items are listed if a framework is named.
     ghost is_of: { Text → Self → Bool };
 
-    /// Adds it as JSON.
+    /// Appends the item as JSON.
     fn push(&self, text: &mut Vec<u8>) -> Result<(), AllocError>
         ensures { OnOk result (text.new.items ≡ text.old.items ++ compact_text (value self.now)) };
 
-    /// Whether it is listed, where a framework is named.
+    /// Returns whether the item is listed if this framework is named.
     fn is_of(&self, framework: &[u8]) -> bool
         ensures { result ≡ is_of framework.now self.now };
 }
 
+/// Returns whether the name is that of the framework.
 pub(crate) fn has_name(name: &Name, framework: &[u8]) -> bool
     ensures { result ≡ same_text name.now framework.now }
 {
@@ -83,14 +84,14 @@ impl Listed for Finding {
     }
 }
 
-/// Whether an item is of the framework, or none is named.
+/// Returns whether the item is listed: it is of the framework, or none is named.
 fn is_listed<T: Listed>(item: &T, framework: &[u8]) -> bool
     ensures { result ≡ is_listed T.is_of framework.now item.now }
 {
     framework.is_empty() || item.is_of(framework)
 }
 
-/// Adds a comma behind another item.
+/// Appends a comma, unless the item is the first.
 fn put_comma(text: &mut Vec<u8>, later: bool) -> Result<(), AllocError>
     ensures { OnOk result (text.new.items ≡ text.old.items ++ comma_if later) }
 {
@@ -100,7 +101,7 @@ fn put_comma(text: &mut Vec<u8>, later: bool) -> Result<(), AllocError>
     Ok(())
 }
 
-/// Adds the items that are of a framework, or all where none is named, as a JSON array.
+/// Appends the items of the framework, or all if none is named, as a JSON array.
 pub(crate) fn push_list<T: Listed>(
     text: &mut Vec<u8>,
     items: &[T],

@@ -1,4 +1,4 @@
-//! Questions, and their words.
+//! Parses questions.
 ghost use Rattle.std.specs.Prelude.{◌≡◌, ◌≤◌, ◌-◌, ◌^◌, true, length, min, IfSome};
 ghost use Rattle.std.specs.Char.{is_ascii_digit};
 ghost use Rattle.std.specs.List.{list_all, position_or_len, prefix_len};
@@ -8,25 +8,25 @@ ghost use Rattle.drf_ask.specs.Question.{is_question, is_blank, without_blanks, 
 
 use drf_rows::LATEST_MOMENT;
 
-/// What is asked.
+/// The kinds of questions.
 #[derive(Clone, Copy)]
 pub(crate) enum Kind {
     /// The report of shares.
     Report,
-    /// The cycle that would come, and why clients get nothing.
+    /// What the next cycle would offer, and why other clients would get nothing.
     Explain,
-    /// The offers that stand.
+    /// The outstanding offers.
     Offers,
-    /// The tasks that run.
+    /// The running tasks.
     Tasks,
     /// The state, as `save` writes it.
     State,
-    /// How full each table is.
+    /// The number of rows and the capacity of each table.
     Tables,
 }
 
 impl Kind {
-    /// Its word.
+    /// Returns the word with which the question asks.
     pub(crate) fn word(self) -> &'static str
         ensures { result.now ≡ word_of self }
     {
@@ -40,7 +40,7 @@ impl Kind {
         }
     }
 
-    /// Whether an argument may stand behind its word.
+    /// Returns whether the question can have an argument.
     fn takes_argument(self) -> bool
         ensures { result ≡ takes_argument self }
     {
@@ -48,21 +48,21 @@ impl Kind {
     }
 }
 
-/// Why a question is told nothing.
+/// Why a question has no answer.
 #[derive(Clone, Copy)]
 pub(crate) enum Fault {
-    /// Nobody knows what its word asks for.
+    /// There is no such question.
     UnknownQuestion,
     /// No framework is registered under the name.
     UnknownFramework,
-    /// The argument is no moment, or there are more words than the question takes.
+    /// The argument is not a timestamp, or there are too many words.
     BadArgument,
-    /// It has more than 65,536 bytes.
+    /// The line has more than 65,536 bytes.
     LineTooLong,
 }
 
 impl Fault {
-    /// Its name.
+    /// Returns the name of the error, as it is reported.
     pub(crate) fn name(self) -> &'static str
         ensures { result.now ≡ fault_name self }
     {
@@ -75,7 +75,8 @@ impl Fault {
     }
 }
 
-/// The words of a question: the first says what is asked; the second is its argument, which is empty where there is none.
+/// The words of a question: the first is its kind, and the second is its argument, which is empty if there is none.
+/// `more` is everything after them.
 #[derive(Clone, Copy)]
 pub(crate) struct Question<'a> {
     pub(crate) word: &'a [u8],
@@ -83,7 +84,7 @@ pub(crate) struct Question<'a> {
     pub(crate) more: &'a [u8],
 }
 
-/// Whether a line asks something.
+/// Returns whether a line is a question.
 pub(crate) fn is_question(line: &[u8]) -> bool
     ensures { result ≡ is_question line.now }
 {
@@ -96,7 +97,7 @@ fn is_blank(byte: u8) -> bool
     byte == b' ' || byte == b'\t' || byte == b'\r'
 }
 
-/// How many blanks a text begins with.
+/// Returns the number of blanks with which a text begins.
 fn blank_len(text: &[u8]) -> usize
     ensures bound { result ≤ length text.now }
     ensures value { result ≡ prefix_len is_blank text.now }
@@ -109,7 +110,7 @@ fn blank_len(text: &[u8]) -> usize
     text.len()
 }
 
-/// How many bytes the first word has.
+/// Returns the length of the first word, in bytes.
 fn word_len(text: &[u8]) -> usize
     ensures bound { result ≤ length text.now }
     ensures value { result ≡ position_or_len is_blank text.now }
@@ -128,7 +129,7 @@ fn without_blanks(text: &[u8]) -> &[u8]
     &text[blank_len(text)..]
 }
 
-/// The words of a question, behind its `?`.
+/// Splits the part of a question after its `?` into words.
 #[tactic(auto, unfolding(crate::specs::Question::question_of))]
 pub(crate) fn question_of(line: &[u8]) -> Question<'_>
     requires { is_question line.now ≡ true }
@@ -153,7 +154,7 @@ fn asks_for(word: &[u8], kind: Kind) -> bool
     word == kind.word().as_bytes()
 }
 
-/// What the word asks for.
+/// Returns the kind of question that a word asks, or `None`.
 pub(crate) fn kind_of(word: &[u8]) -> Option<Kind>
     ensures { result ≡ kind_of word.now }
 {
@@ -179,7 +180,7 @@ pub(crate) fn kind_of(word: &[u8]) -> Option<Kind>
 }
 
 impl Question<'_> {
-    /// Whether no more words stand there than the kind takes.
+    /// Returns whether the question has no more words than its kind allows.
     pub(crate) fn has_right_words(&self, kind: Kind) -> bool
         ensures { result ≡ has_right_words kind (record { word = self.now.word.now; argument = self.now.argument.now; more = self.now.more.now }) }
     {
@@ -187,7 +188,7 @@ impl Question<'_> {
     }
 }
 
-/// The number that digits write, or 2^64 - 1 where it is greater.
+/// Returns the number that the digits represent, or 2^64 - 1 if it is greater.
 fn number_of(digits: &[u8]) -> u64
     ensures { result ≡ min (number_from 0 digits.now) (2 ^ 64 - 1) }
 {
@@ -205,8 +206,8 @@ fn are_digits(text: &[u8]) -> bool
     text.iter().all(|byte| byte.is_ascii_digit())
 }
 
-/// The moment that an argument names, in milliseconds: digits alone, at most 2^62. Without an argument it is 0, which leaves the clock
-/// where it is.
+/// Returns the timestamp that an argument gives, in milliseconds, or `None` if it is not a number up to 2^62. Without
+/// an argument it is 0, which means the current time of the clock.
 pub(crate) fn moment_of(argument: &[u8]) -> Option<u64>
     ensures value { result ≡ moment_of argument.now }
     ensures early { IfSome result (λ at. at ≤ LATEST_MOMENT) }

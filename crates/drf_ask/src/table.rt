@@ -1,4 +1,4 @@
-//! How full the tables are.
+//! Counts the rows of the tables, and writes them with the capacities.
 ghost use Rattle.std.specs.Prelude.{◌≡◌, ◌<◌, ◌^◌, ◌++◌, length, OnOk};
 ghost use Rattle.serde_json.specs.Written.{compact_text};
 ghost use Rattle.drf_bundle.specs.Quantities.{without_zeros};
@@ -9,7 +9,7 @@ use crate::text::{put, put_number};
 use drf_rows::{FrameworkRow, Limits, Rows};
 use std::alloc::AllocError;
 
-/// How many clients the frameworks have together.
+/// Returns the number of clients of all frameworks.
 fn count_clients(frameworks: &[FrameworkRow]) -> u64
     requires { length (clients_in frameworks.now) < 2 ^ 64 }
     ensures { result ≡ length (clients_in frameworks.now) }
@@ -21,7 +21,7 @@ fn count_clients(frameworks: &[FrameworkRow]) -> u64
     clients
 }
 
-/// Adds what stands before a table, how many rows it may have, and how many it has.
+/// Appends `before`, and then the number of rows of a table and its capacity.
 fn put_table(text: &mut Vec<u8>, before: &str, rows: u64, limit: u64) -> Result<(), AllocError>
     ensures { OnOk result (text.new.items ≡ text.old.items ++ (before.now ++ compact_text (table_value rows limit))) }
 {
@@ -31,7 +31,8 @@ fn put_table(text: &mut Vec<u8>, before: &str, rows: u64, limit: u64) -> Result<
     put(text, "}")
 }
 
-/// Adds how many rows each table has that has a limit, and the limit. `scalar_names` are the names of scalars over all agents.
+/// Appends the number of rows of each table that has a capacity, and the capacity. `scalar_names` is the number of
+/// names of scalars in the total of the cluster.
 pub(crate) fn push_tables(
     text: &mut Vec<u8>,
     limits: &Limits,

@@ -1,4 +1,4 @@
-//! Text that is added, piece by piece.
+//! Appends text and JSON strings to a buffer.
 ghost use Rattle.std.specs.Prelude.{◌≡◌, ◌++◌, ◌-◌, ◌<◌, decimal, length, take, OnOk};
 ghost use Rattle.std.specs.Char.{digit_char};
 ghost use Rattle.json.specs.Print.{escape_byte, escape_letter, quoted};
@@ -6,14 +6,14 @@ ghost use Rattle.json.specs.Print.{escape_byte, escape_letter, quoted};
 use itoa::Buffer;
 use std::alloc::AllocError;
 
-/// Adds a text.
+/// Appends a text.
 pub(crate) fn put(text: &mut Vec<u8>, more: &str) -> Result<(), AllocError>
     ensures { OnOk result (text.new.items ≡ text.old.items ++ more.now) }
 {
     text.extend_from_slice(more.as_bytes())
 }
 
-/// Adds what stands before a number, and the number.
+/// Appends `before`, and then a number.
 pub(crate) fn put_number(text: &mut Vec<u8>, before: &str, value: u64) -> Result<(), AllocError>
     ensures { OnOk result (text.new.items ≡ text.old.items ++ (before.now ++ decimal value)) }
 {
@@ -21,14 +21,14 @@ pub(crate) fn put_number(text: &mut Vec<u8>, before: &str, value: u64) -> Result
     put(text, Buffer::new().format(value))
 }
 
-/// Takes the last byte away, as a line feed that is not wanted.
+/// Removes the last byte, such as a line feed.
 pub(crate) fn drop_last(text: &mut Vec<u8>)
     ensures { text.new.items ≡ take (length text.old.items - 1) text.old.items }
 {
     text.truncate(text.len().saturating_sub(1));
 }
 
-/// The letter of a byte's short escape, or 0 where it has none.
+/// Returns the letter of a byte's short escape, or 0 if it has none.
 fn escape_letter(byte: u8) -> u8
     ensures { result ≡ escape_letter byte }
 {
@@ -43,7 +43,7 @@ fn escape_letter(byte: u8) -> u8
     }
 }
 
-/// A digit of a number to the base 16.
+/// Returns a hexadecimal digit.
 fn hex_digit(digit: u8) -> u8
     requires { digit < 16 }
     ensures { result ≡ digit_char digit }
@@ -55,7 +55,7 @@ fn hex_digit(digit: u8) -> u8
     }
 }
 
-/// Adds what stands for a byte in a JSON string.
+/// Appends a byte as it is written in a JSON string, with an escape if it needs one.
 fn push_escaped(text: &mut Vec<u8>, byte: u8) -> Result<(), AllocError>
     ensures { OnOk result (text.new.items ≡ text.old.items ++ escape_byte byte) }
 {
@@ -76,7 +76,7 @@ fn push_escaped(text: &mut Vec<u8>, byte: u8) -> Result<(), AllocError>
     text.extend_from_slice(&[byte])
 }
 
-/// Adds some bytes as a JSON string.
+/// Appends bytes as a JSON string.
 pub(crate) fn push_string(text: &mut Vec<u8>, bytes: &[u8]) -> Result<(), AllocError>
     ensures { OnOk result (text.new.items ≡ text.old.items ++ quoted bytes.now) }
 {

@@ -61,7 +61,7 @@ impl<S: Sorter> Checker<S> {
         }
     }
 
-    /// The number of the reply line that is at hand, or was the last one.
+    /// Returns the number of the reply line that is expected, or of the last one that arrived.
     pub(crate) fn reply_line(&self) -> u64
         requires { self.now.events < 2 ^ 63 }
         ensures { result ≡ 2 * self.now.events }
@@ -69,7 +69,7 @@ impl<S: Sorter> Checker<S> {
         2 * self.events
     }
 
-    /// The bytes end an event line: takes its event, after which its reply is due.
+    /// Ends an event line with these bytes: takes its event, and expects its reply next.
     fn end_event_line(&mut self, alloc: Global, end: &[u8]) -> Result<(), AllocError>
         requires { self.old.events + 1 < 2 ^ 63 }
         ensures { OnOk result (self.new ≡ after_event_line self.old end.now) }

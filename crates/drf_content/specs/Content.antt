@@ -1,4 +1,4 @@
--- What the sorter of a core holds, by the rows.
+-- What the sorter of an allocator holds for given rows.
 use Rattle.std.specs.Prelude.{not, List, map, flat_map}
 use Rattle.drf_rows.specs.Client.{path_of}
 use Rattle.drf_rows.specs.Holdings.{Holding, holdings_of, held_where, is_of}
@@ -8,7 +8,7 @@ use Rattle.drf_rows.specs.declared.rows.FrameworkRow.{FrameworkRow}
 use Rattle.drf_rows.specs.declared.rows.Rows.{Rows}
 use Rattle.drf_sorter.specs.Content.{Content, Ranked}
 
--- a client, as a sorter holds it
+-- a client as a sorter holds it
 unfoldable pub ranked : List Holding → FrameworkRow → ClientRow → Ranked
 ranked holdings f c = record {
   path = path_of (client_of f c);
@@ -17,7 +17,7 @@ ranked holdings f c = record {
   count = c.count;
 }
 
--- all clients, the total of the cluster, and the weights
+-- all clients, the cluster's total, and the weights
 unfoldable pub content_of : Rows → Content
 content_of rows = record {
   clients = flat_map (λ f. map (ranked (holdings_of rows) f) f.clients) rows.frameworks;

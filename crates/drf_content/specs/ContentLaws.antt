@@ -1,4 +1,4 @@
--- What is proved of a sorter that holds what the rows say, whatever the order in which its clients stand.
+-- The theorems on a sorter that holds what the rows say, with its clients in any order.
 use Rattle.std.specs.Prelude.{◌≡◌, ◌^◌, ◌<◌, ◌≤◌, false, List, [], length, map, find, not, Some}
 use Rattle.drf_role.specs.Text.{Text, same_text}
 use Rattle.drf_role.specs.Path.{Path, client_path}
@@ -25,14 +25,14 @@ use Rattle.drf_content.specs.Content.{content_of}
 use Rattle.drf_content.specs.Registering.{AreKnown, AreNew, paths_joined, paths_left, with_all, without_all}
 use Rattle.drf_content.specs.Putting.{CanAllBeBack, IsNew, put_back, with_last, with_put}
 
--- no more is held than there is, and all numbers fit
+-- clients hold no more than the total, and no number overflows
 abbrev pub ContentIsSound : Type 0
 ContentIsSound =
     (rows : Rows) (content : Content) → IsSame content (content_of rows)
     → IsConsistent rows → length rows.agents ≤ 4096 → rows.next_offer < 2 ^ 64
     → IsSound content
 
--- the active clients in the sorter's order are served in that order
+-- the sorter's order of the active clients is the order of a turn
 abbrev pub OrderIsTheTurns : Type 0
 OrderIsTheTurns =
     (rows : Rows) (content : Content) (paths : List Path) → IsSame content (content_of rows)
@@ -49,17 +49,17 @@ LinesAreTheReports =
     → let report : Report = record { total = total; nodes = lines } in
     report ≡ report_of rows
 
--- ---- roles that change
+-- ---- the roles of a framework change
 
--- The clients that come are unknown, and those that go are known. With the former and without the latter the content is what the rows
--- say once the framework has just these roles
+-- the clients that are added are unknown, those that are removed are known, and then the content is what the rows say after the framework gets these
+-- roles
 pub record FollowsRoles (rows : Rows) (content : Content) (framework : Text) (roles : List Path) (clients : List ClientRow) : Type 0 where
   pub new : AreNew content (paths_joined framework roles clients)
   pub known : AreKnown (with_all content (paths_joined framework roles clients)) (paths_left framework roles clients)
   pub same : IsSame (without_all (with_all content (paths_joined framework roles clients)) (paths_left framework roles clients))
       (content_of (framework_set rows framework roles))
 
--- so it is, with the clients of the framework of that name
+-- `FollowsRoles` holds for a framework of consistent rows and its clients
 abbrev pub RolesAreFollowed : Type 0
 RolesAreFollowed =
     (rows : Rows) (content : Content) (framework : Text) (roles : List Path) (f : FrameworkRow)
@@ -68,19 +68,19 @@ RolesAreFollowed =
     → find (λ g. same_text g.name framework) rows.frameworks ≡ Some f
     → FollowsRoles rows content framework roles f.clients
 
--- ---- rows that are put back
+-- ---- saved rows are added
 
--- at the head nothing is held
+-- before the first row is added, the content is empty
 abbrev pub HeadIsEmpty : Type 0
 HeadIsEmpty = (head : Head) → content_of (begun head) ≡ empty
 
--- a row that is put behind others changes what is held by what it brings
+-- adding a row changes the content by exactly the content of the row
 abbrev pub ContentFollowsRow : Type 0
 ContentFollowsRow =
     (rows : Rows) (row : SavedRow) → IsConsistent rows → IsNew rows row
     → content_of (with_row rows row) ≡ with_put (content_of rows) row
 
--- an unknown client that is added, active or not, and charged with its offers is put back
+-- a saved client is restored by adding it, setting whether it is active, and charging its count
 abbrev pub ClientIsPutBack : Type 0
 ClientIsPutBack =
     (content : Content) (framework : Text) (c : ClientRow)
@@ -90,7 +90,7 @@ ClientIsPutBack =
     → with_change (with_change added path (activated (not c.suppressed))) path (charged [] c.count)
     ≡ with_last content (put_back framework c)
 
--- the clients of an unknown framework can be put back one by one
+-- the clients of a new framework can be added one by one
 abbrev pub ClientsCanBeBack : Type 0
 ClientsCanBeBack =
     (rows : Rows) (f : FrameworkRow) → IsConsistent rows → IsConsistent (with_row rows (Framework f))

@@ -1,4 +1,4 @@
--- A saved row that is put behind others: what a sorter holds of it.
+-- How the content of a sorter changes when a saved row is added.
 use Rattle.std.specs.Prelude.{◌≡◌, false, not, List, [], ◌∷◌, ◌++◌, fold}
 use Rattle.drf_role.specs.Text.{Text}
 use Rattle.drf_role.specs.Path.{client_path}
@@ -14,39 +14,39 @@ use Rattle.drf_saved.specs.declared.saved.SavedRow.{SavedRow}
 use Rattle.drf_saved.specs.declared.saved.SavedRow.TheVariants.{Agent, Framework, Weight, Limit, Offer, Task, Filter}
 use Rattle.drf_sorter.specs.Content.{Content, Ranked, IsSound, charged, has_client, with_change, with_weight}
 
--- ---- the clients of a framework, one by one
+-- ---- the clients of a framework are added one by one
 
--- a client that is put back: offers were made to it before, and it holds nothing yet
+-- a client of a saved framework: its count is restored, and it holds nothing yet
 abbrev pub put_back : Text → ClientRow → Ranked
 put_back framework c =
     record { path = client_path c.role framework; active = not c.suppressed; held = λ _. 0; count = c.count }
 
--- one more client stands last
+-- the content with a client added last
 abbrev pub with_last : Content → Ranked → Content
 with_last content client = record content { clients = content.clients ++ client ∷ [] }
 
--- clients that were put back, in that order
+-- the content with the clients of a saved framework added last, in order
 abbrev pub with_all_back : Content → Text → List ClientRow → Content
 with_all_back content framework clients = fold (λ content c. with_last content (put_back framework c)) content clients
 
--- a client that is unknown, and with which all numbers fit
+-- the client is unknown, and the content with it is sound
 pub record CanBeLast (content : Content) (client : Ranked) : Type 0 where
   pub new : has_client content client.path ≡ false
   pub sound : IsSound (with_last content client)
 
--- each can be put back when all before it were
+-- each client can be added after those before it
 abbrev pub CanAllBeBack : Content → Text → List ClientRow → Type 0
 CanAllBeBack content framework [] = Unit {0}
 CanAllBeBack content framework (c ∷ cs) =
     CanBeLast content (put_back framework c) × CanAllBeBack (with_last content (put_back framework c)) framework cs
 
--- ---- a row
+-- ---- any row is added
 
--- the client of a holding holds it too, and no offer is counted
+-- the content with a holding charged to its client; no offer is counted
 abbrev pub with_held : Content → Holding → Content
 with_held content h = with_change content (path_of h.client) (charged (quantities_of h.bundle) 0)
 
--- what a sorter holds once a row is put
+-- the content after a saved row is added
 abbrev pub with_put : Content → SavedRow → Content
 with_put content (Agent a) = record content { total = plus content.total (quantities_of a.total) }
 with_put content (Framework f) = with_all_back content f.name f.clients
@@ -56,7 +56,7 @@ with_put content (Offer o) = with_held content (of_offer o)
 with_put content (Task t) = with_held content (of_task t)
 with_put content (Filter f) = content
 
--- the framework is unknown, the role has no weight
+-- the framework is not registered, or the role has no weight
 abbrev pub IsNew : Rows → SavedRow → Type 0
 IsNew rows (Framework f) = has_framework rows f.name ≡ false
 IsNew rows (Weight w) = has_weight rows w.role ≡ false

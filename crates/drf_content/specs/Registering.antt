@@ -1,4 +1,4 @@
--- A framework that registers, leaves, or gets other roles: its clients are added to the sorter one by one, or removed.
+-- How the content of a sorter changes when a framework registers, leaves, or gets other roles: its clients are added or removed one by one.
 use Rattle.std.specs.Prelude.{◌≡◌, true, false, not, List, [], ◌∷◌, map, fold, filter}
 use Rattle.drf_role.specs.Text.{Text}
 use Rattle.drf_role.specs.Path.{Path, client_path}
@@ -10,27 +10,28 @@ use Rattle.drf_sorter.specs.Content.{Content, has_client, with_client, without_c
 abbrev pub client_paths : Text → List ClientRow → List Path
 client_paths framework clients = map (λ c. client_path c.role framework) clients
 
--- clients that were added last, in that order
+-- the content with clients added last, in order
 abbrev pub with_all : Content → List Path → Content
 with_all content paths = fold with_client content paths
 
--- each is unknown when all before it were added
+-- each client is unknown after those before it are added
 abbrev pub AreNew : Content → List Path → Type 0
 AreNew content [] = Unit {0}
 AreNew content (path ∷ paths) = (has_client content path ≡ false) × AreNew (with_client content path) paths
 
--- clients that were removed, in that order
+-- the content without some clients
 abbrev pub without_all : Content → List Path → Content
 without_all content paths = fold without_client content paths
 
--- each is known when all before it were removed
+-- each client is known after those before it are removed
 abbrev pub AreKnown : Content → List Path → Type 0
 AreKnown content [] = Unit {0}
 AreKnown content (path ∷ paths) = (has_client content path ≡ true) × AreKnown (without_client content path) paths
 
--- the paths of the clients that come once a framework with these clients has just these roles, and of those that go
+-- the paths of the clients that a framework with these clients gains when it gets these roles
 abbrev pub paths_joined : Text → List Path → List ClientRow → List Path
 paths_joined framework roles clients = client_paths framework (clients_joined roles clients)
 
+-- the paths of the clients that it loses
 abbrev pub paths_left : Text → List Path → List ClientRow → List Path
 paths_left framework roles clients = client_paths framework (filter (λ c. not (is_among roles c.role)) clients)

@@ -1,4 +1,4 @@
--- How what a sorter holds of the rows follows the changes of these, and what is said of it by the rows.
+-- Proofs of the theorems: how the content of a sorter follows changes of the rows, and what it says about the rows.
 pub mod Client
 pub mod Held
 pub mod Offer

@@ -1,4 +1,4 @@
-//! What a sorter holds of the rows, and what its answers then say of these.
+//! Theorems on the content of a sorter: what it holds for given rows, and what its replies then say about these rows.
 #![tactic(auto)]
 
 mod laws;

@@ -1,3 +1,4 @@
+//! The public type `Core`: an allocator that takes events and returns replies.
 ghost use Rattle.std.specs.Prelude.{◌≡◌, ◌≤◌, ◌++◌, ◌-◌, false, None, length, vec_len, vec_capacity, IfOk, IfSome, OnOk, OnErr};
 ghost use Rattle.drf_sorter.specs.Work.{SpendsOnOk};
 ghost use Rattle.drf_core.specs.Working.{allowance, allowance_of_all, may_make_keys};
@@ -16,15 +17,15 @@ use drf_tables::Tables;
 use std::alloc::{AllocError, Global};
 use std::marker::Model;
 
-/// The allocator, over any lawful sorter.
+/// An allocator: its capacities, its rows, and a sorter. Any type that implements `Sorter` can be used.
 pub struct Core<S: Sorter> {
     alloc: Global,
     limits: Limits,
-    // On the heap, so that an allocator is moved by a pointer.
+    // On the heap, so that moving an allocator moves only a pointer.
     cluster: Box<Cluster<S>>,
 }
 
-// Written out, so that the proof of whoever drops an allocator sees one call, and not the drop of each field.
+// Written out, so that the proofs of callers that drop an allocator see one call, and not the drop of each field.
 impl<S: Sorter> Drop for Core<S> {
     fn drop(self) {
         let Core {
@@ -63,18 +64,18 @@ impl<S: Sorter> Core<S> {
     ghost use Rattle.drf_saved_laws.specs.SavedLaws.{IsSaveable};
     ghost use Rattle.drf_rows.specs.declared.limits.TheConstants.{LATEST_MOMENT};
 
-    /// An allocator with no rows, for names that nobody chooses in order to slow it down.
+    /// Returns an allocator without rows. Its hash key is always the same: use `open_keyed` if untrusted users choose names.
     pub fn open(alloc: Global, limits: Limits) -> Result<Core<S>, AllocError>
         ensures { IfOk result (IsOpened limits) }
     {
         Core::open_keyed(alloc, limits, HashKey::known())
     }
 
-    /// An allocator with no rows. The hashes of names begin with a key, which those who choose names should not know.
+    /// Returns an allocator without rows, whose hashes of names begin with `key`. Users who choose names should not know the key.
     pub fn open_keyed(alloc: Global, limits: Limits, key: HashKey) -> Result<Core<S>, AllocError>
         ensures { IfOk result (IsOpened limits) }
     {
-        // The contract of this call tells that the limits are within the ceilings.
+        // The contract of this call says that the capacities are within their maximums.
         let _ = limits.agents();
         Ok(Core {
             alloc,
@@ -83,7 +84,8 @@ impl<S: Sorter> Core<S> {
         })
     }
 
-    /// An allocator of rows that are kept and can be saved, over a sorter that holds what they say.
+    /// Returns an allocator of these tables and this sorter. The sorter must hold what the rows say, and it must be possible to
+    /// save the rows.
     pub fn assemble(
         alloc: Global,
         limits: Limits,
@@ -103,13 +105,15 @@ impl<S: Sorter> Core<S> {
         })
     }
 
-    /// Takes one event, whole or not at all. A refusal is a reply; a refused event changes nothing, nor does want of
-    /// memory, which no refused event meets but one that is refused for what is free, held or consumed: where resources move
-    /// between everyone and a role, or a total is another. However it ends, nothing is granted twice. At `Ok`, a sorter whose work is
-    /// counted owes no more for it than the nodes of the clients that it touches, and one for a weight; for `add_agent`,
-    /// `remove_agent` and `set_agent` one more for each node of a report. However it ends, the count of keys has not fallen, and only a
-    /// `cycle`, an `add_framework` and a `set_framework` that are not refused raise it. At most 65,537 filters stand then, those that have run out among
-    /// them: one more than may be in force.
+    /// Applies an event and returns the reply. A refused event changes nothing; its reply is `Refused`.
+    ///
+    /// If memory runs out, the call returns an error, and neither the current state nor the clock changes. Then no early refusal
+    /// applies: only `reserve`, `unreserve` and `set_agent` have refusals that can need memory. However the call ends, nothing is
+    /// granted twice, and at most 65,537 filters are stored, including expired ones.
+    ///
+    /// If the call succeeds and the sorter counts its work, the event adds at most one key for each node on the paths of the
+    /// clients that it touches, and one for `set_weight`. `add_agent`, `remove_agent` and `set_agent` add at most one more for
+    /// each node of a report. Only `cycle`, `add_framework` and `set_framework` events that are not refused compute keys.
     pub fn step(&mut self, event: Event) -> Result<Reply, AllocError>
         ensures reply { IfOk result (λ reply. reply ≡ reply_to self.old.limits self.old.rows event) }
         ensures ok { OnOk result (IsAfter self.old self.new event) }
@@ -128,8 +132,8 @@ impl<S: Sorter> Core<S> {
         Ok(reply)
     }
 
-    /// The same, with two copies of the reply, if they are wanted. They are made before anything changes, so that who keeps a journal
-    /// and receipts asks for no memory after the step.
+    /// Like `step`, but also returns two copies of the reply if `copied` is set. The copies are made before anything changes, so
+    /// a caller that keeps a journal and receipts needs no memory after the step.
     pub fn step_copied(&mut self, event: Event, copied: bool) -> Result<Stepped, AllocError>
         ensures reply { IfOk result (λ stepped. stepped.reply ≡ reply_to self.old.limits self.old.rows event) }
         ensures copies { IfOk result (λ stepped. stepped.copies ≡ copies_if copied stepped.reply) }
@@ -152,14 +156,14 @@ impl<S: Sorter> Core<S> {
         Ok(stepped)
     }
 
-    /// What this call ensures tells a proof that nothing is granted twice.
+    /// Proves that nothing is granted twice in the current state.
     fn tell_safe(&self)
         ensures { IsSafe (live_rows self.now.rows) }
     {
         let _ = self.limits.agents();
     }
 
-    /// Takes one event that is lent, as `step` does. One that is refused early needs no memory, not for a copy either.
+    /// Like `step`, but borrows the event. An event that is refused early is not copied, so it needs no memory.
     fn step_lent(&mut self, event: &Event) -> Result<Reply, AllocError>
         ensures reply { IfOk result (λ reply. reply ≡ reply_to self.old.limits self.old.rows event.now) }
         ensures ok { OnOk result (IsAfter self.old self.new event.now) }
@@ -177,10 +181,12 @@ impl<S: Sorter> Core<S> {
         self.step(event)
     }
 
-    /// Takes events in order, and appends their replies. At an `Err` it stands after the events whose replies it has appended, before one
-    /// that no early refusal holds of, or for whose reply there is no room. At `Ok`, a sorter whose work is counted owes no more than for
-    /// each event alone. However it ends, nothing is granted twice, and the count of keys has not fallen, and has risen only where a
-    /// `cycle`, `add_framework` or `set_framework` is among the events.
+    /// Applies events in order, and appends their replies to `replies`.
+    ///
+    /// An error means that memory ran out. Then exactly the events whose replies were appended have been applied; and if there
+    /// was room for one more reply, no early refusal applies to the next event. If the call succeeds and the sorter counts its
+    /// work, the events add at most as many keys as `step` allows for each. However the call ends, nothing is granted twice, and
+    /// keys are computed only if `cycle`, `add_framework` or `set_framework` is among the events.
     pub fn run(&mut self, events: &[Event], replies: &mut Vec<Reply>) -> Result<(), AllocError>
         ensures ok { OnOk result (IsAfterAll self.old self.new events.now) }
         ensures replies { OnOk result (replies.new.items ≡ replies.old.items ++ replies_to self.old.limits self.old.rows events.now) }
@@ -199,7 +205,7 @@ impl<S: Sorter> Core<S> {
         Ok(())
     }
 
-    /// The sorter: the order of its clients, and its work.
+    /// Returns the sorter, which holds the order of the clients and counts its work.
     pub fn sorter(&self) -> &S
         ensures content { HoldsTheSame (S.content result.now) (content_of self.now.rows) }
         ensures work { S.work result.now ≡ self.now.work }
@@ -207,15 +213,15 @@ impl<S: Sorter> Core<S> {
         self.cluster.sorter()
     }
 
-    /// What there is, and who holds what of it.
+    /// Returns the cluster's total, and what each node holds, with its shares and its count.
     pub fn report(&self) -> Result<Report, AllocError>
         ensures { IfOk result (λ report. report ≡ report_of self.now.rows) }
     {
         self.cluster.report()
     }
 
-    /// What a cycle at that moment, in milliseconds, would offer and to whom, and where it would offer nothing, why. The clock never
-    /// goes back: 0 is the moment at which it stands.
+    /// Returns what a cycle at a timestamp (in milliseconds) would offer to each client, or why it would offer nothing. A
+    /// timestamp before the clock counts as the clock, so 0 means the current time of the allocator.
     pub fn explain(&self, at: u64) -> Result<Vec<Finding>, AllocError>
         requires { at ≤ LATEST_MOMENT }
         ensures { IfOk result (λ findings. findings.items ≡ explained (live_rows self.now.rows) at) }
@@ -223,8 +229,9 @@ impl<S: Sorter> Core<S> {
         self.cluster.explain(self.alloc, &self.limits, at)
     }
 
-    /// Tells the same agent by agent, and leaves nobody out: each client that wants offers is tried on each agent that takes part, whatever is
-    /// left there. So memory is that of the state, and of what is told of one agent. Clients that want no offers are not told of.
+    /// Returns an explanation like that of `explain`, but agent by agent and with an outcome for each client that is not
+    /// suppressed: on each active agent with free resources, clients are tried even if too little is left for an offer.
+    /// Suppressed clients are not reported. It needs memory for a copy of the state and for the findings of one agent.
     pub fn telling(&self, at: u64) -> Result<Telling<S>, AllocError>
         requires { at ≤ LATEST_MOMENT }
         ensures { IfOk result (λ telling. telling ≡ turns_by_agent (live_rows self.now.rows) at) }
@@ -232,12 +239,12 @@ impl<S: Sorter> Core<S> {
         self.cluster.telling(self.alloc, &self.limits, at)
     }
 
-    /// With what the hashes of names begin, for tables of the same names. No clause says anything of it.
+    /// Returns the key of the hashes of names, for other tables of the same names. No contract mentions it.
     pub fn key(&self) -> HashKey {
         self.cluster.key()
     }
 
-    /// An allocator of its own with the same rows and limits.
+    /// Returns a separate allocator with the same rows and capacities.
     pub fn copy(&self) -> Result<Core<S>, AllocError>
         ensures { IfOk result (λ core. core ≡ self.now) }
     {
@@ -248,7 +255,8 @@ impl<S: Sorter> Core<S> {
         })
     }
 
-    /// The live rows, which are consistent: nothing is granted twice. They can be saved.
+    /// Returns the current state: the rows without expired filters. It is consistent, nothing is granted twice, and it can be
+    /// saved.
     pub fn rows(&self) -> Result<Rows, AllocError>
         ensures rows { IfOk result (λ rows. rows ≡ live_rows self.now.rows) }
         ensures safe { IfOk result IsSafe }

@@ -1,4 +1,4 @@
-//! The rows, and a sorter that holds what they say, its clients in any order.
+//! The rows of an allocator, and a sorter that holds what they say, with its clients in any order.
 ghost use Rattle.std.specs.Prelude.{◌≡◌, ◌+◌, ◌<◌, ◌≤◌, ◌^◌, None, length, IfOk, OnErr};
 ghost use Rattle.drf_rows.specs.Consistent.{IsConsistent};
 ghost use Rattle.drf_rows.specs.Step.{opening, live_rows, refusal_of};
@@ -16,7 +16,7 @@ use drf_tables::Tables;
 use std::alloc::{AllocError, Global};
 use std::marker::Model;
 
-/// The rows, and a sorter that holds what they say.
+/// The rows of an allocator as tables, and a sorter that holds what they say.
 #[derive(Drop)]
 pub(crate) struct Cluster<S: Sorter> {
     pub(crate) tables: Tables,
@@ -40,7 +40,7 @@ impl<S: Sorter> Model for Cluster<S> {
 }
 
 impl<S: Sorter> Cluster<S> {
-    /// A cluster with no rows.
+    /// Returns a cluster without rows.
     pub(crate) fn open(alloc: Global, key: HashKey) -> Result<Cluster<S>, AllocError>
         ensures rows { IfOk result (λ cluster. cluster.rows ≡ opening) }
         ensures work { IfOk result (λ cluster. cluster.work ≡ record { made = 0; marked = 0 }) }
@@ -51,7 +51,7 @@ impl<S: Sorter> Cluster<S> {
         })
     }
 
-    /// A cluster of its own with the same rows.
+    /// Returns a separate cluster with the same rows.
     pub(crate) fn copy(&self) -> Result<Cluster<S>, AllocError>
         ensures rows { IfOk result (λ cluster. cluster.rows ≡ self.now.rows) }
         ensures work { IfOk result (λ cluster. cluster.work ≡ self.now.work) }
@@ -62,7 +62,7 @@ impl<S: Sorter> Cluster<S> {
         })
     }
 
-    /// Why an event is refused whatever the memory, if it is.
+    /// Returns the early refusal of an event, if there is one. It needs no memory.
     pub(crate) fn early_refusal(&self, limits: &Limits, event: &Event) -> Option<Refusal>
         requires { AreFew limits.now self.now.rows }
         ensures { result ≡ early_refusal_of limits.now self.now.rows event.now }
@@ -70,7 +70,7 @@ impl<S: Sorter> Cluster<S> {
         refuse_early(limits, &self.tables, event)
     }
 
-    /// Why an event is refused, if it is. Filters that have run out are dropped first, when the filters have become many; no other row
+    /// Returns why an event is refused, if it is. If there are many filters, expired ones are removed first; no other row
     /// changes.
     pub(crate) fn refusal(
         &mut self,
@@ -89,7 +89,7 @@ impl<S: Sorter> Cluster<S> {
         refusal(limits, &mut self.tables, event)
     }
 
-    /// Counts an accepted event.
+    /// Adds one to the number of accepted events.
     pub(crate) fn count_event(&mut self)
         requires { self.old.rows.events + 1 < 2 ^ 64 }
         ensures counted { self.new.rows ≡ record self.old.rows { events = self.old.rows.events + 1 } }
@@ -99,12 +99,12 @@ impl<S: Sorter> Cluster<S> {
         self.tables.count_event();
     }
 
-    /// With what the hashes of names begin.
+    /// Returns the key of the hashes of names.
     pub(crate) fn key(&self) -> HashKey {
         self.tables.key()
     }
 
-    /// The sorter: the order of its clients, and its work.
+    /// Returns the sorter, which holds the order of the clients and counts its work.
     pub(crate) fn sorter(&self) -> &S
         ensures content { IsSame (S.content result.now) (content_of self.now.rows) }
         ensures work { S.work result.now ≡ self.now.work }
@@ -112,7 +112,7 @@ impl<S: Sorter> Cluster<S> {
         &self.sorter
     }
 
-    /// The live rows.
+    /// Returns the current state: the rows without expired filters.
     pub(crate) fn rows(&self) -> Result<Rows, AllocError>
         ensures { IfOk result (λ rows. rows ≡ live_rows self.now.rows) }
     {

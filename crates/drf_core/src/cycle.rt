@@ -1,7 +1,7 @@
-//! The allocation cycle. Its offers are drafts until the last agent had its turn: the sorter is charged with them, and what
-//! roles consume, which the tables lend, counts them, while of the rows the clock alone has moved. The tables take it back with the
-//! offers, so that nothing is counted anew at the next cycle. Where memory ends, it is dropped, the charges are taken back and so is
-//! the clock, which needs none.
+//! The allocation cycle. While it runs, its offers are drafts: the sorter is charged with them, and the consumption
+//! that is borrowed from the tables includes them, but of the rows only the clock has changed. At the end the tables
+//! take the offers and the consumption, so that the next cycle need not compute the consumption again. If memory runs
+//! out, the consumption is dropped, and the charges and the clock are undone, which needs no memory.
 ghost use Rattle.std.specs.Prelude.{◌≡◌, ◌≢◌, ℕ, false, true, ◌<◌, ◌≤◌, ◌+◌, List, None, [], length, map, slice_get, is_some, ◌&&◌, Some, IfOk, OnOk, OnErr};
 ghost use Rattle.drf_role.specs.Path.{Path, role_part, framework_part};
 ghost use Rattle.drf_rows.specs.Cycle.{is_allocatable, turn_order, with_offer};
@@ -40,8 +40,8 @@ use drf_tables::{Left, Tables};
 use std::alloc::{AllocError, Global};
 use std::mem;
 
-/// The offers of a cycle that is not ended, what the turns left free, and, if any role has a limit or had one, what roles consume with
-/// the offers.
+/// The offers of a running cycle, what the finished turns left free, and what roles consume with the offers. `consumption` is
+/// `None` only if no role has a limit.
 #[derive(Drop)]
 pub(crate) struct Drafts {
     pub(crate) offers: Vec<OfferRow>,
@@ -49,7 +49,7 @@ pub(crate) struct Drafts {
     pub(crate) consumption: Option<Consumption>,
 }
 
-/// Whether the agent at a place is active, and what is free there is worth an offer.
+/// Returns whether the agent at a place (by registration) is active, and what is free there is enough for an offer.
 fn is_open(tables: &Tables, place: usize) -> bool
     requires place { place < length tables.now.rows.agents }
     requires settled { tables.now.settled ≡ true }
@@ -58,7 +58,7 @@ fn is_open(tables: &Tables, place: usize) -> bool
     tables.is_active(place) && tables.is_worth_an_offer(place)
 }
 
-/// Whether any agent is active, and has so much free that it is worth an offer.
+/// Returns whether any agent is active and has enough free resources for an offer.
 fn has_open(tables: &Tables) -> bool
     requires settled { tables.now.settled ≡ true }
     ensures { result ≡ false → (place : ℕ) → is_open_at tables.now.rows place ≡ false }
@@ -71,14 +71,14 @@ fn has_open(tables: &Tables) -> bool
     false
 }
 
-/// Whether a client is still to be served.
+/// Returns whether a client remains in the queue.
 pub(crate) fn has_next<S: Sorter>(sorter: &S) -> bool
     ensures { result ≡ is_some (slice_get (S.queue sorter.now) 0) }
 {
     sorter.first().is_some()
 }
 
-/// Whether it is seen that a cycle changes nothing: no agent has a turn, or no client is to be served.
+/// Returns whether a cycle certainly makes no offer, because no agent has enough free resources or no client is active.
 fn is_idle<S: Sorter>(tables: &Tables, sorter: &mut S) -> Result<bool, AllocError>
     requires settled { tables.now.settled ≡ true }
     requires drafting { IsDrafting (S.content sorter.old) tables.now.rows [] }
@@ -93,7 +93,7 @@ fn is_idle<S: Sorter>(tables: &Tables, sorter: &mut S) -> Result<bool, AllocErro
     Ok(!has_next(sorter))
 }
 
-/// The row of an offer.
+/// Returns the row of an offer.
 fn offer_row(
     number: u64,
     agent: &Name,
@@ -117,7 +117,7 @@ fn offer_row(
     })
 }
 
-/// Counts what one more offer consumes, if that is counted.
+/// Adds an offer to what roles consume, if that is known.
 fn count_offer(consumption: &mut Option<Consumption>, offer: &OfferRow) -> Result<(), AllocError>
     requires { CanCount consumption.old offer.now }
     ensures { OnOk result ((rows : Rows) (limits : List LimitRow) → IsQuotaOf rows (quota_under limits consumption.old)
@@ -129,7 +129,7 @@ fn count_offer(consumption: &mut Option<Consumption>, offer: &OfferRow) -> Resul
     }
 }
 
-/// Begins the turn of the agent at a place, in which all clients are to be served: what is free there.
+/// Begins the turn of the agent at a place: puts all active clients in order, and returns what is free on the agent.
 pub(crate) fn begin_turn<S: Sorter>(
     tables: &Tables,
     sorter: &mut S,
@@ -148,7 +148,8 @@ pub(crate) fn begin_turn<S: Sorter>(
     Ok(Free::new(bundle, tables.is_worth_an_offer(place)))
 }
 
-/// Offers to the client that is served next what it is granted of what is free on an agent.
+/// Tries the first client in the queue: if it is granted something on the agent, adds an offer to the drafts. If memory runs out,
+/// the sorter and the drafts still agree.
 pub(crate) fn try_first<S: Sorter>(
     tables: &Tables,
     sorter: &mut S,
@@ -186,7 +187,7 @@ pub(crate) fn try_first<S: Sorter>(
     Ok(())
 }
 
-/// Whether a client is still to be served, and what is left is worth an offer.
+/// Returns whether the turn continues: a client remains in the queue, and what is free is enough for an offer.
 pub(crate) fn goes_on<S: Sorter>(sorter: &S, free: &Free) -> bool
     requires { free.now.is_worth ≡ is_allocatable free.now.bundle }
     ensures { result ≡ (is_some (slice_get (S.queue sorter.now) 0) && is_allocatable free.now.bundle) }
@@ -194,7 +195,7 @@ pub(crate) fn goes_on<S: Sorter>(sorter: &S, free: &Free) -> bool
     has_next(sorter) && free.is_worth
 }
 
-/// Goes on past the client that was tried, and past clients right behind it that are known to have nothing to get either.
+/// Removes from the queue the client that was tried, and clients directly after it that are known to be granted nothing either.
 fn pass_tried<S: Sorter>(sorter: &mut S, free: &Free)
     ensures queue { IsPassedOver free.now.known (S.queue sorter.old) (S.queue sorter.new) }
     ensures content { S.content sorter.new ≡ S.content sorter.old }
@@ -206,7 +207,7 @@ fn pass_tried<S: Sorter>(sorter: &mut S, free: &Free)
     }
 }
 
-/// Ends the turn of the agent at a place, which leaves what is free there.
+/// Ends the turn of the agent at a place, and records what is left free there.
 pub(crate) fn end_turn(place: usize, free: Free, drafts: &mut Drafts) -> Result<(), AllocError>
     ensures cycle { OnOk result ((content : Content) (tables : Stored) (queue : List Path)
         → IsTurn content tables drafts.old place free queue → IsCycleAt content tables drafts.new (place + 1)) }
@@ -220,8 +221,8 @@ pub(crate) fn end_turn(place: usize, free: Free, drafts: &mut Drafts) -> Result<
     Ok(())
 }
 
-/// The turn of an agent: each client in order is tried, until what is left is not worth an offer. Clients that are known to get
-/// nothing, by the one that was tried before them, are passed by untried.
+/// Gives an agent its turn: tries the clients in order until too little is left for an offer. Clients that are known to be
+/// granted nothing are skipped.
 fn turn<S: Sorter>(
     tables: &Tables,
     sorter: &mut S,
@@ -248,7 +249,7 @@ fn turn<S: Sorter>(
     end_turn(place, free, drafts)
 }
 
-/// The turns of all agents.
+/// Gives all agents their turns, in order of registration.
 fn turns<S: Sorter>(tables: &Tables, sorter: &mut S, drafts: &mut Drafts) -> Result<(), AllocError>
     requires cycle { IsCycleAt (S.content sorter.old) tables.now drafts.old 0 }
     requires none { drafts.old.offers.items ≡ [] }
@@ -264,7 +265,7 @@ fn turns<S: Sorter>(tables: &Tables, sorter: &mut S, drafts: &mut Drafts) -> Res
     Ok(())
 }
 
-/// An offer, as it is told.
+/// Returns an offer as it is reported.
 fn offer_line(offer: &OfferRow) -> Result<OfferLine, AllocError>
     ensures { IfOk result (λ line. line ≡ line_told offer.now) }
 {
@@ -277,7 +278,7 @@ fn offer_line(offer: &OfferRow) -> Result<OfferLine, AllocError>
     })
 }
 
-/// Offers, as they are told.
+/// Returns offers as they are reported.
 fn offer_lines(alloc: Global, offers: &[OfferRow]) -> Result<Vec<OfferLine>, AllocError>
     ensures { IfOk result (λ lines. lines.items ≡ map line_told offers.now) }
 {
@@ -288,7 +289,7 @@ fn offer_lines(alloc: Global, offers: &[OfferRow]) -> Result<Vec<OfferLine>, All
     Ok(lines)
 }
 
-/// Takes the charges of drafts back. It needs no memory.
+/// Undoes the charges of all drafts in the sorter. It needs no memory.
 fn take_back<S: Sorter>(tables: &Tables, sorter: &mut S, offers: &mut Vec<OfferRow>)
     requires { IsDrafting (S.content sorter.old) tables.now.rows offers.old.items }
     ensures content { IsSame (S.content sorter.new) (content_of tables.now.rows) }
@@ -300,8 +301,8 @@ fn take_back<S: Sorter>(tables: &Tables, sorter: &mut S, offers: &mut Vec<OfferR
     }
 }
 
-/// What roles consume before the first draft, lent by the tables. Where no role has a limit and nothing is counted, there is none. What is
-/// counted stays so when the last limit goes: it need not be counted anew when one comes again.
+/// Borrows from the tables what roles consume before the first draft, or returns `None` if it is not known and no role has a
+/// limit. Once known, it stays known when the last limit is removed, so it need not be computed again when a limit is set.
 pub(crate) fn lend_consumption(tables: &mut Tables) -> Result<Option<Consumption>, AllocError>
     requires { length tables.old.rows.agents ≤ 4096 }
     ensures quota { IfOk result (λ consumption. IsQuotaOf tables.old.rows (quota_under tables.old.rows.limits consumption)) }
@@ -312,7 +313,8 @@ pub(crate) fn lend_consumption(tables: &mut Tables) -> Result<Option<Consumption
     Ok(tables.lend_consumption())
 }
 
-/// The turns of all agents, whose offers are then put into the tables. Where memory ends, the drafts are left.
+/// Gives all agents their turns, and then adds the offers to the tables. If memory runs out, the drafts remain, and the caller
+/// has to undo them.
 fn offer_all<S: Sorter>(
     alloc: Global,
     tables: &mut Tables,
@@ -350,7 +352,8 @@ fn offer_all<S: Sorter>(
 }
 
 impl<S: Sorter> Cluster<S> {
-    /// The allocation cycle, at a moment in milliseconds.
+    /// Runs an allocation cycle at a timestamp, in milliseconds, and returns the reply with its offers. If memory runs out, no
+    /// row changes.
     pub(crate) fn cycle(
         &mut self,
         alloc: Global,
@@ -367,7 +370,7 @@ impl<S: Sorter> Cluster<S> {
         ensures counted { OnOk result (self.old.rows.limits ≢ [] → self.new.counted ≡ true) }
         ensures spends { SpendsOnOk S.COUNTED result self.old.work self.new.work (nodes_of (touched self.old.rows (Cycle at))) }
     {
-        // The moment is put back if memory ends.
+        // The clock is restored if memory runs out.
         let before = self.tables.clock();
         self.tables.set_clock(before.max(at));
         let mut drafts = Drafts {

@@ -1,4 +1,4 @@
-//! The effects of events that are not refused.
+//! The effects of accepted events.
 ghost use Rattle.std.specs.Prelude.{◌≡◌, false, None, IfOk, OnOk, OnErr};
 ghost use Rattle.drf_rows.specs.Step.{refusal_of, effect, answer};
 ghost use Rattle.drf_rows.specs.declared.event.Event.TheVariants.{SetWeight, SetLimit};
@@ -24,7 +24,7 @@ use drf_sorter::Sorter;
 use std::alloc::{AllocError, Global};
 
 impl<S: Sorter> Cluster<S> {
-    /// A role gets a weight.
+    /// Sets the weight of a role, in thousandths. If memory runs out, no row changes.
     fn set_weight(&mut self, limits: &Limits, role: Role, weight: u64) -> Result<(), AllocError>
         requires { refusal_of limits.now self.old.rows (SetWeight role weight) ≡ None }
         ensures ok { OnOk result (self.new.rows ≡ effect self.old.rows (SetWeight role weight)) }
@@ -37,7 +37,7 @@ impl<S: Sorter> Cluster<S> {
         Ok(())
     }
 
-    /// A role gets a limit, or has none any more.
+    /// Sets the quota limit of a role, or removes it if `limit` is empty. If memory runs out, no row changes.
     fn set_limit(
         &mut self,
         limits: &Limits,
@@ -53,7 +53,7 @@ impl<S: Sorter> Cluster<S> {
         Ok(())
     }
 
-    /// Applies an event that has no answer of its own, and is not refused, whole or not at all.
+    /// Applies an accepted event whose reply is `Done`. If memory runs out, no row changes.
     fn change(&mut self, alloc: Global, limits: &Limits, event: Event) -> Result<(), AllocError>
         requires kept { IsKept limits.now self.old.rows }
         requires welcome { refusal_of limits.now self.old.rows event ≡ None }
@@ -101,7 +101,8 @@ impl<S: Sorter> Cluster<S> {
         }
     }
 
-    /// Applies an event that is not refused, whole or not at all. Copies of the reply are made before anything changes.
+    /// Applies an accepted event, and returns its reply, with copies if `copied` is set. The copies are made before anything
+    /// changes. If memory runs out, no row changes.
     pub(crate) fn apply(
         &mut self,
         alloc: Global,

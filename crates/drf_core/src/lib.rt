@@ -1,4 +1,4 @@
-//! The allocator: events in, replies out.
+//! The allocator as a value: it applies events and returns replies.
 #![tactic(auto)]
 
 mod allocator;

@@ -1,4 +1,4 @@
-//! Why an event is refused. But for the tests in `late`, none needs memory.
+//! Why events are refused. Only the tests in `late` can need memory.
 ghost use Rattle.std.specs.Prelude.{◌≡◌, ◌∷◌, [], ◌<◌, ◌≤◌, true, false, length, not, is_some, None, IfNone, IfSome, IfOk, OnErr};
 ghost use Rattle.std.specs.List.{list_all};
 ghost use Rattle.std.specs.Option.{option_copied, option_map_or};
@@ -25,21 +25,21 @@ use drf_rows::{Accept, Decline, Event, LATEST_MOMENT, Limits, OfferRow, Refusal,
 use drf_tables::{Tables, is_too_large};
 use std::alloc::AllocError;
 
-/// The first of some cases that holds.
+/// Returns the refusal of the first case that holds, if any.
 pub(crate) fn first_case(cases: &[(bool, Refusal)]) -> Option<Refusal>
     ensures { result ≡ first_case cases.now }
 {
     cases.iter().find(|case| case.0).map(|case| case.1)
 }
 
-/// As many events as the limit were accepted.
+/// Returns whether the number of accepted events has reached its capacity.
 pub(crate) fn is_full(limits: &Limits, tables: &Tables) -> bool
     ensures { result ≡ is_full limits.now tables.now.rows }
 {
     limits.events() <= tables.events()
 }
 
-/// How many different roles stand in a list, if they are not more than some. It needs no memory.
+/// Returns the number of different roles in a list, or `None` if there are more than `most`. It needs no memory.
 fn count_roles(roles: &[Role], most: usize) -> Option<usize>
     requires { most ≤ 8 }
     ensures none { IfNone result (most < length (distinct roles.now)) }
@@ -48,7 +48,7 @@ fn count_roles(roles: &[Role], most: usize) -> Option<usize>
     let Some(first) = roles.first() else {
         return Some(0);
     };
-    // The roles that were counted, at the head; the other places are not looked at.
+    // The first `count` entries are the roles counted so far; the others are not read.
     let mut counted = [first; 8];
     let mut count = 0;
     for role in roles {
@@ -64,7 +64,8 @@ fn count_roles(roles: &[Role], most: usize) -> Option<usize>
     Some(count)
 }
 
-/// With one more framework the frameworks, its roles, or the clients would be too many.
+/// Returns whether one more framework with these roles would exceed the capacity of frameworks, of roles of a framework, or of
+/// clients.
 fn too_many_frameworks(limits: &Limits, tables: &Tables, roles: &Table<Role>) -> bool
     requires few { AreFew limits.now tables.now.rows }
     ensures { result ≡ too_many_frameworks limits.now tables.now.rows roles.now }
@@ -77,7 +78,7 @@ fn too_many_frameworks(limits: &Limits, tables: &Tables, roles: &Table<Role>) ->
     (limits.frameworks() < frameworks) | (limits.clients() < clients)
 }
 
-/// Returns whether the roles of a framework, or the clients of all frameworks, would be too many once it has these roles.
+/// Returns whether the capacity of roles of a framework, or of clients, would be exceeded once the framework has these roles.
 fn too_many_roles(limits: &Limits, tables: &Tables, framework: &Name, roles: &Table<Role>) -> bool
     requires few { AreFew limits.now tables.now.rows }
     ensures { result ≡ too_many_roles limits.now tables.now.rows framework.now roles.now }
@@ -93,14 +94,14 @@ fn too_many_roles(limits: &Limits, tables: &Tables, framework: &Name, roles: &Ta
     limits.clients() < (others + roles) as u64
 }
 
-/// The weight is below a thousandth or above 1000.
+/// Returns whether a weight, in thousandths, is below 0.001 or above 1000.
 fn is_bad_weight(weight: u64) -> bool
     ensures { result ≡ not (is_weight weight) }
 {
     !(1 <= weight && weight <= 1_000_000)
 }
 
-/// The role has no weight yet, and with one more the roles that have one would be too many.
+/// Returns whether the role has no weight, and one more weight would exceed the capacity of weights.
 fn too_many_weights(limits: &Limits, tables: &Tables, role: &Role) -> bool
     requires { AreFew limits.now tables.now.rows }
     ensures { result ≡ too_many_weights limits.now tables.now.rows role.now }
@@ -109,7 +110,7 @@ fn too_many_weights(limits: &Limits, tables: &Tables, role: &Role) -> bool
     !tables.has_weight(role) & (limits.weights() < weights)
 }
 
-/// The limit would get a row that is one too many, or names too many scalars.
+/// Returns whether the limit would exceed the capacity of limits, or names more scalars than the capacity of scalar names.
 fn too_many_limits(limits: &Limits, tables: &Tables, role: &Role, limit: &Quantities) -> bool
     ensures { result ≡ too_many_limits limits.now tables.now.rows role.now limit.now }
 {
@@ -119,7 +120,7 @@ fn too_many_limits(limits: &Limits, tables: &Tables, role: &Role, limit: &Quanti
     (is_new & is_row_too_many) | (limits.scalar_names() < entries.len() as u64)
 }
 
-/// The offer stands.
+/// Returns whether the offer exists.
 fn stands(offer: Option<&OfferRow>) -> bool
     ensures { result ≡ is_some (option_copied offer.entry) }
 {
@@ -129,7 +130,7 @@ fn stands(offer: Option<&OfferRow>) -> bool
     }
 }
 
-/// The offer stands, and is the framework's.
+/// Returns whether the offer exists and belongs to the framework.
 fn is_its(framework: &Name, offer: Option<&OfferRow>) -> bool
     ensures { result ≡ option_map_or (λ o. same_text o.framework framework.now) (option_copied offer.entry) false }
 {
@@ -139,7 +140,7 @@ fn is_its(framework: &Name, offer: Option<&OfferRow>) -> bool
     }
 }
 
-/// The framework is not registered. Who holds something is, and is not looked up.
+/// Returns whether the framework is not registered. If it is known to hold something, it is registered and not looked up.
 fn is_unknown(tables: &Tables, framework: &Name, holds: bool) -> bool
     requires { holds ≡ true → has_framework tables.now.rows framework.now ≡ true }
     ensures { result ≡ not (has_framework tables.now.rows framework.now) }
@@ -150,7 +151,7 @@ fn is_unknown(tables: &Tables, framework: &Name, holds: bool) -> bool
     !tables.has_framework(framework)
 }
 
-/// The offer stands, and is another framework's.
+/// Returns whether the offer exists and belongs to another framework.
 fn is_anothers(framework: &Name, offer: Option<&OfferRow>) -> bool
     ensures { result ≡ option_map_or (λ o. not (same_text o.framework framework.now)) (option_copied offer.entry) false }
 {
@@ -160,7 +161,7 @@ fn is_anothers(framework: &Name, offer: Option<&OfferRow>) -> bool
     }
 }
 
-/// The framework has no task of any of the names.
+/// Returns whether the framework has no task of any of these names.
 fn are_new(tables: &Tables, framework: &Name, tasks: &[(Name, Bundle)]) -> bool
     ensures { result ≡ list_all (λ s. not (has_task tables.now.rows framework.now s.0)) tasks.now }
 {
@@ -172,14 +173,14 @@ fn are_new(tables: &Tables, framework: &Name, tasks: &[(Name, Bundle)]) -> bool
     true
 }
 
-/// The framework has a task of one of the names, or a name stands twice.
+/// Returns whether the framework already has a task of one of these names, or a name occurs twice.
 fn is_task_known(tables: &Tables, framework: &Name, tasks: &TaskList) -> bool
     ensures { result ≡ is_task_known tables.now.rows framework.now tasks.now }
 {
     !are_new(tables, framework, tasks.as_slice()) | !tasks.are_distinct()
 }
 
-/// The offer stands, and does not cover what all tasks use together, which may have no join.
+/// Returns whether the offer exists and does not cover what all tasks use together.
 fn is_beyond(offer: Option<&OfferRow>, tasks: &TaskList) -> bool
     ensures { result ≡ option_map_or (λ o. not (covers_all o.bundle (uses tasks.now))) (option_copied offer.entry) false }
 {
@@ -189,14 +190,15 @@ fn is_beyond(offer: Option<&OfferRow>, tasks: &TaskList) -> bool
     }
 }
 
-/// As many filters as the limit are in force at a moment, or at the clock if that is later.
+/// Returns whether the filters in force at a timestamp (in milliseconds), or at the clock if that is later, have reached their
+/// capacity.
 fn are_many_filters(limits: &Limits, tables: &Tables, at: u64) -> bool
     ensures { result ≡ are_many_filters limits.now tables.now.rows at }
 {
     tables.are_in_force(limits.filters(), tables.clock().max(at))
 }
 
-/// Something is left of an offer, if it stands. It needs no memory.
+/// Returns whether the offer exists and the tasks leave some of it. It needs no memory.
 fn has_rest(offer: Option<&OfferRow>, tasks: &TaskList) -> bool
     requires { option_map_or (λ o. not (covers_all o.bundle (uses tasks.now))) (option_copied offer) false ≡ false }
     ensures { result ≡ option_map_or (λ o. not (is_empty (left_of_offer o tasks.now))) (option_copied offer.entry) false }
@@ -207,7 +209,7 @@ fn has_rest(offer: Option<&OfferRow>, tasks: &TaskList) -> bool
     }
 }
 
-/// An accept would set one filter too many.
+/// Returns whether an accept would set a filter beyond the capacity of filters.
 fn accept_is_too_much(
     limits: &Limits,
     tables: &Tables,
@@ -223,14 +225,14 @@ fn accept_is_too_much(
         && are_many_filters(limits, tables, accept.at)
 }
 
-/// A decline would set one filter too many.
+/// Returns whether a decline would set a filter beyond the capacity of filters.
 fn decline_is_too_much(limits: &Limits, tables: &Tables, decline: &Decline) -> bool
     ensures { result ≡ decline_is_too_much limits.now tables.now.rows decline.now }
 {
     0 < decline.refuse_ms && are_many_filters(limits, tables, decline.at)
 }
 
-/// Why an agent that registers is refused.
+/// Returns why an `add_agent` is refused, if it is.
 fn refuse_agent(limits: &Limits, tables: &Tables, agent: &Name, total: &Bundle) -> Option<Refusal>
     requires { AreFew limits.now tables.now.rows }
     ensures { result ≡ refusal_of limits.now tables.now.rows (AddAgent agent.now total.now) }
@@ -243,7 +245,7 @@ fn refuse_agent(limits: &Limits, tables: &Tables, agent: &Name, total: &Bundle) 
     ])
 }
 
-/// Why an event of an agent is refused that has to be registered.
+/// Returns the early refusal of an event that needs only a registered agent, if there is one.
 pub(crate) fn refuse_unknown_agent(
     limits: &Limits,
     tables: &Tables,
@@ -257,7 +259,7 @@ pub(crate) fn refuse_unknown_agent(
     ])
 }
 
-/// Why a framework that registers is refused.
+/// Returns why an `add_framework` is refused, if it is.
 fn refuse_framework(
     limits: &Limits,
     tables: &Tables,
@@ -275,7 +277,7 @@ fn refuse_framework(
     ])
 }
 
-/// Returns why other roles of a framework are refused.
+/// Returns why a `set_framework` is refused, if it is.
 fn refuse_roles(
     limits: &Limits,
     tables: &Tables,
@@ -300,7 +302,7 @@ fn refuse_roles(
     ])
 }
 
-/// Why an event of a framework is refused that has to be registered.
+/// Returns why an event that needs only a registered framework is refused, if it is.
 fn refuse_unknown_framework(limits: &Limits, tables: &Tables, framework: &Name) -> Option<Refusal>
     ensures { result ≡ first_case ((is_full limits.now tables.now.rows, HistoryFull) ∷ (not (has_framework tables.now.rows framework.now), UnknownFramework) ∷ []) }
 {
@@ -310,7 +312,7 @@ fn refuse_unknown_framework(limits: &Limits, tables: &Tables, framework: &Name) 
     ])
 }
 
-/// Why an event of a client is refused that has to be registered.
+/// Returns why an event that needs only a registered client is refused, if it is.
 fn refuse_unknown_client(
     limits: &Limits,
     tables: &Tables,
@@ -326,7 +328,7 @@ fn refuse_unknown_client(
     ])
 }
 
-/// Why a framework that accepts an offer is refused, but for the number of filters.
+/// Returns why an `accept` is refused, if it is, except for the number of filters.
 fn refuse_tasks(
     limits: &Limits,
     tables: &Tables,
@@ -359,7 +361,7 @@ fn refuse_tasks(
     ])
 }
 
-/// Why an accept is refused whose offer covers the tasks.
+/// Returns why an `accept` whose offer covers the tasks is refused, if one more filter would be too many.
 fn refuse_rest(
     limits: &Limits,
     tables: &Tables,
@@ -376,7 +378,7 @@ fn refuse_rest(
     )])
 }
 
-/// Why a framework that accepts an offer is refused. What is left of the offer is asked for only where it covers the tasks.
+/// Returns why an `accept` is refused, if it is. What the tasks leave is computed only if the offer covers them.
 fn refuse_accept(limits: &Limits, tables: &Tables, accept: &Accept) -> Option<Refusal>
     ensures { result ≡ refusal_of limits.now tables.now.rows (Event.Accept accept.now) }
 {
@@ -387,7 +389,7 @@ fn refuse_accept(limits: &Limits, tables: &Tables, accept: &Accept) -> Option<Re
     }
 }
 
-/// Why a framework that declines an offer is refused.
+/// Returns why a `decline` is refused, if it is.
 fn refuse_decline(limits: &Limits, tables: &Tables, decline: &Decline) -> Option<Refusal>
     ensures { result ≡ refusal_of limits.now tables.now.rows (Event.Decline decline.now) }
 {
@@ -411,7 +413,7 @@ fn refuse_decline(limits: &Limits, tables: &Tables, decline: &Decline) -> Option
     ])
 }
 
-/// Why an offer is not taken back.
+/// Returns why a `rescind` is refused, if it is.
 fn refuse_rescind(limits: &Limits, tables: &Tables, number: u64) -> Option<Refusal>
     ensures { result ≡ refusal_of limits.now tables.now.rows (Rescind number) }
 {
@@ -421,7 +423,7 @@ fn refuse_rescind(limits: &Limits, tables: &Tables, number: u64) -> Option<Refus
     ])
 }
 
-/// Why a task does not end.
+/// Returns why a `finish` is refused, if it is.
 fn refuse_finish(limits: &Limits, tables: &Tables, framework: &Name, task: &Name) -> Option<Refusal>
     ensures { result ≡ refusal_of limits.now tables.now.rows (Finish framework.now task.now) }
 {
@@ -437,7 +439,7 @@ fn refuse_finish(limits: &Limits, tables: &Tables, framework: &Name, task: &Name
     ])
 }
 
-/// Why resources do not move between everyone and a role, but for what is free and what limits admit.
+/// Returns the early refusal of a `reserve` or `unreserve`, if there is one: all cases but those of free resources and limits.
 fn refuse_move(
     limits: &Limits,
     tables: &Tables,
@@ -456,7 +458,7 @@ fn refuse_move(
     ])
 }
 
-/// Why a weight is refused.
+/// Returns why a `set_weight` is refused, if it is.
 fn refuse_weight(limits: &Limits, tables: &Tables, role: &Role, weight: u64) -> Option<Refusal>
     requires { AreFew limits.now tables.now.rows }
     ensures { result ≡ refusal_of limits.now tables.now.rows (SetWeight role.now weight) }
@@ -468,7 +470,7 @@ fn refuse_weight(limits: &Limits, tables: &Tables, role: &Role, weight: u64) -> 
     ])
 }
 
-/// Why a limit is refused.
+/// Returns why a `set_limit` is refused, if it is.
 fn refuse_limit(
     limits: &Limits,
     tables: &Tables,
@@ -487,7 +489,7 @@ fn refuse_limit(
     ])
 }
 
-/// Why a cycle is refused.
+/// Returns why a `cycle` is refused, if it is.
 fn refuse_cycle(limits: &Limits, tables: &Tables, at: u64) -> Option<Refusal>
     ensures { result ≡ refusal_of limits.now tables.now.rows (Cycle at) }
 {
@@ -497,7 +499,7 @@ fn refuse_cycle(limits: &Limits, tables: &Tables, at: u64) -> Option<Refusal>
     ])
 }
 
-/// Why an event is refused, of the cases that are told whatever the memory.
+/// Returns the early refusal of an event, if there is one: a refusal that is decided without memory.
 pub(crate) fn refuse_early(limits: &Limits, tables: &Tables, event: &Event) -> Option<Refusal>
     requires few { AreFew limits.now tables.now.rows }
     ensures { result ≡ early_refusal_of limits.now tables.now.rows event.now }
@@ -538,8 +540,8 @@ pub(crate) fn refuse_early(limits: &Limits, tables: &Tables, event: &Event) -> O
     }
 }
 
-/// Why an event is refused, if it is: of several cases the one of the least number. No row changes. Where memory ends, no case
-/// holds that is told whatever the memory.
+/// Returns why an event is refused, if it is: of the refusals that apply, the one with the smallest number. No row changes. An
+/// error means that memory ran out; then no early refusal applies.
 pub fn refusal(
     limits: &Limits,
     tables: &mut Tables,

@@ -1,4 +1,4 @@
-//! A reply, and copies of it.
+//! A reply with copies of it.
 ghost use Rattle.std.specs.Prelude.{◌≡◌, IfOk};
 ghost use Rattle.drf_rows.specs.declared.reply.Reply.TheVariants.{Done, Refused};
 ghost use Rattle.drf_core.specs.Copies.{copies_if};
@@ -6,7 +6,7 @@ ghost use Rattle.drf_core.specs.Copies.{copies_if};
 use drf_rows::{Refusal, Reply};
 use std::alloc::AllocError;
 
-/// The reply to an event and, if they are wanted, two copies of it.
+/// The reply to an event, and two copies of it if the caller asked for them.
 #[derive(Drop)]
 pub struct Stepped {
     pub reply: Reply,
@@ -14,7 +14,7 @@ pub struct Stepped {
 }
 
 impl Stepped {
-    /// That an event was accepted. It takes no memory.
+    /// Returns the reply `Done`. It needs no memory.
     pub(crate) fn done(copied: bool) -> Stepped
         ensures reply { result.reply ≡ Done }
         ensures copies { result.copies ≡ copies_if copied Done }
@@ -25,7 +25,7 @@ impl Stepped {
         }
     }
 
-    /// That an event was refused. It takes no memory.
+    /// Returns the reply `Refused`. It needs no memory.
     pub(crate) fn refused(refusal: Refusal, copied: bool) -> Stepped
         ensures reply { result.reply ≡ Refused refusal }
         ensures copies { result.copies ≡ copies_if copied (Refused refusal) }
@@ -37,7 +37,7 @@ impl Stepped {
         }
     }
 
-    /// Any reply.
+    /// Returns any reply, with copies if `copied` is set.
     pub(crate) fn of(reply: Reply, copied: bool) -> Result<Stepped, AllocError>
         ensures reply { IfOk result (λ stepped. stepped.reply ≡ reply) }
         ensures copies { IfOk result (λ stepped. stepped.copies ≡ copies_if copied reply) }
@@ -47,7 +47,7 @@ impl Stepped {
     }
 }
 
-/// Two replies that are the same, if they are wanted.
+/// Returns two equal replies as the copies, if `copied` is set.
 fn both_if(copied: bool, first: Reply, second: Reply) -> Option<(Reply, Reply)>
     requires { second ≡ first }
     ensures { result ≡ copies_if copied first }
@@ -55,7 +55,7 @@ fn both_if(copied: bool, first: Reply, second: Reply) -> Option<(Reply, Reply)>
     if copied { Some((first, second)) } else { None }
 }
 
-/// Two copies of a reply, if they are wanted.
+/// Returns two copies of a reply, if `copied` is set.
 fn copies_if(reply: &Reply, copied: bool) -> Result<Option<(Reply, Reply)>, AllocError>
     ensures { IfOk result (λ copies. copies ≡ copies_if copied reply.now) }
 {

@@ -1,4 +1,4 @@
--- Gaps among slots, which are counted and closed.
+-- Lemmas on counting and removing free slots.
 use Rattle.std.proofs.Common.{◌≡◌, ◌+◌, ◌<◌, ◌≤◌, ℕ, zero, suc, Bool, true, false, inl, inr, refl, List, [], ◌∷◌, ◌++◌, Option, None, Some, is_some, map, filter, length, get_or, take, slice_get, ap, ◌∙◌, sym, subst, arith, length-append}
 use Rattle.std.specs.List.{IsDistinct}
 use Rattle.std.specs.Map.{lookup, values_of}
@@ -10,7 +10,7 @@ use Rattle.indexmap.specs.IndexMap.{set_value_at}
 use Rattle.drf_hash.specs.Slots.{filled, ranks_of, slot_of, IsRegistry}
 
 module _ {X : Type 0} where
-  -- ---- one more slot
+  -- ---- a prefix with one more slot
 
   pub filled-more : (slots : List (Option X)) (i : ℕ) (slot : Option X) → i < length slots → slot ≡ get_or slots i slot
       → filled (take (i + 1) slots) ≡ filled (take i slots) ++ filled (slot ∷ [])
@@ -39,7 +39,7 @@ module _ {X : Type 0} where
       by None is = refl
       by (Some e) is = cc
 
-  -- ---- ranks, one slot after the other
+  -- ---- ranks are computed slot by slot
 
   pub length-ranks : (before : ℕ) (slots : List (Option X)) → length (ranks_of before slots) ≡ length slots
   length-ranks before [] = refl
@@ -71,7 +71,7 @@ module _ {X : Type 0} where
       ∙ sym (ranks-more 0 (take i slots) slot)
       ∙ ap (ranks_of 0) (sym (take_more slots i slot below ∙ ap (λ (s : Option X). take i slots ++ s ∷ []) (sym read)))
 
-  -- ---- the gaps are closed
+  -- ---- removing the free slots
 
   pub filled-all : (xs : List X) → filled (map (λ x. Some x) xs) ≡ xs
   filled-all [] = refl
@@ -82,7 +82,7 @@ module _ {X : Type 0} where
   keep-some (None ∷ slots) = keep-some slots
   keep-some (Some e ∷ slots) = ap (λ (ss : List (Option X)). Some e ∷ ss) (keep-some slots)
 
--- the slots as others see them
+-- the same for slots whose values are mapped by a function
 module _ {X Y : Type 0} (see : X → Y) where
   pub ranks-seen : (before : ℕ) (slots : List (Option X)) → ranks_of before (map (option_map see) slots) ≡ ranks_of before slots
   ranks-seen before [] = refl
@@ -102,9 +102,9 @@ module _ {K : Type 0} (f : ℕ → ℕ) where
     | inr past ↦ rw past (lookup-values test es)
   ]
 
-  -- ---- places that are moved one by one
+  -- ---- slot numbers are replaced one by one
 
-  -- the first of them are moved
+  -- the entries, with the numbers of the first ones replaced
   abbrev pub moved_first : ℕ → List (K × ℕ) → List (K × ℕ)
   moved_first zero es = es
   moved_first (suc k) [] = []
@@ -138,7 +138,7 @@ module _ {K : Type 0} (f : ℕ → ℕ) where
   moved-all (suc k) [] all = refl
   moved-all (suc k) (e ∷ es) all = ap (λ (fs : List (K × ℕ)). (e.0, f e.1) ∷ fs) (moved-all k es (omega (arith, all)))
 
--- ---- what stands in the slots is found where it is moved to
+-- ---- each value is found in its new slot
 
 module _ {K X : Type 0} (same : K → K → Bool) (key : X → K) where
   ranked_slot : (k : K) (before : ℕ) (slots : List (Option X))

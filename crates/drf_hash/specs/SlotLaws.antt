@@ -1,4 +1,4 @@
--- What stands in slots is found by its key, whatever comes, changes and leaves.
+-- Lemmas on lists with free slots: values are found by their keys after a value is added, changed or removed.
 use Rattle.std.proofs.Common.{◌≡◌, ◌+◌, ◌<◌, ◌≤◌, ◌||◌, ℕ, zero, suc, Bool, true, false, cond, not, inl, inr, refl, List, [], ◌∷◌, ◌++◌, Option, None, Some, is_some, map, filter, length, get_or, set, take, ap, ◌∙◌, sym, subst, arith, if◌then◌else◌, length-append}
 use Rattle.std.specs.Bool.{Decides}
 use Rattle.std.specs.Cmp.{IsEquivalence}
@@ -14,7 +14,7 @@ use Rattle.std.proofs.lemmas.Map.Keys.{IsDistinct-cons, IsDistinct-head, IsDisti
 use Rattle.std.proofs.Props.{props}
 use Rattle.drf_hash.specs.Slots.{filled, slot_of, IsRegistry}
 
--- ---- numbers one higher
+-- ---- optional numbers that are increased by one
 
 next-some : (o : Option ℕ) (i : ℕ) → option_map (λ j. suc j) o ≡ Some (suc i) → o ≡ Some i
 next-some None i is = cc
@@ -41,7 +41,7 @@ next-cond : (b : Bool) (a o : Option ℕ) → option_map (λ j. suc j) (cond b a
 next-cond true a o = refl
 next-cond false a o = refl
 
--- what the test of a first one decides
+-- the two results of a test
 module _ {Y : Type 0} (b : Bool) (first : Option Y) (later : Option Y) where
   taken : b ≡ true → (if b then first else later) ≡ first
   taken is = ap (λ (c : Bool). if c then first else later) is
@@ -49,7 +49,7 @@ module _ {Y : Type 0} (b : Bool) (first : Option Y) (later : Option Y) where
   passed : b ≡ false → (if b then first else later) ≡ later
   passed is = ap (λ (c : Bool). if c then first else later) is
 
--- ---- slots, whatever the keys
+-- ---- slots without keys
 
 module _ {X : Type 0} where
   pub filled-short : (slots : List (Option X)) → length (filled slots) ≤ length slots
@@ -60,7 +60,7 @@ module _ {X : Type 0} where
   pub filled-push : (slots : List (Option X)) (x : X) → filled (slots ++ Some x ∷ []) ≡ filled slots ++ x ∷ []
   filled-push slots x = filter_map-append (λ s. s) slots (Some x ∷ [])
 
-  -- what is read of a slot in which something stands
+  -- reading a slot in use returns its value
   pub read_is : (slots : List (Option X)) (i : ℕ) (s : Option X) (x : X) → i < length slots → s ≡ get_or slots i s → get_or slots i None ≡ Some x
       → s ≡ Some x
   read_is slots i s x below read there = read ∙ get_or_default slots i s None below ∙ there
@@ -79,7 +79,7 @@ module _ {X : Type 0} where
   length-set (None ∷ slots) (suc i) x y at = length-set slots i x y at
   length-set (Some z ∷ slots) (suc i) x y at = omega (arith, length-set slots i x y at)
 
-  -- what holds of each that stands in a slot holds of the one that was found
+  -- what holds for all values holds for the value of a slot
   pub each_slot : (P : X → Type 0) (slots : List (Option X)) (i : ℕ) (x : X) → get_or slots i None ≡ Some x → AllByRecursion P (filled slots) → P x
   each_slot P [] i x at all = absurd cc
   each_slot P (None ∷ slots) zero x at all = absurd cc
@@ -89,7 +89,7 @@ module _ {X : Type 0} where
   each_slot P (None ∷ slots) (suc i) x at all = each_slot P slots i x at all
   each_slot P (Some y ∷ slots) (suc i) x at all = each_slot P slots i x at all.1
 
-  -- and what is put into a slot is part of each sum
+  -- a value that is stored in a slot is at most the sum over all slots
   pub slot_in_sum : (f : X → ℕ) (slots : List (Option X)) (i : ℕ) (x y : X) → get_or slots i None ≡ Some x
       → f y ≤ sum_by f (filled (set slots i (Some y)))
   slot_in_sum f [] i x y at = absurd cc
@@ -99,9 +99,9 @@ module _ {X : Type 0} where
   slot_in_sum f (Some z ∷ slots) (suc i) x y at =
       omega (arith, sum_by-cons f z (filled (set slots i (Some y))), slot_in_sum f slots i x y at)
 
--- ---- what is found
+-- ---- finding values by key
 
--- what has the key stands in the slot
+-- the value of the slot has the key
 pub record IsIn {K X : Type 0} (key : X → K) (k : K) (slots : List (Option X)) (i : ℕ) : Type 0 where
   pub entry : X
   pub there : get_or slots i None ≡ Some entry
@@ -145,7 +145,7 @@ module _ {K X : Type 0} (same : K → K → Bool) (decides : (a b : K) → Decid
           let later = found i (next-some (slot_of same key k slots) i is) in
           record { entry = later.entry; there = later.there; named = later.named; below = omega (arith, later.below) }
 
-  -- a key is known in slots where one that stands in them has it
+  -- a key is found exactly if a value has it
   pub slot-known : (k : K) (slots : List (Option X)) → is_some (slot_of same key k slots) ≡ list_any (λ x. same (key x) k) (filled slots)
   slot-known k [] = refl
   slot-known k (None ∷ slots) = is_some-next (slot_of same key k slots) ∙ slot-known k slots
@@ -161,7 +161,7 @@ module _ {K X : Type 0} (same : K → K → Bool) (decides : (a b : K) → Decid
       by None is = refl
       by (Some i) is = cc
 
-  -- one that stands there is found
+  -- a key that a value has is found
   pub slot_missed : (k : K) (slots : List (Option X)) → list_any (λ x. same (key x) k) (filled slots) ≡ true → slot_of same key k slots ≡ None → ⊥
   slot_missed k slots known none = false≢true (sym (ap (λ (o : Option ℕ). is_some o) none) ∙ slot-known k slots ∙ known)
 
@@ -169,7 +169,7 @@ module _ {K X : Type 0} (same : K → K → Bool) (decides : (a b : K) → Decid
   any_key k [] = refl
   any_key k (x ∷ xs) = λ i. swap k (key x) i || any_key k xs i
 
-  -- no slot before one has its key
+  -- no earlier slot has the key of a slot's value
   pub new_to_come : (slots : List (Option X)) (i : ℕ) (x : X) → IsDistinct same (map key (filled slots)) → get_or slots i None ≡ Some x
       → list_any (λ y. same (key y) (key x)) (filled (take i slots)) ≡ false
   new_to_come slots zero x apart at = refl
@@ -191,7 +191,7 @@ module _ {K X : Type 0} (same : K → K → Bool) (decides : (a b : K) → Decid
       each_key P (None ∷ slots) (suc i) x at all = each_key P slots i x at all
       each_key P (Some y ∷ slots) (suc i) x at all = each_key P slots i x at all.1
 
-  -- ---- one is changed, and keeps its key
+  -- ---- a value is changed and keeps its key
 
   slot_of-set : (k : K) (slots : List (Option X)) (i : ℕ) (x y : X) → get_or slots i None ≡ Some x → key y ≡ key x
       → slot_of same key k (set slots i (Some y)) ≡ slot_of same key k slots
@@ -222,7 +222,7 @@ module _ {K X : Type 0} (same : K → K → Bool) (decides : (a b : K) → Decid
     live = is.live ∙ sym (length-set slots i x y at);
   }
 
-  -- others than those of a key stay
+  -- a change of the values with a key does nothing if no value has the key
   others_stay : (k : K) (change : X → X) (xs : List X) → AllByRecursion (λ l. same k l ≡ false) (map key xs)
       → xs ≡ map (λ x. if same (key x) k then change x else x) xs
   others_stay k change [] all = refl
@@ -262,7 +262,7 @@ module _ {K X : Type 0} (same : K → K → Bool) (decides : (a b : K) → Decid
       there later (suc i) is at miss =
           rw (swap (key y) k ∙ miss) (ap (λ (zs : List X). y ∷ zs) (later i (next-some (slot_of same key k slots) i is) at))
 
-  -- ---- one more
+  -- ---- a value is added
 
   slot_of-push : (l : K) (x : X) (slots : List (Option X)) → slot_of same key (key x) slots ≡ None
       → slot_of same key l (slots ++ Some x ∷ []) ≡ cond (same (key x) l) (Some (length slots)) (slot_of same key l slots)
@@ -305,7 +305,7 @@ module _ {K X : Type 0} (same : K → K → Bool) (decides : (a b : K) → Decid
         omega (arith, many, before);
   }
 
-  -- ---- one less
+  -- ---- a value is removed
 
   others_left : (k : K) (xs : List X) → AllByRecursion (λ l. same k l ≡ false) (map key xs) → xs ≡ filter (λ x. not (same (key x) k)) xs
   others_left k [] all = refl
@@ -339,7 +339,7 @@ module _ {K X : Type 0} (same : K → K → Bool) (decides : (a b : K) → Decid
       there later zero is miss = absurd (next-first (slot_of same key k slots) is)
       there later (suc i) is miss = rw (swap (key x) k ∙ miss) (ap (λ (ys : List X). x ∷ ys) (later i (next-some (slot_of same key k slots) i is)))
 
-  -- a key that no other has
+  -- a key that no value has is not found
   slot_of-none : (k : K) (slots : List (Option X)) → AllByRecursion (λ l. same k l ≡ false) (map key (filled slots)) → slot_of same key k slots ≡ None
   slot_of-none k [] none = refl
   slot_of-none k (None ∷ slots) none = ap (option_map (λ j. suc j)) (slot_of-none k slots none)
@@ -429,7 +429,7 @@ module _ {K X : Type 0} (same : K → K → Bool) (decides : (a b : K) → Decid
         omega (arith, many, before, fewer);
   }
 
--- it is a fact
+-- `IsRegistry` is a proposition: any two proofs of it are equal
 pub registry-prop : {K X : Type 0} (same : K → K → Bool) (key : X → K) (slots : List (Option X)) (places : List (K × ℕ)) (number : ℕ)
     → IsProp (IsRegistry same key slots places number)
 registry-prop same key slots places number = hlevel props

@@ -1,4 +1,4 @@
-//! Slots, some of which are gaps, and how the gaps are closed.
+//! Removes the free slots from lists of slots.
 ghost use Rattle.std.specs.Prelude.{◌≡◌, get_or, map, IfOk, OnErr, OnOk, Some};
 ghost use Rattle.drf_hash.specs.Slots.{filled, ranks_of};
 
@@ -7,7 +7,7 @@ use indexmap::IndexMap;
 use std::alloc::{AllocError, Global};
 use std::hash::Hash;
 
-/// Of each slot, how many before it are no gaps.
+/// Returns, for each slot, how many slots before it are in use.
 fn ranks<X>(alloc: Global, slots: &[Option<X>]) -> Result<Vec<usize>, AllocError>
     ensures { IfOk result (λ ranks. ranks.items ≡ ranks_of 0 slots.now) }
 {
@@ -22,7 +22,7 @@ fn ranks<X>(alloc: Global, slots: &[Option<X>]) -> Result<Vec<usize>, AllocError
     Ok(ranks)
 }
 
-/// The new place in the stead of an old one.
+/// Returns the number that a slot has once the free slots are removed, or 0 if there is no such slot.
 fn moved(ranks: &[usize], place: usize) -> usize
     ensures { result ≡ get_or ranks.now place 0 }
 {
@@ -32,7 +32,7 @@ fn moved(ranks: &[usize], place: usize) -> usize
     }
 }
 
-/// Puts new places in the stead of the old ones.
+/// Replaces each slot number of a map by the number that the slot has once the free slots are removed.
 fn move_all<K: Eq + Hash>(places: &mut IndexMap<K, usize, HashKey>, ranks: &[usize])
     ensures { places.new.entries ≡ map (λ e. (e.0, get_or ranks.now e.1 0)) places.old.entries }
 {
@@ -42,14 +42,14 @@ fn move_all<K: Eq + Hash>(places: &mut IndexMap<K, usize, HashKey>, ranks: &[usi
     }
 }
 
-/// Keeps what are no gaps.
+/// Removes the free slots. The others keep their order.
 fn keep_filled<X: Drop>(slots: &mut Vec<Option<X>>)
     ensures { slots.new.items ≡ map Some (filled slots.old.items) }
 {
     slots.retain(|slot| slot.is_some());
 }
 
-/// Closes the gaps, and says so where the places of what stands in the slots are kept. An `Err` changes nothing.
+/// Removes the free slots of a list, and updates the map from keys to slot numbers. If memory runs out, neither changes.
 pub fn close_gaps<K: Eq + Hash, X: Drop>(
     slots: &mut Vec<Option<X>>,
     places: &mut IndexMap<K, usize, HashKey>,

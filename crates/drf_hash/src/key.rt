@@ -1,4 +1,4 @@
-//! With what the hashes of names begin.
+//! The key of the hashes of names.
 ghost use Rattle.std.specs.Prelude.{◌≡◌};
 ghost use Rattle.std.specs.Hash.FoldHasher as folding;
 
@@ -7,21 +7,22 @@ use drf_role::{Name, Role};
 use indexmap::IndexMap;
 use std::hash::{BuildHasher, FoldHasher, Hasher};
 
-/// With what the hashes of names begin. Who chooses names and does not know it can choose few whose hashes are the same. It decides
-/// how long a call takes, and never an answer.
+/// The key of the hashes of names: a hasher that has already read the key's bytes. Users who choose names but do not know the key
+/// can find few names with equal hashes. The key affects how long a call takes, but never its result.
 #[derive(Clone, Copy)]
 pub struct HashKey {
     pub start: NameHasher,
 }
 
 impl HashKey {
-    /// The same key each time, for names that nobody chose in order to slow a call down.
+    /// Returns a key that is always the same, for names that nobody chooses in order to slow calls down.
     pub fn known() -> HashKey
         ensures { result.start.fold ≡ folding.initial }
     {
         HashKey::of(FoldHasher::default())
     }
 
+    /// Returns the key of a hasher that has read the key's bytes.
     fn of(fold: FoldHasher) -> HashKey
         ensures { result.start.fold ≡ fold }
     {
@@ -30,7 +31,7 @@ impl HashKey {
         }
     }
 
-    /// The key that is read from bytes, of which 16 or more should be random.
+    /// Returns the key of these bytes, of which at least 16 should be random.
     pub fn from_bytes(bytes: &[u8]) -> HashKey
         ensures { result.start.fold ≡ folding.write folding.initial bytes.now }
     {
@@ -50,8 +51,8 @@ impl BuildHasher for HashKey {
     }
 }
 
-/// What goes by names, in the order in which the names came.
+/// A map from names, ordered by insertion.
 pub type ByName<V> = IndexMap<Name, V, HashKey>;
 
-/// What goes by roles, in the order in which the roles came.
+/// A map from roles, ordered by insertion.
 pub type ByRole<V> = IndexMap<Role, V, HashKey>;

@@ -1,4 +1,4 @@
-//! Tables by names that were chosen by somebody else.
+//! Hash tables whose keys are names that untrusted users choose, and lists with free slots.
 #![tactic(auto)]
 
 mod gaps;

@@ -1,21 +1,22 @@
-//! A hash of names.
+//! The hasher of names.
 ghost use Rattle.std.specs.Prelude.{◌≡◌};
 ghost use Rattle.std.specs.Hash.FoldHasher as folding;
 ghost use Rattle.drf_hash.specs.Reading.{with_length, read_text};
 
 use std::hash::{FoldHasher, Hasher};
 
-/// How long a name is at most whose length the kit's hash keeps apart from its bytes.
+/// The greatest length of a name, in bytes, that `FoldHasher` itself keeps apart from the name's bytes.
 const SHORT: usize = 8;
 
-/// The kit's hash, with the length of a longer name read in front of it: else who chooses names could choose some of several lengths whose hashes are the
-/// same, whatever was read before.
+/// The standard library's `FoldHasher`, but the length of a name of more than 8 bytes is read before the name. Otherwise users
+/// could choose names of different lengths that collide whatever the key is.
 #[derive(Clone, Copy)]
 pub struct NameHasher {
     pub fold: FoldHasher,
 }
 
 impl NameHasher {
+    /// Reads the length of a name, modulo 256, if it is more than 8 bytes.
     fn read_length(&mut self, length: usize)
         ensures { self.new.fold ≡ with_length self.old.fold length }
     {

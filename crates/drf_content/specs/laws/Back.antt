@@ -1,4 +1,4 @@
--- The clients of a framework that is put back, one by one.
+-- Restoring the clients of a saved framework one by one.
 use Rattle.std.specs.Prelude.{◌≡◌, ◌+◌, ◌^◌, ◌<◌, ◌||◌, Bool, true, false, not, ◌&&◌, List, [], ◌∷◌, ◌++◌, map, sum_by, if◌then◌else◌}
 use Rattle.std.specs.List.{list_any}
 use Rattle.std.proofs.Common.{refl, sym, ap, subst, ◌∙◌, append_assoc, arith}
@@ -24,9 +24,9 @@ use Rattle.drf_content.specs.laws.Sound.{IsSound-content_of}
 use Rattle.drf_laws.specs.laws.Clients.{unregistered}
 use Rattle.drf_laws.specs.laws.Roles.{is_role, none_before}
 
--- ---- one client
+-- ---- a client is restored
 
--- the client that stands last is changed
+-- a change of the last client changes no other
 changed_last : (cs : List Ranked) (r : Ranked) (path : Path) (change : Ranked → Ranked)
     → list_any (λ c. same_path c.path path) cs ≡ false → same_path r.path path ≡ true
     → map (λ c. if same_path c.path path then change c else c) (cs ++ r ∷ []) ≡ cs ++ change r ∷ []
@@ -41,7 +41,7 @@ with_change-last : (content : Content) (r : Ranked) (path : Path) (change : Rank
 with_change-last content r path change new here =
     λ i. record content { clients = changed_last content.clients r path change new here i }
 
--- and is known
+-- the client that was added last is known
 pub has_client-last : (content : Content) (r : Ranked) → has_client (with_last content r) r.path ≡ true
 has_client-last content r =
     list_any-append (λ (c : Ranked). same_path c.path r.path) content.clients (r ∷ [])
@@ -52,7 +52,7 @@ has_client-last content r =
     or_true true = refl
     or_true false = refl
 
--- a client that was just added, and is to be served or not
+-- a client that was just added and set active or inactive, with no offers counted
 abbrev pub added : Text → ClientRow → Ranked
 added framework c = record { path = client_path c.role framework; active = not c.suppressed; held = λ _. 0; count = 0 }
 
@@ -72,9 +72,9 @@ client_is_put_back content framework c new =
     ∙ with_change-last content (added framework c) path (charged [] c.count) new (same_path_itself path)
     ∙ (λ i. with_last content (record { path = path; active = not c.suppressed; held = λ _. 0; count = same i }))
 
--- ---- all of them
+-- ---- all clients of the framework are restored
 
--- so much of a scalar they hold, and so many offers they count
+-- restored clients hold nothing; their counts are those of the saved rows
 nothing_back : (name label : Text) (cs : List ClientRow) → sum_by (λ (r : Ranked). r.held label) (map (put_back name) cs) ≡ 0
 nothing_back name label [] = refl
 nothing_back name label (c ∷ cs) =
@@ -89,7 +89,7 @@ counts_back name (c ∷ cs) = omega (
   counts_back name cs,
 )
 
--- clients that hold nothing, behind others
+-- the content with restored clients after the others
 abbrev behind : Content → Text → List ClientRow → Content
 behind content name cs = record content { clients = content.clients ++ map (put_back name) cs }
 
@@ -114,7 +114,7 @@ sound_behind content name cs sound few = record {
 
 module _ (content : Content) (name : Text) (sound : IsSound content)
     (unknown : (role : Path) → has_client content (client_path role name) ≡ false) where
-  -- a role of which no client is back
+  -- a client is restored exactly if its role is among those of the restored clients
   others_back : (role : Path) (cs : List ClientRow)
       → list_any (λ (r : Ranked). same_path r.path (client_path role name)) (map (put_back name) cs) ≡ list_any (is_role role) (map (λ c. c.role) cs)
   others_back role [] = refl

@@ -1,4 +1,4 @@
--- Clients that are suppressed or revive, agents and frameworks that leave: what that changes in what a sorter holds of the rows.
+-- How the content changes when clients are suppressed or revived, and when agents are removed.
 use Rattle.std.specs.Prelude.{◌≡◌, Bool, not, List, filter, flat_map}
 use Rattle.std.proofs.Common.{refl}
 use Rattle.drf_role.specs.Text.{Text, same_text}
@@ -15,13 +15,13 @@ use Rattle.drf_content.specs.Content.{ranked, content_of}
 use Rattle.drf_content.specs.laws.Client.{ranked_all, ranked-changed}
 use Rattle.drf_row_laws.specs.MemberLaws.{cluster_total-with_activity}
 
--- ---- what a sorter does not know
+-- ---- changes that do not affect the content
 
 pub content_of-filters : (rows : Rows) (filters : List FilterRow) → content_of (record rows { filters = filters }) ≡ content_of rows
 unfolding content_of
 content_of-filters rows filters = refl
 
--- whether agents are active
+-- activating or deactivating an agent does not change the content
 pub content_of-activity : (rows : Rows) (name : Text) (active : Bool)
     → content_of (record rows { agents = with_activity rows name active }) ≡ content_of rows
 unfolding content_of
@@ -32,7 +32,7 @@ content_of-activity rows name active =
       weights = rows.weights;
     }
 
--- ---- a client is to be served, or not
+-- ---- a client is suppressed or revived
 
 pub content_of-suppression : (rows : Rows) (client : Client) (suppressed : Bool)
     → content_of (record rows { frameworks = with_suppression rows client suppressed })
@@ -44,7 +44,7 @@ content_of-suppression rows client suppressed =
     (λ f c other. refl) (λ f c same. refl) rows.frameworks in
     λ i. record { clients = clients i; total = cluster_total rows.agents; weights = rows.weights }
 
--- ---- an agent leaves
+-- ---- an agent is removed
 
 pub content_of-agent_removed : (rows : Rows) (name : Text) → without_ended rows (all_on name) ≡ rows
     → content_of (agent_removed rows name)

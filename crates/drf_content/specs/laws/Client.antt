@@ -1,4 +1,4 @@
--- The row of one client changes: what that changes in what a sorter holds of the rows.
+-- How the content changes when the row of one client changes.
 use Rattle.std.specs.Prelude.{◌≡◌, ◌&&◌, Bool, true, false, List, [], ◌∷◌, ◌++◌, map, flat_map, if◌then◌else◌}
 use Rattle.std.proofs.Common.{refl, sym, ap, ◌∙◌, inl, inr}
 use Rattle.std.proofs.lemmas.Bool.{cases_Bool}
@@ -14,7 +14,7 @@ use Rattle.drf_rows.specs.declared.rows.FrameworkRow.{FrameworkRow}
 use Rattle.drf_sorter.specs.Content.{Ranked}
 use Rattle.drf_content.specs.Content.{ranked}
 
--- what a sorter holds of a framework's clients
+-- the clients of a framework as a sorter holds them
 abbrev pub ranked_all : List Holding → FrameworkRow → List Ranked
 ranked_all holdings f = map (ranked holdings f) f.clients
 
@@ -28,7 +28,7 @@ ranked-framework : (hs : List Holding) (f : FrameworkRow) (cs : List ClientRow)
 unfolding ranked
 ranked-framework hs f cs = refl
 
--- the row of the client changes, in its framework
+-- changes the row of a client, and leaves those of other roles
 abbrev pub change_row : Client → (ClientRow → ClientRow) → ClientRow → ClientRow
 change_row client change c = if same_path c.role client.role then change c else c
 
@@ -36,11 +36,11 @@ abbrev pub change_framework : Client → (ClientRow → ClientRow) → Framework
 change_framework client change f =
     if same_text f.name client.framework then record f { clients = map (change_row client change) f.clients } else f
 
--- what the sorter holds of it changes
+-- changes the client of a path, and leaves the others
 abbrev pub change_ranked : Path → (Ranked → Ranked) → Ranked → Ranked
 change_ranked path change c = if same_path c.path path then change c else c
 
--- the path of one of its clients
+-- the path of a client of a framework
 abbrev path_in : FrameworkRow → ClientRow → Path
 path_in f c = path_of (client_of f c)
 
@@ -49,7 +49,7 @@ module _ (client : Client) (row : ClientRow → ClientRow) (change : Ranked → 
     → ranked after f c ≡ ranked before f c)
     (its_own : (f : FrameworkRow) (c : ClientRow) → same_path (path_in f c) (path_of client) ≡ true
     → ranked after f (row c) ≡ change (ranked before f c)) where
-  -- the path tells the framework and the role
+  -- two paths are equal exactly if their frameworks and roles are
   tests : (f : FrameworkRow) (c : ClientRow)
       → same_path (ranked before f c).path (path_of client)
       ≡ (same_text f.name client.framework && same_path c.role client.role)
@@ -57,7 +57,7 @@ module _ (client : Client) (row : ClientRow → ClientRow) (change : Ranked → 
       ap (λ (p : Path). same_path p (path_of client)) (ranked-path before f c)
       ∙ same_path-client_path c.role client.role f.name client.framework
 
-  -- a client of another framework
+  -- clients of other frameworks do not change
   each_past : (f : FrameworkRow) (cs : List ClientRow) → same_text f.name client.framework ≡ false
       → map (ranked after f) cs ≡ map (change_ranked (path_of client) change) (map (ranked before f) cs)
   each_past f [] past = refl
@@ -69,7 +69,7 @@ module _ (client : Client) (row : ClientRow → ClientRow) (change : Ranked → 
       let head : ranked after f c ≡ change_ranked (path_of client) change (ranked before f c) = rw test (others f c other) in
       λ i. head i ∷ each_past f cs past i
 
-  -- ... and of its framework
+  -- of its own framework, only the client changes
   each_here : (f : FrameworkRow) (cs : List ClientRow) → same_text f.name client.framework ≡ true
       → map (ranked after f) (map (change_row client row) cs) ≡ map (change_ranked (path_of client) change) (map (ranked before f) cs)
   each_here f [] here = refl
@@ -95,7 +95,7 @@ module _ (client : Client) (row : ClientRow → ClientRow) (change : Ranked → 
     | inr past ↦ rw past (each_past f f.clients past)
   ]
 
-  -- in all frameworks
+  -- over all frameworks, only the client changes
   pub ranked-changed : (fs : List FrameworkRow)
       → flat_map (ranked_all after) (map (change_framework client row) fs)
       ≡ map (change_ranked (path_of client) change) (flat_map (ranked_all before) fs)

@@ -1,4 +1,4 @@
--- What a client gives back, in what a sorter holds of the rows.
+-- How the content changes when a client releases resources.
 use Rattle.std.specs.Prelude.{◌≡◌, ◌+◌, ◌-◌, Bool, true, false, not, List, [], ◌∷◌, ◌++◌, map, flat_map, if◌then◌else◌}
 use Rattle.std.specs.List.{AllByRecursion}
 use Rattle.std.proofs.Common.{refl, sym, ap, ◌∙◌, cond, arith}
@@ -19,7 +19,7 @@ use Rattle.drf_sorter.specs.Content.{Ranked, with_change, refunded, Holds, Holds
 use Rattle.drf_content.specs.Content.{ranked, content_of}
 use Rattle.drf_content.specs.laws.Client.{ranked_all, ranked-path}
 
--- the client of that path gave quantities back, and nothing else that a sorter knows has changed
+-- the client of the path released quantities, and nothing else that a sorter holds changed
 pub record GaveBack (old new : Rows) (path : Path) (quantities : List Entry) : Type 0 where
   pub agents : new.agents ≡ old.agents
   pub frameworks : new.frameworks ≡ old.frameworks
@@ -38,7 +38,7 @@ module _ (old new : Rows) (path : Path) (quantities : List Entry) (gave : GaveBa
   abbrev change : Ranked → Ranked
   change c = if same_path c.path path then refunded quantities c else c
 
-  -- its client, and the others
+  -- its client is refunded, and the others do not change
   refunded_one : (f : FrameworkRow) (c : ClientRow) (b : Bool) → same_path (path_of (client_of f c)) path ≡ b
       → cond b (refunded quantities (ranked before f c)) (ranked before f c) ≡ ranked after f c
   unfolding ranked
@@ -78,7 +78,7 @@ module _ (old new : Rows) (path : Path) (quantities : List Entry) (gave : GaveBa
       map-append change (ranked_all before f) (flat_map (ranked_all before) fs)
       ∙ (λ i. changed_each f f.clients i ++ changed_all fs i)
 
-  -- the sorter that is refunded holds what the new rows say
+  -- after the refund, the content is what the new rows say
   pub content_of-gave_back : with_change (content_of old) path (refunded quantities) ≡ content_of new
   unfolding content_of
   content_of-gave_back =
@@ -90,7 +90,7 @@ module _ (old new : Rows) (path : Path) (quantities : List Entry) (gave : GaveBa
         weights = sym gave.weights i;
       }
 
-  -- what is given back is held
+  -- what is released was held
   holds_one : (f : FrameworkRow) (c : ClientRow) → same_path (ranked before f c).path path ≡ true → Holds quantities (ranked before f c)
   unfolding ranked
   holds_one f c same = λ label.

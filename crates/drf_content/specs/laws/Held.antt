@@ -1,4 +1,4 @@
--- What the clients of a sorter of consistent rows hold together, and how many offers were made to them.
+-- What all clients of consistent rows hold together, and how many offers they have received.
 use Rattle.std.specs.Prelude.{◌≡◌, ℕ, List, filter, flat_map, sum_by}
 use Rattle.std.specs.List.{count_by}
 use Rattle.std.proofs.Common.{sym, ap, ◌∙◌, cond}
@@ -17,18 +17,18 @@ use Rattle.drf_sorter.specs.Content.{Ranked}
 use Rattle.drf_content.specs.Content.{ranked, content_of}
 use Rattle.drf_content.specs.laws.Client.{ranked_all, ranked-path}
 
--- a sum over the sorter's clients, by the rows
+-- a sum over the sorter's clients is a sum over the rows
 pub sum_ranked : (g : Ranked → ℕ) (hs : List Holding) (fs : List FrameworkRow)
     → sum_by g (flat_map (ranked_all hs) fs) ≡ sum_by (λ f. sum_by (λ c. g (ranked hs f c)) f.clients) fs
 sum_ranked g hs fs =
     sum_by-flat_map g (ranked_all hs) fs ∙ (λ i. sum_by (λ f. sum_by-map g (ranked hs f) f.clients i) fs)
 
--- the offers that were made to them
+-- the sum of the clients' counts
 pub counts-content_of : (rows : Rows) → sum_by (λ r. r.count) (content_of rows).clients ≡ offers_counted rows.frameworks
 unfolding content_of ranked
 counts-content_of rows = sum_ranked (λ (r : Ranked). r.count) (holdings_of rows) rows.frameworks
 
--- a path stands there as often as its client is registered
+-- a path occurs as often as its client is registered
 times-ranked : (hs : List Holding) (client : Client) (fs : List FrameworkRow)
     → count_by (λ r. same_path (path_of client) r.path) (flat_map (ranked_all hs) fs) ≡ times_registered fs client
 times-ranked hs client fs =
@@ -39,7 +39,7 @@ times-ranked hs client fs =
     sum_ranked (λ (r : Ranked). cond (same_path (path_of client) r.path) 1 0) hs fs
     ∙ (λ i. sum_by (λ f. sum_by (λ c. cond (test f c i) 1 0) f.clients) fs)
 
--- so a holding is of one client
+-- each holding belongs to exactly one client
 one_holder : (rows : Rows) (h : Holding) → IsConsistent rows → IsHeld rows.agents rows.frameworks h
     → count_by (λ r. is_of r.path h) (content_of rows).clients ≡ 1
 unfolding content_of
@@ -47,7 +47,7 @@ one_holder rows h consistent held =
     times-ranked (holdings_of rows) h.client rows.frameworks
     ∙ registered_once rows.frameworks h.client consistent.frameworks held.client
 
--- and a sum over what all clients hold is the sum over all holdings
+-- a sum over what all clients hold is the sum over all holdings
 pub sum_held : (f : Holding → ℕ) (rows : Rows) → IsConsistent rows
     → sum_by (λ r. sum_by f (filter (is_of r.path) (holdings_of rows))) (content_of rows).clients
     ≡ sum_by f (holdings_of rows)
@@ -58,7 +58,7 @@ sum_held f rows consistent =
     (each_from (IsHeld rows.agents rows.frameworks) HasHolder hs
     (λ h held. one_holder rows h consistent held) consistent.holdings)
 
--- what all clients hold together
+-- what all clients hold of a scalar is the sum over all holdings
 pub all_held : (rows : Rows) (label : Text) → IsConsistent rows
     → sum_by (λ r. r.held label) (content_of rows).clients ≡ sum_by (amount_in label) (holdings_of rows)
 unfolding content_of ranked

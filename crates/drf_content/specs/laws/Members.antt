@@ -1,4 +1,4 @@
--- Who is known to a sorter of the rows, and what registrations change in it.
+-- Which clients a sorter knows, and how the content changes when agents and frameworks register.
 use Rattle.std.specs.Prelude.{◌≡◌, ◌&&◌, ◌||◌, Bool, true, false, List, [], ◌∷◌, ◌++◌, map, flat_map}
 use Rattle.std.specs.List.{list_any}
 use Rattle.std.proofs.Common.{refl, sym, ap, ◌∙◌, append_assoc}
@@ -27,13 +27,13 @@ use Rattle.drf_content.specs.Content.{ranked, content_of}
 use Rattle.drf_content.specs.laws.Client.{ranked_all, ranked-path}
 use Rattle.drf_laws.specs.laws.Clients.{is_framework, unregistered, nothing_held}
 
--- ---- who is known
+-- ---- known clients
 
--- the sorter's client is that client
+-- the sorter's client is this client
 abbrev is_at : Client → Ranked → Bool
 is_at client r = same_path r.path (path_of client)
 
--- one framework's clients
+-- the clients of one framework
 known_each : (hs : List Holding) (client : Client) (f : FrameworkRow) (cs : List ClientRow)
     → list_any (is_at client) (map (ranked hs f) cs) ≡ list_any (is_row_of client f) cs
 known_each hs client f [] = refl
@@ -53,7 +53,7 @@ known_all hs client (f ∷ fs) =
     list_any-append (is_at client) (ranked_all hs f) (flat_map (ranked_all hs) fs)
     ∙ (λ i. first i || known_all hs client fs i)
 
--- the registered clients
+-- a sorter knows exactly the registered clients
 pub has_client-content_of : (rows : Rows) (client : Client)
     → has_client (content_of rows) (path_of client) ≡ is_registered rows.frameworks client
 unfolding content_of
@@ -63,9 +63,9 @@ pub has_client-registered : (rows : Rows) (client : Client)
     → is_registered rows.frameworks client ≡ true → has_client (content_of rows) (path_of client) ≡ true
 has_client-registered rows client known = has_client-content_of rows client ∙ known
 
--- ---- registrations
+-- ---- agents and frameworks register
 
--- one more agent adds to the total
+-- a new agent changes only the total
 pub content_of-with_agent : (rows : Rows) (name : Text) (total : List Resource)
     → content_of (record rows { agents = with_agent rows name total })
     ≡ record (content_of rows) { total = plus (cluster_total rows.agents) (quantities_of total) }
@@ -80,13 +80,13 @@ content_of-with_agent rows name total =
       weights = rows.weights;
     }
 
--- the rows, with a framework that registers last, and has a client for each of some roles
+-- the rows with one more framework that has a client for each of some roles
 abbrev pub with_clients : Rows → Text → List Path → Rows
 with_clients rows name roles = record rows {
   frameworks = rows.frameworks ++ record { name = name; clients = map new_client roles } ∷ [];
 }
 
--- such a framework has no client in any other role
+-- the new framework has no client in any other role
 pub has_client-another_role : (rows : Rows) (name : Text) (roles : List Path) (role : Path)
     → has_framework rows name ≡ false
     → list_any (λ r. same_path r role) roles ≡ false
@@ -109,7 +109,7 @@ has_client-another_role rows name roles role new other =
     neither true = refl
     neither false = refl
 
--- all clients but those of one framework, and then its own
+-- the clients of all frameworks are those of the first ones, then those of the last
 pub clients_and : (hs : List Holding) (fs : List FrameworkRow) (f : FrameworkRow)
     → flat_map (ranked_all hs) (fs ++ f ∷ []) ≡ flat_map (ranked_all hs) fs ++ ranked_all hs f
 clients_and hs [] f = append-nil (ranked_all hs f)
@@ -117,7 +117,7 @@ clients_and hs (g ∷ gs) f =
     ap (λ (rs : List Ranked). ranked_all hs g ++ rs) (clients_and hs gs f)
     ∙ sym (append_assoc (ranked_all hs g) (flat_map (ranked_all hs) gs) (ranked_all hs f))
 
--- a framework without clients adds nothing
+-- a framework without clients does not change the content
 pub content_of-no_clients : (rows : Rows) (name : Text) → content_of (with_clients rows name []) ≡ content_of rows
 unfolding content_of
 content_of-no_clients rows name =
@@ -126,7 +126,7 @@ content_of-no_clients rows name =
     let same = clients_and hs rows.frameworks (record { name = name; clients = [] }) ∙ append-nil before in
     λ i. record { clients = same i; total = cluster_total rows.agents; weights = rows.weights }
 
--- each client of a new framework is added, and holds nothing
+-- a client of a new framework is added last, and holds nothing
 pub content_of-one_more_client : (rows : Rows) (name : Text) (roles : List Path) (role : Path)
     → IsConsistent rows
     → has_framework rows name ≡ false

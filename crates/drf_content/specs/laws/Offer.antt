@@ -1,4 +1,4 @@
--- What an offer changes in what a sorter holds of the rows.
+-- How an offer changes the content.
 use Rattle.std.specs.Prelude.{◌≡◌, ℕ, ◌+◌, ◌-◌, Bool, true, false, not, List, [], ◌∷◌, map, if◌then◌else◌}
 use Rattle.std.specs.List.{AllByRecursion}
 use Rattle.std.proofs.Common.{refl, sym, ap, ◌∙◌, inl, inr, cond, arith}
@@ -22,11 +22,11 @@ use Rattle.drf_sorter.specs.Content.{Content, Ranked, with_change, charged, disc
 use Rattle.drf_content.specs.Content.{ranked, content_of}
 use Rattle.drf_content.specs.laws.Client.{ranked-changed}
 
--- the change that an offer makes to what a sorter holds
+-- charges an offer to the client of a path
 abbrev pub charged_at : Path → List Entry → Ranked → Ranked
 charged_at path quantities c = if same_path c.path path then charged quantities 1 c else c
 
--- ---- one more offer
+-- ---- an offer is added
 
 module _ (rows : Rows) (offer : OfferRow) where
   abbrev client : Client
@@ -38,7 +38,7 @@ module _ (rows : Rows) (offer : OfferRow) where
   abbrev after : List Holding
   after = holdings_of (with_offer rows offer)
 
-  -- ... a client of another path
+  -- clients of other paths do not change
   ranked-other : (f : FrameworkRow) (c : ClientRow) → same_path (path_of (client_of f c)) (path_of client) ≡ false
       → ranked after f c ≡ ranked before f c
   unfolding ranked
@@ -51,7 +51,7 @@ module _ (rows : Rows) (offer : OfferRow) where
       ∙ omega arith in
       λ i. record { path = path; active = not c.suppressed; held = λ label. holds label i; count = c.count }
 
-  -- ... the client of its path
+  -- the client of its path is charged
   ranked-same : (f : FrameworkRow) (c : ClientRow) → same_path (path_of (client_of f c)) (path_of client) ≡ true
       → ranked after f (record c { count = c.count + 1 }) ≡ charged (quantities_of offer.bundle) 1 (ranked before f c)
   unfolding ranked
@@ -65,7 +65,7 @@ module _ (rows : Rows) (offer : OfferRow) where
       ∙ ap (λ (b : Bool). held_where (is_of path) before label + cond b (amount_in label (of_offer offer)) 0) here in
       λ i. record { path = path; active = not c.suppressed; held = λ label. holds label i; count = c.count + 1 }
 
--- its client is charged
+-- the content after an offer is added: its client is charged
 pub content_of-with_offer : (rows : Rows) (offer : OfferRow)
     → content_of (with_offer rows offer)
     ≡ with_change (content_of rows) (path_of (of_offer offer).client) (charged (quantities_of offer.bundle) 1)
@@ -78,7 +78,7 @@ content_of-with_offer rows offer =
       weights = rows.weights;
     }
 
--- ---- what is charged
+-- ---- charges
 
 pub charged_at-path : (path : Path) (quantities : List Entry) (c : Ranked)
     → (charged_at path quantities c).path ≡ c.path
@@ -128,7 +128,7 @@ all_taken_back : (path : Path) (quantities : List Entry) (cs : List Ranked)
 all_taken_back path quantities [] = refl
 all_taken_back path quantities (c ∷ cs) = λ i. taken_back path quantities c i ∷ all_taken_back path quantities cs i
 
--- and is taken back
+-- undoing a charge restores the content
 pub discharged-with_change : (content : Content) (path : Path) (quantities : List Entry)
     → with_change (with_change content path (charged quantities 1)) path (discharged quantities) ≡ content
 discharged-with_change content path quantities =

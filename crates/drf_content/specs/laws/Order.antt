@@ -1,4 +1,4 @@
--- The order that a sorter of the rows answers is that of a turn.
+-- The sorter's order of the clients is the order of a turn.
 use Rattle.std.specs.Prelude.{◌≡◌, ℕ, Bool, not, IsTrue, List, [], ◌∷◌, ◌++◌, map, filter, flat_map, sum_by}
 use Rattle.std.specs.List.Sorted.{IsPermutation}
 use Rattle.std.proofs.Common.{refl, sym, ap, subst, ◌∙◌, inl, inr, cond}
@@ -27,13 +27,13 @@ use Rattle.drf_rows.specs.Held as rows_word
 use Rattle.drf_sorter.specs.Content as sorter_word
 use Rattle.drf_laws.specs.laws.Turns.{active_in}
 
--- ---- what the clients of a node hold, and how many offers were made to them
+-- ---- holdings and counts of nodes
 
--- what a holding adds to what a node holds
+-- what a holding contributes to a node
 abbrev part_of : Path → Text → Holding → ℕ
 part_of node label h = cond (is_under node h) (amount_in label h) 0
 
--- all that a client of the node holds, and nothing of another's
+-- a client contributes all that it holds to its nodes, and nothing to others
 client_part : (hs : List Holding) (node path : Path) (label : Text)
     → sum_by (part_of node label) (filter (is_of path) hs)
     ≡ cond (begins_with path node) (held_where (is_of path) hs label) 0
@@ -66,7 +66,7 @@ count_of-content_of rows node =
     ∙ sum_ranked (λ (r : Ranked). cond (begins_with r.path node) r.count 0) (holdings_of rows) rows.frameworks
     ∙ sym (λ i. sum_by (λ f. sum_by-filter count (under f) f.clients i) rows.frameworks)
 
--- so the sorter's order depends on what the rows' order does
+-- what orders nodes (held amounts, counts, total, weights) is the same in the sorter and in the rows
 pub standing-content_of : (rows : Rows) → IsConsistent rows
     → sorter_word.standing_in (content_of rows) ≡ rows_word.standing_of rows
 unfolding sorter_word.standing_in rows_word.standing_of content_of
@@ -77,9 +77,9 @@ standing-content_of rows consistent = λ i. record {
   weight = weight_of rows.weights;
 }
 
--- ---- who is to be served
+-- ---- active clients
 
--- the paths of those that are to be served, of some clients
+-- the paths of the active clients among some clients
 abbrev served : List Ranked → List Path
 served rs = map (λ c. c.path) (filter (λ c. c.active) rs)
 
@@ -107,7 +107,7 @@ active_paths-content_of : (rows : Rows) → active_paths (content_of rows) ≡ m
 unfolding content_of
 active_paths-content_of rows = served_all (holdings_of rows) rows.frameworks
 
--- the sorter's order
+-- the sorter's order is the order of a turn
 pub IsOrderOf-turn_order : (rows : Rows) (paths : List Path)
     → IsConsistent rows → IsOrderOf (content_of rows) paths → paths ≡ map path_of (turn_order rows)
 IsOrderOf-turn_order rows paths consistent order =

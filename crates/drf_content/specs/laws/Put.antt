@@ -1,4 +1,4 @@
--- A saved row that is put behind others: how what a sorter holds of the rows follows.
+-- How the content changes when a saved row is added.
 use Rattle.std.specs.Prelude.{◌≡◌, ◌+◌, Bool, true, false, not, List, [], ◌∷◌, ◌++◌, map, flat_map, if◌then◌else◌}
 use Rattle.std.specs.List.{list_any}
 use Rattle.std.proofs.Common.{refl, sym, ap, ◌∙◌, cond, append_assoc, arith}
@@ -40,12 +40,12 @@ pub content_of-begun : HeadIsEmpty
 unfolding content_of
 content_of-begun head = refl
 
--- ---- agents, weights
+-- ---- agents and weights
 
 total_more : (agents : List AgentRow) (a : AgentRow) → cluster_total (agents ++ a ∷ []) ≡ plus (cluster_total agents) (quantities_of a.total)
 total_more agents a = fold-append (λ sum (b : AgentRow). plus sum (quantities_of b.total)) [] agents (a ∷ [])
 
--- the total of the agents with one more, in a sorter of the rows
+-- an agent that is added last adds to the total
 pub total-put : (rows : Rows) (a : AgentRow) (content : Content) → content ≡ content_of rows
     → record content { total = cluster_total (rows.agents ++ a ∷ []) } ≡ with_put content (Agent a)
 unfolding content_of
@@ -53,7 +53,7 @@ total-put rows a content sorted =
     let old : content.total ≡ cluster_total rows.agents = ap (λ (k : Content). k.total) sorted in
     λ i. record content { total = (total_more rows.agents a ∙ ap (λ (total : List Entry). plus total (quantities_of a.total)) (sym old)) i }
 
--- a role without a weight gets its own behind the others
+-- a weight of a role without one is added last
 pub weights_more : (weights : List WeightRow) (w : WeightRow) → list_any (λ v. same_path v.role w.role) weights ≡ false
     → weights ++ w ∷ [] ≡ weights_with weights w.role w.weight
 weights_more [] w new = refl
@@ -61,9 +61,9 @@ weights_more (v ∷ weights) w new =
     let parts = or_parts (same_path v.role w.role) (list_any (λ v. same_path v.role w.role) weights) new in
     rw (parts.0) (ap (λ (rest : List WeightRow). v ∷ rest) (weights_more weights w parts.1))
 
--- ---- one more holding
+-- ---- a holding is added
 
--- the client of a holding holds it too, and nothing else that a sorter knows has changed
+-- the client of a holding holds it too, and nothing else that a sorter holds changed
 pub record HoldsMore (old new : Rows) (h : Holding) : Type 0 where
   pub agents : new.agents ≡ old.agents
   pub frameworks : new.frameworks ≡ old.frameworks
@@ -149,9 +149,9 @@ task_more rows t = record { agents = refl; frameworks = refl; weights = refl; he
         ∙ held_where-append test (holdings_of rows) (of_task t ∷ []) label
         ∙ omega (arith, held_where-cons test (of_task t) [] label)
 
--- ---- a framework
+-- ---- a framework is added
 
--- all clients that are put back stand behind the others, in order
+-- restored clients come after the others, in order
 all_back : (content : Content) (name : Text) (cs : List ClientRow)
     → with_all_back content name cs ≡ record content { clients = content.clients ++ map (put_back name) cs }
 all_back content name [] = λ i. record content { clients = sym (append-nil content.clients) i }
@@ -159,7 +159,7 @@ all_back content name (c ∷ cs) =
     all_back (record content { clients = content.clients ++ put_back name c ∷ [] }) name cs
     ∙ (λ i. record content { clients = append_assoc content.clients (put_back name c ∷ []) (map (put_back name) cs) i })
 
--- those of a new framework hold nothing
+-- the clients of a new framework hold nothing
 own_clients : (rows : Rows) (f : FrameworkRow) → IsConsistent rows → has_framework rows f.name ≡ false → (cs : List ClientRow)
     → map (ranked (holdings_of rows) f) cs ≡ map (put_back f.name) cs
 unfolding ranked
@@ -184,7 +184,7 @@ content_of-framework rows f consistent new =
     (λ i. record { clients = clients i; total = cluster_total rows.agents; weights = rows.weights })
     ∙ sym (all_back (content_of rows) f.name f.clients)
 
--- ---- any row
+-- ---- any row is added
 
 pub content_of-with_row : ContentFollowsRow
 unfolding content_of

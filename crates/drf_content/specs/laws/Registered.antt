@@ -1,4 +1,4 @@
--- The clients of a framework that registers, in the sorter.
+-- How the content changes when a framework registers: its clients are added one by one.
 use Rattle.std.specs.Prelude.{◌≡◌, ◌||◌, Bool, true, false, not, List, [], ◌∷◌, ◌++◌, map, filter}
 use Rattle.std.specs.List.{list_any}
 use Rattle.std.proofs.Common.{Bor, refl, sym, ap, subst, ◌∙◌, append_assoc}
@@ -17,18 +17,18 @@ use Rattle.drf_content.specs.Registering.{AreNew, client_paths, with_all}
 use Rattle.drf_content.specs.laws.Members.{with_clients, has_client-another_role, content_of-no_clients, content_of-one_more_client}
 use Rattle.drf_laws.specs.laws.Roles.{is_role, none_before, distinct_apart}
 
--- ---- a role that is only seen
+-- ---- borrowed roles
 
--- the same test of a role that is only seen
+-- a test of borrowed roles is the test of the roles
 pub list_any-seen : (role : Path) (seen : List (Bor Path))
     → list_any (λ r. same_path r.now role) seen ≡ list_any (is_role role) (map (λ r. r.now) seen)
 list_any-seen role [] = refl
 list_any-seen role (r ∷ seen) = ap (λ (b : Bool). same_path r.now role || b) (list_any-seen role seen)
 
--- ---- the clients in the sorter, one by one
+-- ---- the clients are added one by one
 
 module _ (rows : Rows) (name : Text) (right : IsConsistent rows) (new : has_framework rows name ≡ false) where
-  -- some clients of a new framework were added, and the others are added
+  -- after some clients of a new framework are added, the others are new
   all_new : (before roles : List Path) → are_distinct_roles (before ++ roles) ≡ true
       → AreNew (content_of (with_clients rows name before)) (client_paths name (map new_client roles))
   all_new before [] apart = tt
@@ -47,19 +47,19 @@ module _ (rows : Rows) (name : Text) (right : IsConsistent rows) (new : has_fram
       ∙ all_added (before ++ role ∷ []) roles
       ∙ ap (λ (rs : List Path). content_of (with_clients rows name rs)) (append_assoc before (role ∷ []) roles)
 
-  -- the clients of a framework that registers are new to the sorter
+  -- the clients of a framework that registers are unknown to the sorter
   pub AreNew-registering : (roles : List Path) → AreNew (content_of rows) (client_paths name (map new_client (distinct roles)))
   AreNew-registering roles =
       subst (λ (k : Content). AreNew k (client_paths name (map new_client (distinct roles)))) (content_of-no_clients rows name)
       (all_new [] (distinct roles) (distinct_apart roles))
 
-  -- and with them it holds what the rows say
+  -- after they are added, the content is what the new rows say
   pub content_of-registered : (roles : List Path)
       → with_all (content_of rows) (client_paths name (map new_client roles)) ≡ content_of (with_clients rows name roles)
   content_of-registered roles =
       ap (λ (k : Content). with_all k (client_paths name (map new_client roles))) (sym (content_of-no_clients rows name)) ∙ all_added [] roles
 
--- ---- a client that is taken back
+-- ---- a client is added and removed again
 
 pub has_client-added : (content : Content) (path : Path) → has_client (with_client content path) path ≡ true
 has_client-added content path =
@@ -72,7 +72,7 @@ has_client-added content path =
     or_true true = refl
     or_true false = refl
 
--- nothing else is taken
+-- removing a client that was just added restores the content
 pub without-added : (content : Content) (path : Path) → has_client content path ≡ false
     → without_client (with_client content path) path ≡ content
 without-added content path new = λ i. record content { clients = same content.clients new i }

@@ -1,4 +1,4 @@
--- A framework leaves: its clients are removed from a sorter of the rows, one by one.
+-- How the content changes when a framework is removed: its clients are removed one by one.
 use Rattle.std.specs.Prelude.{◌≡◌, ◌&&◌, ◌||◌, Bool, true, false, not, List, [], ◌∷◌, ◌++◌, map, filter, find, flat_map, Some}
 use Rattle.std.specs.List.{list_any, list_all, AllByRecursion}
 use Rattle.std.proofs.Common.{refl, sym, ap, ◌∙◌, inl, inr, cond}
@@ -26,13 +26,13 @@ use Rattle.drf_content.specs.laws.Client.{ranked_all, ranked-path}
 use Rattle.drf_content.specs.laws.Members.{has_client-registered}
 use Rattle.drf_laws.specs.laws.Clients.{named, role_registered, one_named}
 
--- ---- each is known when it is removed
+-- ---- each client is known when it is removed
 
--- the framework's client in that role is known
+-- the framework's client in the role is known
 abbrev pub IsKnown : Content → Text → ClientRow → Type 0
 IsKnown content name c = has_client content (client_path c.role name) ≡ true
 
--- another client stays known when one is removed
+-- other clients stay known when one is removed
 still_known : (content : Content) (gone path : Path) → same_path gone path ≡ false
     → has_client content path ≡ true → has_client (without_client content gone) path ≡ true
 still_known content gone path apart known =
@@ -82,9 +82,9 @@ module _ (rows : Rows) (name : Text) (f : FrameworkRow) (right : AreFrameworks r
       (each_find (λ f. are_distinct_roles (map (λ c. c.role) f.clients) ≡ true) (named name) rows.frameworks f right.roles found)
       clients_known
 
--- ---- what is left when all of them are removed
+-- ---- the content after all of them are removed
 
--- the path is one of those
+-- the path is in the list
 abbrev pub is_among : List Path → Path → Bool
 is_among paths path = list_any (λ p. same_path path p) paths
 
@@ -111,7 +111,7 @@ left_all content (p ∷ ps) =
     left_all (without_client content p) ps ∙ (λ i. record content { clients = left_twice p ps content.clients i })
 
 module _ (hs : List Holding) (name : Text) (f : FrameworkRow) where
-  -- one client of some framework
+  -- a client is among those removed exactly if its framework and its role are
   pub among : (g : FrameworkRow) (c : ClientRow)
       → is_among (client_paths name f.clients) (ranked hs g c).path ≡ (named name g && list_any (λ d. same_path c.role d.role) f.clients)
   among g c =
@@ -124,7 +124,7 @@ module _ (hs : List Holding) (name : Text) (f : FrameworkRow) where
       each [] = refl
       each (d ∷ ds) = λ i. same_path-client_path c.role d.role g.name name i || each ds i
 
-  -- those of other frameworks stay
+  -- the clients of other frameworks stay
   pub others_stay : (g : FrameworkRow) (cs : List ClientRow) → named name g ≡ false
       → filter (λ c. not (is_among (client_paths name f.clients) c.path)) (map (ranked hs g) cs) ≡ map (ranked hs g) cs
   others_stay g [] other = refl
@@ -133,7 +133,7 @@ module _ (hs : List Holding) (name : Text) (f : FrameworkRow) where
       = among g c ∙ ap (λ (b : Bool). b && list_any (λ d. same_path c.role d.role) f.clients) other in
       rw stays (ap (λ (rs : List Ranked). ranked hs g c ∷ rs) (others_stay g cs other))
 
-  -- its own go
+  -- its own clients are removed
   own_go : (cs : List ClientRow) → named name f ≡ true → AllByRecursion (λ c. list_any (λ d. same_path c.role d.role) f.clients ≡ true) cs
       → filter (λ c. not (is_among (client_paths name f.clients) c.path)) (map (ranked hs f) cs) ≡ []
   own_go [] here all = refl
@@ -166,7 +166,7 @@ module _ (hs : List Holding) (name : Text) (f : FrameworkRow) where
       by true = refl
       by false = refl
 
--- the rows without the framework, which holds nothing
+-- a framework that holds nothing is removed
 pub content_of-framework_removed : (rows : Rows) (name : Text) (f : FrameworkRow)
     → AreFrameworks rows.frameworks → find (named name) rows.frameworks ≡ Some f → without_ended rows (all_of name) ≡ rows
     → without_all (content_of rows) (client_paths name f.clients) ≡ content_of (framework_removed rows name)

@@ -1,4 +1,4 @@
--- The lines of a sorter of the rows are those of the report.
+-- The sorter's lines are those of the report.
 use Rattle.std.specs.Prelude.{◌≡◌, ◌≤◌, Bool, true, false, not, ◌&&◌, ◌||◌, IsTrue, List, [], ◌∷◌, length, map, fold, filter, flat_map}
 use Rattle.std.specs.List.{AllByRecursion, list_any}
 use Rattle.std.proofs.Common.{refl, sym, ap, subst, ◌∙◌, inl, inr, arith}
@@ -38,7 +38,7 @@ same_tests : (a b : Bool) → (a ≡ true → b ≡ true) → (b ≡ true → a 
 same_tests true b to from = sym (to refl)
 same_tests false b to from = sym (false_from_ne_true b (λ is. false≢true (from is)))
 
--- the sorter's clients are those of the rows
+-- a node has clients in the sorter exactly if it has clients in the rows
 any_ranked : (hs : List Holding) (node : Path) (f : FrameworkRow) (cs : List ClientRow)
     → list_any (λ (r : Ranked). begins_with r.path node) (map (ranked hs f) cs)
     ≡ list_any (λ c. begins_with (path_of c) node) (map (client_of f) cs)
@@ -77,7 +77,7 @@ HasNodes-content_of rows node some has =
     ∙ not_empty node _ some (sym (has_node-content_of rows node) ∙ has)
 
 module _ (rows : Rows) (lines : List NodeLine) (are : AreLinesOf (content_of rows) lines) where
-  -- a line that is there is one of a node that has clients
+  -- each line belongs to a node that has clients
   of_node : (ls : List NodeLine) → AllByRecursion (IsLineOf (content_of rows)) ls → (node : Path) → has_line ls node ≡ true
       → (1 ≤ length node) × (has_node (content_of rows) node ≡ true)
   of_node [] all node had = absurd (false≢true had)
@@ -103,7 +103,7 @@ module _ (rows : Rows) (lines : List NodeLine) (are : AreLinesOf (content_of row
       are.every node parts.0 (has_node-content_of rows node ∙ parts.1))
       ∙ sym (nodes_begin_paths rows node))
 
--- ---- what each line tells
+-- ---- the content of each line
 
 in_order-sum : (start : List Entry) (hs : List Holding) → IsTrue (is_in_order start)
     → IsTrue (is_in_order (fold (λ sum h. plus sum (quantities_of h.bundle)) start hs))

@@ -1,4 +1,4 @@
--- The roles of a framework change: clients are added to a sorter of the rows, and others are removed, one by one.
+-- How the content changes when the roles of a framework change: clients are added and others removed, one by one.
 use Rattle.std.specs.Prelude.{◌≡◌, ◌+◌, ◌&&◌, ◌||◌, Bool, true, false, not, List, [], ◌∷◌, ◌++◌, map, filter, find, flat_map, Some, if◌then◌else◌}
 use Rattle.std.specs.List.{list_any, list_all, AllByRecursion}
 use Rattle.std.specs.List.Sorted.{IsPermutation}
@@ -41,9 +41,9 @@ use Rattle.drf_content.specs.laws.Members.{has_client-content_of, has_client-reg
 use Rattle.drf_content.specs.laws.Removed.{IsKnown, all_known, among, is_among, left_all, others_stay}
 use Rattle.drf_content.specs.laws.Same.{AreKnown-same, AreNew-same, IsSame-with_all, IsSame-without_all}
 
--- ---- clients that are added
+-- ---- clients are added
 
--- a client that has just been added
+-- a client that was just added
 abbrev added : Path → Ranked
 added path = record { path = path; active = true; held = λ _. 0; count = 0 }
 
@@ -61,7 +61,7 @@ has_client-with_all content paths path known =
     ∙ list_any-append (λ (c : Ranked). same_path c.path path) content.clients (map added paths)
     ∙ or_left (has_client content path) (list_any (λ (c : Ranked). same_path c.path path) (map added paths)) known
 
--- roles that differ, of one framework, are unknown one after the other
+-- adding a client of a framework leaves its clients in other roles unknown
 unknown_past : (content : Content) (name : Text) (role : Path) (roles : List Path) → list_all (is_other role) roles ≡ true
     → AllByRecursion (λ r. has_client content (client_path r name) ≡ false) roles
     → AllByRecursion (λ r. has_client (with_client content (client_path role name)) (client_path r name) ≡ false) roles
@@ -115,7 +115,7 @@ each_out p (x ∷ xs) = elim (cases_Bool (p x)) [
 same_moved : {X : Type 0} (a b c d : List X) → a ≡ b → IsPermutation b c → c ≡ d → IsPermutation a d
 same_moved a b c d first moved last = subst (IsPermutation a) last (subst (λ xs. IsPermutation xs c) (sym first) moved)
 
--- a path of the framework is among others by its role
+-- a path of the framework is among others of it exactly if its role is among theirs
 past_by : (name : Text) (role : Path) (ds : List ClientRow)
     → is_among (client_paths name ds) (client_path role name) ≡ list_any (λ d. same_path role d.role) ds
 past_by name role [] = refl
@@ -138,7 +138,7 @@ module _ (rows : Rows) (name : Text) (roles : List Path) (f : FrameworkRow) (rig
   abbrev hs : List Holding
   hs = holdings_of rows
 
-  -- the clients that go, as those of a framework
+  -- a framework that has just the clients that are removed
   abbrev leaving : FrameworkRow
   leaving = record { name = name; clients = filter (λ c. not (rows_word.is_among roles c.role)) f.clients }
 
@@ -160,7 +160,7 @@ module _ (rows : Rows) (name : Text) (roles : List Path) (f : FrameworkRow) (rig
   its_name : f.name ≡ name
   its_name = same_from_test f.name name is_named
 
-  -- ---- who is new, and who is known
+  -- ---- which clients are new, and which are known
 
   new_role : (role : Path) → has_role f.clients role ≡ false → is_registered rows.frameworks (record { role = role; framework = name }) ≡ false
   new_role role none =
@@ -197,7 +197,7 @@ module _ (rows : Rows) (name : Text) (roles : List Path) (f : FrameworkRow) (rig
       (has_client-registered rows (record { role = c.role; framework = name }) (role_registered name rows.frameworks f c.role found has)))
       (each_found (λ d c. same_path d.role c.role) f.clients (λ c. same_path_itself c.role))))
 
-  -- ---- who stands there then
+  -- ---- the clients after the change
 
   abbrev stays : Ranked → Bool
   stays c = not (is_among left c.path)
@@ -228,7 +228,7 @@ module _ (rows : Rows) (name : Text) (roles : List Path) (f : FrameworkRow) (rig
     | inr gone ↦ rw (stays_by_role c its.0, gone) (own_stay cs its.1)
   ]
 
-  -- one that comes is active, and holds nothing
+  -- an added client is active, and holds nothing
   comes : (role : Path) → has_role f.clients role ≡ false → ranked hs f (new_client role) ≡ added (client_path role name)
   unfolding ranked
   comes role none = λ i. record {
@@ -244,7 +244,7 @@ module _ (rows : Rows) (name : Text) (roles : List Path) (f : FrameworkRow) (rig
   all_come [] none = refl
   all_come (r ∷ rs) none = λ i. comes r none.0 i ∷ all_come rs none.1 i
 
-  -- none that comes goes
+  -- no added client is removed
   none_goes : (rs : List Path) → AllByRecursion (λ role. rows_word.is_among roles role ≡ true) rs
       → filter stays (map added (client_paths name (map new_client rs))) ≡ map added (client_paths name (map new_client rs))
   none_goes [] listed = refl
@@ -287,14 +287,14 @@ module _ (rows : Rows) (name : Text) (roles : List Path) (f : FrameworkRow) (rig
   split : (g : FrameworkRow) (gs : List FrameworkRow) → before_in (g ∷ gs) ≡ filter stays (ranked_all hs g) ++ before_in gs
   split g gs = filter-append stays (ranked_all hs g) (flat_map (ranked_all hs) gs)
 
-  -- the other frameworks' clients stay where they are
+  -- the clients of other frameworks keep their places
   none_moved : (gs : List FrameworkRow) → list_any (named name) gs ≡ false → before_in gs ≡ then_in gs
   none_moved [] none = refl
   none_moved (g ∷ gs) none =
       let both = or_parts (named name g) (list_any (named name) gs) none in
       split g gs ∙ (λ i. sym (other_set g both.0) i ++ none_moved gs both.1 i)
 
-  -- and those that come stand among them
+  -- the added clients move from the end to their framework, so the lists are permutations of each other
   all_moved : (gs : List FrameworkRow) → list_any (named name) gs ≡ true → are_distinct (map (λ g. g.name) gs) ≡ true
       → AllByRecursion (λ g. named name g ≡ true → g ≡ f) gs → IsPermutation (before_in gs ++ coming) (then_in gs)
   all_moved [] some apart only = absurd (false≢true some)

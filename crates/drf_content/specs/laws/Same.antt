@@ -1,5 +1,5 @@
--- A content that holds what the rows say, with its clients in any order: what is said of it by the rows, and what adding and removing
--- clients keeps.
+-- A sorter that holds what the rows say, with its clients in any order: what it says about the rows, and that adding and removing clients keeps it
+-- so.
 use Rattle.std.specs.Prelude.{List, [], ◌∷◌}
 use Rattle.std.proofs.Common.{sym, ◌∙◌}
 use Rattle.drf_role.specs.Path.{Path}
@@ -14,7 +14,7 @@ use Rattle.drf_content.specs.laws.Order.{IsOrderOf-turn_order}
 use Rattle.drf_content.specs.laws.Report.{HasNodes-content_of, report_of-lines}
 use Rattle.drf_content.specs.laws.Sound.{IsSound-content_of}
 
--- ---- by the rows
+-- ---- the theorems on the order and the lines, with clients in any order
 
 pub sound_of_rows : ContentIsSound
 sound_of_rows rows content same consistent few_agents few_offers =
@@ -32,7 +32,7 @@ pub nodes_of_rows : (rows : Rows) (content : Content) → IsSame content (conten
 nodes_of_rows rows content same =
     HasNodes-same (content_of rows) content (IsSame-sym content (content_of rows) same) (nodes_of rows) (HasNodes-content_of rows)
 
--- ---- clients that come, and clients that go
+-- ---- clients are added and removed
 
 pub IsSame-with_all : (a b : Content) (paths : List Path) → IsSame a b → IsSame (with_all a paths) (with_all b paths)
 IsSame-with_all a b [] same = same

@@ -1,4 +1,4 @@
--- Consistent rows keep a sorter sound: no more is held than there is, and all numbers fit.
+-- The content of consistent rows is sound: clients hold no more than the total, and no number overflows.
 use Rattle.std.specs.Prelude.{◌^◌, ◌<◌, ◌≤◌, length}
 use Rattle.std.proofs.Common.{arith}
 use Rattle.drf_rows.specs.Consistent.{IsConsistent}

@@ -1,5 +1,4 @@
-//! What the next cycle would offer, told client by client: up to where too little is left on an agent, or of each client. It is tried on
-//! tables and a sorter that are thrown away.
+//! What the next cycle would do, client by client. The cycle is tried on copies of the tables and the sorter.
 ghost use Rattle.std.specs.Prelude.{◌≡◌, true, false, ◌+◌, ◌<◌, ◌≤◌, ◌&&◌, List, ◌++◌, ◌∷◌, [], Some, length, map, slice_get, is_some, IfOk, OnOk, OnErr, MatchOption};
 ghost use Rattle.std.specs.Option.{option_copied};
 ghost use Rattle.drf_role.specs.Path.{Path};
@@ -36,7 +35,7 @@ use drf_tables::Tables;
 use std::alloc::{AllocError, Global};
 use std::marker::Model;
 
-/// How many clients are to be served.
+/// Returns the number of active clients.
 fn count_active<S: Sorter>(sorter: &mut S) -> Result<u64, AllocError>
     requires { IsSound (S.content sorter.old) }
     ensures count { IfOk result (λ count. (paths : List Path) × IsOrderOf (S.content sorter.old) paths × (count ≡ length paths)) }
@@ -46,7 +45,7 @@ fn count_active<S: Sorter>(sorter: &mut S) -> Result<u64, AllocError>
     Ok(order.len() as u64)
 }
 
-/// What comes of trying a client on an agent with those gates.
+/// Returns the outcome of trying a client on an agent with these gates.
 fn outcome_of(
     gates: &Gates,
     quota: Option<&Quota<'_>>,
@@ -69,7 +68,7 @@ fn outcome_of(
     })
 }
 
-/// Tells what comes of the client that is served next.
+/// Appends the outcome for the first client in the queue.
 fn tell_first<S: Sorter>(
     sorter: &S,
     gates: &Gates,
@@ -90,7 +89,7 @@ fn tell_first<S: Sorter>(
     Ok(())
 }
 
-/// Tells of the clients that are not tried, if there are any.
+/// Appends how many clients are not tried, if there are any.
 fn tell_left(
     agent: &Name,
     left: &Bundle,
@@ -112,7 +111,7 @@ fn tell_left(
     Ok(())
 }
 
-/// Tells what comes of each client that is still to be served, where none of them is granted anything.
+/// Appends the outcome for each client in the queue. Nothing is granted meanwhile.
 fn tell_behind<S: Sorter>(
     sorter: &mut S,
     gates: &Gates,
@@ -133,7 +132,8 @@ fn tell_behind<S: Sorter>(
     Ok(())
 }
 
-/// Tells of the clients that are left where too little is: what comes of each, or how many they are.
+/// Appends what is reported of the clients that remain when too little is left for an offer: the outcome for each (`each`), or
+/// their number.
 fn tell_rest<S: Sorter>(
     each: bool,
     sorter: &mut S,
@@ -157,8 +157,8 @@ fn tell_rest<S: Sorter>(
     tell_left(agent, free, waiting, findings)
 }
 
-/// Tries each client in order on an agent, until what is left is not worth an offer, and tells what comes of it; and then of the clients that
-/// are left.
+/// Tries the clients in order on an agent until too little is left for an offer, and appends the outcomes. Then appends what is
+/// reported of the remaining clients.
 fn tell_clients<S: Sorter>(
     each: bool,
     gates: &Gates,
@@ -199,7 +199,7 @@ fn tell_clients<S: Sorter>(
     end_turn(place, free, drafts)
 }
 
-/// Tells of the turn of an agent: of each client, or of those before too little is left.
+/// Appends the findings of the turn of an agent: for each client (`each`), or for those that are tried before too little is left.
 fn tell_turn<S: Sorter>(
     alloc: Global,
     each: bool,
@@ -234,7 +234,7 @@ fn tell_turn<S: Sorter>(
     Ok(())
 }
 
-/// Tells what would come of each client of the turn of an agent, were it tried first. Nobody is granted anything.
+/// Appends, for each client in the turn of an agent, what its outcome would be if it were tried first. Nothing is granted.
 fn tell_untouched<S: Sorter>(
     alloc: Global,
     rows: &Rows,
@@ -270,7 +270,7 @@ fn tell_untouched<S: Sorter>(
     )
 }
 
-/// Tells of the turns of all agents.
+/// Appends the findings of the turns of all agents.
 fn tell_turns<S: Sorter>(
     alloc: Global,
     rows: &Rows,
@@ -290,7 +290,7 @@ fn tell_turns<S: Sorter>(
     Ok(())
 }
 
-/// Begins the cycle at a moment, in milliseconds: the rows that are told of, and no draft yet.
+/// Begins a cycle at a timestamp, in milliseconds, and returns the current state and empty drafts.
 fn begin<S: Sorter>(
     alloc: Global,
     limits: &Limits,
@@ -319,8 +319,8 @@ fn begin<S: Sorter>(
     Ok((rows, drafts))
 }
 
-/// What the cycle at a moment, in milliseconds, would offer and to whom, and where it would offer nothing, why. Tables and sorter are
-/// not to be used again.
+/// Returns what a cycle at a timestamp (in milliseconds) would offer to each client, or why it would offer nothing. The tables
+/// and the sorter must not be used afterwards.
 fn explain<S: Sorter>(
     alloc: Global,
     limits: &Limits,
@@ -339,8 +339,8 @@ fn explain<S: Sorter>(
     Ok(findings)
 }
 
-/// The telling of a cycle in which each client is told of, agent by agent. Nothing is kept of agents that were told of but what they were
-/// granted.
+/// An explanation of a cycle that is computed agent by agent, with an outcome for each client. Of the agents already reported,
+/// only the offers are kept.
 #[derive(Drop)]
 pub struct Telling<S: Sorter> {
     alloc: Global,
@@ -349,7 +349,7 @@ pub struct Telling<S: Sorter> {
     sorter: S,
     drafts: Drafts,
     place: usize,
-    // Whether memory has ended while an agent was told of.
+    // Whether memory ran out while an agent was explained.
     is_over: bool,
 }
 
@@ -359,7 +359,7 @@ impl<S: Sorter> Model for Telling<S> {
     ghost use Rattle.drf_explain.specs.contracts.finding.Finding as finding;
     ghost use Rattle.drf_explain.specs.declared.finding.Finding.{Finding};
 
-    // Of each agent what is told of it, and what would be told of each of its clients, were it tried first.
+    // For each agent its findings, and the outcome for each client if it were tried first.
     ghost Value = { List (List Finding × List Finding) };
 
     ghost coded = { coded_list (coded× (coded_list finding.the_row.coded) (coded_list finding.the_row.coded)) };
@@ -373,7 +373,7 @@ impl<S: Sorter> Model for Telling<S> {
     ghost invariant = { λ t. t.is_over ≡ false → (t.rows ≡ live_rows t.tables.rows) × IsCycleAt (S.content t.sorter) t.tables t.drafts t.place };
 }
 
-/// Begins to tell of the cycle at a moment, in milliseconds, on tables and a sorter of its own.
+/// Returns an explanation of the cycle at a timestamp, in milliseconds, that owns these tables and this sorter.
 fn begin_telling<S: Sorter>(
     alloc: Global,
     limits: &Limits,
@@ -399,7 +399,8 @@ fn begin_telling<S: Sorter>(
 }
 
 impl<S: Sorter> Telling<S> {
-    /// What is told of the next agent, in order of registration, or nothing behind the last one. At an `Err` the telling is over.
+    /// Returns the findings of the next agent, in order of registration, or `None` after the last one. If memory runs out, the
+    /// explanation ends.
     #[tactic(auto, using(crate::proofs::drafting::Told::none_left))]
     pub fn next_agent(&mut self) -> Result<Option<Vec<Finding>>, AllocError>
         ensures told { IfOk result (λ next. MatchOption next ((self.old ≡ []) × (self.new ≡ []))
@@ -426,7 +427,8 @@ impl<S: Sorter> Telling<S> {
         Ok(Some(told))
     }
 
-    /// What would come of each client of the next agent's turn, were it tried first. At an `Err` the telling is over.
+    /// Returns, for each client in the turn of the next agent, what its outcome would be if it were tried first. If memory runs
+    /// out, the explanation ends.
     fn untouched(&mut self) -> Result<Vec<Finding>, AllocError>
         ensures told { IfOk result (λ untouched. (turn : List Finding × List Finding) (turns : List (List Finding × List Finding))
             → self.old ≡ turn ∷ turns → untouched.items ≡ turn.1) }
@@ -451,8 +453,8 @@ impl<S: Sorter> Telling<S> {
         Ok(untouched)
     }
 
-    /// What is told of the next agent, and what would be told of each of its clients, were it tried first: for twice the time, and a
-    /// list more. At an `Err` the telling is over.
+    /// Returns the findings of the next agent, and the outcome for each client if it were tried first, or `None` after the last
+    /// agent. It takes twice the time of `next_agent`, and one more list. If memory runs out, the explanation ends.
     pub fn next_turn(&mut self) -> Result<Option<TurnTold>, AllocError>
         ensures told { IfOk result (λ next. MatchOption next ((self.old ≡ []) × (self.new ≡ []))
             (λ turn. self.old ≡ (turn.told.items, turn.untouched.items) ∷ self.new)) }
@@ -467,7 +469,7 @@ impl<S: Sorter> Telling<S> {
 }
 
 impl<S: Sorter> Cluster<S> {
-    /// What the cycle at a moment, in milliseconds, would offer and to whom, and where it would offer nothing, why.
+    /// Returns what a cycle at a timestamp (in milliseconds) would offer to each client, or why it would offer nothing.
     pub(crate) fn explain(
         &self,
         alloc: Global,
@@ -483,7 +485,7 @@ impl<S: Sorter> Cluster<S> {
         explain(alloc, limits, &mut tables, &mut sorter, at)
     }
 
-    /// Begins to tell of the cycle at a moment, in milliseconds: of each client on each agent.
+    /// Returns an explanation of the cycle at a timestamp (in milliseconds), agent by agent, with an outcome for each client.
     pub(crate) fn telling(
         &self,
         alloc: Global,

@@ -1,4 +1,6 @@
-//! What is free on an agent in its turn, and what a client is granted of it.
+//! The free resources of an agent in its turn, and what a client is granted of them. A role's prefix length is a number
+//! of first parts such that what is known about clients of the role holds for all clients whose paths begin with the
+//! same parts.
 ghost use Rattle.std.specs.Prelude.{◌≡◌, ◌+◌, ◌≤◌, [], if◌then◌else◌, Option, Some, None, false, true, length, take, IfOk, IfSome, OnOk, IsTrue, MatchOption};
 ghost use Rattle.std.specs.List.{list_any};
 ghost use Rattle.std.specs.Option.{option_copied};
@@ -23,37 +25,38 @@ use drf_tables::Tables;
 use std::alloc::{AllocError, Global};
 use std::mem;
 
-/// How much is free for everyone of the scalars that make an offer worth it, in thousandths.
+/// How much `cpus` and `mem`, the scalars that decide whether an offer is made, is free and unreserved, in thousandths.
 #[derive(Clone, Copy)]
 pub struct ForEveryone {
     pub cpus: u64,
     pub mem: u64,
 }
 
-/// What is known of a role in a turn.
+/// What is known about one role in a turn.
 #[derive(Drop)]
 pub enum Known {
     Nothing,
-    /// What it may have of what is free, which is worth an offer.
+    /// Clients of the role can have this part of what is free, and it is enough for an offer.
     Part { role: Role, part: Bundle },
-    /// It may have nothing that is worth an offer, nor may any client whose path begins with the first `front` parts of those of the
-    /// role's clients.
+    /// Clients of the role can have nothing that is enough for an offer, nor can any client whose path begins with the first `front` parts
+    /// of their paths.
     Barred { role: Role, front: usize },
 }
 
-/// What is free on an agent in its turn, whether that is worth an offer, and whether it is known that nothing of it is reserved.
+/// What is free on an agent in its turn, whether that is enough for an offer, and whether it is known that nothing of it is
+/// reserved.
 #[derive(Drop)]
 pub struct Free {
     pub bundle: Bundle,
     pub is_worth: bool,
     pub is_unreserved: bool,
-    // Once it was asked for.
+    // `None` until it is needed.
     pub for_everyone: Option<ForEveryone>,
     pub known: Known,
 }
 
 impl Free {
-    /// What is free as a turn begins, and whether that is worth an offer.
+    /// Returns what is free as a turn begins. `is_worth` says whether it is enough for an offer.
     pub fn new(bundle: Bundle, is_worth: bool) -> Free
         requires { is_worth ≡ is_allocatable bundle }
         ensures bundle { result.bundle ≡ bundle }
@@ -70,7 +73,8 @@ impl Free {
     }
 }
 
-/// What a role may have of what is free: the part that it may use, cut to the headroom that limits leave it, if any do.
+/// Returns what clients of a role can have of the free resources: the unreserved ones, cut to the headroom of the role, and those
+/// reserved for the role or for a role above it.
 pub(crate) fn part_within(
     quota: Option<&Quota<'_>>,
     free: &Bundle,
@@ -90,7 +94,7 @@ pub(crate) fn part_within(
     part.clip(&headroom)
 }
 
-/// Whether a resource is of a scalar that makes an offer worth it.
+/// Returns whether a resource is of `cpus` or `mem`, the scalars that decide whether an offer is made.
 fn is_of_worth(resource: &Resource) -> bool
     ensures { result ≡ is_of_worth resource.now }
 {
@@ -98,7 +102,7 @@ fn is_of_worth(resource: &Resource) -> bool
     label == "cpus" || label == "mem"
 }
 
-/// A number of first parts in which two roles differ, if the first is neither the second nor a role above it.
+/// Returns the smallest number of first parts in which two roles differ, or `None` if `outer` is `role` or a role above it.
 fn parted_front(outer: &Role, role: &Role) -> Option<usize>
     ensures within { IfSome result (λ len. len ≤ length role.now + 1) }
     ensures parted { IfSome result (λ len. same_path (take len outer.now) (take len role.now) ≡ false) }
@@ -113,8 +117,9 @@ fn parted_front(outer: &Role, role: &Role) -> Option<usize>
     None
 }
 
-/// The front, or a greater one, so that the resource is reserved for no role that has as many first parts in common with this one; none, if
-/// it is reserved for this role or for a role above it. Only what makes an offer worth it counts.
+/// Returns the prefix length `front`, or a greater one, such that the resource is not reserved for a role with as many first
+/// parts in common with `role`. Returns `None` if the resource is reserved for `role` or for a role above it. Only `cpus` and
+/// `mem` count.
 fn raised_front(front: usize, resource: &Resource, role: &Role) -> Option<usize>
     ensures no_less { IfSome result (λ len. front ≤ len) }
     ensures within { IfSome result (λ len. front ≤ length role.now + 1 → len ≤ length role.now + 1) }
@@ -126,7 +131,7 @@ fn raised_front(front: usize, resource: &Resource, role: &Role) -> Option<usize>
         return Some(front);
     }
     let parted = parted_front(&resource.role, role);
-    // Few labels are looked at: roles side by side differ in as many parts.
+    // This avoids most comparisons of labels, because sibling roles differ at the same part.
     if let Some(len) = parted {
         if len <= front {
             return Some(front);
@@ -139,8 +144,8 @@ fn raised_front(front: usize, resource: &Resource, role: &Role) -> Option<usize>
     }
 }
 
-/// If nothing that makes an offer worth it is reserved for a role or for a role above it: a number of first parts, so that it is for no
-/// role either that has as many in common with this one.
+/// Returns a prefix length such that no free `cpus` or `mem` are reserved for a role with as many first parts in common with
+/// `role`. Returns `None` if some are reserved for `role` or for a role above it.
 fn reserved_front(free: &Bundle, role: &Role) -> Option<usize>
     ensures within { IfSome result (λ len. len ≤ length role.now + 1) }
     ensures none { IfSome result (λ _. list_any (is_reserved_for role.now) free.now ≡ false) }
@@ -154,7 +159,7 @@ fn reserved_front(free: &Bundle, role: &Role) -> Option<usize>
     Some(front)
 }
 
-/// How much of a scalar a resource has for everyone, in thousandths.
+/// Returns how much of a scalar a resource has unreserved, in thousandths.
 fn unreserved_one(resource: &Resource, label: &str) -> u64
     requires { IsResource resource.now }
     ensures { result ≡ unreserved_one label.now resource.now }
@@ -168,7 +173,7 @@ fn unreserved_one(resource: &Resource, label: &str) -> u64
     }
 }
 
-/// How much of a scalar is free for everyone, in thousandths.
+/// Returns how much of a scalar is free and unreserved, in thousandths.
 fn unreserved(free: &Bundle, label: &str) -> u64
     ensures { result ≡ unreserved_in label.now free.now }
 {
@@ -179,8 +184,9 @@ fn unreserved(free: &Bundle, label: &str) -> u64
     sum
 }
 
-/// If less than `least` of a scalar is free for everyone, or limits leave a role less: how many of its first parts decide that, 0 where so
-/// much is not free.
+/// Returns a prefix length if less than `least` (in thousandths) of a scalar is free and unreserved, or if limits leave the role
+/// less than that: then it is the same for all roles with as many first parts in common. It is 0 if too little is free. Returns
+/// `None` if there is enough.
 fn short_front(
     quota: Option<&Quota<'_>>,
     free: &Bundle,
@@ -201,9 +207,8 @@ fn short_front(
     quota?.short_front(role, label, least)
 }
 
-/// If amounts alone tell that a role may have nothing that is worth an offer, as too little is free for everyone or limits leave too little,
-/// and nothing is reserved for it: a number of first parts, so that all clients that share as many with those of the role may have as little.
-/// It needs no memory.
+/// Returns a prefix length if amounts alone show that clients of the role can have nothing that is enough for an offer, because
+/// too little is free and unreserved or within the limits, and nothing is reserved for the role. It needs no memory.
 fn spent_front(
     quota: Option<&Quota<'_>>,
     free: &Bundle,
@@ -221,7 +226,8 @@ fn spent_front(
     Some(cpus.max(mem).max(reserved))
 }
 
-/// What a role may have of what is free, if that is worth an offer, or who else may have as little.
+/// Returns the part of the free resources that clients of a role can have, if it is enough for an offer, and otherwise a prefix
+/// length.
 fn known_of(
     quota: Option<&Quota<'_>>,
     free: &Bundle,
@@ -245,7 +251,7 @@ fn known_of(
     Ok(Known::Barred { role: named, front })
 }
 
-/// Whether it is known what the role may have.
+/// Returns whether `known` is about this role.
 fn is_known(known: &Known, role: &Role) -> bool
     ensures { IsTrue result → known_role known.now ≡ Some role.now }
 {
@@ -256,7 +262,7 @@ fn is_known(known: &Known, role: &Role) -> bool
     }
 }
 
-/// How much is free for everyone, which is found once for what is free.
+/// Returns how much is free and unreserved. It is computed at the first call, and then stored.
 fn for_everyone(free: &mut Free) -> ForEveryone
     requires { IsEveryonesKnown free.old }
     ensures amounts { IsForEveryone free.old.bundle result }
@@ -274,7 +280,7 @@ fn for_everyone(free: &mut Free) -> ForEveryone
     amounts
 }
 
-/// Makes known what a role may have. It is found once for clients of a role that are tried one after another.
+/// Makes known what a role can have. It is computed once for clients of the same role that are tried one after another.
 fn entitle(quota: Option<&Quota<'_>>, free: &mut Free, role: &Role) -> Result<(), AllocError>
     requires { IsKnown (option_copied quota) free.old }
     ensures known { OnOk result (IsKnown (option_copied quota.entry) free.new) }
@@ -290,7 +296,7 @@ fn entitle(quota: Option<&Quota<'_>>, free: &mut Free, role: &Role) -> Result<()
     Ok(())
 }
 
-/// The part that is known, which is known no longer.
+/// Returns the known part, if there is one, and leaves nothing known.
 fn take_part(known: &mut Known) -> Option<Bundle>
     ensures part { result ≡ known_part known.old }
     ensures nothing { known.new ≡ Nothing }
@@ -301,8 +307,8 @@ fn take_part(known: &mut Known) -> Option<Bundle>
     }
 }
 
-/// Takes from what is free on an agent what a client is granted: what its role may have, if that is worth an offer, and no filter
-/// holds it back. What the role may have is known no longer with a grant, which takes from the headroom too.
+/// Grants a client what its role can have, if that is enough for an offer and no filter covers it, and removes it from what is
+/// free. After a grant, what the role can have is unknown, because the grant also uses up headroom.
 fn grant_part(
     tables: &Tables,
     agent: &Name,
@@ -333,7 +339,7 @@ fn grant_part(
     Ok(take_part(&mut free.known))
 }
 
-/// Whether no role has a limit.
+/// Returns whether no role has a limit.
 fn is_unlimited(quota: Option<&Quota<'_>>) -> bool
     ensures { IsTrue result → (rows : Rows) → IsQuotaOf rows (option_copied quota.entry) → rows.limits ≡ [] }
 {
@@ -343,8 +349,8 @@ fn is_unlimited(quota: Option<&Quota<'_>>) -> bool
     }
 }
 
-/// Whether it is seen that each role may have all that is free, and that this is worth an offer: nothing of it is reserved, and there are
-/// no limits.
+/// Returns whether it is known that each role can have all that is free, and that this is enough for an offer: nothing is
+/// reserved, and no role has a limit.
 fn is_for_all(quota: Option<&Quota<'_>>, free: &Free) -> bool
     requires { IsKnown (option_copied quota) free.now }
     ensures { IsTrue result → (role : Path) → IsOffered (option_copied quota.entry) free.now.bundle role (Some free.now.bundle) }
@@ -356,7 +362,7 @@ fn is_for_all(quota: Option<&Quota<'_>>, free: &Free) -> bool
     false
 }
 
-/// Takes all that is free on an agent for a client, if no filter holds it back.
+/// Grants a client all that is free on an agent, unless a filter covers it.
 fn take_all(
     alloc: Global,
     tables: &Tables,
@@ -380,7 +386,8 @@ fn take_all(
     Some(mem::replace(&mut free.bundle, Bundle::empty(alloc)))
 }
 
-/// Takes from what is free on an agent what a client is granted. What its role may have is found at once where that is all.
+/// Grants a client a part of what is free on an agent, if it can have enough for an offer and no filter covers it. The granted
+/// part is removed from what is free. On the fast path, every role can have all that is free.
 pub fn grant(
     alloc: Global,
     tables: &Tables,

@@ -1,4 +1,4 @@
-//! Agents register, take part or not, and leave.
+//! The effects of events of agents.
 ghost use Rattle.std.specs.Prelude.{◌≡◌, None, OnOk, OnErr};
 ghost use Rattle.drf_rows.specs.Step.{refusal_of, effect};
 ghost use Rattle.drf_rows.specs.declared.event.Event.TheVariants.{AddAgent, RemoveAgent, ActivateAgent, DeactivateAgent, SetAgent};
@@ -15,7 +15,7 @@ use drf_tables::Ending;
 use std::alloc::AllocError;
 
 impl<S: Sorter> Cluster<S> {
-    /// An agent registers.
+    /// Adds an active agent with this total. If memory runs out, no row changes.
     pub(crate) fn add_agent(
         &mut self,
         limits: &Limits,
@@ -34,7 +34,7 @@ impl<S: Sorter> Cluster<S> {
         Ok(())
     }
 
-    /// An agent leaves, and all that is held there ends.
+    /// Removes an agent, and ends all offers and tasks on it. If memory runs out, no row changes.
     pub(crate) fn remove_agent(&mut self, agent: &Name) -> Result<(), AllocError>
         ensures ok { OnOk result (self.new.rows ≡ effect self.old.rows (RemoveAgent agent.now)) }
         ensures err { OnErr result (self.new.rows ≡ self.old.rows) }
@@ -48,7 +48,7 @@ impl<S: Sorter> Cluster<S> {
         Ok(())
     }
 
-    /// What is free on an agent is offered, from now on.
+    /// Activates an agent, so that cycles offer its free resources.
     pub(crate) fn activate_agent(&mut self, agent: &Name)
         ensures rows { self.new.rows ≡ effect self.old.rows (ActivateAgent agent.now) }
         ensures work { self.new.work ≡ self.old.work }
@@ -56,7 +56,7 @@ impl<S: Sorter> Cluster<S> {
         self.tables.set_active(agent, true);
     }
 
-    /// An agent's offers end, and no more are made.
+    /// Deactivates an agent, and ends the offers of its resources.
     pub(crate) fn deactivate_agent(&mut self, agent: &Name)
         ensures rows { self.new.rows ≡ effect self.old.rows (DeactivateAgent agent.now) }
         ensures spends { Defers S.COUNTED self.old.work self.new.work (nodes_of (touched self.old.rows (DeactivateAgent agent.now))) }
@@ -65,7 +65,7 @@ impl<S: Sorter> Cluster<S> {
         self.tables.set_active(agent, false);
     }
 
-    /// An agent's total is another from now on. What is held there stays.
+    /// Replaces the total of an agent. Its offers and tasks stay. If memory runs out, no row changes.
     pub(crate) fn set_agent(
         &mut self,
         limits: &Limits,

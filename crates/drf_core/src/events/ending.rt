@@ -1,4 +1,4 @@
-//! What is held ends.
+//! Release of resources: offers and tasks end.
 ghost use Rattle.std.specs.Prelude.{◌≡◌, ◌≤◌, IsTrue};
 ghost use Rattle.drf_rows.specs.Consistent.{IsConsistent};
 ghost use Rattle.drf_rows.specs.Endings.{without_ended};
@@ -13,7 +13,7 @@ use drf_role::ClientPath;
 use drf_sorter::Sorter;
 use drf_tables::Ending;
 
-/// Whether it is known that no more than one holding ends: an offer or a task.
+/// Returns whether at most one offer or task can end: the offer of a number, or a task of a name.
 fn is_one(ending: Ending) -> bool
     ensures { IsTrue result → (rows : Rows) → IsConsistent rows → left_to_end rows (ending_of ending.entry) ≤ 1 }
 {
@@ -27,12 +27,12 @@ fn is_one(ending: Ending) -> bool
 }
 
 impl<S: Sorter> Cluster<S> {
-    /// All that ends is given back, one holding after another. It needs no memory.
+    /// Ends all offers and tasks that `ending` selects, one after the other, and refunds them to the sorter. It needs no memory.
     pub(crate) fn end(&mut self, ending: Ending)
         ensures rows { self.new.rows ≡ without_ended self.old.rows (ending_of ending.entry) }
         ensures spends { Defers S.COUNTED self.old.work self.new.work (nodes_of (losers self.old.rows (ending_of ending.entry))) }
     {
-        // Rows are consistent: so an offer of a number, or a task of a name, ends once.
+        // The rows are consistent, so at most one offer has a given number, and at most one task of a framework has a given name.
         self.tables.recall();
         while let Some(taken) = self.tables.end(ending) {
             let client = ClientPath::from_parts(taken.role, taken.framework);

@@ -1,4 +1,4 @@
-//! Frameworks register, are served or not, change their roles, and leave.
+//! The effects of events of frameworks and clients.
 ghost use Rattle.std.specs.Prelude.{◌≡◌, ◌++◌, None, true, filter, map, not, sum_by, length, IfOk, OnOk, OnErr};
 ghost use Rattle.drf_rows.specs.Members.{distinct, has_framework, new_client};
 ghost use Rattle.drf_rows.specs.Roles.{clients_joined, clients_kept, has_role, with_roles};
@@ -16,7 +16,7 @@ use drf_sorter::Sorter;
 use drf_tables::Ending;
 use std::alloc::{AllocError, Global};
 
-/// The roles of a list, each once, where it first stands.
+/// Returns the roles of a list without duplicates, in the order of their first occurrences.
 fn distinct_roles(alloc: Global, roles: Table<Role>) -> Result<Vec<Role>, AllocError>
     ensures { IfOk result (λ kept. kept.items ≡ distinct roles) }
 {
@@ -30,7 +30,7 @@ fn distinct_roles(alloc: Global, roles: Table<Role>) -> Result<Vec<Role>, AllocE
     Ok(kept)
 }
 
-/// The clients of a framework that registers.
+/// Returns the clients of a framework that registers: one for each role, not suppressed, with a count of 0.
 fn new_clients(alloc: Global, roles: Vec<Role>) -> Result<Table<ClientRow>, AllocError>
     ensures { IfOk result (λ clients. clients ≡ map new_client roles.items) }
 {
@@ -45,7 +45,7 @@ fn new_clients(alloc: Global, roles: Vec<Role>) -> Result<Table<ClientRow>, Allo
     Ok(Table::from_vec(clients))
 }
 
-/// The paths of the clients of a framework.
+/// Returns the paths of clients of a framework.
 fn client_paths(
     alloc: Global,
     framework: &Name,
@@ -60,7 +60,7 @@ fn client_paths(
     Ok(paths)
 }
 
-/// Adds clients to the sorter, all or none: where memory ends, those that came before are removed, which takes none.
+/// Adds clients to the sorter, all or none. If memory runs out, those already added are removed, which needs no memory.
 fn add_clients<S: Sorter>(sorter: &mut S, paths: &[ClientPath]) -> Result<(), AllocError>
     requires { AreNew (S.content sorter.old) paths.now }
     ensures ok { OnOk result (S.content sorter.new ≡ with_all (S.content sorter.old) paths.now) }
@@ -98,7 +98,7 @@ fn has_role(clients: &[ClientRow], role: &Role) -> bool
     clients.iter().any(|client| client.role == *role)
 }
 
-/// Returns the roles of a list that no client has, each once.
+/// Returns the roles of a list that none of the clients has.
 fn new_roles(
     alloc: Global,
     roles: Vec<Role>,
@@ -116,7 +116,7 @@ fn new_roles(
     Ok(kept)
 }
 
-/// Returns copies of the clients whose roles are among these.
+/// Returns copies of the clients whose roles are in a list.
 fn kept_clients(
     alloc: Global,
     roles: &[Role],
@@ -133,7 +133,7 @@ fn kept_clients(
     Ok(kept)
 }
 
-/// Returns the paths of the clients whose roles are not among these.
+/// Returns the paths of the clients whose roles are not in a list.
 fn left_paths(
     alloc: Global,
     framework: &Name,
@@ -152,7 +152,7 @@ fn left_paths(
     Ok(paths)
 }
 
-/// Adds copies of clients after others.
+/// Appends copies of clients to a list.
 fn push_clients(kept: &mut Vec<ClientRow>, clients: &[ClientRow]) -> Result<(), AllocError>
     ensures { OnOk result (kept.new.items ≡ kept.old.items ++ clients.now) }
 {
@@ -162,7 +162,7 @@ fn push_clients(kept: &mut Vec<ClientRow>, clients: &[ClientRow]) -> Result<(), 
     Ok(())
 }
 
-/// Returns the clients of a framework in roles that it had not, by a list of roles.
+/// Returns the clients that a framework with these clients gains when it gets these roles.
 fn joined_clients(
     alloc: Global,
     roles: &[Role],
@@ -175,7 +175,7 @@ fn joined_clients(
     new_clients(alloc, roles)
 }
 
-/// Returns the clients that a framework has once it has just these roles.
+/// Returns the clients of a framework after it gets these roles: those that stay, and then those that it gains.
 fn clients_then(
     alloc: Global,
     roles: &[Role],
@@ -189,7 +189,7 @@ fn clients_then(
     Ok(Table::from_vec(then))
 }
 
-/// Returns the paths of the clients in roles that a framework had not.
+/// Returns the paths of the clients that a framework with these clients gains when it gets these roles.
 fn joined_paths(
     alloc: Global,
     framework: &Name,
@@ -202,7 +202,7 @@ fn joined_paths(
     client_paths(alloc, framework, joined.as_slice())
 }
 
-/// What changes with the roles of a framework: the clients that it has then, and the paths of those that come and of those that go.
+/// A change of the roles of a framework: its clients after the change, and the paths of the clients that it gains and loses.
 struct RoleChange {
     clients: Table<ClientRow>,
     joined: Vec<ClientPath>,
@@ -210,7 +210,7 @@ struct RoleChange {
 }
 
 impl RoleChange {
-    /// Computes the change of a framework with these clients that is to have just these roles.
+    /// Computes the change by which a framework with these clients gets exactly these roles.
     fn new(
         alloc: Global,
         framework: &Name,
@@ -228,7 +228,7 @@ impl RoleChange {
         })
     }
 
-    /// The clients.
+    /// Returns the clients after the change.
     fn into_clients(self) -> Table<ClientRow>
         ensures { result ≡ self.clients }
     {
@@ -252,7 +252,7 @@ impl Drop for RoleChange {
 }
 
 impl<S: Sorter> Cluster<S> {
-    /// A framework registers.
+    /// Adds a framework, with a client for each of its roles. If memory runs out, no row changes.
     pub(crate) fn add_framework(
         &mut self,
         alloc: Global,
@@ -275,7 +275,7 @@ impl<S: Sorter> Cluster<S> {
         Ok(())
     }
 
-    /// A framework has just these roles from now on.
+    /// Replaces the roles of a framework. If memory runs out, no row changes.
     pub(crate) fn set_framework(
         &mut self,
         alloc: Global,
@@ -297,7 +297,7 @@ impl<S: Sorter> Cluster<S> {
         Ok(())
     }
 
-    /// A framework leaves, and all that it holds ends.
+    /// Removes a framework, and ends all its offers and tasks. If memory runs out, no row changes.
     pub(crate) fn remove_framework(
         &mut self,
         alloc: Global,
@@ -317,7 +317,7 @@ impl<S: Sorter> Cluster<S> {
         Ok(())
     }
 
-    /// A framework is no longer served in a role.
+    /// Suppresses a client, so that cycles make it no offers. If memory runs out, no row changes.
     pub(crate) fn suppress(
         &mut self,
         alloc: Global,
@@ -335,7 +335,7 @@ impl<S: Sorter> Cluster<S> {
         Ok(())
     }
 
-    /// A framework is served in a role again, and refuses nothing there any more.
+    /// Revives a client, and removes all its filters. If memory runs out, no row changes.
     pub(crate) fn revive(
         &mut self,
         alloc: Global,

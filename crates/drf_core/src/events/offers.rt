@@ -1,4 +1,4 @@
-//! Offers and tasks: what becomes of an offer, and how a task ends.
+//! The effects of events of offers and tasks.
 ghost use Rattle.std.specs.Prelude.{◌≡◌, ◌≤◌, true, OnOk, OnErr};
 ghost use Rattle.drf_rows.specs.Consistent.{IsConsistent};
 ghost use Rattle.drf_rows.specs.Offers.{CanAccept, has_offer};
@@ -17,7 +17,8 @@ use drf_tables::Ending;
 use std::alloc::AllocError;
 
 impl<S: Sorter> Cluster<S> {
-    /// A framework starts tasks with parts of an offer. The rest is free, and is refused for a time.
+    /// Ends an offer, and starts tasks with parts of it. The rest becomes free, and is filtered for `refuse_ms` milliseconds. If
+    /// memory runs out, no row changes.
     pub(crate) fn accept(&mut self, accept: Accept) -> Result<(), AllocError>
         requires consistent { IsConsistent self.old.rows }
         requires can { CanAccept self.old.rows accept.offer accept.tasks }
@@ -32,7 +33,7 @@ impl<S: Sorter> Cluster<S> {
         Ok(())
     }
 
-    /// A framework gives an offer back, and refuses it for a time.
+    /// Ends an offer, and filters its resources for `refuse_ms` milliseconds. If memory runs out, no row changes.
     pub(crate) fn decline(&mut self, decline: &Decline) -> Result<(), AllocError>
         requires consistent { IsConsistent self.old.rows }
         requires offer { has_offer self.old.rows decline.now.offer ≡ true }
@@ -46,7 +47,7 @@ impl<S: Sorter> Cluster<S> {
         Ok(())
     }
 
-    /// An offer is taken back.
+    /// Ends an offer. No filter is set.
     pub(crate) fn rescind(&mut self, number: u64)
         ensures rows { self.new.rows ≡ effect self.old.rows (event.Rescind number) }
         ensures spends { Defers S.COUNTED self.old.work self.new.work (nodes_of (losers self.old.rows (one_offer number))) }
@@ -54,7 +55,7 @@ impl<S: Sorter> Cluster<S> {
         self.end(Ending::Offer(number));
     }
 
-    /// A task ends.
+    /// Ends a task.
     pub(crate) fn finish(&mut self, framework: &Name, task: &Name)
         ensures rows { self.new.rows ≡ effect self.old.rows (event.Finish framework.now task.now) }
         ensures spends { Defers S.COUNTED self.old.work self.new.work (nodes_of (losers self.old.rows (one_task framework.now task.now))) }

@@ -1,4 +1,4 @@
-//! The report of shares.
+//! The reply to `report`.
 ghost use Rattle.std.specs.Prelude.{◌≡◌, ◌<◌, ◌≤◌, ◌^◌, length, IfOk};
 ghost use Rattle.drf_rows.specs.Consistent.{IsConsistent};
 ghost use Rattle.drf_rows.specs.Report.{report_of};
@@ -9,7 +9,7 @@ use drf_sorter::Sorter;
 use std::alloc::AllocError;
 
 impl<S: Sorter> Cluster<S> {
-    /// What there is, and who holds what of it.
+    /// Returns the cluster's total, and what each node holds, with its shares and its count.
     pub(crate) fn report(&self) -> Result<Report, AllocError>
         requires consistent { IsConsistent self.now.rows }
         requires few_agents { length self.now.rows.agents ≤ 4096 }

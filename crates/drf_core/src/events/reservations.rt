@@ -1,4 +1,4 @@
-//! What is free moves between everyone and a role.
+//! The effects of `reserve` and `unreserve`.
 ghost use Rattle.std.specs.Prelude.{◌≡◌, None, IfOk, OnOk, OnErr, IsTrue};
 ghost use Rattle.drf_bundle.specs.Bundle.{is_unreserved, relabel};
 ghost use Rattle.drf_rows.specs.Consistent.{IsConsistent};
@@ -13,7 +13,7 @@ use drf_rows::Limits;
 use drf_sorter::Sorter;
 use std::alloc::AllocError;
 
-/// The resources with all of them reserved for the role.
+/// Returns a copy of unreserved resources that is reserved for a role.
 fn reserved(role: &Role, resources: &Bundle) -> Result<Bundle, AllocError>
     requires { IsTrue (is_unreserved resources.now) }
     ensures asked { IsAsked role.now resources.now }
@@ -25,7 +25,7 @@ fn reserved(role: &Role, resources: &Bundle) -> Result<Bundle, AllocError>
 }
 
 impl<S: Sorter> Cluster<S> {
-    /// What is free for everyone is reserved for a role.
+    /// Reserves free, unreserved resources of an agent for a role. If memory runs out, no row changes.
     pub(crate) fn reserve(
         &mut self,
         limits: &Limits,
@@ -44,7 +44,7 @@ impl<S: Sorter> Cluster<S> {
         Ok(())
     }
 
-    /// What is free and reserved for a role is for everyone again.
+    /// Makes free resources of an agent that are reserved for a role unreserved. If memory runs out, no row changes.
     pub(crate) fn unreserve(
         &mut self,
         limits: &Limits,

@@ -1,5 +1,5 @@
-//! Why resources are not reserved, not for everyone again, and why a total is not another. What is free, what limits admit
-//! and what is held is tested last, where there is memory.
+//! Late refusals: those of `reserve`, `unreserve` and `set_agent` that depend on free, held or consumed resources, and
+//! the cases after these. Deciding them can need memory.
 ghost use Rattle.std.specs.Prelude.{◌≡◌, ◌++◌, ◌≤◌, true, length, Some, None, IfOk};
 ghost use Rattle.drf_bundle.specs.Bundle.{is_unreserved};
 ghost use Rattle.drf_rows.specs.Consistent.{IsConsistent};
@@ -17,7 +17,7 @@ use drf_rows::{Event, Limits, Refusal};
 use drf_tables::{Tables, is_too_large};
 use std::alloc::AllocError;
 
-/// The agent is there, and what is free on it does not cover the resources.
+/// Returns whether the agent is registered and its free resources do not cover these.
 fn is_not_free(tables: &Tables, agent: &Name, resources: &Bundle) -> Result<bool, AllocError>
     ensures { IfOk result (λ lacks. lacks ≡ is_not_free tables.now.rows agent.now resources.now) }
 {
@@ -27,7 +27,7 @@ fn is_not_free(tables: &Tables, agent: &Name, resources: &Bundle) -> Result<bool
     }
 }
 
-/// Why resources are not reserved for a role: they are not free, or a limit does not admit them.
+/// Returns the late refusal of a `reserve`, if there is one: the resources are not free, or a limit does not admit them.
 fn refuse_reserved(
     tables: &mut Tables,
     agent: &Name,
@@ -47,7 +47,7 @@ fn refuse_reserved(
     ]))
 }
 
-/// Why resources that were reserved are not for everyone again: they are not free.
+/// Returns the late refusal of an `unreserve`, if there is one: the reserved resources are not free.
 fn refuse_unreserved(
     tables: &Tables,
     agent: &Name,
@@ -62,7 +62,7 @@ fn refuse_unreserved(
     Ok(first_case(&[(lacks, Refusal::NotCovered)]))
 }
 
-/// Why a total is not an agent's: it does not cover what is held there, or is too large.
+/// Returns why a registered agent cannot have a total: it does not cover what is held there, or it is too large.
 fn refuse_total(
     tables: &Tables,
     agent: &Name,
@@ -79,7 +79,8 @@ fn refuse_total(
     ]))
 }
 
-/// Why an agent does not get a total that it could have: the names of scalars over all agents would be too many.
+/// Returns why a registered agent cannot have a total that `refuse_total` allows: the scalars of all agents would have too many
+/// names.
 fn refuse_names(
     limits: &Limits,
     tables: &Tables,
@@ -96,7 +97,7 @@ fn refuse_names(
     Ok(first_case(&[(limits.scalar_names() < names, Refusal::TooMany)]))
 }
 
-/// Why an agent that is there does not get another total.
+/// Returns the late refusal of a `set_agent`, if there is one.
 fn refuse_other_total(
     limits: &Limits,
     tables: &Tables,
@@ -113,7 +114,7 @@ fn refuse_other_total(
     }
 }
 
-/// Why an event is refused, of the cases that are told where there is memory.
+/// Returns the late refusal of an event, if there is one.
 pub(crate) fn refuse_late(
     limits: &Limits,
     tables: &mut Tables,

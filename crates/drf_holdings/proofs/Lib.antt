@@ -1,3 +1,4 @@
+-- The lemmas of this crate.
 mod Lists
 mod RisingLists
 mod Slots

@@ -1,4 +1,4 @@
--- Lists of numbers by name, after a change of one of them.
+-- Lists of numbers by name, after a change of one list.
 use Rattle.std.specs.Prelude.{◌≡◌, ℕ, ◌==◌, Bool, true, false, not, List, [], ◌∷◌, ◌++◌, Option, Some, None, cond, filter, length, Result, Ok, Err, OnErr}
 use Rattle.std.specs.Cmp.{IsEquivalence}
 use Rattle.std.specs.List.{IsDistinct}
@@ -12,7 +12,7 @@ use Rattle.drf_role.specs.Text.{Text, same_text}
 use Rattle.drf_role.specs.TextLaws.{same_from_test, same_itself}
 use Rattle.drf_row_laws.specs.ConsistentLaws.{same_text-swap}
 
--- what holds at all holds on failure, and on success
+-- what holds in any case holds after success and after failure
 pub on_err : {T E : Type 0} (r : Result T E) (P : Type 0) → P → OnErr r P
 on_err (Ok x) P p = tt
 on_err (Err e) P p = p
@@ -28,7 +28,7 @@ texts_same = record {
   congr = λ a b c same. ap (λ (t : Text). same_text t c) (same_from_test a b same);
 }
 
--- lists, of whatever kind
+-- lists of any type
 module _ {L : Type 0} (items : L → List ℕ) where
   abbrev pub items_or : Option L → List ℕ
   items_or o = option_map_or items o []
@@ -47,7 +47,7 @@ module _ {L : Type 0} (items : L → List ℕ) where
         by true same = is ∙ ap (λ (t : Text). g (numbers_at old t)) (same refl)
         by false same = refl
 
-    -- one more number at the end
+    -- a number is appended
     pub added_at : (number : ℕ) → items_or w ≡ numbers_at old name ++ number ∷ []
         → (q : Text) → numbers_at new q ≡ numbers_at old q ++ cond (same_text name q) (number ∷ []) []
     added_at number is q = changed_at (λ ns. ns ++ number ∷ []) is q ∙ by (same_text name q)
@@ -56,7 +56,7 @@ module _ {L : Type 0} (items : L → List ℕ) where
         by true = refl
         by false = sym (append-nil (numbers_at old q))
 
-    -- nothing new
+    -- nothing changes
     pub same_at : items_or w ≡ numbers_at old name → (q : Text) → numbers_at new q ≡ numbers_at old q
     same_at is q = changed_at (λ ns. ns) is q ∙ by (same_text name q)
       where
@@ -64,7 +64,7 @@ module _ {L : Type 0} (items : L → List ℕ) where
         by true = refl
         by false = refl
 
-  -- what is written and then taken out is taken out
+  -- what is inserted and then removed is removed
   pub taken_out : (old mid new : List (Text × L)) (name : Text) (w : Option L)
       → ((q : Text) → lookup (same_text q) mid ≡ cond (same_text name q) w (lookup (same_text q) old))
       → ((q : Text) → lookup (same_text q) new ≡ cond (same_text name q) None (lookup (same_text q) mid))

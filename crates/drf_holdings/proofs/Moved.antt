@@ -1,4 +1,4 @@
--- Things that are moved one by one between the ends of two lists.
+-- Moving things one by one between the ends of two lists.
 use Rattle.std.specs.Prelude.{◌≡◌, ℕ, ◌+◌, List, [], ◌∷◌, ◌++◌, map, length, reverse}
 use Rattle.std.proofs.Common.{sym, ap, subst, ◌∙◌, append_assoc, length-append, arith}
 use Rattle.std.proofs.lemmas.List.{reverse-append, reverse-reverse, length-reverse, append-nil, append_cancel_left}
@@ -6,7 +6,7 @@ use Rattle.drf_holdings.specs.Rising.{IsRising}
 use Rattle.drf_holdings.proofs.RisingLists.{rising_front}
 
 module _ {X : Type 0} where
-  -- one is moved
+  -- one thing is moved
   pub whole_next : (rows others left : List X) (x : X) → others ≡ left ++ x ∷ []
       → rows ++ reverse others ≡ (rows ++ x ∷ []) ++ reverse left
   whole_next rows others left x split =
@@ -20,7 +20,7 @@ module _ {X : Type 0} where
       rising_front number (rows ++ x ∷ []) (reverse left)
       (subst (λ (xs : List X). IsRising (map number xs)) (sym all ∙ whole_next rows others left x split) rising)
 
-  -- how many there are together stays
+  -- the number of things in both lists stays the same
   pub length_both : (rows others rows2 others2 : List X) → rows ++ reverse others ≡ rows2 ++ reverse others2
       → length rows + length others ≡ length rows2 + length others2
   length_both rows others rows2 others2 same =
@@ -31,7 +31,7 @@ module _ {X : Type 0} where
       let four = length-reverse others2 in
       omega arith
 
-  -- all are moved
+  -- all things are moved
   pub moved_all : (old new others turned left : List X) → turned ≡ reverse others → new ++ reverse left ≡ old ++ reverse turned → left ≡ []
       → new ≡ old ++ others
   moved_all old new others turned left turn all none =
@@ -41,7 +41,7 @@ module _ {X : Type 0} where
       ∙ ap (λ (xs : List X). old ++ reverse xs) turn
       ∙ ap (λ (xs : List X). old ++ xs) (reverse-reverse others)
 
-  -- all are moved back
+  -- all things are moved back
   pub moved_back : (old mid new others turned between left again : List X) → turned ≡ reverse others
       → mid ++ reverse between ≡ old ++ reverse turned → new ++ reverse left ≡ mid ++ reverse between
       → new ≡ old → again ≡ reverse left → again ≡ others

@@ -1,4 +1,4 @@
--- Serial numbers by framework and name, after a change of one of them.
+-- Serial numbers by framework and name, after a change of one number.
 use Rattle.std.specs.Prelude.{◌≡◌, ℕ, ◌==◌, ◌+◌, ◌≤◌, ◌&&◌, Bool, true, false, not, List, [], ◌∷◌, ◌++◌, length, map, filter, Option, Some, None, cond}
 use Rattle.std.specs.Map.{lookup}
 use Rattle.std.specs.Option.{option_map_or, option_to_list}
@@ -59,7 +59,7 @@ module _ {M : Type 0} (entries : M → List (Text × ℕ)) where
             ∙ ap (λ (t : Text). at_task (lookup (same_text t) old) key.1 ++ cond (same_text name key.1) (serial ∷ []) []) (here refl)
         by false here = sym (append-nil (serials_at old key))
 
-  -- a framework has one task of a name at most
+  -- a framework has at most one task with a name
   pub few_at : (es : List (Text × M)) (key : TaskKey) → length (serials_at es key) ≤ 1
   few_at es key = by (lookup (same_text key.0) es)
     where
@@ -75,7 +75,7 @@ pub list_cond : (b : Bool) (n : ℕ) (o : Option ℕ) → option_to_list (cond b
 list_cond true n o = refl
 list_cond false n o = refl
 
--- what was added and is taken out again
+-- what was added is removed again
 pub undone : (b : Bool) (n : ℕ) (old mid new : List ℕ) → new ≡ cond b [] mid → mid ≡ old ++ cond b (n ∷ []) [] → (b ≡ true → old ≡ []) → new ≡ old
 undone true n old mid new out put free = out ∙ sym (free refl)
 undone false n old mid new out put free = out ∙ put ∙ append-nil old
@@ -94,7 +94,7 @@ module _ {X : Type 0} (number : X → ℕ) (before after : List X) (x : X)
       by true more = omega (arith, more)
       by false more = more
 
-  -- the only one that was listed is listed no longer
+  -- the only listed number is removed
   pub only_out : (p : X → Bool) (ns : List ℕ) → ns ≡ map number (filter p (before ++ x ∷ after)) → length ns ≤ 1
       → (new : List ℕ) → new ≡ cond (p x) [] ns → new ≡ cond (p x) (filter (λ m. not (m == number x)) ns) ns
   only_out p ns listed few new out = out ∙ by (p x) (λ here. none here)

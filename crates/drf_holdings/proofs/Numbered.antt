@@ -1,4 +1,4 @@
--- Lists of the numbers of those things that pass tests, after a change of the things.
+-- Lists of the numbers of the things that pass tests, after a change of the things.
 use Rattle.std.specs.Prelude.{◌≡◌, ℕ, ◌==◌, Bool, true, false, not, List, [], ◌∷◌, ◌++◌, map, filter, cond}
 use Rattle.std.specs.List.{list_any}
 use Rattle.std.proofs.Common.{refl, sym, ap, ◌∙◌, inl, inr}
@@ -31,14 +31,14 @@ module _ {X : Type 0} (number : X → ℕ) where
     | inr past ↦ rw past (none_listed p n xs others.1)
   ]
 
-  -- a number that is not there is not listed
+  -- a number that no thing has is not listed
   pub listed_none : (p : X → Bool) (n : ℕ) (xs : List X) → AreOthers number n xs
       → list_any (λ m. m == n) (map number (filter p xs)) ≡ true → false ≡ true
   listed_none p n xs others any = sym (none_listed p n xs others) ∙ any
 
   module _ (before after : List X) (x : X)
       (past : AreOthers number (number x) before) (later : AreOthers number (number x) after) where
-    -- what is listed passes the test
+    -- a listed thing passes the test
     pub listed_passes : (p : X → Bool) → list_any (λ m. m == number x) (map number (filter p (before ++ x ∷ after))) ≡ true → p x ≡ true
     listed_passes p any = elim (cases_Bool (p x)) [
       | inl here ↦ here
@@ -49,7 +49,7 @@ module _ {X : Type 0} (number : X → ℕ) where
           (each_append (λ y. (number y == number x) ≡ false) before after past later) less))
     ]
 
-    -- what is taken out is listed no longer
+    -- a removed thing is no longer listed
     pub listed_out : {K : Type 0} (test : K → X → Bool) (old new : K → List ℕ)
         → IsListed test number old (before ++ x ∷ after)
         → ((k : K) → new k ≡ cond (test k x) (filter (λ m. not (m == number x)) (old k)) (old k))
@@ -70,7 +70,7 @@ module _ {X : Type 0} (number : X → ℕ) where
           ∙ ap (map number) (filter-out (test k) before after x other)
     ]
 
-  -- what is added is listed last
+  -- an added thing is listed last
   pub listed_in : {K : Type 0} (test : K → X → Bool) (old new : K → List ℕ) (xs : List X) (x : X)
       → IsListed test number old xs
       → ((k : K) → new k ≡ old k ++ cond (test k x) (number x ∷ []) [])

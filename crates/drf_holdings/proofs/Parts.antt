@@ -1,4 +1,4 @@
--- What is listed as held, one by one.
+-- The bundles of an agent's holdings, which an index lists one by one.
 use Rattle.std.specs.Prelude.{◌≡◌, ℕ, ◌==◌, ◌<◌, Bool, true, false, List, [], ◌∷◌, ◌++◌, map, filter, find, flat_map, Some, cond}
 use Rattle.std.specs.List.{AllByRecursion}
 use Rattle.std.specs.Option.{option_map_or}
@@ -51,7 +51,7 @@ module _ {X : Type 0} (number : X → ℕ) (bundle : X → List Resource) where
         by true more = λ i. sym (same x) i ∷ more i
         by false more = more
 
-    -- the bundles of the numbers that are listed of an agent are those that are held there
+    -- the bundles with the numbers listed for an agent are those held there
     pub parts_listed : (xs : List X) (ns : List ℕ) → IsRising (map number xs)
         → ns ≡ map number (filter (λ x. same_text (holding x).agent agent) xs)
         → flat_map (bundles_at number bundle xs) ns ≡ parts_on agent (map holding xs)

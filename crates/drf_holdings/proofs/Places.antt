@@ -1,4 +1,4 @@
--- Places of numbers among slots whose numbers rise.
+-- Positions of numbers among slots with increasing numbers.
 use Rattle.std.specs.Prelude.{◌≡◌, ℕ, ◌==◌, ◌<◌, ◌≤◌, ◌+◌, false, true, List, [], ◌∷◌, map, Option, Some, length, take, drop, slice_get}
 use Rattle.std.specs.List.{AllByRecursion, AllWithin}
 use Rattle.std.proofs.Common.{refl, sym, ap, subst, ◌∙◌, zero, suc, ltb, get_or, arith}
@@ -13,7 +13,7 @@ some_same : {Y : Type 0} (o : Option Y) (a b : Y) → o ≡ Some a → o ≡ Som
 some_same o a b one two = cc
 
 module _ {X : Type 0} (n : ℕ) where
-  -- what a cut at a place says of each
+  -- what `partition_point` says of each slot
   pub below_each : (slots : List (Slot X)) (i : ℕ) → i ≤ length slots → AllWithin (λ s. ltb s.number n ≡ true) slots 0 i
       → AllByRecursion (λ s. s.number < n) (take i slots)
   below_each [] zero within all = tt
@@ -34,7 +34,7 @@ module _ {X : Type 0} (n : ℕ) where
   )
   above_each (s ∷ slots) (suc i) all = above_each slots i (λ k d low high. all (suc k) d (omega (arith, low)) (omega (arith, high)))
 
-  -- where the last number is below one, all are
+  -- if the last number is below a number, all are
   pub all_below : (slots : List (Slot X)) (i : ℕ) (s : Slot X) → length slots ≤ i + 1 → IsRising (map slot_number slots)
       → slice_get slots i ≡ Some s → s.number < n → AllByRecursion (λ t. t.number < n) slots
   all_below [] i s long rising at less = tt
@@ -47,7 +47,7 @@ module _ {X : Type 0} (n : ℕ) where
     all_below slots i s (omega (arith, long)) rising.1 at less,
   )
 
-  -- where the first number that is not below one is another, all are others
+  -- if the first number that is not below a number differs from it, no slot has that number
   pub others_around : (slots : List (Slot X)) (place : ℕ) → IsRising (map slot_number slots)
       → AllByRecursion (λ s. s.number < n) (take place slots) → AllByRecursion (λ s. n ≤ s.number) (drop place slots)
       → ((s : Slot X) → slice_get slots place ≡ Some s → (s.number == n) ≡ false) → AreOthers slot_number n slots

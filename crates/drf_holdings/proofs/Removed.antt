@@ -1,4 +1,4 @@
--- Things that are found by their numbers, and taken out.
+-- Things that are found by their numbers and removed.
 use Rattle.std.specs.Prelude.{◌≡◌, ℕ, ◌==◌, ◌-◌, ◌<◌, Bool, true, false, List, [], ◌∷◌, ◌++◌, length, map, filter, find, slice_get, Option, Some, None, MatchOption, cond, IfNone, is_some, ◌||◌}
 use Rattle.std.specs.List.{list_any}
 use Rattle.std.proofs.Common.{refl, sym, ap, subst, ◌∙◌, zero, suc, arith, inl, inr}
@@ -21,7 +21,7 @@ last_none : (ns : List ℕ) → slice_get ns (length ns - 1) ≡ None → ns ≡
 last_none [] none = refl
 last_none (n ∷ ns) none = absurd (false≢true (missing_within (n ∷ ns) (length (n ∷ ns) - 1) (omega arith) none))
 
--- what holds at all holds where nothing is found
+-- what holds in any case holds if nothing is found
 pub on_none : {X : Type 0} (r : Option X) (P : Type 0) → P → IfNone r P
 on_none None P p = p
 on_none (Some x) P p = tt
@@ -41,18 +41,18 @@ module _ {X : Type 0} (number : X → ℕ) where
   ]
 
   module _ (test : X → Bool) (old : List X) (ns : List ℕ) (listed : ns ≡ map number (filter test old)) where
-    -- where nothing is listed, nothing passes
+    -- if nothing is listed, nothing passes the test
     pub none_by : slice_get ns (length ns - 1) ≡ None → HasNone test old old
     none_by none = record { none = any_listed test old (sym listed ∙ last_none ns none); same = refl }
 
-    -- a number that is listed is there
+    -- a listed number is that of a thing
     pub not_missing : (n i : ℕ) (new : List X) → slice_get ns i ≡ Some n → HasNone (λ x. number x == n) old new → false ≡ true
     not_missing n i new last none =
         let any : list_any (λ m. m == n) (map number (filter test old)) ≡ true =
         ap (list_any (λ m. m == n)) (sym listed) ∙ list_any_at (λ m. m == n) ns i n last (eq-eqb n n refl) in
         listed_none number test n old (others_from number n old none.none) any
 
-    -- what is taken out by a number that is listed passes, and also any wider test
+    -- the thing that is removed by a listed number passes the test, and so any wider test
     pub taken_by : (wide : X → Bool) → ((x : X) → test x ≡ true → wide x ≡ true)
         → (n : ℕ) (i : ℕ) (new : List X) → IsRising (map number old) → slice_get ns i ≡ Some n → (r : Option X)
         → MatchOption r (HasNone (λ x. number x == n) old new) (IsTaken (λ x. number x == n) old new)
@@ -98,11 +98,11 @@ module _ {X Y : Type 0} (row : X → Y) (test : Y → Bool) where
       let parts = or_parts (test (row x)) (list_any (λ x. test (row x)) xs) none in
       rw parts.0 (none_passes xs parts.1)
 
-  -- where no row passes, none is listed
+  -- if no row passes, no thing is listed
   pub unlisted : (number : X → ℕ) (xs : List X) → list_any test (map row xs) ≡ false → map number (filter (λ x. test (row x)) xs) ≡ []
   unlisted number xs none = ap (map number) (none_passes xs (sym (any_rows xs) ∙ none))
 
-  -- a list of one number or none says whether there is one
+  -- whether a list of at most one number is empty says whether a row passes
   pub some_listed : (number : X → ℕ) (o : Option ℕ) (xs : List X)
       → option_to_list o ≡ map number (filter (λ x. test (row x)) xs) → is_some o ≡ list_any test (map row xs)
   some_listed number None xs listed = sym (any_rows xs ∙ any_listed number (λ x. test (row x)) xs (sym listed))
@@ -115,7 +115,7 @@ module _ {X Y : Type 0} (row : X → Y) (test : Y → Bool) where
 
 -- ---- finding
 
--- nothing passes a test that is always false
+-- no element passes a test that is always false
 pub never : {X : Type 0} (xs : List X) → list_any (λ x. false) xs ≡ false
 never [] = refl
 never (x ∷ xs) = never xs
@@ -128,7 +128,7 @@ find_any {X} p (x ∷ xs) any = by (p x) (λ later. find_any p xs later) any
     by true later any = refl
     by false later any = later any
 
--- what a found reference points to
+-- the value that a found reference refers to
 pub some_copied : {X : Type 0} (o : Option (Bor X)) → is_some o ≡ is_some (option_copied o)
 some_copied None = refl
 some_copied (Some x) = refl

@@ -1,4 +1,4 @@
--- Lists of things whose numbers rise: what is taken out, put in and found there.
+-- Lists of things with increasing numbers: removing, inserting and finding.
 use Rattle.std.specs.Prelude.{◌≡◌, ℕ, ◌==◌, ◌<◌, ◌≤◌, Bool, true, false, not, List, [], ◌∷◌, ◌++◌, length, map, filter, cond, take, drop, remove, slice_get, slice_index_or, Some, Ok, Err}
 use Rattle.std.specs.List.{list_any, AllByRecursion}
 use Rattle.std.specs.Ordering.{nat_cmp}
@@ -32,7 +32,7 @@ module _ {X : Type 0} (number : X → ℕ) where
       subst (λ (z : X). m < number z) same above.0
   above_at m (y ∷ ys) (suc i) x above at = above_at m ys i x above.1 at
 
-  -- the others have other numbers
+  -- the other things have other numbers
   pub others_at : (xs : List X) (i : ℕ) (x : X) → IsRising (map number xs) → slice_get xs i ≡ Some x
       → AreOthers number (number x) (take i xs) × AreOthers number (number x) (drop (suc i) xs)
   others_at [] i x rising at = cc
@@ -43,7 +43,7 @@ module _ {X : Type 0} (number : X → ℕ) where
       let more = others_at ys i x rising.1 at in
       ((less_other (number y) (number x) (above_at (number y) ys i x rising.0 at), more.0), more.1)
 
-  -- a rising list is in order
+  -- the first number is the least
   first_least : (m : ℕ) (xs : List X) (j : ℕ) (d : X)
       → AllByRecursion (λ k. m < k) (map number xs) → j < length xs → m ≤ number (slice_index_or xs j d)
   first_least m [] j d above within = absurd (omega (arith, within))
@@ -57,7 +57,7 @@ module _ {X : Type 0} (number : X → ℕ) where
   rising_by (x ∷ xs) rising (suc i) zero d le within = absurd (omega (arith, le))
   rising_by (x ∷ xs) rising (suc i) (suc j) d le within = rising_by xs rising.1 i j d (omega (arith, le)) (omega (arith, within))
 
-  -- what is taken out of a rising list leaves a rising list
+  -- removing a thing keeps the numbers increasing
   above_out : (m : ℕ) (xs ys : List X) (x : X) → AllByRecursion (λ k. m < k) (map number (xs ++ x ∷ ys)) → AllByRecursion (λ k. m < k) (map number (xs ++ ys))
   above_out m [] ys x above = above.1
   above_out m (z ∷ xs) ys x above = (above.0, above_out m xs ys x above.1)
@@ -70,14 +70,14 @@ module _ {X : Type 0} (number : X → ℕ) where
   above_last m [] ys x above = above.0
   above_last m (z ∷ xs) ys x above = above_last m xs ys x above.1
 
-  -- the others of a rising list have other numbers
+  -- the other things have other numbers, for a list in two parts
   pub others_split : (xs ys : List X) (x : X) → IsRising (map number (xs ++ x ∷ ys)) → AreOthers number (number x) xs × AreOthers number (number x) ys
   others_split [] ys x rising = (tt, above_others (number x) (number x) ys (omega arith) rising.0)
   others_split (z ∷ xs) ys x rising =
       let more = others_split xs ys x rising.1 in
       ((less_other (number z) (number x) (above_last (number z) xs ys x rising.0), more.0), more.1)
 
-  -- those of a rising list that pass a test rise, and those in front
+  -- the numbers of those that pass a test are increasing, also after a lesser number
   above_some : (p : X → Bool) (m : ℕ) (xs : List X) → AllByRecursion (λ k. m < k) (map number xs) → AllByRecursion (λ k. m < k) (map number (filter p xs))
   above_some p m [] above = tt
   above_some p m (x ∷ xs) above = by (p x) (above_some p m xs above.1)
@@ -109,7 +109,7 @@ module _ {X : Type 0} (number : X → ℕ) where
       let parts = or_parts (number x == n) (list_any (λ x. number x == n) xs) none in
       (parts.0, others_from n xs parts.1)
 
-  -- one more with a greater number
+  -- appending a thing with a greater number
   above_in : (m : ℕ) (xs : List X) (x : X) → AllByRecursion (λ k. m < k) (map number xs) → m < number x → AllByRecursion (λ k. m < k) (map number (xs ++ x ∷ []))
   above_in m [] x above less = (less, tt)
   above_in m (y ∷ ys) x above less = (above.0, above_in m ys x above.1 less)
@@ -122,7 +122,7 @@ module _ {X : Type 0} (number : X → ℕ) where
   below_in [] x m n below less le = (less, tt)
   below_in (y ∷ ys) x m n below less le = (omega (arith, below.0, le), below_in ys x m n below.1 less le)
 
--- ---- a number among numbers that rise
+-- ---- a number in a list of increasing numbers
 
 rising_each : (ns : List ℕ) → IsRising ns → IsRising (map (λ n. n) ns)
 rising_each ns rising = subst IsRising (sym (map-id ns)) rising
@@ -131,7 +131,7 @@ others_each : (n : ℕ) (ns : List ℕ) → ((k : ℕ) → k < length ns → (ge
 others_each n [] each = tt
 others_each n (m ∷ ns) each = (each 0 (omega arith), others_each n ns (λ k below. each (suc k) (omega (arith, below))))
 
--- where a search finds it, it is taken out
+-- a number that a binary search finds is removed
 pub found_out : (ns left : List ℕ) (n i : ℕ) → IsBinarySearchResult (λ m. nat_cmp m n) ns (Ok i) → left ≡ remove ns i
     → IsRising ns → left ≡ filter (λ m. not (m == n)) ns
 found_out ns left n i search removed rising =
@@ -143,7 +143,7 @@ found_out ns left n i search removed rising =
     ∙ filter_only (λ m. m == n) (take i ns) (drop (suc i) ns) n others.0 (eq-eqb n n refl) others.1
     )
 
--- the first is taken out
+-- the first number is removed
 pub first_out : (ns rest : List ℕ) (n : ℕ) → ns ≡ n ∷ rest → IsRising ns → drop 1 ns ≡ filter (λ m. not (m == n)) ns
 first_out ns rest n is rising =
     let others = others_split (λ (m : ℕ). m) [] rest n (rising_each (n ∷ rest) (subst IsRising is rising)) in
@@ -151,7 +151,7 @@ first_out ns rest n is rising =
     ∙ sym (filter_only (λ m. m == n) [] rest n others.0 (eq-eqb n n refl) others.1)
     ∙ ap (filter (λ m. not (m == n))) (sym is)
 
--- and where it finds none, there is none
+-- if a binary search does not find the number, it is not in the list
 pub missing_out : (ns : List ℕ) (n i : ℕ) → IsBinarySearchResult (λ m. nat_cmp m n) ns (Err i)
     → IsRising ns → ns ≡ filter (λ m. not (m == n)) ns
 missing_out ns n i search rising =

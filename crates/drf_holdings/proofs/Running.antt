@@ -1,4 +1,4 @@
--- Tasks that are found by what lists their serial numbers.
+-- Tasks that are found by their listed serial numbers.
 use Rattle.std.specs.Prelude.{◌≡◌, ℕ, ◌+◌, ◌==◌, ◌<◌, ◌≤◌, ◌||◌, Bool, cond, length, true, false, List, [], ◌∷◌, ◌++◌, map, filter, slice_get, Some, None}
 use Rattle.std.specs.List.{list_any, AllByRecursion}
 use Rattle.std.proofs.Common.{refl, sym, ap, subst, ◌∙◌, inl, inr, append_assoc, arith}
@@ -54,7 +54,7 @@ module _ (tasks new : List Task) (rows : List TaskRow) (view : map task_row task
       (rows_none task_row wide tasks new
       (taken_by task_serial test tasks ns listed (λ t. wide t.row) widens n i new rising last None none))
 
--- ---- names that no two of a framework share
+-- ---- names are distinct within a framework
 
 long_some : (p : Task → Bool) (before after : List Task) (t : Task) → p t ≡ true → 1 ≤ length (filter p (before ++ t ∷ after))
 long_some p [] after t here = rw here (omega arith)
@@ -65,7 +65,7 @@ long_some p (b ∷ before) after t here = by (p b) (long_some p before after t h
     by true more = omega arith
     by false more = more
 
--- the only one that passes is the first
+-- the only task that passes is the first that passes
 first_named : (p : Task → Bool) (before after : List Task) (t : Task) → p t ≡ true
     → length (filter p (before ++ t ∷ after)) ≤ 1 → list_any p before ≡ false
 first_named p [] after t here few = refl
@@ -98,7 +98,7 @@ all_new index tasks listed = new_from index [] tasks listed
 
 -- ---- changes
 
--- one more task
+-- a task is added
 pub kept_in : (index new : TaskIndex) (tasks : List Task) (t : Task) (next : ℕ) → t.serial ≡ next → AreTasksKept index tasks next
     → AreTasksListed new (tasks ++ t ∷ []) → AreTasksKept new (tasks ++ t ∷ []) (next + 1)
 kept_in index new tasks t next its kept listed =
@@ -109,7 +109,7 @@ kept_in index new tasks t next its kept listed =
       listed = listed;
     }
 
--- one task is taken out of those that are kept
+-- a task is removed
 pub kept_out : (index left : TaskIndex) (tasks new : List Task) (next n : ℕ) (t : Task)
     → IsTaken (λ t. t.serial == n) tasks new t
     → ((before after : List Task) → IsRising (map task_serial (before ++ t ∷ after))

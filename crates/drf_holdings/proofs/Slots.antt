@@ -1,4 +1,4 @@
--- Things in slots: what is found among them, taken out and put last.
+-- Things in slots: finding, removing and appending.
 use Rattle.std.specs.Prelude.{◌≡◌, ℕ, ◌==◌, ◌<◌, ◌≤◌, ◌+◌, Bool, true, false, not, List, [], ◌∷◌, ◌++◌, map, filter, find, cond, nat_lt, Option, Some, None, is_some, IfSome, length, take, drop, set, slice_get}
 use Rattle.std.specs.List.{list_any, cons_option, AllByRecursion}
 use Rattle.std.proofs.Common.{refl, sym, ap, subst, ◌∙◌, zero, suc, arith, length-append}
@@ -25,7 +25,7 @@ module _ {X : Type 0} where
       by None more = omega (arith, more)
       by (Some x) more = omega (arith, more)
 
-  -- ---- gaps that close up
+  -- ---- free slots are closed
 
   abbrev pub is_filled : Slot X → Bool
   is_filled s = is_some s.thing
@@ -53,7 +53,7 @@ module _ {X : Type 0} where
   pub order_same : (slots : List (Slot X)) → KeepsOrder slots slots
   order_same slots = (λ number under. under, λ rising. rising)
 
-  -- ---- slots in front
+  -- ---- the first slots
 
   under_front : (number : X → ℕ) (xs ys : List (Slot X)) → AreUnder number (xs ++ ys) → AreUnder number xs
   under_front number [] ys under = tt
@@ -72,7 +72,7 @@ module _ {X : Type 0} where
   pub order_on : (a b c : List (Slot X)) → KeepsOrder a b → KeepsOrder b c → KeepsOrder a c
   order_on a b c one two = (λ number under. two.0 number (one.0 number under), λ rising. two.1 (one.1 rising))
 
-  -- the last slot goes
+  -- the last slot is removed
   pub things_last : (old new : List (Slot X)) (s : Slot X) → old ≡ new ++ s ∷ [] → things_in old ≡ things_in new ++ cons_option s.thing []
   things_last old new s whole = ap (λ (ss : List (Slot X)). things_in ss) whole ∙ things-append new (s ∷ [])
 
@@ -104,7 +104,7 @@ module _ {X : Type 0} where
       ap (λ (u : Slot X). u ∷ slots) (same ∙ sym its)
   set_same (t ∷ slots) (suc i) s w at same = ap (λ (ss : List (Slot X)). t ∷ ss) (set_same slots i s w at same)
 
-  -- ---- what stands in slots whose numbers are others
+  -- ---- things in slots with other numbers
 
   module _ (number : X → ℕ) where
     pub others_things : (n : ℕ) (slots : List (Slot X)) → AreUnder number slots → AreOthers slot_number n slots → AreOthers number n (things_in slots)
@@ -127,7 +127,7 @@ module _ {X : Type 0} where
     none_passes n [] others = refl
     none_passes n (x ∷ xs) others = rw others.0 (none_passes n xs others.1)
 
-    -- where no slot has a number, nothing has it
+    -- if no slot has a number, no thing has it
     pub none_of : (n : ℕ) (slots : List (Slot X)) → AreUnder number slots → AreOthers slot_number n slots
         → HasNone (λ x. number x == n) (things_in slots) (things_in slots)
     none_of n slots under others = record { none = none_passes n (things_in slots) (others_things n slots under others); same = refl }
@@ -165,7 +165,7 @@ module _ {X : Type 0} where
       has_number : (x : X) → s.thing ≡ Some x → number x ≡ n
       has_number x is = sym (subst (λ (o : Option X). IfSome o (λ y. s.number ≡ number y)) is after_under.0) ∙ its
 
-      -- what stands at the place of a number is what is found by it
+      -- the thing in the slot with a number is the one that is found by it
       pub found_at : find (λ x. number x == n) (things_in slots) ≡ s.thing
       found_at =
           ap (find (λ x. number x == n)) things_split
@@ -176,7 +176,7 @@ module _ {X : Type 0} where
           by None is = find_none n (things_in (drop (suc place) slots)) after_others
           by (Some x) is = rw (eq-eqb (number x) n (has_number x is)) refl
 
-      -- a gap is nothing of the number
+      -- if the slot with a number is free, no thing has the number
       pub gap_at : s.thing ≡ None → HasNone (λ x. number x == n) (things_in slots) (things_in slots)
       gap_at is = record {
         none =
@@ -197,7 +197,7 @@ module _ {X : Type 0} where
         things_whole : things_in slots ≡ things_in (take place slots) ++ x ∷ things_in (drop (suc place) slots)
         things_whole = things_split ∙ ap (λ (o : Option X). things_in (take place slots) ++ cons_option o (things_in (drop (suc place) slots))) is
 
-        -- what stands at the place of a number is taken out
+        -- the thing in the slot with a number is removed
         pub taken_at : IsTaken (λ y. number y == n) (things_in slots) (things_in (set slots place w)) x
         taken_at = record {
           before = things_in (take place slots);
@@ -219,12 +219,12 @@ module _ {X : Type 0} where
               omega arith;
         }
 
-    -- ---- slots that are left of those by number
+    -- ---- slots from a number on
 
     pub kept_order : (old new : List (Slot X)) (was count : ℕ) → KeepsOrder old new → count ≡ length (things_in new) → IsByNumber number old was → IsByNumber number new count
     kept_order old new was count order counted kept = record { under = order.0 number kept.under; rising = order.1 kept.rising; counted = counted }
 
-    -- ---- what is put last
+    -- ---- a thing is appended
 
     below_last : (xs : List X) (x : X) → IsRising (map number (xs ++ x ∷ [])) → AllByRecursion (λ y. number y < number x) xs
     below_last [] x rising = tt
@@ -253,7 +253,7 @@ module _ {X : Type 0} where
       things_cut : things_in slots ≡ things_in (take place slots) ++ things_in (drop place slots)
       things_cut = ap (λ (ss : List (Slot X)). things_in ss) cut ∙ things-append (take place slots) (drop place slots)
 
-      -- what is not below the last number are gaps
+      -- the slots from the last number on are free
       pub gaps_behind : things_in (take place slots) ≡ things_in slots
       gaps_behind =
           let below = subst (λ (xs : List X). AllByRecursion (λ y. number y < number x) xs) things_cut (below_last (things_in slots) x rising) in
@@ -280,7 +280,7 @@ module _ {X : Type 0} where
           omega (arith, kept.counted);
     }
 
-    -- ---- what stands from a number on
+    -- ---- things from a number on
 
     gone_below : (n : ℕ) (slots : List (Slot X)) → AreUnder number slots → AllByRecursion (λ s. s.number < n) slots
         → filter (λ x. not (nat_lt (number x) n)) (things_in slots) ≡ []

@@ -10,7 +10,7 @@ use Rattle.drf_holdings.specs.Taking.{IsTaken, HasNone}
 use Rattle.drf_holdings.specs.declared.by_number.Slot.{Slot}
 use Rattle.drf_holdings.proofs.Slots.{set_same, found_at, gap_at, taken_at, kept_at, kept_order, order_front, order_on, things_last, gaps_behind, things_more, kept_more}
 
--- as many as were there, but the one that was taken out
+-- one thing fewer
 pub one_out : {X : Type 0} (test : X → Bool) (old new : List X) (x : X) → IsTaken test old new x → length new + 1 ≡ length old
 one_out test old new x taken =
     let one = ap length taken.whole in
@@ -34,7 +34,7 @@ module _ {X : Type 0} (number : X → ℕ) (n : ℕ) (slots : List (Slot X)) (pl
       none_is : here.slot.thing ≡ None
       none_is = ap (λ (s : Slot X). s.thing) (sym read_is) ∙ sym none
 
-      -- where it was a gap, nothing changes
+      -- if the slot was free, nothing changes
       pub same_here : set slots place w ≡ slots
       same_here =
           set_same slots place here.slot w here.at
@@ -52,7 +52,7 @@ module _ {X : Type 0} (number : X → ℕ) (n : ℕ) (slots : List (Slot X)) (pl
       same_number : w.number ≡ here.slot.number
       same_number = ap (λ (s : Slot X). s.number) gap ∙ ap (λ (s : Slot X). s.number) read_is
 
-      -- what stood there is taken out
+      -- the thing in the slot is removed
       pub taken_here : IsTaken (λ y. number y == n) (things_in slots) (things_in (set slots place w)) x
       taken_here =
           taken_at number n slots place here.slot here.at here.its kept.under kept.rising w x some_is same_number (ap (λ (s : Slot X). s.thing) gap)
@@ -67,11 +67,11 @@ module _ {X : Type 0} (number : X → ℕ) (n : ℕ) (slots : List (Slot X)) (pl
           (count - 1) (omega (arith, there, kept.counted))
 
 module _ {X : Type 0} (number : X → ℕ) (old new : List (Slot X)) (count : ℕ) (order : KeepsOrder old new) (kept : IsByNumber number old count) where
-  -- gaps close up
+  -- free slots are closed
   pub kept_same : things_in new ≡ things_in old → IsByNumber number new count
   kept_same same = kept_order number old new count count order (kept.counted ∙ ap length (sym same)) kept
 
-  -- the last thing goes, if there is one
+  -- the last thing is removed, if there is one
   pub kept_none : things_in old ≡ things_in new ++ [] → IsByNumber number new count
   kept_none same = kept_same (sym (append-nil (things_in new)) ∙ sym same)
 
@@ -87,7 +87,7 @@ module _ {X : Type 0} (number : X → ℕ) (old new : List (Slot X)) (count : �
       let one = length-append (things_in new) (x ∷ []) in
       kept_order number old new count (count - 1) order (omega (arith, kept.counted)) kept
 
--- one is put behind those below it
+-- a thing is appended after those below it
 module _ {X : Type 0} (number : X → ℕ) (slots : List (Slot X)) (place count n : ℕ) (x : X) (its : n ≡ number x)
     (kept : IsByNumber number slots count) (rising : IsRising (map number (things_in slots ++ x ∷ [])))
     (below : AllByRecursion (λ s. s.number < n) (take place slots)) (above : AllByRecursion (λ s. n ≤ s.number) (drop place slots)) where
@@ -108,7 +108,7 @@ module _ {X : Type 0} (number : X → ℕ) (slots : List (Slot X)) (place count 
   pub kept_put : IsByNumber number (take place slots ++ record { number = n; thing = Some x } ∷ []) (count + 1)
   kept_put = kept_more number (take place slots) (record { number = n; thing = Some x }) x count refl its below kept_cut
 
--- the last slot is taken off
+-- the last slot is removed
 module _ {X : Type 0} (first old new : List (Slot X)) (s : Slot X) (split : old ≡ new ++ s ∷ [])
     (same : things_in old ≡ things_in first) (order : KeepsOrder first old) where
   pub order_off : KeepsOrder first new

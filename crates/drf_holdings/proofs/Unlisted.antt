@@ -1,4 +1,4 @@
--- Indexes of tasks, when one is taken out.
+-- Indexes of tasks, when a task is removed.
 use Rattle.std.specs.Prelude.{◌≡◌, ℕ, ◌==◌, ◌&&◌, true, not, List, [], ◌∷◌, ◌++◌, map, filter, cond}
 use Rattle.std.proofs.Common.{refl, sym, subst, ◌∙◌, inl, inr}
 use Rattle.std.proofs.lemmas.Bool.{and_parts, cases_Bool}
@@ -15,7 +15,7 @@ use Rattle.drf_holdings.proofs.Named.{only_out, few_at}
 use Rattle.drf_holdings.proofs.Numbered.{listed_out}
 use Rattle.drf_holdings.proofs.RisingLists.{rising_some, others_split}
 
--- the index without a task, which is taken out of both parts
+-- the index without a task, which is removed from both parts
 pub listed_without : (old : TaskIndex) (agents : Index) (names : Names) (before after : List Task) (task : Task)
     → IsRising (map task_serial (before ++ task ∷ after))
     → (IsRising (numbers_in old.agents task.row.agent) → (n : Text) → numbers_in agents n
@@ -32,7 +32,7 @@ listed_without old agents names before after task rising out gone listed =
           (few_at (λ m. m.entries) old.names.frameworks.entries key) (serials_in names key) (gone key));
     }
 
--- a task of that name is what is taken out by that name
+-- the task with a name is what is removed by that name
 pub named_gone : (old new : Names) (framework name : Text) (task : Task) → is_task framework name task.row ≡ true
     → ((key : TaskKey) → serials_in new key ≡ cond (same_text framework key.0 && same_text name key.1) [] (serials_in old key))
     → (key : TaskKey) → serials_in new key ≡ cond (task_named key task) [] (serials_in old key)
@@ -42,7 +42,7 @@ named_gone old new framework name task here gone key =
     ∙ (λ i. cond (same_text (sym (same_from_test task.row.framework framework parts.0) i) key.0
     && same_text (sym (same_from_test task.row.name name parts.1) i) key.1) [] (serials_in old key))
 
--- where there is none of that name, nothing is taken out
+-- if no task has the name, nothing is removed
 pub names_same : (old : TaskIndex) (names : Names) (framework name : Text) (tasks : List Task) (next : ℕ)
     → [] ≡ serials_in old.names (framework, name)
     → ((key : TaskKey) → serials_in names key ≡ cond (same_text framework key.0 && same_text name key.1) [] (serials_in old.names key))

@@ -1,4 +1,4 @@
--- What indexes list: the numbers of those of a list of things that pass a test, by the test's key.
+-- The content of an index: for each key, the numbers of the things that pass the key's test.
 use Rattle.std.specs.Prelude.{◌≡◌, ℕ, ◌<◌, ◌==◌, ◌∷◌, Bool, List, [], map, filter, find}
 use Rattle.std.specs.List.{AllByRecursion}
 use Rattle.std.specs.Map.{lookup}
@@ -15,11 +15,11 @@ use Rattle.drf_holdings.specs.declared.offers.OfferIndex.{OfferIndex}
 use Rattle.drf_holdings.specs.declared.tasks.Task.{Task}
 use Rattle.drf_holdings.specs.declared.tasks.TaskIndex.{TaskIndex}
 
--- for each key are listed the numbers of the things that pass its test, in their order
+-- for each key the index lists the numbers of the things that pass its test, in their order
 abbrev pub IsListed : {K X : Type 0} → (K → X → Bool) → (X → ℕ) → (K → List ℕ) → List X → Type 0
 IsListed {K} test number listed xs = (k : K) → listed k ≡ map number (filter (test k) xs)
 
--- the numbers that an index has of a name
+-- the numbers that an index lists for a name
 abbrev pub numbers_in : Index → Text → List ℕ
 numbers_in index name = option_map_or (λ numbers. numbers.items) (lookup (same_text name) index.lists.entries) []
 
@@ -37,7 +37,7 @@ pub record AreOffersListed (index : OfferIndex) (offers : List OfferRow) : Type 
   pub agents : IsListed offer_on offer_number (numbers_in index.agents) offers
   pub frameworks : IsListed offer_of offer_number (numbers_in index.frameworks) offers
 
--- and their numbers rise
+-- the offers are listed, and their numbers are increasing
 pub record AreOffersKept (index : OfferIndex) (offers : List OfferRow) : Type 0 where
   pub rising : IsRising (map offer_number offers)
   pub listed : AreOffersListed index offers
@@ -48,7 +48,7 @@ pub record AreOffersKept (index : OfferIndex) (offers : List OfferRow) : Type 0 
 abbrev pub TaskKey : Type 0
 TaskKey = Text × Text
 
--- the serial number that the names have of a framework's task, if there is one
+-- the serial number of a framework's task with this name, if there is one
 abbrev pub serials_in : Names → TaskKey → List ℕ
 serials_in names key =
     option_map_or (λ tasks. option_to_list (lookup (same_text key.1) tasks.entries)) (lookup (same_text key.0) names.frameworks.entries) []
@@ -73,12 +73,12 @@ pub record AreTasksListed (index : TaskIndex) (tasks : List Task) : Type 0 where
   pub agents : IsListed task_on task_serial (numbers_in index.agents) tasks
   pub names : IsListed task_named task_serial (serials_in index.names) tasks
 
--- and their serial numbers rise, below the next
+-- the tasks are listed, and their serial numbers are increasing and less than `next`
 pub record AreTasksKept (index : TaskIndex) (tasks : List Task) (next : ℕ) : Type 0 where
   pub rising : IsRising (map task_serial tasks)
   pub below : AllByRecursion (λ t. t.serial < next) tasks
   pub listed : AreTasksListed index tasks
 
--- the bundle of a number, if there is one
+-- the bundle of the thing with this number, if there is one
 abbrev pub bundles_at : {X : Type 0} → (X → ℕ) → (X → List Resource) → List X → ℕ → List (List Resource)
 bundles_at number bundle xs n = option_map_or (λ x. bundle x ∷ []) (find (λ x. number x == n) xs) []

@@ -1,4 +1,4 @@
--- Laws of numbers that rise.
+-- Theorems about increasing numbers.
 use Rattle.std.specs.Prelude.{◌≡◌, ℕ, ◌<◌, true, ◌&&◌, List, [], ◌∷◌, nat_lt}
 use Rattle.std.specs.List.{list_all, AllByRecursion}
 use Rattle.std.proofs.lemmas.Bool.{and_parts, ltb-true}
@@ -11,7 +11,7 @@ each_above n (m ∷ ns) all =
     let parts = and_parts (nat_lt n m) (list_all (nat_lt n) ns) all in
     (ltb-true n m parts.0, each_above n ns parts.1)
 
--- the numbers of consistent rows rise
+-- the numbers of consistent rows are increasing
 pub rising_from : (ns : List ℕ) (next : ℕ) → are_rising ns next ≡ true → IsRising ns
 rising_from [] next rising = tt
 rising_from (n ∷ ns) next rising =

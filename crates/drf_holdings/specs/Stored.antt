@@ -1,4 +1,4 @@
--- What holdings are to their callers, and what it means that one of them was taken out or became a task.
+-- The value of `Holdings` as contracts see it, and what it means that a holding was removed or replaced by tasks.
 use Rattle.std.specs.Prelude.{◌≡◌, ℕ, ◌==◌, ◌⊎◌, List, ◌++◌, map, find, Option, Some, None, refl}
 use Rattle.std.specs.Coded.{Coded, code_by, coded×, coded_list}
 use Rattle.drf_rows.specs.Endings.{Ending, ends_offer, ends_task}
@@ -12,49 +12,49 @@ use Rattle.drf_rows.specs.declared.rows.TaskRow.{TaskRow}
 use Rattle.drf_holdings.specs.Taking.{IsTaken, HasNone}
 use Rattle.drf_holdings.specs.declared.holdings.Taken.{Taken}
 
--- the offers in order of number, and the tasks as they were started
+-- the offers in order of number, and the tasks in the order in which they were started
 pub record OffersAndTasks : Type 0 where
   pub offers : List OfferRow
   pub tasks : List TaskRow
 
--- by it a proof tells two of them apart
+-- the code by which the prover decides equality of these values
 abbrev pub offers_and_tasks_code : Coded OffersAndTasks
 offers_and_tasks_code = code_by (List OfferRow × List TaskRow) (coded× (coded_list offer_row.the_row.coded) (coded_list task_row.the_row.coded))
     (λ h. (h.offers, h.tasks)) (λ p. record { offers = p.0; tasks = p.1 }) (λ _. refl)
 
--- all that is held
+-- all holdings
 abbrev pub holdings_in : OffersAndTasks → List Holding
 holdings_in h = map of_offer h.offers ++ map of_task h.tasks
 
--- what was taken out, as a holding
+-- a removed offer or task as a holding
 abbrev pub holding_of : Taken → Holding
 holding_of t = record { agent = t.agent; client = record { role = t.role; framework = t.framework }; bundle = t.bundle }
 
--- the holding is an offer that ends, which was taken out
+-- the holding is an offer that the ending selects, and was removed
 pub record IsOfferOut (ending : Ending) (old new : OffersAndTasks) (h : Holding) : Type 0 where
   pub offer : OfferRow
   pub taken : IsTaken (ends_offer ending) old.offers new.offers offer
   pub same : new.tasks ≡ old.tasks
   pub told : h ≡ of_offer offer
 
--- the holding is a task that ends, which was taken out
+-- the holding is a task that the ending selects, and was removed
 pub record IsTaskOut (ending : Ending) (old new : OffersAndTasks) (h : Holding) : Type 0 where
   pub task : TaskRow
   pub taken : IsTaken (ends_task ending) old.tasks new.tasks task
   pub same : new.offers ≡ old.offers
   pub told : h ≡ of_task task
 
--- nothing ends
+-- the ending selects no offer and no task
 pub record IsNothingOut (ending : Ending) (old new : OffersAndTasks) : Type 0 where
   pub offers : HasNone (ends_offer ending) old.offers new.offers
   pub tasks : HasNone (ends_task ending) old.tasks new.tasks
 
--- what is left when a holding that ends is taken out
+-- one holding that the ending selects was removed, or there is none
 abbrev pub HasTaken : Ending → OffersAndTasks → OffersAndTasks → Option Taken → Type 0
 HasTaken ending old new None = IsNothingOut ending old new
 HasTaken ending old new (Some taken) = IsOfferOut ending old new (holding_of taken) ⊎ IsTaskOut ending old new (holding_of taken)
 
--- the offer of a number was taken out, and tasks with parts of it stand last
+-- the offer with this number was removed, and tasks with parts of it were appended
 pub record HasStarted (number : ℕ) (starts : List Start) (old new : OffersAndTasks) (offer : OfferRow) : Type 0 where
   pub found : find (λ o. o.number == number) old.offers ≡ Some offer
   pub taken : IsTaken (λ o. o.number == number) old.offers new.offers offer

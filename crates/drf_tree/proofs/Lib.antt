@@ -1,3 +1,4 @@
+-- The lemmas of this crate.
 pub mod Names
 pub mod keys
 pub mod sums

@@ -1,4 +1,4 @@
--- Words of specs that proofs of this crate cite, passed on from one place.
+-- Definitions and lemmas of other crates that the proofs of this crate use, exported in one place.
 pub use Rattle.drf_bundle.specs.ListLaws.{cond_le, count_by-cons, each_append, each_at, each_from, each_from_both, each_map, each_parts, length-filter_le, list_any-map, list_any_at, sum_by-filter}
 pub use Rattle.drf_bundle.specs.Quantities.{amount_of, is_in_order, is_named, minus, names_all, plus, with_amount}
 pub use Rattle.drf_bundle.specs.declared.quantities.Entry.{Entry}

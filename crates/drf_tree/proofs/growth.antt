@@ -1,4 +1,4 @@
--- Nodes that come and go.
+-- Adding and removing nodes.
 pub mod With
 pub mod Shape
 pub mod Vacant

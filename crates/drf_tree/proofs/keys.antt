@@ -1,4 +1,4 @@
--- Siblings in the order of their keys, and keys that are computed anew.
+-- Siblings in the order of their keys, and keys that are computed again.
 pub mod Siblings
 pub mod Turned
 pub mod Order

@@ -1,4 +1,4 @@
--- Nodes whose keys may be stale.
+-- Dirty flags.
 pub mod Flags
 pub mod Waiting
 pub mod Count

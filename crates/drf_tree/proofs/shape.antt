@@ -1,4 +1,4 @@
--- What stands at each number of a tree, and the ways along it.
+-- What is stored at each number of a tree, and paths through it.
 pub mod Path
 pub mod Way
 pub mod Node

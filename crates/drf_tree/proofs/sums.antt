@@ -1,4 +1,4 @@
--- What nodes have, by the clients below them.
+-- The sums of nodes over the clients below them.
 pub mod Content
 pub mod Fit
 pub mod Others

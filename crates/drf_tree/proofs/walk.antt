@@ -1,4 +1,4 @@
--- The walk of a tree is the order of its clients, and its steps keep that.
+-- The walk of a tree is in the definition's order, and its steps keep this.
 pub mod OneOrder
 pub mod InOrder
 pub mod Members

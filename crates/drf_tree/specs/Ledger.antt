@@ -1,11 +1,11 @@
--- What a ledger holds.
+-- The content of a ledger.
 use Rattle.std.specs.Prelude.{List, Option, map}
 use Rattle.drf_hash.specs.Slots.{filled}
 use Rattle.drf_sorter.specs.Content.{Content, Ranked}
 use Rattle.drf_tree.specs.Booked.{seen_slot}
 use Rattle.drf_tree.specs.declared.ledger.Ledger.{Ledger}
 
--- its clients, with gaps where some left
+-- the slots of the ledger, some of them free
 abbrev pub rows_in : Ledger → List (Option Ranked)
 rows_in ledger = map seen_slot ledger.slots.items
 

@@ -1,3 +1,4 @@
+-- The definitions that the contracts of this crate use.
 pub mod Walk
 pub mod Marks
 pub mod Family

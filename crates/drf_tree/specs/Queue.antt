@@ -1,4 +1,4 @@
--- The clients that a walk still comes to.
+-- The clients that a walk has not passed yet.
 use Rattle.std.specs.Prelude.{◌≡◌, ◌≤◌, ◌<◌, ◌+◌, ◌-◌, ◌^◌, ℕ, min, zero, suc, true, false, List, [], ◌∷◌, ◌++◌, Option, None, Some, drop, flat_map, length, slice_get}
 use Rattle.std.specs.List.{AllByRecursion}
 use Rattle.std.specs.Option.{is_some, option_map_or}
@@ -14,11 +14,11 @@ use Rattle.drf_tree.specs.declared.tree.Tree.{Tree}
 use Rattle.drf_tree.specs.Nodes.{path_at, family_at, client_at, is_node}
 use Rattle.drf_tree.specs.Walk.{walk, own}
 
--- one place on; no family is so long that the number ends
+-- the frame with the next position; no family is so long that the addition saturates
 abbrev pub onward : Frame → Frame
 onward frame = record frame { next = min (frame.next + 1) (2 ^ 64 - 1) }
 
--- what is left of a family, and then what is left above it; the root's family is the first frame
+-- the clients that are left: first those of the last frame's family, then those of the frames before; the first frame is the root's
 abbrev pub pending : List Path → (ℕ → Path) → (ℕ → List ℕ) → ℕ → List Frame → List Path
 pending clients path family depth [] = []
 pending clients path family zero (frame ∷ frames) = []
@@ -26,54 +26,54 @@ pending clients path family (suc n) (frame ∷ frames) =
     pending clients path family n frames
     ++ flat_map (walk clients path family n) (drop frame.next (family frame.node))
 
--- the parts of a client's path at most
+-- the greatest number of parts of a client's path
 abbrev pub most_parts : ℕ
 most_parts = 10
 
--- the clients that these frames still come to
+-- the clients that these frames have not passed yet
 unfoldable pub queue_in : Content → List (Option Place) → List Family → List Frame → List Path
 queue_in content places families frames =
     pending (active_paths content) (path_at places) (family_at families) most_parts frames
 
--- all of them, in the order of the families
+-- all active clients, in the order of the families
 unfoldable pub order_in : Content → List (Option Place) → List Family → List Path
 order_in content places families = walk (active_paths content) (path_at places) (family_at families) most_parts 0
 
--- those of a tree
+-- the clients that these frames have not passed yet, of a tree
 abbrev pub frames_queue : Content → Tree → List Frame → List Path
 frames_queue content tree frames = queue_in content tree.places.items tree.families.items frames
 
--- the node of each frame stands below those of the frames before it
+-- the node of each frame is below those of the frames before it
 abbrev pub AreNested : List (Option Place) → List Frame → Type 0
 AreNested places [] = Unit {0}
 AreNested places (frame ∷ frames) =
     AllByRecursion (λ f. begins_with (path_at places f.node) (path_at places frame.node) ≡ true) frames × AreNested places frames
 
--- frame by frame one part deeper, each at a node
+-- the frames are at nodes, each of one part more than the one before
 pub record AreFrames (places : List (Option Place)) (frames : List Frame) : Type 0 where
   pub few : length frames ≤ most_parts
   pub nodes : AllByRecursion (λ f. is_node places f.node ≡ true) frames
   pub deep : (k : ℕ) (frame : Frame) → slice_get frames k ≡ Some frame → length (path_at places frame.node) ≡ k
   pub nested : AreNested places frames
 
--- a frame stands at a client that is to be served
+-- a frame is at an active client
 pub record IsAtClient (content : Content) (places : List (Option Place)) (families : List Family) (frame : Frame) : Type 0 where
   pub node : ℕ
   pub next : slice_get (family_at families frame.node) frame.next ≡ Some node
   pub client : client_at places node ≡ Some (path_at places node)
   pub active : own (active_paths content) (path_at places node) ≡ path_at places node ∷ []
 
--- the last frame does, if there is any
+-- the last frame is at an active client, if there is any frame
 abbrev pub IsSettled : Content → List (Option Place) → List Family → List Frame → Type 0
 IsSettled content places families [] = Unit {0}
 IsSettled content places families (frame ∷ []) = IsAtClient content places families frame
 IsSettled content places families (frame ∷ other ∷ frames) = IsSettled content places families (other ∷ frames)
 
--- how many clients at and below a number are to be served
+-- the number of active clients at and below a number
 abbrev pub active_at : List Sum → ℕ → ℕ
 active_at sums i = option_map_or (λ s. s.active) (slice_get sums i) 0
 
--- what comes at the place of a frame
+-- what is at the position of a frame
 abbrev pub IsNext : Tree → Frame → Next → Type 0
 IsNext tree frame End = slice_get (family_at tree.families.items frame.node) frame.next ≡ None
 IsNext tree frame Nobody =

@@ -1,4 +1,4 @@
--- A client is to be served or not.
+-- Activating or suppressing a client.
 use Rattle.std.specs.List.{AllByRecursion, IsDistinct}
 use Rattle.std.proofs.Common.{refl, sym, ap, subst, ◌∙◌, inl, inr, arith, ◌≡◌, ◌≤◌, ◌+◌, ◌-◌, ℕ, Bool, true, false, cond, List, [], ◌∷◌, Some, map, slice_get, sum_by}
 use Rattle.std.proofs.lemmas.Bool.{true≢false, cases_Bool}
@@ -11,7 +11,7 @@ use Rattle.drf_tree.proofs.sums.Content.{below, sum_below}
 use Rattle.drf_tree.proofs.sums.Move.{Amounts, IsChange, IsMoved, active_is, is_served, total_under}
 use Rattle.drf_tree.proofs.shape.Path.{begins_itself}
 
--- the only client of a path is all that is below it
+-- a client's path has at most that client at or below it
 module _ (f : Ranked → ℕ) (path : Path) (right : IsClientPath path) where
   none_below : (cs : List Ranked) → AllByRecursion IsClientPath (map (λ (c : Ranked). c.path) cs)
       → AllByRecursion (λ p. same_path path p ≡ false) (map (λ (c : Ranked). c.path) cs) → sum_by (below path f) cs ≡ 0

@@ -1,4 +1,4 @@
--- One more client.
+-- Adding a client to the sums.
 use Rattle.std.proofs.Common.{refl, sym, ap, subst, ◌∙◌, inl, inr, arith, ◌≡◌, ◌+◌, ℕ, true, false, Some, length, slice_index_or}
 use Rattle.std.proofs.lemmas.Bool.{cases_Bool}
 use Rattle.drf_tree.proofs.Names.{Text, Path, begins_with, Content, has_client, with_client, Sum, Tree, client_at, is_live, AreRight, IsTreeOf}

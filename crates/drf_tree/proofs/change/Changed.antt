@@ -1,4 +1,4 @@
--- A tree after a change of one client.
+-- The tree after a change of one client.
 use Rattle.std.specs.List.{AllByRecursion, IsDistinct, list_any}
 use Rattle.std.proofs.Common.{refl, sym, ap, subst, ◌∙◌, inl, inr, arith, ◌≡◌, ℕ, Bool, true, false, List, Some, length, map, slice_index_or}
 use Rattle.std.proofs.lemmas.Bool.{cases_Bool}
@@ -8,14 +8,14 @@ use Rattle.drf_tree.proofs.sums.Content.{paths_stay}
 use Rattle.drf_tree.proofs.sums.Move.{Amounts, AreMoved, IsChange, IsMoved, changed_below, changed_beside, none}
 use Rattle.drf_tree.proofs.change.Tree.{right_marked, right_kept, shape_again, sums_after, tree_from}
 
--- the ways are complete for the same paths
+-- the children are complete if the clients have the same paths
 pub complete_again : (content changed : Content) (tree : Tree)
     → map (λ (c : Ranked). c.path) changed.clients ≡ map (λ (c : Ranked). c.path) content.clients
     → IsComplete content tree.places.items tree.families.items → IsComplete changed tree.places.items tree.families.items
 complete_again content changed tree paths complete i node part below some =
     complete i node part below (ap (list_any (same_path _)) (sym paths) ∙ some)
 
--- where a node on the way is marked, it is live, and so is where it was
+-- a dirty node above the leaf is live, and so is a node that was dirty before
 pub unmarked_after : (old : Tree) (leaf : ℕ) (now : List Bool) → IsShapeOf old → AreMarked old.places.items leaf 0 old.marks.stale now
     → (i : ℕ) → slice_index_or now i false ≡ true → is_live old.places.items i ≡ true
 unmarked_after old leaf now shape so i marked = elim (cases_Bool (on_way old.places.items leaf i)) [
@@ -43,7 +43,7 @@ module _ (content : Content) (path : Path) (change : Ranked → Ranked) (keeps :
   same_paths : map (λ (c : Ranked). c.path) (with_change content path change).clients ≡ map (λ (c : Ranked). c.path) content.clients
   same_paths = paths_stay path change keeps content.clients
 
-  -- each node on the way is marked
+  -- each node above the leaf is dirty
   pub changed_marked : now.places ≡ old.places → now.families ≡ old.families
       → AreChanged old.places.items leaf 0 (λ i. IsMoved less more) old.sums.items now.sums.items
       → AreMarked old.places.items leaf 0 old.marks.stale now.marks.stale
@@ -60,7 +60,7 @@ module _ (content : Content) (path : Path) (change : Ranked → Ranked) (keeps :
       (right_marked content (with_change content path change) old.places.items old.families.items old.marks.stale old.sums.items tree.shape
       leaf less more moved_on moved_off now.marks.stale marks refl tree.right)
 
-  -- no mark and no key is changed
+  -- no dirty flag and no key changes
   pub changed_kept : now.places ≡ old.places → now.families ≡ old.families → now.marks ≡ old.marks
       → ((label : Text) → less.held label ≡ more.held label) → less.count ≡ more.count
       → AreChanged old.places.items leaf 0 (λ i. IsMoved less more) old.sums.items now.sums.items

@@ -1,4 +1,4 @@
--- A client gets more.
+-- Adding quantities and offers to a client.
 use Rattle.std.specs.List.{AllByRecursion}
 use Rattle.std.proofs.Common.{refl, ap, ◌∙◌, arith, ◌≡◌, ◌+◌, ℕ, true, List, [], ◌∷◌, Some}
 use Rattle.drf_tree.proofs.Names.{amount_of, is_in_order, plus, Entry, Path, same_path, Content, Ranked, charged, has_client, with_change, Sum, Tree, client_at, IsTreeOf}

@@ -1,4 +1,4 @@
--- A climb from a leaf to the root, which changes the sum of each node on the way and may mark it.
+-- A loop from a leaf up to the root, which changes the sum of each node and can set its dirty flag.
 use Rattle.std.specs.Option.{is_some}
 use Rattle.std.proofs.Common.{refl, sym, ap, subst, ◌∙◌, inl, inr, arith, length-set, get_or-set_same, get_or-set_other, ◌≡◌, ◌≢◌, ◌≤◌, ◌<◌, ◌+◌, ℕ, Bool, true, false, ◌&&◌, ◌||◌, ◌==◌, List, [], ◌∷◌, ◌++◌, Option, Some, drop, length, slice_get, slice_index_or, slice_set}
 use Rattle.std.proofs.lemmas.Bool.{true≢false, false≢true, and_parts, cases_eq, or_cases}
@@ -10,11 +10,11 @@ use Rattle.drf_tree.proofs.shape.Path.{begins_by, begins_itself, begins_long, be
 use Rattle.drf_tree.proofs.shape.Slice.{get_set_same, get_set_other}
 use Rattle.drf_tree.proofs.shape.Way.{above_of, equal, shorter_above, top_is}
 
--- a node on the way to a leaf, the leaf included
+-- node `i` is the leaf or a node above it
 abbrev pub on_way : List (Option Place) → ℕ → ℕ → Bool
 on_way places leaf i = is_live places i && begins_with (path_at places leaf) (path_at places i)
 
--- the sums of the nodes on the way that have more parts than `depth` are changed, and no others
+-- exactly the sums of the nodes above the leaf that have more than `depth` parts are changed
 pub record AreChanged (places : List (Option Place)) (leaf depth : ℕ) (R : ℕ → Sum → Sum → Type 0) (old new : List Sum) : Type 0 where
   pub long : length new ≡ length old
   pub passed : (i : ℕ) (s t : Sum) → on_way places leaf i ≡ true → depth < length (path_at places i)
@@ -22,13 +22,13 @@ pub record AreChanged (places : List (Option Place)) (leaf depth : ℕ) (R : ℕ
   pub ahead : (i : ℕ) → length (path_at places i) ≤ depth → slice_get new i ≡ slice_get old i
   pub beside : (i : ℕ) → on_way places leaf i ≡ false → slice_get new i ≡ slice_get old i
 
--- those nodes are marked, and no others but those that were
+-- the dirty flags of these nodes are set, and the others stay the same
 pub record AreMarked (places : List (Option Place)) (leaf depth : ℕ) (old new : List Bool) : Type 0 where
   pub long : length new ≡ length old
   pub passed : (i : ℕ) → on_way places leaf i ≡ true → depth < length (path_at places i) → slice_index_or new i false ≡ true
   pub beside : (i : ℕ) → on_way places leaf i ≡ false → slice_index_or new i false ≡ slice_index_or old i false
 
--- the climb stands at a node, or at the root
+-- the loop is at a node above the leaf, or at the root
 pub record IsAt (places : List (Option Place)) (leaf node : ℕ) : Type 0 where
   pub there : is_node places node ≡ true
   pub way : begins_with (path_at places leaf) (path_at places node) ≡ true
@@ -45,7 +45,7 @@ second_of : (a b : Bool) → b ≡ true → (a || b) ≡ true
 second_of true b second = refl
 second_of false b second = second
 
--- two nodes of as many parts on the way are one
+-- two nodes with the same number of parts above one leaf are the same
 same_front : (a b : Path) (x y : Path) → length a ≡ length b → a ++ x ≡ b ++ y → a ≡ b
 same_front [] [] x y long whole = refl
 same_front [] (q ∷ b) x y long whole = absurd (omega arith)
@@ -87,7 +87,7 @@ module _ (places : List (Option Place)) (families : List Family) (stale : List B
   pub at_leaf : is_live places leaf ≡ true → IsAt places leaf leaf
   at_leaf live = record { there = node_from_live places leaf live; way = begins_itself (path_at places leaf) }
 
-  -- nothing is passed at first
+  -- at first no node is changed
   pub changed_none : (R : ℕ → Sum → Sum → Type 0) (now : List Sum) → AreChanged places leaf (length (path_at places leaf)) R now now
   changed_none R now = record {
     long = refl;
@@ -105,7 +105,7 @@ module _ (places : List (Option Place)) (families : List Family) (stale : List B
     beside = λ i off. refl;
   }
 
-  -- one more node is passed
+  -- one more node is changed
   module _ (node d : ℕ) (on : on_way places leaf node ≡ true) (deep : length (path_at places node) ≡ d + 1) where
     not_ahead : (i : ℕ) → length (path_at places i) ≤ d → i ≢ node
     not_ahead i short same = omega (arith, short, deep, ap (λ (k : ℕ). length (path_at places k)) same)
@@ -167,7 +167,7 @@ module _ (places : List (Option Place)) (families : List Family) (stale : List B
       beside = λ i off. get_or-set_other mid node i true false (not_beside i off) ∙ so.beside i off;
     }
 
-  -- the climb goes on to the node above
+  -- the loop continues at the parent
   pub at_above : (node : ℕ) → is_live places node ≡ true → IsAt places leaf node → IsAt places leaf (parent_at places node)
   at_above node live at =
       let longer = above_of places families stale sums shape node live in
@@ -178,7 +178,7 @@ module _ (places : List (Option Place)) (families : List Family) (stale : List B
             (begins_by (path_at places node) (path_at places (parent_at places node)) (longer.part ∷ []) longer.joined);
       }
 
-  -- where it is not at the root, it is at a node
+  -- if the loop is not at the root, it is at a node
   pub live_at : (node : ℕ) → IsAt places leaf node → node ≢ 0 → is_live places node ≡ true
   live_at node at other = elim (or_cases (node == 0) (is_live places node) at.there) [
     | inl root ↦ absurd (other (equal node 0 root))
@@ -188,11 +188,11 @@ module _ (places : List (Option Place)) (families : List Family) (stale : List B
   pub on_at : (node : ℕ) → IsAt places leaf node → node ≢ 0 → on_way places leaf node ≡ true
   on_at node at other = way_from places leaf node (live_at node at other) at.way
 
-  -- at the root all are passed: a node on the way has some part
+  -- a node has at least one part, so all nodes are changed at the root
   pub some_part : (i : ℕ) → is_live places i ≡ true → 0 < length (path_at places i)
   some_part i live = omega (arith, shorter_above places families stale sums shape i live)
 
--- in the middle of a climb
+-- the loop is at a node
 pub record IsClimbing (old now : Tree) (leaf node : ℕ) (R : ℕ → Sum → Sum → Type 0) : Type 0 where
   pub at : IsAt old.places.items leaf node
   pub places : now.places ≡ old.places
@@ -218,18 +218,18 @@ module _ (old now : Tree) (shape : IsShapeOf old) (leaf node : ℕ) (R : ℕ →
     pub climb_within : node < length now.sums.items
     climb_within = omega (arith, live_within old.places.items node climb_live, so.sums.long, shape.sums_long)
 
-    -- the sum at the node, and what it was at first
+    -- the sum at the node is still what it was at first
     pub climb_sum : (s : Sum) → s ≡ slice_index_or now.sums.items node s → slice_get now.sums.items node ≡ Some s
     climb_sum s is = slice_get_read now.sums.items (length now.sums.items) node s refl climb_within is
 
     pub climb_was : (s : Sum) → s ≡ slice_index_or now.sums.items node s → slice_get old.sums.items node ≡ Some s
     climb_was s is = sym (so.sums.ahead node (omega arith)) ∙ climb_sum s is
 
-    -- what holds of each sum on the way holds there
+    -- what holds of each sum above the leaf holds of the node's
     pub climb_holds : (P : Sum → Type 0) → OnWay old leaf P → (s : Sum) → s ≡ slice_index_or now.sums.items node s → P s
     climb_holds P each s is = each node s climb_on (climb_was s is)
 
-    -- the node above, by the places as they are
+    -- the parent, as the places are unchanged
     pub climb_above : (above : ℕ) → above ≡ parent_at now.places.items node → above ≡ parent_at old.places.items node
     climb_above above is = is ∙ (λ i. parent_at (so.places i).items node)
 
@@ -258,7 +258,7 @@ module _ (old now : Tree) (shape : IsShapeOf old) (leaf node : ℕ) (R : ℕ →
               old.sums.items now.sums.items s t so.sums (climb_sum s is) moved);
         }
 
-  -- at the root
+  -- the loop is at the root
   pub climb_end : IsClimbing old now leaf node R → node ≡ 0 → AreChanged old.places.items leaf 0 R old.sums.items now.sums.items
   climb_end so root =
       let none : length (path_at old.places.items node) ≡ 0 =
@@ -266,7 +266,7 @@ module _ (old now : Tree) (shape : IsShapeOf old) (leaf node : ℕ) (R : ℕ →
       ∙ ap length (top_is old.places.items old.families.items old.marks.stale old.sums.items shape) in
       subst (λ (k : ℕ). AreChanged old.places.items leaf k R old.sums.items now.sums.items) none so.sums
 
--- and with its marks
+-- the loop is at a node, and sets dirty flags
 pub record IsMarking (old now : Tree) (leaf node : ℕ) : Type 0 where
   pub marks : AreMarked old.places.items leaf (length (path_at old.places.items node)) old.marks.stale now.marks.stale
   pub work : debt (work_of now.marks) + length (path_at old.places.items node)

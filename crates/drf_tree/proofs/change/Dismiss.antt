@@ -1,4 +1,4 @@
--- A client is gone, with all that it held.
+-- Removing a client, with all that it held.
 use Rattle.std.specs.List.{AllByRecursion, IsDistinct, list_any}
 use Rattle.std.proofs.Common.{refl, sym, ap, subst, ◌∙◌, inl, inr, arith, ◌≡◌, ◌≤◌, ◌+◌, ◌-◌, ℕ, Bool, true, false, not, ◌||◌, cond, List, [], ◌∷◌, Some, filter, map, slice_get, slice_index_or, sum_by}
 use Rattle.std.proofs.lemmas.Bool.{cases_Bool}
@@ -33,13 +33,13 @@ is_gone gone s held is within count clients active = record {
   weight = refl;
 }
 
--- the leaf itself has nothing then
+-- the leaf holds nothing then
 pub is_emptied : (gone : Sum)
     → IsMoved (amounts_in gone) none gone (record { held = []; count = 0; clients = 0; active = 0; weight = gone.weight })
 is_emptied gone =
     record { held = λ label. omega arith; count = omega arith; clients = omega arith; active = omega arith; weight = refl }
 
--- what a leaf has, of which no node on the way has less
+-- a leaf's sum is at most that of each node above it
 pub record IsLeastSum (tree : Tree) (leaf : ℕ) (gone : Sum) : Type 0 where
   pub there : slice_get tree.sums.items leaf ≡ Some gone
   pub held : OnWay tree leaf (λ s. (label : Text) → amount_of gone.held label ≤ amount_of s.held label)
@@ -55,7 +55,7 @@ least_read tree leaf least gone read taken is =
 
 -- ---- the clients
 
--- a client that is not below a node is not missed there
+-- removing a client does not change nodes that it is not below
 stays_beside : (f : Ranked → ℕ) (path node : Path) → begins_with path node ≡ false → (cs : List Ranked)
     → sum_by (below node f) (filter (stays path) cs) ≡ sum_by (below node f) cs
 stays_beside f path node other [] = refl
@@ -120,7 +120,7 @@ module _ (content : Content) (path node : Path) where
     weight = refl;
   }
 
--- ---- what holds of all clients holds of those that stay
+-- ---- what holds of all clients holds of the remaining ones
 
 module _ (keep : Ranked → Bool) where
   paths_all : (P : Path → Type 0) (cs : List Ranked) → AllByRecursion P (map (λ (c : Ranked). c.path) cs)

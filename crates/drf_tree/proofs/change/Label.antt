@@ -1,4 +1,4 @@
--- More labels are named along the nodes of a client, with no amount.
+-- Adding entries with the amount 0 to the nodes above a client.
 use Rattle.std.specs.List.{list_all}
 use Rattle.std.proofs.Common.{refl, sym, ap, subst, ◌∙◌, inl, inr, arith, get_or, length-set, ◌≡◌, ◌<◌, ◌+◌, ℕ, zero, suc, Bool, cond, false, true, ◌||◌, ◌⊎◌, IsTrue, List, [], ◌∷◌, Some, length, nat_lt, slice_get, slice_index_or, slice_set, take}
 use Rattle.std.proofs.lemmas.Bool.{ltb-true, true≢false, cases_eq, and_from, and_parts}
@@ -10,7 +10,7 @@ use Rattle.drf_tree.proofs.sums.Move.{AreMoved, IsMoved, none, not_moved, sum_af
 use Rattle.drf_tree.proofs.shape.Slice.{get_set_same, get_set_other}
 use Rattle.drf_tree.proofs.change.Tree.{shape_again, tree_from}
 
--- ---- one more label is named
+-- ---- one more entry
 
 pub nothing_of : (es : List Entry) (label : Text) → is_named es label ≡ false → amount_of es label ≡ 0
 nothing_of [] label missing = refl
@@ -39,7 +39,7 @@ named_still es label other named = named-with es label 0 other ∙ by (same_text
     by true so = refl
     by false so = so
 
--- no other label came
+-- no other label gets an entry
 pub named_few : (es : List Entry) (label other : Text) → is_named (with_amount es label 0) other ≡ true
     → (is_named es other ≡ true) ⊎ (same_text label other ≡ true)
 named_few es label other named = by (same_text label other) refl (sym (named-with es label 0 other) ∙ named)
@@ -49,7 +49,7 @@ named_few es label other named = by (same_text label other) refl (sym (named-wit
     by true same so = inr same
     by false differ so = inl so
 
--- the label of an entry is named
+-- the label of an entry has an entry
 pub named_at : (es : List Entry) (i : ℕ) (e : Entry) (label : Text) → i < length es → e ≡ get_or es i e
     → same_text e.label label ≡ true → is_named es label ≡ true
 named_at [] i e label within is same = absurd (omega (arith, within))
@@ -64,7 +64,7 @@ named_at (x ∷ es) (suc i) e label within is same =
     or_true true = refl
     or_true false = refl
 
--- what is named where nothing is 0 is above 0
+-- if no amount is 0, each label with an entry has an amount above 0
 pub above_zero : (es : List Entry) (label : Text) → IsTrue (list_all (λ e. nat_lt 0 e.amount) es) → is_named es label ≡ true
     → 0 < amount_of es label
 above_zero [] label above named = absurd (true≢false (sym named))
@@ -96,7 +96,7 @@ names_more old new es i e within is stay named all =
     let more : suc i ≡ i + 1 = omega arith in
     subst (λ (k : ℕ). names_all new (take k es) ≡ true) more (names_next old new es i e within is stay named all)
 
--- ---- the sums with the same amounts, be more of them named
+-- ---- sums with the same amounts, perhaps with more entries
 
 pub record AreSame (old now : List Sum) : Type 0 where
   pub long : length now ≡ length old
@@ -144,7 +144,7 @@ same_set old now node t u so at moved = record {
   ];
 }
 
--- they are those of the same clients
+-- the tree still has the sums of the same clients
 pub same_tree : (content : Content) (old now : Tree) → IsTreeOf content old → now.places ≡ old.places
     → now.families ≡ old.families → now.marks ≡ old.marks → AreSame old.sums.items now.sums.items → IsTreeOf content now
 same_tree content old now tree places families marks so =
@@ -168,11 +168,11 @@ same_tree content old now tree places families marks so =
         sum_after none none content content (path_at old.places.items i) s t (tree.sums i s live was)
         (stays (path_at old.places.items i)) (so.each i s t was at)
 
--- a node names all of them, and few others
+-- a node has entries for all labels of `others`, and few more
 abbrev pub IsNamed : List Entry → ℕ → Sum → Sum → Type 0
 IsNamed quantities i s t = (names_all t.held quantities ≡ true) × NamesFew quantities s.held t.held
 
--- at the root each node on the way names all
+-- at the end each node above the leaf has an entry for each label
 pub named_end : (old now : Tree) → IsShapeOf old → (leaf node : ℕ) (quantities : List Entry)
     → IsClimbing old now leaf node (IsNamed quantities) → node ≡ 0
     → OnWay now leaf (λ s. names_all s.held quantities ≡ true)
@@ -187,7 +187,7 @@ named_end old now shape leaf node quantities so root i t on at =
     (slice_get-get_or old.sums.items i t within) at in
     named.0
 
--- .. and no others but what its clients hold
+-- and no others, except labels of which something is held
 pub few_end : (old now : Tree) → IsShapeOf old → (leaf node : ℕ) (quantities : List Entry)
     → IsClimbing old now leaf node (IsNamed quantities) → node ≡ 0 → NamesFewOnWay old now leaf quantities
 few_end old now shape leaf node quantities so root i s t on was at =

@@ -1,4 +1,4 @@
--- A client gives back.
+-- Subtracting quantities and offers from a client.
 use Rattle.std.proofs.Common.{refl, ap, ◌∙◌, arith, ◌≡◌, ◌≤◌, ◌-◌, ℕ, true, List, Some}
 use Rattle.drf_tree.proofs.Names.{amount_of, minus, Entry, Text, Path, same_path, each_from, Content, Ranked, has_client, with_change, Sum, Tree, CanLower, CanLowerAt, lowered, client_at, IsTreeOf}
 use Rattle.drf_bundle.specs.laws.QuantitiesLaws.{amount-minus}

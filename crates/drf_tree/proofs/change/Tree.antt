@@ -1,4 +1,4 @@
--- A tree whose sums, marks and keys are those of another content.
+-- A tree whose sums, dirty flags and keys are those of another content.
 use Rattle.std.specs.List.{AllByRecursion, IsDistinct}
 use Rattle.std.proofs.Common.{sym, ap, subst, ◌∙◌, inl, inr, arith, get_or, ◌≡◌, ◌<◌, ℕ, Bool, true, false, List, [], ◌∷◌, ◌++◌, Option, Some, length, map, slice_get, slice_index_or}
 use Rattle.std.proofs.lemmas.Bool.{cases_Bool}
@@ -9,7 +9,7 @@ use Rattle.drf_sorter.specs.Content.{Content, Ranked, standing_in}
 use Rattle.drf_tree.proofs.change.Climb.{AreChanged, AreMarked, beside_from, some_part, way_from}
 use Rattle.drf_tree.proofs.sums.Move.{Amounts, AreMoved, IsMoved, key_again, none, not_moved, sum_after, total_under}
 
--- the shape of lists of the same length, where no mark is put at a free number
+-- lists of the same length have the same shape, if no free number becomes dirty
 pub shape_again : (places : List (Option Place)) (families : List Family) (stale stale_now : List Bool) (sums sums_now : List Sum)
     → IsShape places families stale sums → length stale_now ≡ length stale → length sums_now ≡ length sums
     → ((i : ℕ) → slice_index_or stale_now i false ≡ true → is_live places i ≡ true)
@@ -34,7 +34,7 @@ shape_again places families stale stale_now sums sums_now shape marks_long sums_
 
 module _ (content changed : Content) (places : List (Option Place)) (families : List Family) (stale : List Bool) (sums : List Sum)
     (shape : IsShape places families stale sums) where
-  -- the keys stay where what decides them does
+  -- a key stays right if nothing that it depends on changes
   pub right_again : (i : ℕ) (c : Child)
       → AreMoved none none content changed (path_at places i ++ child_name c ∷ []) → changed.total ≡ content.total
       → IsRight content places i c → IsRight changed places i c
@@ -64,7 +64,7 @@ module _ (content changed : Content) (places : List (Option Place)) (families : 
               sum_after none none content changed (path_at places i) t t (right i t live was) (off (path_at places i) other) (not_moved t)
         ]
 
-    -- each node on the way is marked
+    -- each node above the leaf is dirty
     pub right_marked : (now : List Bool) → AreMarked places leaf 0 stale now → changed.total ≡ content.total
         → AreRight content places families stale → AreRight changed places families now
     right_marked now so total right i =
@@ -105,7 +105,7 @@ module _ (content changed : Content) (places : List (Option Place)) (families : 
           (ap (λ ws. weight_of ws p) weights) total in
           inr (subst (λ (k : Key). IsSameKey (key_by c.key) k) (sym same) key)
 
--- what is known of the lists is known of the tree
+-- what holds of the lists holds of the tree
 pub tree_from : (content : Content) (old new : Tree) → new.places ≡ old.places → new.families ≡ old.families
     → AllByRecursion IsClientPath (map (λ (c : Ranked). c.path) content.clients)
     → IsDistinct same_path (map (λ (c : Ranked). c.path) content.clients)

@@ -1,4 +1,4 @@
--- A tree where a role is given a weight.
+-- The tree after a weight is set.
 use Rattle.std.proofs.Common.{refl, sym, ap, subst, ◌∙◌, inl, inr, arith, get_or-set_same, get_or-set_other, length-set, ◌≡◌, ◌≢◌, ℕ, Bool, true, false, List, [], ◌∷◌, ◌++◌, Option, Some, length, slice_get, slice_index_or, slice_set}
 use Rattle.std.proofs.lemmas.Bool.{cases_Bool, cases_eq}
 use Rattle.drf_tree.proofs.Names.{Path, same_path, same_path-true, each_from_both, Key, key_by, Child, Place, Sum, Tree, IsSameKey, child_name, children_at, is_live, path_at, AreRight, AreSums, IsChildOf, IsMarkedOrRight, IsRight, IsSumOf, IsTreeOf}
@@ -63,7 +63,7 @@ module _ (content : Content) (role : Path) (weight : ℕ) where
       (kept_weight (path_at places i ++ child_name c ∷ []) other) refl))
       right
 
-  -- no node has that path
+  -- no node has this path
   pub unweighed_tree : (tree : Tree) → IsTreeOf content tree
       → ((i : ℕ) → is_live tree.places.items i ≡ true → path_at tree.places.items i ≢ role)
       → IsTreeOf (with_weight content role weight) tree
@@ -88,7 +88,7 @@ module _ (content : Content) (role : Path) (weight : ℕ) where
             inr (right_beside tree.places.items i c (λ same. far c.node child.live (child.path ∙ same)) right)
       ]
 
--- the node of that path has the weight, and a mark
+-- the node with this path has the weight, and is dirty
 module _ (content : Content) (weight : ℕ) (old : Tree) (node : ℕ) (of : IsTreeOf content old)
     (live : is_live old.places.items node ≡ true) where
   abbrev role : Path

@@ -1,4 +1,4 @@
--- A bare node goes, and the tree is still that of the same clients.
+-- Removing a node without clients and children leaves a tree of the same clients.
 use Rattle.std.specs.List.{AllByRecursion, list_any}
 use Rattle.std.specs.Option.{is_some, option_map_or}
 use Rattle.std.specs.Cmp.Lexicographic.{bytes_decides}
@@ -21,7 +21,7 @@ none_in : {X : Type 0} (xs : List X) → length xs ≡ 0 → xs ≡ []
 none_in [] none = refl
 none_in (x ∷ xs) none = absurd (omega (arith, none))
 
--- where no client is below a node, no client's path goes on from it
+-- if no client is below a node, no client's path has the node as a prefix
 pub none_under : (node below : Path) (cs : List Ranked) → filter (λ c. begins_with c.path node) cs ≡ []
     → list_any (same_path (node ++ below)) (map (λ (c : Ranked). c.path) cs) ≡ true → ⊥
 none_under node below [] none some = false≢true some
@@ -40,7 +40,7 @@ none_under node below (c ∷ cs) none some = elim (cases_Bool (begins_with c.pat
       ]
 ]
 
--- a node of no clients has none below it
+-- a node without clients has none below it
 pub bare_clients : (content : Content) (tree : Tree) (node : ℕ) → IsTreeOf content tree → is_live tree.places.items node ≡ true
     → option_map_or (λ s. s.clients) (slice_get tree.sums.items node) 0 ≡ 0
     → clients_under content (path_at tree.places.items node) ≡ []
@@ -143,7 +143,7 @@ module _ (old new : Tree) (shape : IsShapeOf old) (node parent : ℕ) (f : Famil
     abbrev child : Child
     child = less.child
 
-    -- it was the child of its path
+    -- the node was the child with its path
     path_is : path_at old.places.items node ≡ path_at old.places.items parent ++ child_name child ∷ []
     path_is =
         ap (path_at old.places.items) (sym less.node_is)
@@ -187,7 +187,7 @@ module _ (old new : Tree) (shape : IsShapeOf old) (node parent : ℕ) (f : Famil
           | inr past ↦ ap (λ (cs : List Child). list_any (same_text part) (map child_name cs)) (others i past) ∙ some
         ]
 
-    -- what was right of each child is right of those that stay
+    -- the keys of the remaining children stay right
     right_stay : (i : ℕ) → AllByRecursion (IsMarkedOrRight content old.places.items old.marks.stale i) (children_at new.families.items i)
     right_stay i = elim (cases_eq i parent) [
       | inl same ↦
@@ -226,7 +226,7 @@ module _ (old new : Tree) (shape : IsShapeOf old) (node parent : ℕ) (f : Famil
       right = right_now;
     }
 
--- ---- bare nodes go one after another, upwards
+-- ---- a loop upwards that removes nodes
 
 pub record IsPruning (old now : Tree) (leaf node : ℕ) : Type 0 where
   pub shape : IsShapeOf now
@@ -240,7 +240,7 @@ pub prune_start : (tree : Tree) → IsShapeOf tree → (node : ℕ) → is_node 
 prune_start tree shape node there =
     record { shape = shape; there = there; tree = λ content of. of; spends = record { made = refl; work = omega arith }; tidy = λ content but. but }
 
--- where it is not at the root, it is at a node
+-- if the loop is not at the root, it is at a node
 pub prune_live : (old now : Tree) (leaf node : ℕ) → IsPruning old now leaf node → node ≢ 0 → is_live now.places.items node ≡ true
 prune_live old now leaf node so other = elim (or_cases (node == 0) (is_live now.places.items node) so.there) [
   | inl root ↦ absurd (other (equal node 0 root))

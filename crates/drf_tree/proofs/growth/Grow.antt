@@ -1,4 +1,4 @@
--- Nodes are made along a client's path, from the root down.
+-- Adding the nodes of a client's path, from the root down.
 use Rattle.std.specs.List.{list_any}
 use Rattle.std.proofs.Common.{refl, sym, ap, subst, ◌∙◌, arith, length-append, ◌≡◌, ◌≢◌, ◌≤◌, ◌<◌, ◌+◌, ℕ, true, false, codes, List, [], ◌∷◌, ◌++◌, Some, drop, length, map, slice_get, take, length-take-le, take-append-drop, take-take, take_at}
 use Rattle.std.proofs.lemmas.Bool.{true≢false, false_from_ne_true}
@@ -11,9 +11,9 @@ use Rattle.drf_tree.proofs.shape.Path.{begins_by}
 use Rattle.drf_tree.proofs.growth.Tidy.{grown_but, tidy_but}
 use Rattle.drf_tree.proofs.shape.Way.{live_from, top_is}
 
--- ---- the first parts of a path
+-- ---- prefixes of a path
 
--- some of them are a node's
+-- a prefix is the path of a node
 pub front_right : (path : Path) (len : ℕ) → IsClientPath path → 1 ≤ len → len ≤ length path → IsNodePath (take len path)
 front_right path len right some within = record {
   path = path;
@@ -22,7 +22,7 @@ front_right path len right some within = record {
   begins = (drop len path, take-append-drop len path);
 }
 
--- fewer than all are no client's
+-- a prefix that is shorter is not a client's path
 pub front_no_client : (path : Path) (len : ℕ) → IsClientPath path → len < length path → IsClientPath (take len path) → ⊥
 front_no_client path len right less client =
     let short : length (take len path) ≡ len = length-take-le len path (omega (arith, less)) in
@@ -30,7 +30,7 @@ front_no_client path len right less client =
     true≢false (sym (begins_by path (take len path) (drop len path) (sym (take-append-drop len path)))
     ∙ client_paths-apart path (take len path) right client apart)
 
--- a part is read of the front as of the whole
+-- an element of a prefix is the same as in the whole list
 pub read_front : {X : Type 0} (xs : List X) (i : ℕ) (x : X) → slice_get xs i ≡ Some x → slice_get (take (i + 1) xs) i ≡ Some x
 read_front {X} xs i x at =
     ap (λ (ys : List X). slice_get ys i) (take_one_more xs i x at)
@@ -44,9 +44,9 @@ read_front {X} xs i x at =
     last_there (y ∷ ys) i x long =
         ap (λ (k : ℕ). slice_get (y ∷ ys ++ x ∷ []) k) (sym long) ∙ last_there ys (length ys) x refl
 
--- ---- one node more
+-- ---- one more node
 
--- more parts begin with fewer
+-- a longer prefix begins with a shorter one
 front_begins : (path : Path) (i : ℕ) → begins_with (take (i + 1) path) (take i path) ≡ true
 front_begins path i =
     begins_by (take (i + 1) path) (take i path) (drop i (take (i + 1) path))
@@ -55,7 +55,7 @@ front_begins path i =
     fewer : take i (take (i + 1) path) ≡ take i path
     fewer = take-take i (i + 1) path (omega arith)
 
--- the loop stands at the node of the first parts, `i` of them
+-- the loop is at the node of the first `i` parts
 pub record IsGrowing (content : Content) (old now : Tree) (path : Path) (node i : ℕ) : Type 0 where
   pub tree : IsTreeOf content now
   pub free : IsTotalFree content old → IsTotalFree content now
@@ -105,7 +105,7 @@ module _ (content : Content) (old now : Tree) (path : Path) (node i : ℕ) (so :
   grown_client =
       so.tree.shape.clients node grown_live (subst IsClientPath (sym at_all) right) ∙ ap (λ (p : Path). Some p) at_all
 
--- ---- where a child is missing, its node may come
+-- ---- a missing child can be added
 
 module _ (content : Content) (tree : Tree) (of : IsTreeOf content tree) (path : Path) (node i : ℕ) (name : Text)
     (there : is_node tree.places.items node ≡ true) (at : path_at tree.places.items node ≡ take i path)

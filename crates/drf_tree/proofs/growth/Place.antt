@@ -1,4 +1,4 @@
--- No number below the first free one is free, whatever is put and freed.
+-- No number below the first free one is free, after places are set and freed.
 use Rattle.std.specs.Option.{is_some}
 use Rattle.std.proofs.Common.{refl, ap, ◌∙◌, inl, inr, arith, get_or-set_other, get_or-set_same, ◌≡◌, ◌≢◌, ◌<◌, ◌+◌, ◌==◌, ◌||◌, ◌++◌, ◌∷◌, [], ℕ, zero, suc, Bool, true, false, max, min, List, Option, None, Some, length, slice_set}
 use Rattle.std.proofs.lemmas.Bool.{cases_eq}
@@ -9,13 +9,13 @@ use Rattle.drf_tree.proofs.growth.Vacant.{read_more}
 node_like : (o p : Option Place) (i : ℕ) → o ≡ p → ((i == 0) || is_some o) ≡ ((i == 0) || is_some p)
 node_like o p i same = ap (λ (q : Option Place). (i == 0) || is_some q) same
 
--- another number's place is put, or taken away
+-- setting or freeing another number changes nothing at this one
 stays : (places : List (Option Place)) (node : ℕ) (o : Option Place) (i : ℕ) → i ≢ node
     → is_node (slice_set places node o) i ≡ is_node places i
 stays places node o i other =
     node_like (place_at (slice_set places node o) i) (place_at places i) i (get_or-set_other places node i o None other)
 
--- the root's is never free
+-- the root's number is never free
 pub taken_first : (places : List (Option Place)) (first : ℕ) → AreTaken places first → AreTaken places (max first 1)
 taken_first places first taken zero below = refl
 taken_first places first taken (suc i) below = taken (suc i) (omega (arith, below))

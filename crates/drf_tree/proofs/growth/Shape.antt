@@ -1,4 +1,4 @@
--- The shape of a tree by what stands at each number: where a node comes and where one goes.
+-- The shape of a tree, number by number, when a node is added or removed.
 use Rattle.std.specs.List.{AllByRecursion, IsDistinct, list_any}
 use Rattle.std.specs.Option.{is_some, option_map_or}
 use Rattle.std.proofs.Common.{refl, sym, ap, subst, ◌∙◌, inl, inr, ◌≡◌, ◌≢◌, ◌<◌, ◌==◌, ℕ, Bool, true, false, ◌||◌, List, [], ◌∷◌, ◌++◌, Option, None, Some, length, map, slice_index_or}
@@ -8,7 +8,7 @@ use Rattle.drf_tree.proofs.Names.{Text, same_text, Path, IsClientPath, IsNodePat
 use Rattle.drf_tree.proofs.shape.Name.{same_text-swap}
 use Rattle.drf_tree.proofs.shape.Way.{equal_self}
 
--- ---- by what stands at each number
+-- ---- the shape, number by number
 
 abbrev pub live_in : (ℕ → Option Place) → ℕ → Bool
 live_in at i = is_some (at i)
@@ -83,7 +83,7 @@ module _ (places : List (Option Place)) (families : List Family) (stale : List B
     unmarked = shape.unmarked;
   }
 
--- the same seen
+-- the shape holds if the same is read at each number
 pub shape_seen : (at was : ℕ → Option Place) (kids were : ℕ → List Child) (flag flags : ℕ → Bool)
     → ((i : ℕ) → at i ≡ was i) → ((i : ℕ) → kids i ≡ were i) → ((i : ℕ) → flag i ≡ flags i)
     → IsShapeIn was were flags → IsShapeIn at kids flag
@@ -92,7 +92,7 @@ shape_seen at was kids were flag flags same_at same_kids same_flag shape =
     (subst (λ (f : ℕ → List Child). IsShapeIn was f flag) (λ j i. sym (same_kids i) j)
     (subst (λ (f : ℕ → Bool). IsShapeIn was were f) (λ j i. sym (same_flag i) j) shape))
 
--- ---- one element more or less in a list
+-- ---- one more or one fewer element of a list
 
 module _ {X : Type 0} (p : X → Bool) (x : X) where
   pub any_more : (before after : List X) → list_any p (before ++ after) ≡ true → list_any p (before ++ x ∷ after) ≡ true
@@ -136,7 +136,7 @@ module _ (P : Child → Type 0) (x : Child) where
   each_of [] after all = all.0
   each_of (b ∷ before) after all = each_of before after all.1
 
--- names that a name is not among
+-- no child has this name
 abbrev pub differs : Text → Child → Type 0
 differs name c = same_text name (child_name c) ≡ false
 
@@ -172,7 +172,7 @@ once_less x (b ∷ before) after once =
       (same_text-swap (child_name x) (child_name b) ∙ each_of (differs (child_name b)) x before after heads, rest.1),
     )
 
--- ---- a node comes
+-- ---- a node is added
 
 module _ (at now : ℕ → Option Place) (kids new : ℕ → List Child) (flag : ℕ → Bool) (shape : IsShapeIn at kids flag)
     (node parent : ℕ) (place : Place) (child : Child)
@@ -202,7 +202,7 @@ module _ (at now : ℕ → Option Place) (kids new : ℕ → List Child) (flag :
   apart : parent ≢ node
   apart same = true≢false (sym there ∙ ap (node_in at) same ∙ vacant)
 
-  -- who was live is another
+  -- a node that was live is not the new one
   pub was_other : (i : ℕ) → live_in at i ≡ true → i ≢ node
   was_other i live same = true≢false (sym live ∙ ap (live_in at) same ∙ not_live)
 
@@ -219,7 +219,7 @@ module _ (at now : ℕ → Option Place) (kids new : ℕ → List Child) (flag :
       second true b yet = refl
       second false b yet = yet
 
-  -- the others that are live now were so
+  -- the other live nodes were live before
   was_live : (i : ℕ) → i ≢ node → live_in now i ≡ true → live_in at i ≡ true
   was_live i other live = ap (λ (o : Option Place). is_some o) (sym (rest i other)) ∙ live
 

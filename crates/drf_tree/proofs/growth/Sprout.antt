@@ -1,4 +1,4 @@
--- A node without clients comes, and the tree is still that of the same clients.
+-- Adding a node without clients leaves a tree of the same clients.
 use Rattle.std.specs.Cmp.{nat_cmp_total}
 use Rattle.std.specs.List.{AllByRecursion, list_any}
 use Rattle.std.specs.Option.{is_some, option_map_or}
@@ -28,7 +28,7 @@ none_pass {X} p (x ∷ xs) none = elim (cases_Bool (p x)) [
       ∙ none_pass p xs (sym (ap (λ (b : Bool). b || list_any p xs) past) ∙ none)
 ]
 
--- ---- the share of nothing is 0, whatever there is
+-- ---- the share of nothing is 0
 
 greater_of_nothing : (b : Bool) (f g : Fraction) → f.part ≡ 0 → g.part ≡ 0 → (cond b g f).part ≡ 0
 greater_of_nothing true f g p q = q
@@ -46,14 +46,14 @@ share_of_nothing held (e ∷ es) none = elim (cases_Bool (nat_lt 0 e.amount)) [
   | inr past ↦ rw past (share_of_nothing held es none)
 ]
 
--- parts of 0 make the same share
+-- fractions whose numerators are 0 are equal
 pub same_nothing : (f g : Fraction) → f.part ≡ 0 → g.part ≡ 0 → fraction_cmp f g ≡ Equal
 same_nothing f g p q =
     let left : f.part * g.whole ≡ 0 = ap (λ (n : ℕ). n * g.whole) p ∙ omega arith in
     let right : g.part * f.whole ≡ 0 = ap (λ (n : ℕ). n * f.whole) q ∙ omega arith in
     (λ i. nat_cmp (left i) (right i)) ∙ tied_itself nat_cmp_total 0
 
--- where no client is below, the key of nothing is right
+-- the key of nothing is right for a node without clients
 pub key_of_nothing : (content : Content) (parent : Path) (name : Text) (key : Key)
     → clients_under content (parent ++ name ∷ []) ≡ [] → 0 < key.share.whole → key.share.part ≡ 0 → key.count ≡ 0
     → key.name ≡ name → IsSameKey key (key_of (standing_in content) parent name)
@@ -81,13 +81,13 @@ sum_of_nothing content path weight none weighs = record {
   weight = weighs;
 }
 
--- the last part is the name
+-- the last part of the path is the name
 pub last_named : (above path : Path) (longer : IsOneLonger above path) (name : Text)
     → slice_get path (length path - 1) ≡ Some name → name ≡ longer.part
 last_named above path longer name at =
     sym (get_or_from_slice_get path (length path - 1) name [] at) ∙ ap last_part longer.joined ∙ last_is above longer.part
 
--- where a node may come: below another, with a path that is no other's
+-- a node can be added here: its parent is a node, and no other node has its path
 pub record IsReady (places : List (Option Place)) (parent : ℕ) (path : Path) : Type 0 where
   pub there : is_node places parent ≡ true
   pub longer : IsOneLonger (path_at places parent) path
@@ -105,7 +105,7 @@ ready_seen old new parent path same ready = record {
       (sym (ap (λ (o : Option Place). option_map_or (λ p. p.path) o []) (same i)) ∙ at);
 }
 
--- a tree with other counts of work
+-- the tree stays right if only the number of computed keys changes
 module _ (old new : Tree) (places : new.places ≡ old.places) (sums : new.sums ≡ old.sums) (families : new.families ≡ old.families)
     (stale : new.marks.stale ≡ old.marks.stale) (shape : IsShapeOf old) where
   at_same : (i : ℕ) → place_at new.places.items i ≡ place_at old.places.items i
@@ -137,7 +137,7 @@ module _ (old new : Tree) (places : new.places ≡ old.places) (sums : new.sums 
       tree_seen old new at_same kids_same flags_same some_same sums_same families_same stale_same content
       (λ i live. ap (λ ss. slice_get ss.items i) sums) of
 
--- a family that was not changed is put back
+-- the tree stays right if a family is replaced by the same one
 pub kept_tree : (old new : Tree) (parent : ℕ) (f : Family) → IsShapeOf old → parent < length old.families.items
     → f.children.items ≡ children_at old.families.items parent → new.places.items ≡ old.places.items
     → new.sums.items ≡ old.sums.items → new.families.items ≡ slice_set old.families.items parent f
@@ -282,7 +282,7 @@ module _ (old new : Tree) (shape : IsShapeOf old) (node parent : ℕ) (place : P
           ]
     ]
 
-    -- what is right of a child stays right
+    -- the key of each other child stays right
     right_still : (i : ℕ) → i ≢ node → (c : Child) → IsMarkedOrRight content old.places.items old.marks.stale i c
         → IsMarkedOrRight content new.places.items new.marks.stale i c
     right_still i other c (inl marked) = inl (ap (λ flags. slice_index_or flags c.node false) stale ∙ marked)

@@ -1,4 +1,4 @@
--- Nodes that are for nobody are those on the way to who came last or left, and go.
+-- Only the nodes on the path of a client that was just added or removed can be without clients, and these are removed.
 use Rattle.std.specs.List.{AllByRecursion, list_any}
 use Rattle.std.specs.Option.{is_some, option_map_or}
 use Rattle.std.proofs.Common.{refl, sym, ap, subst, ◌∙◌, inl, inr, arith, length-append, get_or-set_other, get_or-set_same, ◌≡◌, ◌≢◌, ◌<◌, ◌==◌, ℕ, Bool, true, false, not, ◌||◌, ◌&&◌, cond, List, [], ◌∷◌, ◌++◌, Option, None, Some, ◌⊎◌, drop, filter, length, map, slice_get, slice_set, append-nil}
@@ -9,17 +9,17 @@ use Rattle.drf_tree.proofs.sums.Content.{paths_stay, step}
 use Rattle.drf_tree.proofs.shape.Path.{begins_by, begins_front, begins_itself, begins_long, begins_to, begins_trans}
 use Rattle.drf_tree.proofs.shape.Way.{above_of, equal_self, shorter_above, top_is}
 
--- ---- who is below a node
+-- ---- clients below a node
 
 first_or : (a b : Bool) → a ≡ true → (a || b) ≡ true
 first_or a b is = ap (λ (x : Bool). x || b) is
 
--- the paths of the clients tell it
+-- whether a node has a client depends only on the clients' paths
 has_by_paths : (node : Path) (cs : List Ranked) → list_any (λ c. begins_with c.path node) cs ≡ list_any (λ p. begins_with p node) (map (λ (c : Ranked). c.path) cs)
 has_by_paths node [] = refl
 has_by_paths node (c ∷ cs) = ap (λ (b : Bool). begins_with c.path node || b) (has_by_paths node cs)
 
--- who is above a node with clients has them too
+-- a node above one with clients has clients too
 pub has_above : (content : Content) (node above : Path) → begins_with node above ≡ true → has_node content node ≡ true → has_node content above ≡ true
 has_above content node above begins = by content.clients
   where
@@ -30,7 +30,7 @@ has_above content node above begins = by content.clients
       | inr later ↦ or_right (begins_with c.path above) (list_any (λ c. begins_with c.path above) cs) (by cs later)
     ]
 
--- a change of one client leaves that alone
+-- a change of a client that keeps its path changes nothing about this
 pub has_changed : (content : Content) (path : Path) (change : Ranked → Ranked) → ((c : Ranked) → (change c).path ≡ c.path)
     → (node : Path) → has_node content node ≡ true → has_node (with_change content path change) node ≡ true
 has_changed content path change keeps node has =
@@ -38,7 +38,7 @@ has_changed content path change keeps node has =
     ∙ ap (list_any (λ p. begins_with p node)) (paths_stay path change keeps content.clients)
     ∙ sym (has_by_paths node content.clients) ∙ has
 
--- one client more
+-- one more client
 pub has_more : (content : Content) (path node : Path)
     → (has_node content node ≡ true) ⊎ (begins_with path node ≡ true) → has_node (with_client content path) node ≡ true
 has_more content path node either =
@@ -48,7 +48,7 @@ has_more content path node either =
       | inr begins ↦ or_right (has_node content node) (begins_with path node || false) (first_or (begins_with path node) false begins)
     ])
 
--- one client less
+-- one client fewer
 abbrev others : Path → List Ranked → List Ranked
 others path cs = filter (λ c. not (same_path c.path path)) cs
 
@@ -85,7 +85,7 @@ has_less content path node = by content.clients
           ]
     ]
 
--- a node with some client below it
+-- a node with a client below it has a client
 has_some : (node : Path) (cs : List Ranked) → filter (λ c. begins_with c.path node) cs ≢ [] → list_any (λ c. begins_with c.path node) cs ≡ true
 has_some node [] some = absurd (some refl)
 has_some node (c ∷ cs) some = elim (cases_Bool (begins_with c.path node)) [
@@ -95,7 +95,7 @@ has_some node (c ∷ cs) some = elim (cases_Bool (begins_with c.path node)) [
       (has_some node cs (λ none. some (subst (λ (b : Bool). cond b (c ∷ filter (λ c. begins_with c.path node) cs) (filter (λ c. begins_with c.path node) cs) ≡ []) (sym past) none)))
 ]
 
--- ---- places that stay
+-- ---- places that stay the same
 
 pub tidy_along : (old new : Content) (before after : List (Option Place)) → after ≡ before
     → ((node : Path) → has_node old node ≡ true → has_node new node ≡ true) → IsTidy old before → IsTidy new after
@@ -105,9 +105,9 @@ tidy_along old new before after same more tidy =
 pub tidy_but : (content : Content) (path : Path) (places : List (Option Place)) → IsTidy content places → IsTidyBut path content places
 tidy_but content path places tidy i live = inl (tidy i live)
 
--- ---- a node goes
+-- ---- a node is removed
 
--- what begins a path of one part more, and is not that path, begins the path
+-- a prefix of a path that is not the path itself is a prefix of it without its last part
 shorter_begins : (front node : Path) (name : _) (path : Path) → path ≡ front ++ name ∷ [] → begins_with path node ≡ true → node ≢ path
     → begins_with front node ≡ true
 shorter_begins front node name path is begins other = by (drop (length node) path) (begins_to path node begins)
@@ -125,7 +125,7 @@ module _ (now new : Tree) (shape : IsShapeOf now) (node parent : ℕ) (live : is
   abbrev path_now : ℕ → Path
   path_now i = path_at now.places.items i
 
-  -- those that are for nobody are on the way to its parent
+  -- nodes without clients are on the path of the removed node's parent
   pub gone_tidy : (content : Content) → (node < length now.places.items) → parent ≢ node
       → IsTidyBut (path_now node) content now.places.items
       → IsTidyBut (path_at new.places.items parent) content new.places.items
@@ -148,7 +148,7 @@ module _ (now new : Tree) (shape : IsShapeOf now) (node parent : ℕ) (live : is
             (λ same. other (shape.distinct i node lived live same)))
       ]
 
--- where none is on the way to a node that has clients or children, or to the root, all are for somebody
+-- if the loop ends at the root or at a node with clients or children, all nodes have clients
 pub tidy_at_root : (content : Content) (tree : Tree) → IsShapeOf tree → (node : ℕ) → node ≡ 0
     → IsTidyBut (path_at tree.places.items node) content tree.places.items → IsTidy content tree.places.items
 tidy_at_root content tree shape node root but i live = elim (but i live) [
@@ -213,9 +213,9 @@ module _ (content : Content) (tree : Tree) (of : IsTreeOf content tree) (node : 
     | inr begins ↦ has_above content (path_of node) (path_of i) begins (used bare)
   ]
 
--- ---- a node comes
+-- ---- a node is added
 
--- a place that is set is that of the path
+-- the place that is set has this path
 pub one_more : (old mid new : List (Option Place)) (node : ℕ) (place : Place) → ((i : ℕ) → place_at mid i ≡ place_at old i)
     → node < length mid → new ≡ slice_set mid node (Some place) → IsOneMore place.path old new
 one_more old mid new node place same within set i live = elim (cases_eq i node) [
@@ -225,7 +225,7 @@ one_more old mid new node place same within set i live = elim (cases_eq i node) 
   | inr other ↦ inl (ap (λ ps. place_at ps i) set ∙ get_or-set_other mid node i (Some place) None other ∙ same i)
 ]
 
--- what came on the way to a path, and a node of that path more
+-- a node is added on a path
 pub grown_but : (content : Content) (old new : List (Option Place)) (front path : Path) → begins_with path front ≡ true
     → IsOneMore path old new → IsTidyBut front content old → IsTidyBut path content new
 grown_but content old new front path begins one but i live = elim (one i live) [
@@ -238,7 +238,7 @@ grown_but content old new front path begins one but i live = elim (one i live) [
   | inr is ↦ inr (ap (begins_with path) is ∙ begins_itself path)
 ]
 
--- the same places
+-- the places are the same
 pub but_along : (content : Content) (path : Path) (old new : List (Option Place)) → ((i : ℕ) → place_at new i ≡ place_at old i)
     → IsTidyBut path content old → IsTidyBut path content new
 but_along content path old new same but i live =

@@ -1,4 +1,4 @@
--- One more number, that is free.
+-- Adding a free number.
 use Rattle.std.specs.List.{AllByRecursion, list_any}
 use Rattle.std.specs.Option.{is_some, option_map_or}
 use Rattle.std.proofs.Common.{refl, sym, ap, subst, ◌∙◌, inl, inr, arith, length-append, ◌≡◌, ◌<◌, ◌+◌, ◌==◌, ◌||◌, ℕ, zero, suc, true, false, List, [], ◌∷◌, ◌++◌, Option, None, length, map, slice_get, slice_index_or}
@@ -7,7 +7,7 @@ use Rattle.drf_sorter.specs.Content.{Content, Ranked, standing_in}
 use Rattle.drf_tree.proofs.shape.Node.{live_within}
 use Rattle.drf_tree.proofs.growth.Shape.{shape_from, shape_in, shape_seen}
 
--- a default that is added changes no read
+-- appending a default changes no read
 pub read_more : {X : Type 0} (xs : List X) (x : X) (i : ℕ) → slice_index_or (xs ++ x ∷ []) i x ≡ slice_index_or xs i x
 read_more [] x zero = refl
 read_more [] x (suc i) = refl
@@ -19,7 +19,7 @@ get_more [] ys i within = absurd (omega arith)
 get_more (x ∷ xs) ys zero within = refl
 get_more (x ∷ xs) ys (suc i) within = get_more xs ys i (omega arith)
 
--- lists of which the same is seen
+-- trees with the same places, children, sums and flags at each number
 module _ (old new : Tree) (at : (i : ℕ) → place_at new.places.items i ≡ place_at old.places.items i)
     (of : (i : ℕ) → children_at new.families.items i ≡ children_at old.families.items i)
     (flags : (i : ℕ) → slice_index_or new.marks.stale i false ≡ slice_index_or old.marks.stale i false)
@@ -63,7 +63,7 @@ module _ (old new : Tree) (at : (i : ℕ) → place_at new.places.items i ≡ pl
       here i c (inr key) =
           inr (subst (λ (p : Path). IsSameKey (key_by c.key) (key_of (standing_in content) p (child_name c))) (sym (path_same i)) key)
 
--- nothing that counts was changed
+-- two trees that agree in all that contracts depend on
 pub tree_same : (content : Content) (old new : Tree) → IsSameTree old new → IsTreeOf content old → IsTreeOf content new
 tree_same content old new same tree =
     let stale : new.marks.stale ≡ old.marks.stale = λ i. (same.marks i).stale in

@@ -1,4 +1,4 @@
--- What holds of a family holds of it with a child more, and with one less.
+-- What holds of a family holds with one more child, and with one fewer.
 use Rattle.std.specs.List.{AllByRecursion, IsDistinct, list_any}
 use Rattle.std.specs.List.Sorted.{IsPermutation}
 use Rattle.std.specs.Cmp.Lexicographic.{nat_list_eq_equiv}
@@ -10,7 +10,7 @@ use Rattle.std.proofs.lemmas.Map.Keys.{IsDistinct-IsPermutation}
 use Rattle.drf_tree.proofs.Names.{same_text, each_append, each_parts, Child, Family, IsWith, child_name, children_at}
 use Rattle.drf_tree.proofs.shape.Slice.{get_set_other, get_set_same}
 
--- ---- a child more
+-- ---- one more child
 
 pub names_flip : (x y : List ℕ) → same_text x y ≡ same_text y x
 names_flip = nat_list_eq_equiv.symm
@@ -40,7 +40,7 @@ module _ (child : Child) (less more : List Child) (with : IsWith child less more
       IsDistinct-IsPermutation same_text names_flip (map child_name more) (child_name child ∷ map child_name less)
       (IsPermutation-map child_name more (child ∷ less) moved_to_front) distinct
 
--- ---- one family is another
+-- ---- one family is replaced
 
 pub set_family_same : (families : List Family) (i : ℕ) (f : Family) → i < length families
     → children_at (slice_set families i f) i ≡ f.children.items
@@ -52,7 +52,7 @@ pub set_family_other : (families : List Family) (i j : ℕ) (f : Family) → j �
 set_family_other families i j f other =
     ap (λ (o : Option Family). option_map_or (λ g. g.children.items) o []) (get_set_other families i j f other)
 
--- what holds of each family, and of the new one, holds of each
+-- what holds of each family and of the new one holds of each after the replacement
 pub each_family : (P : ℕ → List Child → Type 0) (families : List Family) (i : ℕ) (f : Family) → i < length families
     → P i f.children.items → ((j : ℕ) → j ≢ i → P j (children_at families j)) → (j : ℕ) → P j (children_at (slice_set families i f) j)
 each_family P families i f below here others j = elim (cases_eq j i) [

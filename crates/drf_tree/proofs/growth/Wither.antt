@@ -1,4 +1,4 @@
--- The shape of a tree where a bare node goes.
+-- The shape of a tree when a node without clients and children is removed.
 use Rattle.std.specs.List.{AllByRecursion, IsDistinct}
 use Rattle.std.specs.Option.{is_some, option_map_or}
 use Rattle.std.proofs.Common.{sym, ap, subst, ◌∙◌, inl, inr, ◌≡◌, ◌≢◌, ◌==◌, ℕ, Bool, true, false, ◌||◌, List, [], ◌∷◌, ◌++◌, Option, None, Some, map}
@@ -20,7 +20,7 @@ module _ (at now : ℕ → Option Place) (kids new : ℕ → List Child) (flag f
   number : child.node ≡ node
   number = less.node_is
 
-  -- a node has its parent above it, which is no bare one
+  -- the node is not the parent of any node, because it has no children
   not_above : (i : ℕ) → live_in at i ≡ true → parent_in at i ≢ node
   not_above i is same =
       false≢true (ap (has_child i) (sym (ap kids same ∙ bare)) ∙ (shape.kept i is).1)
@@ -28,7 +28,7 @@ module _ (at now : ℕ → Option Place) (kids new : ℕ → List Child) (flag f
   apart : parent ≢ node
   apart same = not_above node live (parent_is ∙ same)
 
-  -- who is live now is another
+  -- a node that is live now is not the removed one
   now_other : (i : ℕ) → live_in now i ≡ true → i ≢ node
   now_other i is same = true≢false (sym is ∙ ap (live_in now) same ∙ ap (λ (o : Option Place). is_some o) gone)
 
@@ -55,7 +55,7 @@ module _ (at now : ℕ → Option Place) (kids new : ℕ → List Child) (flag f
             ∙ ap (λ (p : Path). p ++ child_name c ∷ []) (sym (old_path i other));
       }
 
-  -- the siblings that stay are other nodes, since names are distinct
+  -- the remaining siblings are other nodes, because names are distinct
   parts : IsDistinct same_text (map child_name (less.gone.before ++ less.gone.after))
       × AllByRecursion (differs (child_name child)) (less.gone.before ++ less.gone.after)
   parts =

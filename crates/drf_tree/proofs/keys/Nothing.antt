@@ -1,4 +1,4 @@
--- Who holds nothing has the same share of any total.
+-- The share of a node that holds nothing is 0 for any total.
 use Rattle.std.specs.List.{list_any}
 use Rattle.std.proofs.Common.{refl, sym, ap, ◌∙◌, arith, inl, inr, ◌≡◌, ◌<◌, ◌*◌, ◌++◌, ◌∷◌, ℕ, false, nat_lt, List, []}
 use Rattle.std.proofs.lemmas.Bool.{cases_Bool, ltb-false, or_parts}

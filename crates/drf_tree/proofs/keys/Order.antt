@@ -1,4 +1,4 @@
--- Keys that are right stand as the order of clients says.
+-- Siblings with right keys are in the order of the definition.
 use Rattle.std.specs.declared.cmp.Ordering.{Ordering}
 use Rattle.std.specs.declared.cmp.Ordering.TheVariants.{Equal}
 use Rattle.std.specs.List.{AllByRecursion, IsDistinct, list_all}
@@ -14,7 +14,7 @@ use Rattle.drf_sorter.specs.laws.FractionLaws.{fraction_cmp-antisymm, fraction_c
 use Rattle.drf_sorter.specs.laws.OrderLaws.{is_ahead-is, is_ahead-total, weighted_share-above}
 use Rattle.drf_sorter.specs.Served.{Weighs}
 
--- fractions of the same value compare in the same way
+-- equal fractions compare in the same way
 fraction_cmp-same : (a b f g : Fraction) → 0 < a.whole → 0 < b.whole → 0 < f.whole → 0 < g.whole
     → fraction_cmp a f ≡ Equal → fraction_cmp b g ≡ Equal → fraction_cmp a b ≡ fraction_cmp f g
 fraction_cmp-same a b f g p q r s first second =
@@ -23,7 +23,7 @@ fraction_cmp-same a b f g p q r s first second =
     ∙ ap ordering_reverse (fraction_cmp-congr b g f q s r second)
     ∙ sym (fraction_cmp-antisymm f g)
 
--- and so do keys
+-- equal keys compare in the same way
 key_cmp-same : (a b k l : Key) → 0 < k.share.whole → 0 < l.share.whole → IsSameKey a k → IsSameKey b l
     → key_cmp a b ≡ key_cmp k l
 key_cmp-same a b k l p q first second =
@@ -32,7 +32,7 @@ key_cmp-same a b k l p q first second =
     λ i. ordering_then (shares i)
     (ordering_then (nat_cmp (first.count i) (second.count i)) (slice_cmp nat_cmp (first.name i) (second.name i)))
 
--- a key is right at a node
+-- the key of a child is right at a node
 abbrev pub IsRightAt : Standing → Path → Child → Type 0
 IsRightAt s node c = IsSameKey (key_by c.key) (key_of s node (child_name c))
 
@@ -62,7 +62,7 @@ module _ (s : Standing) (weighs : Weighs s) (node : Path) where
       and_from (is_ahead s node (child_name a) (child_name b)) (list_all (is_ahead s node (child_name a)) (map child_name cs))
       (ahead_of a b right rights.0 others.0 parts.0) (all_ahead a cs right rights.1 others.1 parts.1)
 
-  -- a family in order, with all keys right, is in the order of clients
+  -- a family that is sorted by right keys is in the definition's order
   pub ordered_names : (cs : List Child) → are_sorted cs ≡ true → AllByRecursion (IsRightAt s node) cs
       → IsDistinct same_text (map child_name cs) → are_ahead s node (map child_name cs) ≡ true
   ordered_names [] sorted rights once = refl

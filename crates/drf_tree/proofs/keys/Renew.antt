@@ -1,4 +1,4 @@
--- A key that is computed anew is right, and nothing else is touched.
+-- A key that is computed again is right, and nothing else changes.
 use Rattle.std.specs.List.{AllByRecursion, IsDistinct}
 use Rattle.std.specs.List.Sorted.{IsPermutation}
 use Rattle.std.specs.Cmp.{nat_cmp_total}
@@ -40,7 +40,7 @@ pub ledger_weighs : (ledger : Ledger) → Weighs (standing_in (ledger_content le
 unfolding standing_in
 ledger_weighs ledger node = (weighs_within ledger node).0
 
--- ---- what a node holds is there
+-- ---- what a node holds is part of the total
 
 pub sum_within : (content : Content) (path : Path) (sum : Sum) → IsSound content → IsSumOf content path sum → (label : Text)
     → amount_of sum.held label ≤ amount_of content.total label
@@ -84,13 +84,13 @@ key_is content parent name sum of =
       name = name;
     }
 
--- what a tree is with other families and marks
+-- the tree is right with these families and dirty flags
 pub record IsRepaired (content : Content) (tree : Tree) (families : List Family) (stale : List Bool) : Type 0 where
   pub shape : IsShape tree.places.items families stale tree.sums.items
   pub complete : IsComplete content tree.places.items families
   pub right : AreRight content tree.places.items families stale
 
--- ---- one child of a family with its key computed anew
+-- ---- the key of one child is computed again
 
 module _ (content : Content) (tree : Tree) (node : ℕ) (of : IsTreeBut node content tree)
     (live : is_live tree.places.items node ≡ true) (weighs : Weighs (standing_in content)) (sum : Sum)
@@ -152,7 +152,7 @@ module _ (content : Content) (tree : Tree) (node : ℕ) (of : IsTreeBut node con
       (weighted_share-above (standing_in content) (path_at places parent ++ child_name r.now ∷ [])
       (weighs (path_at places parent ++ child_name r.now ∷ [])))
 
-  -- the other children of the family are not that node
+  -- the other children of the family are other nodes
   other_child : (c : Child) → IsChildOf places parent c → same_text (child_name r.was) (child_name c) ≡ false → c.node ≢ node
   other_child c child differ same =
       let alike : child_name r.was ≡ child_name c = same_name places parent r.was c were.0 child (r.was_is ∙ sym same) in

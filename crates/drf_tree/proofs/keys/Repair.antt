@@ -1,4 +1,4 @@
--- A family whose stale keys are computed anew is right, and nothing else is touched.
+-- A family whose stale keys are computed again is right, and nothing else changes.
 use Rattle.std.specs.List.{AllByRecursion, IsDistinct}
 use Rattle.std.specs.List.Sorted.{IsPermutation}
 use Rattle.std.proofs.Common.{◌≢◌, refl, sym, ap, subst, ◌∙◌, inl, inr, arith, get_or, ◌≡◌, ◌<◌, ℕ, Bool, true, false, List, [], ◌∷◌, ◌++◌, Option, Some, length, map, slice_get, slice_index_or, slice_set}
@@ -16,7 +16,7 @@ use Rattle.drf_tree.proofs.change.Tree.{shape_again}
 use Rattle.drf_tree.proofs.shape.Way.{child_there}
 use Rattle.drf_tree.proofs.growth.With.{each_family}
 
--- names that differ are those of numbers that do
+-- children with different names have different numbers
 pub numbers_once : (places : List (Option Place)) (parent : ℕ) (cs : List Child) → AllByRecursion (IsChildOf places parent) cs
     → IsDistinct same_text (map child_name cs) → IsDistinct is_same (numbers_of cs)
 unfolding IsDistinct

@@ -1,4 +1,4 @@
--- Siblings stay in order when one is put in, or taken out.
+-- Siblings stay in order when one is inserted or removed.
 use Rattle.std.specs.declared.cmp.Ordering.{Ordering}
 use Rattle.std.specs.declared.cmp.Ordering.TheVariants.{Equal, Greater, Less}
 use Rattle.std.specs.Cmp.{IsTotalOrder, IsStrictWeakOrder, nat_cmp_total}
@@ -35,7 +35,7 @@ key_total =
 keys_rank : IsStrictWeakOrder is_before
 keys_rank = ranks_by key_total (λ (k : made.Key). k)
 
--- ---- one element more, or less
+-- ---- one element more or fewer
 
 pub list_all-insert : {X : Type 0} (p : X → Bool) (xs ys : List X) (x : X) → p x ≡ true → list_all p (xs ++ ys) ≡ true
     → list_all p (xs ++ x ∷ ys) ≡ true
@@ -83,7 +83,7 @@ sorted_with (x ∷ before) after child sorted front back =
     (list_all-insert (is_not_behind x) before after child ahead parts.0)
     (sorted_with before after child parts.1 fronts.1 back)
 
--- what a sort leaves is in order
+-- sorting puts the children in order
 abbrev pub child_order : Child → Child → Ordering
 child_order a b = ordering_then (key_order a.key b.key) (nat_cmp a.node b.node)
 
@@ -118,13 +118,13 @@ sorted_anew cs sorted =
     (nat_cmp (slice_index_or cs j d).node (slice_index_or cs i d).node)
     (sorted_far (λ a b. is_lt (child_order a b)) (ranks_by child_total (λ (c : Child). c)) cs sorted i j d (omega (arith, order)) below))
 
--- fewer than two are
+-- fewer than two children are in order
 pub sorted_few : (cs : List Child) → length cs ≤ 1 → are_sorted cs ≡ true
 sorted_few [] few = refl
 sorted_few (c ∷ []) few = refl
 sorted_few (c ∷ d ∷ cs) few = absurd (omega (arith, few))
 
--- those that are before a key stand before all others
+-- in a sorted family, the children before a key come first
 pub parted : (children : List Child) (key : made.Key) → are_sorted children ≡ true
     → IsPartitionedBy (λ c. is_before c.key key) children
 parted [] key sorted i j d order below before = absurd (omega (arith, below))
@@ -144,7 +144,7 @@ parted (x ∷ xs) key sorted (suc i) (suc j) d order below before =
     parted xs key (and_parts (list_all (is_not_behind x) xs) (are_sorted xs) sorted).1 i j d (omega (arith, order))
     (omega (arith, below)) before
 
--- what `partition_point` says, as two lists
+-- the result of `partition_point`, as two lists
 pub front_all : {X : Type 0} (p : X → Bool) (xs : List X) (i : ℕ) → i ≤ length xs → AllWithin (λ x. p x ≡ true) xs 0 i
     → list_all p (take i xs) ≡ true
 front_all p [] zero below all = refl
@@ -168,7 +168,7 @@ back_all p [] (suc i) all = refl
 back_all p (x ∷ xs) zero all = none_at p (x ∷ xs) all
 back_all p (x ∷ xs) (suc i) all = back_all p xs i (λ k d low high. all (suc k) d (omega (arith, low)) (omega (arith, high)))
 
--- ---- one child more, or less, where it belongs
+-- ---- one child more or fewer
 
 module _ (children : List Child) (child : Child) (place : ℕ) where
   pub with_child : IsWith child children (take place children ++ child ∷ drop place children)
@@ -186,7 +186,7 @@ module _ (children : List Child) (child : Child) (place : ℕ) where
       sorted_with (take place children) (drop place children) child
       (ap are_sorted (take-append-drop place children) ∙ sorted) front back
 
-  -- whether or not there was memory for it
+  -- the children are in order, whether or not memory ran out
   pub sorted_tried : (b : Bool) → are_sorted children ≡ true
       → list_all (λ c. is_before c.key child.key) (take place children) ≡ true
       → list_all (λ c. not (is_before c.key child.key)) (drop place children) ≡ true
@@ -194,7 +194,7 @@ module _ (children : List Child) (child : Child) (place : ℕ) where
   sorted_tried true sorted front back = sorted_insert sorted front back
   sorted_tried false sorted front back = sorted
 
-  -- the child stands at that place
+  -- this child is at that position
   pub without_child : slice_get children place ≡ Some child
       → IsWith child (take place children ++ drop (suc place) children) children
   without_child at = record {
@@ -210,14 +210,14 @@ module _ (children : List Child) (child : Child) (place : ℕ) where
       sorted_without (take place children) (drop (suc place) children) child
       (ap are_sorted (sym (split_at children place child at)) ∙ sorted)
 
--- a child that is there has a place
+-- a child of the family has a position
 pub found_place : (node : ℕ) (children : List Child) → has_child node children ≡ true → (o : Option ℕ)
     → o ≡ position (λ c. c.node == node) children → is_some o ≡ true
 found_place node children some (Some i) is = refl
 found_place node children some None is =
     absurd (true≢false (sym some ∙ position-none (λ (c : Child). c.node == node) children is))
 
--- what stands at that place is the child
+-- the child at that position is the one that was looked for
 pub child_found : (node : ℕ) (children : List Child) (o : Option ℕ) (place : ℕ) (child : Child)
     → o ≡ position (λ c. c.node == node) children → o ≡ Some place → child ≡ slice_index_or children place child
     → (slice_get children place ≡ Some child) × (child.node ≡ node)
@@ -228,7 +228,7 @@ child_found node children o place child is some at =
 
 -- ---- copies
 
--- the order of a family is told by its keys
+-- the order of a family depends only on its keys
 not_behind_seen : (a b : Child) (old new : List Child) → seen a ≡ seen b → map seen old ≡ map seen new
     → list_all (is_not_behind a) old ≡ list_all (is_not_behind b) new
 not_behind_seen a b [] [] here later = refl

@@ -1,4 +1,4 @@
--- One child after the other whose key is computed anew where it is marked.
+-- A loop that computes the keys of dirty children again.
 use Rattle.std.specs.List.{AllByRecursion, IsDistinct}
 use Rattle.std.proofs.Common.{◌≢◌, sym, ap, subst, ◌∙◌, inl, inr, arith, get_or, ◌≡◌, ◌<◌, ◌+◌, ◌==◌, ℕ, Bool, true, false, List, [], ◌∷◌, Some, drop, length, map, slice_get, slice_index_or, slice_set, suc, take, zero}
 use Rattle.std.proofs.Math.Seq.{drop-cons, map-set_same, take-suc-set}
@@ -10,11 +10,11 @@ use Rattle.drf_tree.proofs.marks.Flags.{down_at}
 use Rattle.drf_tree.proofs.shape.SameFamily.{each_unmapped}
 use Rattle.drf_tree.proofs.shape.Way.{equal_self}
 
--- its mark is what it was
+-- the dirty flag is what it was
 abbrev pub IsUntouched : List Bool → List Bool → Child → Type 0
 IsUntouched stale now c = slice_index_or now c.node false ≡ slice_index_or stale c.node false
 
--- what stands once a child more is fresh
+-- the keys of the children before position `i` are fresh
 pub record AreStepped (total : List Entry) (sums : List Sum) (stale later : List Bool) (old children : List Child) (i : ℕ) : Type 0 where
   pub same : map known children ≡ map known old
   pub done : AllByRecursion (IsFresh total sums stale old) (take i children)
@@ -25,7 +25,7 @@ pub record AreStepped (total : List Entry) (sums : List Sum) (stale later : List
   pub down : (j : ℕ) → slice_index_or later j false ≡ true → slice_index_or stale j false ≡ true
   pub long : length later ≡ length stale
 
--- ---- what stands at a place
+-- ---- reading a position
 
 from_drop : {X : Type 0} (xs : List X) (i : ℕ) (x : X) (rest : List X) → drop i xs ≡ x ∷ rest → slice_get xs i ≡ Some x
 from_drop [] zero x rest is = absurd cc
@@ -47,7 +47,7 @@ module _ (total : List Entry) (sums : List Sum) (stale now : List Bool) (old chi
   first : drop i old ≡ child ∷ drop (suc i) children
   first = sym was.rest ∙ drop-cons children i d below ∙ ap (λ (c : Child). c ∷ drop (suc i) children) (sym at)
 
-  -- the child at the place is the one that was there
+  -- the child at the position is the one that was there
   was_there : slice_get old i ≡ Some child
   was_there = from_drop old i child (drop (suc i) children) first
 
@@ -67,7 +67,7 @@ module _ (total : List Entry) (sums : List Sum) (stale now : List Bool) (old chi
   listed : has_child child.node old ≡ true
   listed = list_any_at (λ (c : Child). c.node == child.node) old i child was_there (equal_self child.node)
 
-  -- its key is computed anew if it is marked, and its mark is taken away
+  -- its key is computed again if it is dirty, and its flag is cleared
   module _ (later : List Bool) (new : Child) (named : known new ≡ known child) (cleared : later ≡ slice_set now child.node false)
       (anew : slice_index_or now child.node false ≡ true → IsKeyed total sums new)
       (kept : slice_index_or now child.node false ≡ false → new ≡ child) where

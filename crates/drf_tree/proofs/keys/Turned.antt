@@ -1,4 +1,4 @@
--- A child whose key is another now, and its place among its siblings.
+-- A child whose key has changed moves to its position among its siblings.
 use Rattle.std.specs.List.{list_all}
 use Rattle.std.proofs.Common.{refl, sym, ap, ◌∙◌, inl, inr, arith, ◌≡◌, ◌≤◌, ◌<◌, ◌+◌, ◌-◌, ℕ, zero, suc, true, false, not, List, [], ◌∷◌, ◌++◌, length, take, drop, set, slice_index_or, subst, length-append}
 use Rattle.std.proofs.lemmas.Bool.{true≢false, and_from, and_parts, cases_Bool, cases_lt, not-true}
@@ -9,7 +9,7 @@ use Rattle.drf_sorter.specs.declared.key.Key as made
 use Rattle.drf_tree.proofs.Names.{Child, IsWith, are_sorted, is_before, is_not_behind, without_place}
 use Rattle.drf_tree.proofs.keys.Siblings.{back_all, list_all-at, parted, sorted_insert, with_child}
 
--- ---- one element is moved
+-- ---- moving one element
 
 module _ {X : Type 0} where
   last_of : (k : ℕ) (xs : List X) (d : X) → k < length xs → drop k (take (suc k) xs) ≡ slice_index_or xs k d ∷ []
@@ -22,7 +22,7 @@ module _ {X : Type 0} where
   all_but_last zero (x ∷ xs) below = refl
   all_but_last (suc k) (x ∷ xs) below = ap (λ (ys : List X). x ∷ ys) (all_but_last k xs (omega (arith, below)))
 
-  -- from behind others to before them
+  -- to an earlier position
   pub forward : (place k at : ℕ) (xs : List X) (d : X) → at ≡ place + k → at < length xs
       → take place xs ++ ((drop k (take (suc k) (drop place xs)) ++ take k (take (suc k) (drop place xs))) ++ drop (suc k) (drop place xs))
       ≡ take place (take at xs ++ drop (suc at) xs) ++ slice_index_or xs at d ∷ drop place (take at xs ++ drop (suc at) xs)
@@ -34,7 +34,7 @@ module _ {X : Type 0} where
   forward (suc place) k zero (x ∷ xs) d is below = absurd (omega (arith, is))
   forward (suc place) k (suc at) (x ∷ xs) d is below = ap (λ (ys : List X). x ∷ ys) (forward place k at xs d (omega (arith, is)) (omega (arith, below)))
 
-  -- and back
+  -- to a later position
   pub backward : (at k place : ℕ) (xs : List X) (d : X) → place ≡ at + k → place < length xs
       → take at xs ++ ((drop 1 (take (suc k) (drop at xs)) ++ take 1 (take (suc k) (drop at xs))) ++ drop (suc k) (drop at xs))
       ≡ take place (take at xs ++ drop (suc at) xs) ++ slice_index_or xs at d ∷ drop place (take at xs ++ drop (suc at) xs)
@@ -45,9 +45,9 @@ module _ {X : Type 0} where
   backward (suc at) k zero (x ∷ xs) d is below = absurd (omega (arith, is))
   backward (suc at) k (suc place) (x ∷ xs) d is below = ap (λ (ys : List X). x ∷ ys) (backward at k place xs d (omega (arith, is)) (omega (arith, below)))
 
--- ---- where it belongs
+-- ---- the position where it belongs
 
--- none from one on stands before a key, if that one does not
+-- if a child is not before a key, no later one is
 pub behind : (children : List Child) (key : made.Key) (place : ℕ) → are_sorted children ≡ true → place < length children
     → ((d : Child) → is_before (slice_index_or children place d).key key ≡ false)
     → list_all (λ c. not (is_before c.key key)) (drop place children) ≡ true
@@ -61,7 +61,7 @@ behind children key place sorted below first =
       | inr other ↦ other
     ])
 
--- both parts of a family are in order
+-- both parts of a sorted family are sorted
 pub sorted_front : (front back : List Child) → are_sorted (front ++ back) ≡ true → are_sorted front ≡ true
 sorted_front [] back sorted = refl
 sorted_front (c ∷ front) back sorted =
@@ -75,7 +75,7 @@ sorted_back [] back sorted = sorted
 sorted_back (c ∷ front) back sorted =
     sorted_back front back (and_parts (list_all (is_not_behind c) (front ++ back)) (are_sorted (front ++ back)) sorted).1
 
--- how many of the others stand before a key
+-- the number of other children before a key
 module _ (children : List Child) (at : ℕ) (key : made.Key) (small : at < length children) (sorted : are_sorted (without_place at children) ≡ true) where
   abbrev others : List Child
   others = without_place at children
@@ -118,7 +118,7 @@ module _ (children : List Child) (at : ℕ) (key : made.Key) (small : at < lengt
       ap (λ (n : ℕ). list_all (λ (c : Child). not (is_before c.key key)) (drop (n + place) others)) (sym long)
       ∙ ap (list_all (λ (c : Child). not (is_before c.key key))) (drop-append-add front back place) ∙ backs
 
--- ---- it is put there
+-- ---- moving it there
 
 module _ (children : List Child) (at place : ℕ) (d : Child) where
   abbrev its_place : List Child
@@ -174,7 +174,7 @@ turned-sorted [] new at place small is sorted before after = absurd (omega (arit
 turned-sorted (c ∷ children) new at place small is sorted before after =
     turned-sorted_at (c ∷ children) new at place is c sorted (before c) (after c)
 
--- what stands at the place may be another
+-- the child at the position can be another
 module _ (children : List Child) (at : ℕ) where
   pub without-set : (child : Child) → without_place at (set children at child) ≡ without_place at children
   without-set child = λ i. take-set-le at children at child (omega arith) i ++ drop-set-lt (at + 1) children at child (omega arith) i
@@ -184,7 +184,7 @@ module _ (children : List Child) (at : ℕ) where
       let next : suc at ≡ at + 1 = omega arith in
       λ i. take at children ++ drop (next i) children
 
--- as many children as there were
+-- the number of children stays the same
 pub put-long : (children new : List Child) (at : ℕ) (child : Child) → at < length children → IsWith child (without_place at children) new → length new ≡ length children
 put-long children new at child small put =
     omega (

@@ -1,4 +1,4 @@
--- Clients in slots, which are found, change, come and leave.
+-- Finding, changing, adding and removing clients in the slots of a ledger.
 use Rattle.std.specs.List.{AllByRecursion, list_any}
 use Rattle.std.proofs.Common.{◌≡◌, ◌+◌, ◌<◌, ◌≤◌, ◌++◌, ◌∷◌, [], ℕ, true, false, List, Option, None, Some, Result, Ok, Err, OnErr, OnOk, refl, map, get_or, length, set, sum_by, take, ap, ◌∙◌, sym, subst, arith, if◌then◌else◌}
 use Rattle.std.specs.Option.{option_map, IfSome}
@@ -18,7 +18,7 @@ pub slot_seen : (slots : List (Option Booked)) (i : ℕ) (x : Option Booked) →
     → seen_slot x ≡ get_or (map seen_slot slots) i None
 slot_seen slots i x below read = ap seen_slot read ∙ sym (get_or-map seen_slot slots i x None below)
 
--- the gaps are closed, if there was memory
+-- the free slots are closed, unless memory ran out
 pub closed_rows : (slots new : List (Option Booked)) → new ≡ map (λ b. Some b) (filled slots)
     → map seen_slot new ≡ map (λ r. Some r) (filled (map seen_slot slots))
 closed_rows slots new is = ap (map seen_slot) is ∙ closed-seen client_of slots
@@ -36,7 +36,7 @@ registry_closed (Err e) slots new places after live closed moved same stay known
     subst (λ (ss : List (Option Booked)). IsRegistry same_path path_of (map seen_slot ss) after live) (sym same)
     (subst (λ (es : List (Path × ℕ)). IsRegistry same_path path_of (map seen_slot slots) es live) (sym stay) known)
 
--- a client of that path stands somewhere
+-- a client with this path is in a slot
 pub row_missed : (path : Path) (ledger : Ledger) → has_client (ledger_content ledger) path ≡ true
     → slot_of same_path path_of path (rows_in ledger) ≡ None → ⊥
 row_missed path ledger = slot_missed same_path path_decides path_of path (rows_in ledger)
@@ -90,21 +90,21 @@ module _ (path : Path) (slots : List (Option Booked)) (i : ℕ) (at : slot_of sa
   pub here_below : i < length slots
   here_below = omega (arith, here.below, length-map slots seen_slot)
 
-  -- what holds of the client that stands there holds where it is read
+  -- what holds of the client that is found holds of the slot that is read
   pub if_here : (P : Ranked → Type 0) (x : Option Booked) → x ≡ get_or slots i x → P here.entry → IfSome (seen_slot x) P
   if_here P x read holds = subst (λ (o : Option Ranked). IfSome o P) (sym (slot_seen slots i x here_below read ∙ here.there)) holds
 
-  -- as what holds of each client of the path
+  -- what holds of each client with the path holds there
   pub each_here : (P : Ranked → Type 0) (x : Option Booked) → x ≡ get_or slots i x
       → AllByRecursion (λ c. same_path c.path path ≡ true → P c) (filled (map seen_slot slots)) → IfSome (seen_slot x) P
   each_here P x read all =
       if_here P x read (each_slot (λ c. same_path c.path path ≡ true → P c) (map seen_slot slots) i here.entry here.there all
       (subst (λ (p : Path). same_path p path ≡ true) (sym here.named) (same_path_itself path)))
 
-  -- ---- it changes, and keeps its path
+  -- ---- the client changes, and keeps its path
 
   module _ (places : List (Path × ℕ)) (live : ℕ) (known : IsRegistry same_path path_of (map seen_slot slots) places live) (change : Ranked → Ranked) where
-    -- what is changed is part of each sum
+    -- what is subtracted is part of each sum
     pub part_here : (f : Ranked → ℕ)
         → f (change here.entry) ≤ sum_by f (map (λ c. if same_path c.path path then change c else c) (filled (map seen_slot slots)))
     part_here f =
@@ -130,7 +130,7 @@ module _ (path : Path) (slots : List (Option Booked)) (i : ℕ) (at : slot_of sa
           ap (λ (rows : List (Option Ranked)). filled rows) written
           ∙ filled-changed same_path path_decides path_of path change (map seen_slot slots) i here.entry known.apart at here.there
 
-  -- a change may find no memory
+  -- the change can fail when out of memory
   pub registry_stays_if : {T E : Type 0} (r : Result T E) (places : List (Path × ℕ)) (live : ℕ) → IsRegistry same_path path_of (map seen_slot slots) places live
       → (change : Ranked → Ranked) → ((c : Ranked) → (change c).path ≡ c.path) → (x y : Option Booked) → x ≡ get_or slots i x
       → OnOk r (seen_slot y ≡ option_map change (seen_slot x)) → OnErr r (y ≡ x)

@@ -1,4 +1,4 @@
--- The lines of the nodes, by their sums.
+-- The lines of the nodes, from their sums.
 use Rattle.std.specs.List.{list_any, AllByRecursion}
 use Rattle.std.specs.Option.{is_some, option_map_or}
 use Rattle.std.proofs.Common.{refl, sym, ap, subst, ◌∙◌, inl, inr, arith, ◌≡◌, ◌≤◌, ◌<◌, ◌+◌, ℕ, zero, suc, true, List, [], ◌∷◌, ◌++◌, Option, Some, length, map, slice_get, take}
@@ -12,7 +12,7 @@ use Rattle.drf_tree.proofs.shape.Find.{not_below, take_one_more, take_whole}
 use Rattle.drf_tree.proofs.sums.Share.{somebody, sum_is}
 use Rattle.drf_tree.proofs.shape.Way.{live_from, top_is}
 
--- ---- what is told of a node
+-- ---- the line of a node
 
 module _ (content : Content) (tree : Tree) (of : IsTreeOf content tree) (node : ℕ) (place : Place)
     (at : place_at tree.places.items node ≡ Some place) where
@@ -45,7 +45,7 @@ named_at [] k within = absurd (omega arith)
 named_at (p ∷ ps) zero within = (p, refl)
 named_at (p ∷ ps) (suc k) within = named_at ps k (omega arith)
 
--- a node of that path, or the root
+-- a node with this path, or the root
 pub record IsPlaced (places : List (Option Place)) (path : Path) : Type 0 where
   pub node : ℕ
   pub there : is_node places node ≡ true
@@ -88,7 +88,7 @@ module _ (content : Content) (tree : Tree) (of : IsTreeOf content tree) (path : 
                 absurd (not_below tree of.shape front.node k path next.0 front.there front.at next.1 none content of has)
           ]
 
-  -- each of them stands at a number
+  -- each node with clients has a number
   pub node_of : 1 ≤ length path → (node : ℕ) × (is_live tree.places.items node ≡ true) × (path_at tree.places.items node ≡ path)
   node_of some =
       let whole = placed (length path) (omega arith) in

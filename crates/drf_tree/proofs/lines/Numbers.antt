@@ -1,4 +1,4 @@
--- Numbers that are listed, one more at a time.
+-- A list of numbers, one more at a time.
 use Rattle.std.specs.List.{list_any}
 use Rattle.std.proofs.Common.{sym, ap, ◌∙◌, inl, inr, ◌≡◌, ◌<◌, ◌+◌, ◌==◌, ◌⊎◌, ℕ, Bool, false, true, List, [], ◌∷◌, ◌++◌, get_or, length, take}
 use Rattle.std.proofs.lemmas.Bool.{eqb-true, false≢true, or_cases, or_left, or_right}
@@ -18,7 +18,7 @@ any_parts p (y ∷ xs) x some = elim (or_cases (p y) (list_any p (xs ++ x ∷ []
   ]
 ]
 
--- of the front of a list
+-- a number that is in a prefix of the list
 pub front_parts : (numbers : List ℕ) (k i : ℕ) → k < length numbers → list_any (λ n. n == i) (take (k + 1) numbers) ≡ true
     → (list_any (λ n. n == i) (take k numbers) ≡ true) ⊎ (get_or numbers k 0 ≡ i)
 front_parts numbers k i inside some =

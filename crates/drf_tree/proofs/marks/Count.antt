@@ -1,4 +1,4 @@
--- No more nodes are marked than there are.
+-- There are at most as many dirty nodes as nodes.
 use Rattle.std.specs.List.{AllByRecursion, IsDistinct, list_any}
 use Rattle.std.specs.Cmp.Lexicographic.{lists_equiv, nat_list_eq_equiv}
 use Rattle.std.proofs.Common.{refl, sym, subst, inl, inr, arith, ◌≡◌, ◌≤◌, ℕ, suc, Bool, true, false, List, [], ◌∷◌, length, slice_index_or}
@@ -6,7 +6,7 @@ use Rattle.std.proofs.lemmas.Bool.{false≢true, false_from_ne_true, or_cases}
 use Rattle.std.proofs.lemmas.Map.Made.{length-le_from_is_member}
 use Rattle.drf_tree.proofs.Names.{Path, IsNodePath, same_path, same_path-true, count_by-cons, Content, HasNodes, Tree, IsShapeOf, marked_in, path_at, IsTidy}
 
--- the paths of the numbers that are marked
+-- the paths of the dirty numbers
 abbrev marked_paths : (ℕ → Path) → List Bool → List Path
 marked_paths at [] = []
 marked_paths at (true ∷ stale) = at 0 ∷ marked_paths (λ i. at (suc i)) stale
@@ -25,7 +25,7 @@ each_marked P at [] each = tt
 each_marked P at (true ∷ stale) each = (each 0 refl, each_marked P (λ i. at (suc i)) stale (λ i. each (suc i)))
 each_marked P at (false ∷ stale) each = each_marked P (λ i. at (suc i)) stale (λ i. each (suc i))
 
--- no two marked numbers have one path
+-- two dirty numbers have different paths
 distinct_marked : (at : ℕ → Path) (stale : List Bool)
     → ((i j : ℕ) → slice_index_or stale i false ≡ true → slice_index_or stale j false ≡ true → at i ≡ at j → i ≡ j)
     → IsDistinct same_path (marked_paths at stale)

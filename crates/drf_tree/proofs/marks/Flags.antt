@@ -1,4 +1,4 @@
--- Marks that are set and taken back, one at a time.
+-- Setting and clearing dirty flags, one at a time.
 use Rattle.std.proofs.Common.{refl, ap, ◌∙◌, arith, ◌≡◌, ◌≤◌, ◌<◌, ◌+◌, ◌-◌, ◌^◌, ℕ, min, zero, suc, Bool, true, false, List, [], ◌∷◌, cond, length, slice_index_or, slice_set}
 use Rattle.std.proofs.Math.Nat.{min-le_left}
 use Rattle.std.proofs.lemmas.List.Sums.{count_by-le-length, sum_by-set}
@@ -20,7 +20,7 @@ pub marked_less : (stale : List Bool) (i : ℕ) → i < length stale → slice_i
 marked_less stale i below marked =
     omega (arith, sum_by-set one_if stale i false false below, ap one_if marked)
 
--- where none is counted, no flag is up
+-- if the count is 0, no flag is set
 pub none_marked : (stale : List Bool) → marked_in stale ≡ 0 → (i : ℕ) → slice_index_or stale i false ≡ false
 none_marked [] none zero = refl
 none_marked [] none (suc i) = refl
@@ -30,7 +30,7 @@ none_marked (flag ∷ stale) none (suc i) =
     let fewer : marked_in stale ≡ 0 = omega (arith, none, count_by-cons (λ (f : Bool). f) flag stale) in
     none_marked stale fewer i
 
--- where no flag is up, none is counted
+-- if no flag is set, the count is 0
 pub all_clear : (stale : List Bool) → ((i : ℕ) → slice_index_or stale i false ≡ false) → marked_in stale ≡ 0
 all_clear [] none = refl
 all_clear (flag ∷ stale) none =
@@ -41,7 +41,7 @@ all_clear (flag ∷ stale) none =
       all_clear stale (λ i. none (suc i)),
     )
 
--- a flag that was taken down, and the others
+-- a flag that is cleared, and the others
 pub down_at : (stale : List Bool) (node i : ℕ) → i ≡ node → slice_index_or (slice_set stale node false) i false ≡ false
 down_at [] node i same = refl
 down_at (flag ∷ stale) zero zero same = refl
@@ -49,7 +49,7 @@ down_at (flag ∷ stale) zero (suc i) same = absurd (omega (arith, same))
 down_at (flag ∷ stale) (suc node) zero same = absurd (omega (arith, same))
 down_at (flag ∷ stale) (suc node) (suc i) same = down_at stale node i (omega (arith, same))
 
--- one step after another
+-- two steps, one after the other
 module _ {old mid new : Flags} {first second : ℕ} where
   pub spends-both : Spends old mid first → Spends mid new second → Spends old new (first + second)
   spends-both a b = record { made = omega (arith, a.made, b.made); work = omega (arith, a.work, b.work) }
@@ -57,7 +57,7 @@ module _ {old mid new : Flags} {first second : ℕ} where
   pub defers-both : Defers old mid first → Defers mid new second → Defers old new (first + second)
   defers-both a b = record { made = b.made ∙ a.made; work = omega (arith, a.work, b.work) }
 
--- a key that is made for a mark spends nothing more
+-- a key that is computed for a flag that is cleared adds no work
 pub renewed_one : (old mid new : Flags) → mid.made ≡ old.made → marked_in mid.stale + 1 ≡ marked_in old.stale
     → new.made ≡ min (mid.made + 1) (2 ^ 64 - 1) → mid.made ≤ new.made → new.stale ≡ mid.stale → Spends old new 0
 renewed_one old mid new same less made no_less stale = record {

@@ -1,4 +1,4 @@
--- The numbers that wait to be looked at, and the marks of their nodes.
+-- The numbers that wait to be looked at, and their dirty flags.
 use Rattle.std.specs.List.{list_any}
 use Rattle.std.proofs.Common.{refl, sym, ap, ◌∙◌, inl, inr, arith, eq-eqb, length-append, ◌≡◌, ◌≤◌, ◌<◌, ◌+◌, ◌==◌, ℕ, zero, suc, Bool, true, false, List, [], ◌∷◌, ◌++◌, ◌||◌, length, slice_index_or, slice_set, get_or-set_other, get_or-set_same, length-set}
 use Rattle.std.proofs.lemmas.Bool.{cases_Bool, cases_eq, false≢true, ne_eqb}
@@ -7,9 +7,9 @@ use Rattle.std.proofs.lemmas.List.Sums.{sum_by-append, sum_by-set}
 use Rattle.drf_tree.proofs.Names.{each_append, each_from, each_parts, AreWaiting, marked_in}
 use Rattle.drf_tree.proofs.marks.Flags.{all_clear, down_at, few_marked, marked_once, one_if}
 
--- ---- one number more
+-- ---- one more number
 
--- a flag that is not up stands behind the others
+-- appending a flag that is not set changes no read
 padded : (flags : List Bool) (i : ℕ) → slice_index_or (flags ++ false ∷ []) i false ≡ slice_index_or flags i false
 padded [] zero = refl
 padded [] (suc i) = refl
@@ -33,9 +33,9 @@ module _ (stale listed : List Bool) (waiting : List ℕ) (room : ℕ) (are : Are
   pub few_wait : length waiting ≤ length stale
   few_wait = omega (arith, are.few, are.long, few_marked listed)
 
-  -- ---- a mark
+  -- ---- setting a flag
 
-  -- a number that is not listed has room to wait
+  -- the waiting list has room for a number that is not listed
   pub has_room : (node : ℕ) → node < length stale → slice_index_or listed node false ≡ false → length waiting < room
   has_room node below out =
       let inside : node < length listed = omega (arith, below, are.long) in
@@ -49,7 +49,7 @@ module _ (stale listed : List Bool) (waiting : List ℕ) (room : ℕ) (are : Are
         length-set listed node true,
       )
 
-  -- a number that waits from now on
+  -- a number starts to wait
   pub marked_anew : (node : ℕ) → node < length stale → slice_index_or listed node false ≡ false
       → AreWaiting (slice_set stale node true) (slice_set listed node true) (waiting ++ node ∷ []) room
   marked_anew node below out =
@@ -82,7 +82,7 @@ module _ (stale listed : List Bool) (waiting : List ℕ) (room : ℕ) (are : Are
       behind true b is = refl
       behind false b is = ap (λ c. c || false) is
 
-  -- ---- a mark is taken away
+  -- ---- clearing a flag
 
   pub forgotten : (node : ℕ) → AreWaiting (slice_set stale node false) listed waiting room
   forgotten node = record {
@@ -98,14 +98,14 @@ module _ (stale listed : List Bool) (waiting : List ℕ) (room : ℕ) (are : Are
         (λ n below. omega (arith, below, length-set stale node false)) are.within;
   }
 
-  -- where nobody waits, none is marked
+  -- if no number waits, no flag is set
   pub nobody_waits : waiting ≡ [] → marked_in stale ≡ 0
   nobody_waits none = all_clear stale (λ i. elim (cases_Bool (slice_index_or stale i false)) [
     | inl up ↦ absurd (false≢true (ap (list_any (λ n. n == i)) (sym none) ∙ are.waits i (are.marked i up)))
     | inr down ↦ down
   ])
 
--- one flag fewer at most
+-- at most one flag fewer is set
 fewer_at_most : (listed : List Bool) (node : ℕ) → node < length listed
     → marked_in listed ≤ marked_in (slice_set listed node false) + 1
 fewer_at_most listed node below =
@@ -115,7 +115,7 @@ fewer_at_most listed node below =
     at_most_one true = omega arith
     at_most_one false = omega arith
 
--- the last that waits, without a mark, waits no more
+-- the last number that waits is removed, if its flag is not set
 module _ (stale listed : List Bool) (front : List ℕ) (node room : ℕ) (are : AreWaiting stale listed (front ++ node ∷ []) room) where
   pub last_within : node < length stale
   last_within = (each_parts (λ n. n < length stale) front (node ∷ []) are.within).1.0

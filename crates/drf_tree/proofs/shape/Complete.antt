@@ -1,4 +1,4 @@
--- Each part of a path on the way to a node is a child's name, so a new client at a leaf leaves the ways complete.
+-- Each part of a path to a node is the name of a child, so the children are still complete when a client is added at a leaf.
 use Rattle.std.specs.Cmp.{IsEquivalence}
 use Rattle.std.specs.Cmp.Lexicographic.{lists_equiv, nat_list_eq_equiv}
 use Rattle.std.specs.List.{AllByRecursion, IsDistinct, list_any}
@@ -11,7 +11,7 @@ use Rattle.drf_tree.proofs.Names.{Text, same_text, same_itself, Path, IsClientPa
 use Rattle.drf_tree.proofs.shape.Path.{begins_by, begins_front, begins_long, begins_to}
 use Rattle.drf_tree.proofs.shape.Way.{above_of, equal, live_from, shorter_above, top_is}
 
--- the child of that number has the last part of the path as its name
+-- the child with this number has the last part of the path as its name
 named_there : (places : List (Option Place)) (node leaf : ℕ) (part : Text) (cs : List Child)
     → AllByRecursion (IsChildOf places node) cs → has_child leaf cs ≡ true
     → path_at places leaf ≡ path_at places node ++ part ∷ [] → list_any (same_text part) (map child_name cs) ≡ true
@@ -46,7 +46,7 @@ module _ (places : List (Option Place)) (families : List Family) (stale : List B
     | inr live ↦ absurd (omega (arith, ap length none, shorter_above places families stale sums shape i live))
   ]
 
-  -- nodes are known by their paths, the root too
+  -- no two nodes have the same path, the root included
   pub one_node : (i j : ℕ) → is_node places i ≡ true → is_node places j ≡ true → path_at places i ≡ path_at places j → i ≡ j
   one_node i j node_i node_j same = elim (or_cases (i == 0) (is_live places i) node_i) [
     | inl root ↦
@@ -59,7 +59,7 @@ module _ (places : List (Option Place)) (families : List Family) (stale : List B
         same
   ]
 
-  -- the part that follows a node on the way to another is that of a child
+  -- the next part of a path below a node is the name of a child
   pub way_named : (most : ℕ) (leaf i : ℕ) (part : Text) → length (path_at places leaf) ≤ most → is_live places leaf ≡ true
       → is_node places i ≡ true → begins_with (path_at places leaf) (path_at places i ++ part ∷ []) ≡ true
       → list_any (same_text part) (map child_name (children_at families i)) ≡ true
@@ -102,7 +102,7 @@ module _ (places : List (Option Place)) (families : List Family) (stale : List B
           again (begins_front (path_at places i ++ part ∷ []) rest (path_at places above) next longer.part
           (sym whole ∙ longer.joined))
 
-  -- a client at a leaf
+  -- a client is added at a leaf
   pub complete_with : (content : Content) (path : Path) (leaf : ℕ) → is_live places leaf ≡ true → path_at places leaf ≡ path
       → IsComplete content places families → IsComplete (with_client content path) places families
   complete_with content path leaf live at complete i node part below some =
@@ -125,7 +125,7 @@ module _ (places : List (Option Place)) (families : List Family) (stale : List B
       only true is = refl
       only false is = is
 
--- the paths with one more
+-- paths with one more
 paths_equiv : IsEquivalence same_path
 paths_equiv = lists_equiv nat_list_eq_equiv
 
@@ -136,7 +136,7 @@ paths_with content path right all =
     subst (AllByRecursion IsClientPath) (sym (map-append (λ (c : Ranked). c.path) content.clients _))
     (each_append IsClientPath (map (λ (c : Ranked). c.path) content.clients) (path ∷ []) all (right, tt))
 
--- a client that is not there has a path of its own
+-- a client that is not there has a different path
 past_or : (b : Bool) (p q : Bool) → (p ≡ false → q ≡ false) → (b || p) ≡ false → (b || q) ≡ false
 past_or true p q later bad = absurd (true≢false bad)
 past_or false p q later past = later past

@@ -1,4 +1,4 @@
--- A tree of which the families have the same keys and numbers is one of the same clients.
+-- A tree whose families have the same keys and numbers is a tree of the same clients.
 use Rattle.std.specs.List.{AllByRecursion, IsDistinct, list_any}
 use Rattle.std.specs.Option.{option_map, option_map_or}
 use Rattle.std.proofs.Common.{refl, sym, ap, subst, ◌∙◌, arith, ◌≡◌, ◌==◌, ℕ, Bool, true, false, List, [], ◌∷◌, ◌++◌, Option, None, Some, ◌⊎◌, length, map, slice_get, slice_index_or}
@@ -9,7 +9,7 @@ use Rattle.drf_tree.proofs.Names.{Text, same_text, list_any-map, Key, key_of, Ch
 use Rattle.drf_sorter.specs.Content.{Content, standing_in}
 use Rattle.drf_tree.proofs.keys.Renew.{IsRepaired}
 
--- ---- children that are seen alike
+-- ---- children that contracts see as the same
 
 children_seen : (families : List Family) (i : ℕ) → map seen (children_at families i) ≡ option_map_or (λ s. s) (slice_get (map seen_in families) i) []
 children_seen families i =
@@ -111,7 +111,7 @@ copied content tree families same of =
           (children_at old i) (children_at families i) (alike i) (of.right i);
     }
 
--- the lists that are not families, as one
+-- the lists other than the families
 abbrev Lists : Type 0
 Lists = List (Option Place) × List Sum × Flags
 

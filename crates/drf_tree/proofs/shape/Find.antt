@@ -1,4 +1,4 @@
--- Going down along the parts of a path.
+-- Going down the tree along the parts of a path.
 use Rattle.std.specs.List.{list_any}
 use Rattle.std.proofs.Common.{refl, sym, ap, subst, ◌∙◌, inl, inr, arith, append_assoc, ◌≡◌, ◌≢◌, ◌≤◌, ◌+◌, ℕ, zero, suc, Bool, true, false, ◌||◌, List, [], ◌∷◌, ◌++◌, Some, drop, length, map, slice_get, take}
 use Rattle.std.proofs.lemmas.Bool.{false≢true, or_cases, or_left, or_right}
@@ -6,7 +6,7 @@ use Rattle.drf_tree.proofs.Names.{Text, same_text, Path, begins_with, same_path,
 use Rattle.drf_tree.proofs.shape.Complete.{way_named}
 use Rattle.drf_tree.proofs.shape.Path.{begins_by, begins_itself, begins_to}
 
--- a list around one of its elements
+-- a list as the parts before and after one of its elements
 pub around : {X : Type 0} (xs : List X) (i : ℕ) (x : X) → slice_get xs i ≡ Some x → xs ≡ take i xs ++ x ∷ drop (i + 1) xs
 around [] i x at = absurd cc
 around {X} (y ∷ xs) zero x at =
@@ -25,7 +25,7 @@ take_one_more {X} (y ∷ xs) (suc i) x at =
     let e : suc i + 1 ≡ suc (i + 1) = omega arith in
     ap (λ (n : ℕ). take n (y ∷ xs)) e ∙ ap (λ (zs : List X). y ∷ zs) (take_one_more xs i x at)
 
--- a client below a node goes on in some way
+-- a client below a node has a path that continues the node's
 any_below : (node : Path) (cs : List Ranked) → list_any (λ c. begins_with c.path node) cs ≡ true
     → (rest : Path) × (list_any (same_path (node ++ rest)) (map (λ (c : Ranked). c.path) cs) ≡ true)
 any_below node [] some = absurd (false≢true some)
@@ -71,7 +71,7 @@ module _ (tree : Tree) (shape : IsShapeOf tree) (node i : ℕ) (parts : Path) (n
       false≢true (sym none ∙ of.complete node there name (drop (i + 1) parts ++ client.0)
       (subst (λ (p : Path). list_any (same_path p) (map (λ (c : Ranked). c.path) content.clients) ≡ true) whole client.1))
 
-  -- no node has that path
+  -- no node has this path
   pub no_such : (j : ℕ) → is_live tree.places.items j ≡ true → path_at tree.places.items j ≢ parts
   no_such j live same =
       false≢true (sym none ∙ way_named tree.places.items tree.families.items tree.marks.stale tree.sums.items shape

@@ -1,4 +1,4 @@
--- A child by its name.
+-- Finding a child by its name.
 use Rattle.std.specs.List.{AllByRecursion, list_any, position}
 use Rattle.std.specs.Option.{option_map_or}
 use Rattle.std.specs.Cmp.Lexicographic.{bytes_decides}
@@ -32,7 +32,7 @@ module _ (name : Text) where
       let same : name ≡ child_name c = (bytes_decides name (child_name c)).0 named in
       (child.live, child.path ∙ ap (λ (t : Text). path_at places node ++ t ∷ []) (sym same))
 
--- ---- whether a node is bare
+-- ---- whether a node has neither clients nor children
 
 pub bare_is : (tree : Tree) (node : ℕ) (s : Sum) (f : Family) → slice_get tree.sums.items node ≡ Some s
     → slice_get tree.families.items node ≡ Some f

@@ -1,4 +1,4 @@
--- What stands at the number of a node.
+-- What is stored at the number of a node.
 use Rattle.std.specs.List.{AllByRecursion}
 use Rattle.std.specs.Option.{is_some, option_map_or}
 use Rattle.std.proofs.Common.{refl, sym, ap, subst, ◌∙◌, inl, inr, arith, length-append, ◌≡◌, ◌<◌, ◌+◌, ◌==◌, ◌-◌, ◌^◌, ℕ, zero, suc, Bool, true, List, [], ◌∷◌, ◌++◌, Option, None, Some, length, map, slice_get, slice_index_or}
@@ -26,7 +26,7 @@ pub active_read : (sums : List Sum) (i : ℕ) (s : Sum) → i < length sums → 
 active_read sums i s below at =
     ap (λ (o : Option Sum). option_map_or (λ g. g.active) o 0) (slice_get_read sums (length sums) i s refl below at)
 
--- a family is a list in memory
+-- a family is shorter than 2^63, because it is in memory
 pub family_short : (families : List Family) (i : ℕ) → length (children_at families i) < 2 ^ 63
 family_short families i = by (slice_get families i)
   where
@@ -43,7 +43,7 @@ place_short families i k n some = elim (cases_lt k (length (children_at families
 
 -- ---- members of a family
 
--- a number in the family of a node
+-- the number is in the family of a node
 pub record IsMember (places : List (Option Place)) (node i : ℕ) : Type 0 where
   pub live : is_live places i ≡ true
   pub above : parent_at places i ≡ node
@@ -101,14 +101,14 @@ module _ (places : List (Option Place)) (families : List Family) (stale : List B
   pub leaf : (i : ℕ) → IsClientPath (path_at places i) → family_at families i ≡ []
   leaf i client = leaf_at i (children_at families i) (shape.children i) client
 
--- a node has a number of its own
+-- a node's number is within the lists
 pub node_within : (tree : Tree) → IsShapeOf tree → (i : ℕ) → is_node tree.places.items i ≡ true → i < length tree.places.items
 node_within tree shape i node = elim (or_cases (i == 0) (is_live tree.places.items i) node) [
   | inl root ↦ omega (arith, eqb-true i 0 root, shape.some)
   | inr live ↦ live_within tree.places.items i live
 ]
 
--- what a family that was read has at a place
+-- the child at a position of a family that was read
 pub read_at : (tree : Tree) → IsShapeOf tree → (node place : ℕ) (family : Family) → is_node tree.places.items node ≡ true
     → family ≡ slice_index_or tree.families.items node family → (o : Option ℕ)
     → o ≡ slice_get (numbers_of family.children.items) place → slice_get (family_at tree.families.items node) place ≡ o
@@ -117,7 +117,7 @@ read_at tree shape node place family live at o is =
     ap (λ cs. slice_get (numbers_of cs) place) (family_read tree.families.items node family (omega (arith, shape.families_long)) at)
     ∙ sym is
 
--- and its number has a sum
+-- a child's number has a sum
 pub sum_within : (tree : Tree) → IsShapeOf tree → (node place i : ℕ) → slice_get (family_at tree.families.items node) place ≡ Some i
     → i < length tree.sums.items
 sum_within tree shape node place i some =

@@ -1,4 +1,4 @@
--- Paths that begin with others.
+-- Prefixes of paths.
 use Rattle.std.specs.Cmp.Lexicographic.{bytes_decides}
 use Rattle.std.proofs.Common.{refl, sym, ap, ◌∙◌, append_assoc, arith, length-append, ◌≡◌, ◌≤◌, true, [], ◌∷◌, ◌++◌, drop, length, append-nil}
 use Rattle.std.proofs.lemmas.Slice.Eq.{starts_is}
@@ -30,7 +30,7 @@ pub begins_long : (path node : Path) → begins_with path node ≡ true → leng
 begins_long path node begins =
     omega (arith, ap length (begins_to path node begins), length-append node (drop (length node) path))
 
--- what is longer by some parts begins with all but the last
+-- a longer path begins with all parts of the other except the last
 front_of : (node rest front : Path) (part name : Text) → node ++ part ∷ rest ≡ front ++ name ∷ []
     → (more : Path) × (front ≡ node ++ more)
 front_of [] rest front part name same = (front, refl)

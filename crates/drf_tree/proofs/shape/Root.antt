@@ -1,4 +1,4 @@
--- The root alone.
+-- A tree with only the root.
 use Rattle.std.specs.Option.{is_some, option_map_or}
 use Rattle.std.specs.List.{AllByRecursion, IsDistinct}
 use Rattle.std.proofs.Common.{refl, sym, ap, subst, ◌∙◌, arith, ◌≡◌, ℕ, zero, suc, true, false, List, [], ◌∷◌, Option, None, Some, length, map, slice_index_or}

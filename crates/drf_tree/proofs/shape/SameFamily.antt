@@ -1,4 +1,4 @@
--- A family in the place of one with children of the same numbers and names.
+-- Replacing a family by one whose children have the same numbers and names.
 use Rattle.std.specs.List.{AllByRecursion, IsDistinct, list_any}
 use Rattle.std.specs.List.Sorted.{IsPermutation}
 use Rattle.std.proofs.Common.{refl, sym, ap, subst, ◌∙◌, ◌≡◌, ◌<◌, ◌==◌, ℕ, Bool, true, false, List, [], ◌∷◌, ◌++◌, Option, length, map, slice_set, true≢false}
@@ -15,13 +15,13 @@ use Rattle.drf_tree.proofs.growth.With.{each_family, moved_to_front, names_flip}
 pub each_moved : {X : Type 0} (P : X → Type 0) (xs ys : List X) → IsPermutation xs ys → AllByRecursion P xs → AllByRecursion P ys
 each_moved P xs ys moved all = recursion_from_All P ys (All-permutation P xs ys moved (All-from_recursion P xs all))
 
--- what holds of all that a function makes of them holds of them by it
+-- what holds of the images of a function holds of its arguments
 pub each_unmapped : {X Y : Type 0} (P : Y → Type 0) (g : X → Y) (xs : List X) → AllByRecursion P (map g xs)
     → AllByRecursion (λ x. P (g x)) xs
 each_unmapped P g [] all = tt
 each_unmapped P g (x ∷ xs) all = (all.0, each_unmapped P g xs all.1)
 
--- two of the same number have the same name
+-- two children with the same number have the same name
 pub same_name : (places : List (Option Place)) (parent : ℕ) (c d : Child) → IsChildOf places parent c → IsChildOf places parent d
     → c.node ≡ d.node → child_name c ≡ child_name d
 same_name places parent c d first second same =
@@ -32,7 +32,7 @@ names_known : (cs : List Child) → map (λ (k : ℕ × Text). k.1) (map known c
 names_known [] = refl
 names_known (c ∷ cs) = λ i. child_name c ∷ names_known cs i
 
--- a child that is another of the same number and name
+-- a child is replaced by another with the same number and name
 pub renewed_known : (was now : Child) (rest old new : List Child) → IsWith was rest old → IsWith now rest new
     → known now ≡ known was → IsPermutation (map known old) (map known new)
 renewed_known was now rest old new gone put same =
@@ -85,7 +85,7 @@ module _ (tree : Tree) (shape : IsShapeOf tree) (parent : ℕ) (f : Family) (bel
   same_once =
       IsDistinct-IsPermutation same_text names_flip (map child_name old) (map child_name new) names_moved (shape.once parent)
 
-  -- a child by its number and its name
+  -- a child, by its number and its name
   record IsKnown (k : ℕ × Text) : Type 0 where
     pub live : is_live places k.0 ≡ true
     pub above : parent_at places k.0 ≡ parent
@@ -101,7 +101,7 @@ module _ (tree : Tree) (shape : IsShapeOf tree) (parent : ℕ) (f : Family) (bel
       (each_from (IsChildOf places parent) (λ c. IsKnown (known c)) old
       (λ c child. record { live = child.live; above = child.above; path = child.path }) (shape.children parent)))))
 
-  -- where there is no node there is no child
+  -- a number without a node has no children
   none_now : is_node places parent ≡ false → new ≡ []
   none_now none = by new (λ i. same_children i ∙ ap (has_child i) (shape.free parent none))
     where

@@ -1,4 +1,4 @@
--- One element of a list is written.
+-- Writing one element of a list.
 use Rattle.std.proofs.Common.{refl, ap, ◌∙◌, arith, ◌≡◌, ◌≢◌, ◌<◌, ℕ, zero, suc, List, [], ◌∷◌, Some, length, slice_get, slice_index_or, slice_set}
 use Rattle.std.proofs.lemmas.Option.{get_or_from_slice_get}
 
@@ -14,6 +14,6 @@ get_set_other (y ∷ xs) zero (suc j) x other = refl
 get_set_other (y ∷ xs) (suc i) zero x other = refl
 get_set_other (y ∷ xs) (suc i) (suc j) x other = get_set_other xs i j x (λ same. other (ap suc same))
 
--- what stands at a place is what is read there
+-- the element that is read at a position
 pub same_read : {X : Type 0} (xs : List X) (i : ℕ) (x y : X) → slice_get xs i ≡ Some x → y ≡ slice_index_or xs i y → y ≡ x
 same_read xs i x y at is = is ∙ get_or_from_slice_get xs i x y at

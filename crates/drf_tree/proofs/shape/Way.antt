@@ -1,4 +1,4 @@
--- A node and the one above it.
+-- A node and its parent.
 use Rattle.std.specs.List.{AllByRecursion}
 use Rattle.std.specs.Option.{option_map_or}
 use Rattle.std.proofs.Common.{sym, ap, ◌∙◌, inl, inr, arith, length-append, ◌≡◌, ◌≢◌, ◌<◌, ◌+◌, ◌==◌, ℕ, Bool, true, false, List, [], ◌∷◌, Option, length}
@@ -9,7 +9,7 @@ use Rattle.drf_tree.proofs.Names.{Child, Family, Place, Sum, IsOneLonger, child_
 pub equal : (m i : ℕ) → (m == i) ≡ true → m ≡ i
 equal m i same = grind (arith, nat_tests)
 
--- a child of that number, with what holds of all children
+-- a child with this number, for which P holds
 pub record IsThere (P : Child → Type 0) (node : ℕ) : Type 0 where
   pub child : Child
   pub number : child.node ≡ node
@@ -36,7 +36,7 @@ module _ (places : List (Option Place)) (families : List Family) (stale : List B
         joined = ap (path_at places) (sym there.number) ∙ there.holds.path;
       }
 
-  -- a node stands below its parent
+  -- a node has more parts than its parent
   pub shorter_above : (i : ℕ) → is_live places i ≡ true
       → length (path_at places i) ≡ length (path_at places (parent_at places i)) + 1
   shorter_above i live =
@@ -46,7 +46,7 @@ module _ (places : List (Option Place)) (families : List Family) (stale : List B
   pub top_is : path_at places 0 ≡ []
   top_is = ap (λ (o : Option Place). option_map_or (λ p. p.path) o []) shape.root
 
-  -- a number that is a node but not the root is live
+  -- a number that is a node and not the root is live
   pub live_from : (i : ℕ) → is_node places i ≡ true → 0 < length (path_at places i) → is_live places i ≡ true
   live_from i node some = elim (or_cases (i == 0) (is_live places i) node) [
     | inl root ↦

@@ -1,4 +1,4 @@
--- What a change of one client does to the sums below a node.
+-- How a change of one client changes the sums over the clients below a node.
 use Rattle.std.specs.List.{AllByRecursion, IsDistinct, list_any}
 use Rattle.std.proofs.Common.{refl, sym, ap, subst, ◌∙◌, inl, inr, arith, ◌≡◌, ◌+◌, ℕ, Bool, true, false, ◌||◌, cond, if◌then◌else◌, List, [], ◌∷◌, filter, map, sum_by}
 use Rattle.std.proofs.lemmas.Bool.{false≢true, cases_Bool}
@@ -6,7 +6,7 @@ use Rattle.std.proofs.lemmas.List.Sums.{sum_by-cons}
 use Rattle.std.proofs.lemmas.Map.Keys.{IsDistinct-head, IsDistinct-tail}
 use Rattle.drf_tree.proofs.Names.{Path, begins_with, same_path, same_path-swap, same_path-true, sum_by-filter, Ranked}
 
--- a value of each client below a node, and 0 of the others
+-- the value of a client below a node, and 0 for the others
 abbrev pub below : Path → (Ranked → ℕ) → Ranked → ℕ
 below node f c = cond (begins_with c.path node) (f c) 0
 
@@ -15,7 +15,7 @@ pub sum_below : (node : Path) (f : Ranked → ℕ) (cs : List Ranked)
 sum_below node f cs = sum_by-filter f (λ (c : Ranked). begins_with c.path node) cs
 
 module _ (path : Path) (change : Ranked → Ranked) where
-  -- the client of that path is changed
+  -- the client with this path is changed
   abbrev pub step : Ranked → Ranked
   step c = if same_path c.path path then change c else c
 
@@ -24,7 +24,7 @@ module _ (path : Path) (change : Ranked → Ranked) where
   others_stay [] all = refl
   others_stay (c ∷ cs) all = rw (same_path-swap c.path path ∙ all.0) (ap (λ (ds : List Ranked). c ∷ ds) (others_stay cs all.1))
 
-  -- where a value changes by one step at the client of that path, so does its sum
+  -- if the value of the client changes, the sum changes by the same amount
   module _ (g : Ranked → ℕ) (less more : ℕ) where
     pub sum_moved : (cs : List Ranked) → IsDistinct same_path (map (λ (c : Ranked). c.path) cs)
         → list_any (λ c. same_path c.path path) cs ≡ true
@@ -54,7 +54,7 @@ module _ (path : Path) (change : Ranked → Ranked) where
           omega (arith, new, old, rest)
     ]
 
-  -- a value that the change leaves alone has the same sum
+  -- if the change does not affect the value, the sum stays the same
   pub sum_stays : (g : Ranked → ℕ) → ((c : Ranked) → same_path c.path path ≡ true → g (change c) ≡ g c)
       → (cs : List Ranked) → sum_by g (map step cs) ≡ sum_by g cs
   sum_stays g at [] = refl

@@ -1,4 +1,4 @@
--- What a node has is within what the nodes above it have, and within the cluster.
+-- What a node holds is part of what the nodes above it hold, and of the cluster's total.
 use Rattle.std.proofs.Common.{refl, ap, arith, ◌≡◌, ◌≤◌, ℕ, Bool, true, false, cond, List, filter, sum_by}
 use Rattle.std.proofs.lemmas.List.Sums.{sum_by-le-sum_by}
 use Rattle.drf_tree.proofs.Names.{Path, begins_with, cond_le, sum_by-filter, Content, Ranked, clients_under}
@@ -8,7 +8,7 @@ narrower_at : (n : ℕ) (a b : Bool) → (a ≡ true → b ≡ true) → cond a 
 narrower_at n true b so = omega (arith, ap (λ (t : Bool). cond t n 0) (so refl))
 narrower_at n false b so = omega arith
 
--- those that pass the narrower test have no more
+-- a narrower test has a smaller sum
 pub narrower_less : {X : Type 0} (f : X → ℕ) (p q : X → Bool) → ((x : X) → p x ≡ true → q x ≡ true) → (xs : List X)
     → sum_by f (filter p xs) ≤ sum_by f (filter q xs)
 narrower_less {X} f p q so xs =
@@ -23,7 +23,7 @@ pub part_less : {X : Type 0} (f : X → ℕ) (p : X → Bool) (xs : List X) → 
 part_less {X} f p xs =
     omega (arith, sum_by-filter f p xs, sum_by-le-sum_by (λ (x : X). cond (p x) (f x) 0) f xs (λ x. cond_le (p x) (f x)))
 
--- a sum below a node is within that below a node above
+-- the sum over the clients below a node is at most that of a node above it
 pub below_less : (f : Ranked → ℕ) (content : Content) (path node : Path) → begins_with path node ≡ true
     → sum_by f (clients_under content path) ≤ sum_by f (clients_under content node)
 below_less f content path node begins =

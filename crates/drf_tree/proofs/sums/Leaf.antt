@@ -1,4 +1,4 @@
--- What the nodes on the way to a client have room for, and what they have at least.
+-- Additions to the nodes above a client do not overflow, and these nodes hold at least what the client holds.
 use Rattle.std.specs.List.{AllByRecursion, list_any}
 use Rattle.std.proofs.Common.{refl, sym, ap, subst, ◌∙◌, inl, inr, arith, get_or, ◌≡◌, ◌≤◌, ◌<◌, ◌+◌, ◌-◌, ◌^◌, ℕ, Bool, true, cond, ◌||◌, List, [], ◌∷◌, Some, filter, length, map, slice_get, sum_by}
 use Rattle.std.proofs.lemmas.Bool.{false≢true, cases_Bool, or_cases}
@@ -20,7 +20,7 @@ use Rattle.drf_tree.proofs.sums.Move.{AreMoved, IsChange, active_is, changed_bel
 
 -- ---- clients
 
--- a client's path is one
+-- a client's path is a client path
 pub right_path : (path : Path) (cs : List Ranked) → AllByRecursion IsClientPath (map (λ (c : Ranked). c.path) cs)
     → list_any (λ c. same_path c.path path) cs ≡ true → IsClientPath path
 right_path path [] all some = absurd (false≢true some)
@@ -29,7 +29,7 @@ right_path path (c ∷ cs) all some = elim (or_cases (same_path c.path path) (li
   | inr past ↦ right_path path cs all.1 past
 ]
 
--- the node of a client's path is that client
+-- the node with a client's path is that client
 pub leaf_of : (content : Content) (tree : Tree) (leaf : ℕ) (path : Path) → IsTreeOf content tree
     → has_client content path ≡ true → is_live tree.places.items leaf ≡ true → path_at tree.places.items leaf ≡ path
     → client_at tree.places.items leaf ≡ Some path
@@ -37,12 +37,12 @@ leaf_of content tree leaf path of has live at =
     of.shape.clients leaf live (subst IsClientPath (sym at) (right_path path content.clients of.paths has))
     ∙ ap (λ (p : Path). Some p) at
 
--- a client of a ledger is one of what contracts see
+-- a client of a ledger is one of those that contracts see
 pub known_in : (inside seen : Ledger) (path : Path) → inside ≡ seen → has_client (ledger_content seen) path ≡ true
     → has_client (ledger_content inside) path ≡ true
 known_in inside seen path is known = ap (λ (l : Ledger). has_client (ledger_content l) path) is ∙ known
 
--- what the client of that path has, the clients of a node above it have together
+-- the clients of a node hold at least what one of them holds
 client_within : (f : Ranked → ℕ) (n : ℕ) (path node : Path) → begins_with path node ≡ true → (cs : List Ranked)
     → list_any (λ c. same_path c.path path) cs ≡ true
     → AllByRecursion (λ (c : Ranked). same_path c.path path ≡ true → n ≤ f c) cs
@@ -66,7 +66,7 @@ each_all : (P : Ranked → Type 0) → ((c : Ranked) → P c) → (cs : List Ran
 each_all P so [] = tt
 each_all P so (c ∷ cs) = (so c, each_all P so cs)
 
--- what is held of a charge can be lowered by it, and so can what is held
+-- if a client has a charge, the charge can be subtracted; so can what it holds
 pub can_discharge : (content : Content) (path : Path) (quantities : List Entry) → HasChargeAt content path quantities
     → CanLowerAt content path quantities 1
 can_discharge content path quantities has =
@@ -81,7 +81,7 @@ can_refund content path quantities has =
     (λ (c : Ranked). same_path c.path path ≡ true → CanLower quantities 0 c) content.clients
     (λ c so same. record { held = so same; count = omega arith }) has
 
--- where no offer is taken back, what is given back is all that changes
+-- if the number of offers is 0, lowering is a refund
 pub lowered_refunded : (quantities : List Entry) → lowered quantities 0 ≡ refunded quantities
 lowered_refunded quantities = λ i c. record {
   path = c.path;
@@ -93,7 +93,7 @@ lowered_refunded quantities = λ i c. record {
     none_less : (n : ℕ) → n - 0 ≡ n
     none_less n = omega arith
 
--- clients are a list in memory
+-- there are fewer than 2^63 clients, because they are in memory
 pub few_clients : (ledger : Ledger) → length (ledger_content ledger).clients < 2 ^ 63
 few_clients ledger =
     omega (arith, filled-short (rows_in ledger), length-map ledger.slots.items seen_slot, ledger.slots.ok.0, ledger.slots.ok.1, ledger.slots.small)
@@ -102,7 +102,7 @@ few_clients ledger =
 
 module _ (content : Content) (tree : Tree) (leaf : ℕ) (of : IsTreeOf content tree)
     (live : is_live tree.places.items leaf ≡ true) where
-  -- who is below a node are some of the clients
+  -- the active clients below a node are some of all clients
   few_active : (i : ℕ) (sum : Sum) → IsSumOf content (path_at tree.places.items i) sum → length content.clients < 2 ^ 63
       → (sum.clients < 2 ^ 63) × (sum.active < 2 ^ 63)
   few_active i sum is few =

@@ -1,4 +1,4 @@
--- What the clients below a node come to, before and after a change of one client.
+-- The sums over the clients below a node, before and after a change of one client.
 use Rattle.std.specs.List.{AllByRecursion, IsDistinct}
 use Rattle.std.proofs.Common.{refl, sym, ap, ◌∙◌, arith, ◌≡◌, ◌+◌, ◌*◌, ℕ, Bool, true, false, cond, List, [], ◌∷◌, ◌++◌, filter, length, map, sum_by, nat_lt}
 use Rattle.std.proofs.lemmas.List.Sums.{sum_by-append, sum_by-cons}
@@ -7,7 +7,7 @@ use Rattle.drf_rows.specs.Held.{weight_of}
 use Rattle.drf_sorter.specs.Content.{Content, Ranked, clients_under, has_client, standing_in, with_change, with_client}
 use Rattle.drf_tree.proofs.sums.Content.{below, step, sum_below, sum_moved, sum_stays}
 
--- what some clients have
+-- what some clients hold and count
 pub record Amounts : Type 0 where
   pub held : Text → ℕ
   pub count : ℕ
@@ -20,7 +20,7 @@ none = record { held = λ label. 0; count = 0; clients = 0; active = 0 }
 abbrev pub amounts_in : Sum → Amounts
 amounts_in s = record { held = amount_of s.held; count = s.count; clients = s.clients; active = s.active }
 
--- a sum that has so much less, and so much more
+-- the second sum is the first, less `less`, plus `more`
 pub record IsMoved (less more : Amounts) (s t : Sum) : Type 0 where
   pub held : (label : Text) → amount_of t.held label + less.held label ≡ amount_of s.held label + more.held label
   pub count : t.count + less.count ≡ s.count + more.count
@@ -31,7 +31,7 @@ pub record IsMoved (less more : Amounts) (s t : Sum) : Type 0 where
 pub not_moved : (s : Sum) → IsMoved none none s s
 not_moved s = record { held = λ label. refl; count = refl; clients = refl; active = refl; weight = refl }
 
--- a value of the clients below a node
+-- the sum of a value over the clients below a node
 abbrev pub total_under : (Ranked → ℕ) → Content → Path → ℕ
 total_under f content node = sum_by f (clients_under content node)
 
@@ -49,7 +49,7 @@ pub active_is : (cs : List Ranked) → length (filter (λ c. c.active) cs) ≡ s
 active_is cs =
     length_is (filter (λ (c : Ranked). c.active) cs) ∙ sum_by-filter one (λ (c : Ranked). c.active) cs
 
--- the same of the clients below a node
+-- the same for the clients below a node
 pub record AreMoved (less more : Amounts) (old new : Content) (node : Path) : Type 0 where
   pub held : (label : Text) → total_under (λ c. c.held label) new node + less.held label
       ≡ total_under (λ c. c.held label) old node + more.held label
@@ -85,7 +85,7 @@ sum_after less more old new node s t of moved is = record {
   weight = is.weight ∙ of.weight ∙ sym moved.weight;
 }
 
--- ---- keys follow from what the clients below hold
+-- ---- keys depend only on what the clients below hold
 
 abbrev key_with : (Text → ℕ) → ℕ → List Entry → ℕ → Text → Key
 key_with held count total weight name = record {
@@ -107,16 +107,16 @@ unfolding standing_in
 key_again old new parent name held count weight total =
     λ i. key_with (λ label. held label i) (count i) (total i) (weight i) name
 
--- ---- one client is changed
+-- ---- one client changes
 
--- what the change takes from the client of that path, and gives it
+-- what the change subtracts from the client with this path, and adds to it
 pub record IsChange (less more : Amounts) (c d : Ranked) : Type 0 where
   pub held : (label : Text) → d.held label + less.held label ≡ c.held label + more.held label
   pub count : d.count + less.count ≡ c.count + more.count
   pub active : is_served d + less.active ≡ is_served c + more.active
 
 module _ (content : Content) (path node : Path) (change : Ranked → Ranked) (keeps : (c : Ranked) → (change c).path ≡ c.path) where
-  -- the client of that path is below the node, or is not
+  -- the client with this path is below the node, or it is not
   is_below : (c : Ranked) → same_path c.path path ≡ true → begins_with c.path node ≡ begins_with path node
   is_below c same = ap (λ (p : Path). begins_with p node) (same_path-true c.path path same)
 
@@ -194,7 +194,7 @@ module _ (content : Content) (path node : Path) (change : Ranked → Ranked) (ke
     weight = refl;
   }
 
--- ---- a client comes
+-- ---- a client is added
 
 abbrev newcomer : Path → Ranked
 newcomer path = record { path = path; active = true; held = λ _. 0; count = 0 }

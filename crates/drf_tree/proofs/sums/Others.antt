@@ -1,4 +1,4 @@
--- What a node has is what the others have, and what the client that goes has.
+-- The sum of a node is the sum over the other clients, plus that of the client that is removed.
 use Rattle.std.specs.List.{AllByRecursion}
 use Rattle.std.proofs.Common.{refl, sym, ap, subst, ◌∙◌, inl, inr, arith, ◌≡◌, ◌≢◌, ◌+◌, ℕ, Bool, true, false, not, cond, List, [], ◌∷◌, filter, map, sum_by}
 use Rattle.std.proofs.lemmas.Bool.{false≢true, cases_Bool}

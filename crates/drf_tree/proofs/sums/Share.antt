@@ -1,4 +1,4 @@
--- The shares of a node, from its sum.
+-- The shares of a node, computed from its sum.
 use Rattle.std.specs.List.{list_any}
 use Rattle.std.proofs.Common.{refl, subst, ◌∙◌, arith, ◌≡◌, ◌≤◌, ◌<◌, ℕ, Bool, true, false, cond, ◌||◌, List, [], ◌∷◌, Some, filter, length, slice_get}
 use Rattle.drf_tree.proofs.Names.{amount_of, Path, begins_with, Text, share_of, Sum, Tree, is_live, path_at, IsSumOf, IsTreeOf}
@@ -9,7 +9,7 @@ use Rattle.drf_sorter.specs.Share.{IsShareOf, fraction_of}
 use Rattle.drf_sorter.specs.declared.share.Share.{Share}
 use Rattle.drf_tree.proofs.keys.Renew.{sum_within}
 
--- some pass a test where not none of them does
+-- if not none of the elements passes a test, one does
 any_is : {X : Type 0} (p : X → Bool) (xs : List X) → (0 < length (filter p xs) → list_any p xs ≡ true)
     × (length (filter p xs) ≡ 0 → list_any p xs ≡ false)
 any_is p [] = (λ some. absurd (omega (arith, some)), λ none. refl)

@@ -1,4 +1,5 @@
--- What the walk comes to below one node: nobody where no client is, one where it is a client, and only what begins with its path.
+-- The part of a walk below one node: it is empty without clients, one client if the node is a client, and has only paths that begin with
+-- the node's.
 use Rattle.std.specs.List.{AllByRecursion, list_all, list_any}
 use Rattle.std.proofs.Common.{◌≢◌, refl, sym, ap, subst, ◌∙◌, inl, inr, append_assoc, ◌≡◌, ℕ, zero, suc, Bool, true, false, ◌||◌, List, [], ◌∷◌, ◌++◌, flat_map, append-nil}
 use Rattle.std.proofs.lemmas.Bool.{true≢false, false≢true, and_from, cases_Bool, false_from_ne_true, or_cases, or_left, or_right}
@@ -8,7 +9,7 @@ use Rattle.drf_tree.proofs.walk.Clients.{each_any}
 use Rattle.drf_tree.proofs.shape.Path.{begins_above, begins_itself}
 use Rattle.drf_tree.proofs.walk.Members.{found_in}
 
--- some path below a child is below the node
+-- a client below a child is below the node
 any_above : (node : Path) (name : Text) (ps : List Path) → list_any (λ p. begins_with p (node ++ name ∷ [])) ps ≡ true
     → list_any (λ p. begins_with p node) ps ≡ true
 any_above node name [] some = some
@@ -18,7 +19,7 @@ any_above node name (p ∷ ps) some =
       | inr past ↦ or_right (begins_with p node) (list_any (λ p. begins_with p node) ps) (any_above node name ps past)
     ]
 
--- a path that is no client's
+-- the path is not a client's
 pub own_none : (clients : List Path) (path : Path) → list_any (same_path path) clients ≡ false → own clients path ≡ []
 own_none clients path none = rw none refl
 
@@ -37,7 +38,7 @@ own_passes clients t node h = elim (cases_Bool (list_any (same_path node) client
 pub all_join : (t : Path → Bool) (xs ys : List Path) → list_all t xs ≡ true → list_all t ys ≡ true → list_all t (xs ++ ys) ≡ true
 all_join t xs ys one two = list_all-append t xs ys ∙ and_from (list_all t xs) (list_all t ys) one two
 
--- who is below a client's path is that client
+-- a path at or below a client's path is that client's
 itself_below : (path : Path) (ps : List Path) → IsClientPath path → AllByRecursion IsClientPath ps
     → list_any (λ p. begins_with p path) ps ≡ true → list_any (same_path path) ps ≡ true
 itself_below path [] client all some = some
@@ -81,14 +82,14 @@ module _ {X : Type 0} (IsNode : X → Type 0) (path : X → Path) (name : X → 
   none_over n x (c ∷ cs) all none each =
       λ i. each c all.0.0 (none_at_child x c all.0 none) i ++ none_over n x cs all.1 none each i
 
-  -- nobody is served below a node without clients
+  -- the walk below a node without clients is empty
   pub walk_none : (n : ℕ) (x : X) → IsNode x → list_any (λ p. begins_with p (path x)) clients ≡ false
       → walk clients path family n x ≡ []
   walk_none zero x node none = own_of_none x none
   walk_none (suc n) x node none =
       λ i. own_of_none x none i ++ none_over n x (family x) (children x node) none (walk_none n) i
 
-  -- a test that all paths below a node pass
+  -- a test that holds of all paths below a node
   pub beneath_children : (t : Path → Bool) (n : ℕ) (x : X) (cs : List X) → AllByRecursion (IsChild IsNode path name x) cs
       → ((below : Path) → t (path x ++ below) ≡ true)
       → ((c : X) → IsNode c → ((below : Path) → t (path c ++ below) ≡ true) → list_all t (Walked n c) ≡ true)

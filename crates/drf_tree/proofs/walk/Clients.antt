@@ -14,7 +14,7 @@ paths_in cs = map (λ c. c.path) cs
 abbrev pub active_in : List Ranked → List Ranked
 active_in cs = filter (λ c. c.active) cs
 
--- what holds of all holds of the active ones
+-- what holds of all clients holds of the active ones
 pub kept_active : (P : Path → Type 0) (cs : List Ranked) → AllByRecursion P (paths_in cs)
     → AllByRecursion P (paths_in (active_in cs))
 kept_active P [] all = all
@@ -64,7 +64,7 @@ pub short : (p : Path) → IsClientPath p → length p ≤ most_parts
 short p client =
     omega (arith, ap length client.joined, length-append client.role (codes "." ∷ client.framework ∷ []), role_short client.role client.right_role)
 
--- no node stands below a client
+-- no node is below a client
 pub none_below : (p node : Path) (name : Text) → IsClientPath p → IsNodePath node → node ≡ p ++ name ∷ [] → ◌≡◌ {A = Bool} true false
 none_below p node name client right longer =
     let q : Path = right.path in
@@ -75,7 +75,7 @@ none_below p node name client right longer =
     let begins : begins_with q p ≡ true = (starts_is bytes_decides q p (begins_with q p) refl).1 (name ∷ rest) whole in
     sym begins ∙ client_paths-apart q p right.right_path client differ
 
--- a node that is no client is shorter than any client may be
+-- a node that is not a client has fewer parts than `most_parts`
 pub node_short : (node : Path) → IsNodePath node → (IsClientPath node → ◌≡◌ {A = Bool} true false) → length node < most_parts
 node_short node right other = by right.begins.0 right.begins.1
   where
@@ -86,7 +86,7 @@ node_short node right other = by right.begins.0 right.begins.1
     by (part ∷ rest) whole =
         omega (arith, ap length whole, length-append node (part ∷ rest), short right.path right.right_path)
 
--- some active client is below a node where not none of them is
+-- if not none of the active clients is below a node, one is
 pub any_below : (node : Path) (cs : List Ranked)
     → list_any (λ p. begins_with p node) (paths_in (active_in cs))
     ≡ nat_lt 0 (length (active_in (filter (λ c. begins_with c.path node) cs)))

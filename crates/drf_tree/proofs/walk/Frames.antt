@@ -1,4 +1,4 @@
--- A walk by frames, step by step: what it still comes to stays, and the steps that are left are fewer.
+-- A walk by frames, step by step: the clients that are left stay the same, and the number of steps that are left decreases.
 use Rattle.std.proofs.Common.{refl, sym, ap, ◌∙◌, append_assoc, arith, ◌≡◌, ◌+◌, ℕ, zero, suc, List, [], ◌∷◌, ◌++◌, None, Some, drop, flat_map, length, slice_get, sum_by, append-nil}
 use Rattle.std.proofs.lemmas.Option.{same_Some}
 use Rattle.drf_tree.proofs.Names.{Path, Frame, pending, walk}
@@ -16,7 +16,7 @@ drop_next [] i x some = absurd cc
 drop_next (y ∷ ys) zero x some = ap (λ (z : _). z ∷ ys) (same_Some y x some)
 drop_next (y ∷ ys) (suc i) x some = let next : suc i + 1 ≡ suc (i + 1) = omega arith in rw next (drop_next ys i x some)
 
--- ---- what frames still come to
+-- ---- the clients that are left
 
 module _ (clients : List Path) (path : ℕ → Path) (family : ℕ → List ℕ) where
   abbrev pub Walked : ℕ → ℕ → List Path
@@ -25,7 +25,7 @@ module _ (clients : List Path) (path : ℕ → Path) (family : ℕ → List ℕ)
   abbrev pub Pending : ℕ → List Frame → List Path
   Pending n frames = pending clients path family n frames
 
-  -- what the later frames still have comes first
+  -- the clients of the later frames come first
   pub pending_apart : (front rest : List Frame) (m n : ℕ) → n ≡ length front + m
       → Pending n (front ++ rest) ≡ Pending m rest ++ Pending n front
   pending_apart [] rest m n deep =
@@ -37,19 +37,19 @@ module _ (clients : List Path) (path : ℕ → Path) (family : ℕ → List ℕ)
       ap (λ (ps : List Path). ps ++ above) (pending_apart front rest m n (omega (arith, deep)))
       ∙ append_assoc (Pending m rest) (Pending n front) above
 
-  -- of the last frame that is what is left of its family
+  -- the clients of the last frame are those left in its family
   pub pending_last : (front : List Frame) (f : Frame) (m n : ℕ) → n ≡ length front + suc m
       → Pending n (front ++ f ∷ []) ≡ flat_map (Walked m) (drop f.next (family f.node)) ++ Pending n front
   pending_last front f m n deep = pending_apart front (f ∷ []) (suc m) n deep
 
 -- ---- the steps that are left
 
--- to go along a node and all below it, at most so many parts deeper
+-- the steps to visit a node and everything up to `n` parts below it
 abbrev pub size : (ℕ → List ℕ) → ℕ → ℕ → ℕ
 size family zero x = 2
 size family (suc n) x = 2 + sum_by (size family n) (family x)
 
--- to go along what is left of each frame, the root's first
+-- the steps to visit what is left of each frame, the root's first
 abbrev pub left : (ℕ → List ℕ) → ℕ → List Frame → ℕ
 left family depth [] = 0
 left family zero (f ∷ frames) = 0

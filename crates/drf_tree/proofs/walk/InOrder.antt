@@ -7,7 +7,7 @@ use Rattle.drf_rows.specs.Share.{Standing, is_ahead, stands_before_below, stands
 use Rattle.drf_row_laws.specs.ServingOrder.{is_ahead-back}
 use Rattle.drf_tree.proofs.walk.Below.{all_join, beneath}
 
--- a child that is ahead of another has another name
+-- a child that is before another has a different name
 other_names : (s : Standing) (node : Path) (a b : Text) → is_ahead s node a b ≡ true → same_text a b ≡ false
 other_names s node a b ahead = elim (cases_Bool (same_text a b)) [
   | inl same ↦
@@ -16,7 +16,7 @@ other_names s node a b ahead = elim (cases_Bool (same_text a b)) [
   | inr other ↦ other
 ]
 
--- where two paths part below a node that they share, the names there decide
+-- where two paths first differ below a node, the names there decide
 parting : (s : Standing) (above node : Path) (a b : Text) (xs ys : Path) → same_text a b ≡ false
     → stands_before_below s above (node ++ a ∷ xs) (node ++ b ∷ ys) ≡ is_ahead s (above ++ node) a b
 parting s above [] a b xs ys other =
@@ -28,7 +28,7 @@ parting s above (p ∷ node) a b xs ys other =
     here ∙ parting s (above ++ p ∷ []) node a b xs ys other
     ∙ ap (λ (n : Path). is_ahead s n a b) (append_assoc above (p ∷ []) node)
 
--- what is below a child that is ahead stands before what is below the other
+-- everything below a child comes before everything below a later sibling
 across : (s : Standing) (node : Path) (a b : Text) (xs ys : Path) → is_ahead s node a b ≡ true
     → stands_before s ((node ++ a ∷ []) ++ xs) ((node ++ b ∷ []) ++ ys) ≡ true
 across s node a b xs ys ahead =
@@ -49,7 +49,7 @@ module _ {X : Type 0} (IsNode : X → Type 0) (path : X → Path) (name : X → 
   abbrev Walked : ℕ → X → List Path
   Walked n x = walk clients path family n x
 
-  -- all below a child stands before all below later ones
+  -- everything below a child comes before everything below all later ones
   before_later : (n : ℕ) (x : X) (a : Text) (xs : Path) (cs : List X) → AllByRecursion (IsChild IsNode path name x) cs
       → list_all (is_ahead s (path x) a) (map name cs) ≡ true
       → list_all (stands_before s ((path x ++ a ∷ []) ++ xs)) (flat_map (Walked n) cs) ≡ true

@@ -1,4 +1,4 @@
--- The walk is the order of the clients.
+-- The walk is the definition's order of the clients.
 use Rattle.std.specs.List.Sorted.{IsPermutation}
 use Rattle.std.proofs.Common.{sym, subst, ◌∙◌, ◌≡◌, true, List}
 use Rattle.std.proofs.lemmas.List.Sorted.{list_any-IsPermutation}

@@ -1,4 +1,4 @@
--- A sorter is kept where its walk stands over the same places and families.
+-- The invariant of a sorter holds after a change that keeps its places and families.
 use Rattle.std.proofs.Common.{ap, arith, refl, subst, sym, ◌∙◌, ◌≡◌, Bool, true, false, cond, List, [], ◌∷◌, Option, filter, map}
 use Rattle.std.proofs.lemmas.Bool.{false≢true}
 use Rattle.drf_tree.proofs.Names.{Path, same_path, Content, Ranked, active_paths, with_change, ledger_content, Family, Place, Tree, Frame, family_at, path_at, IsTidy, IsTotalFree, IsTreeOf, own}
@@ -8,7 +8,7 @@ use Rattle.drf_tree.specs.Queue.{AreFrames, IsSettled, frames_queue, most_parts,
 use Rattle.drf_tree.specs.Sorter.{AreInStep}
 use Rattle.drf_tree.proofs.sums.Content.{step}
 
--- nothing is said of a tree that hangs on the total
+-- if `is_total_free` is not set, nothing is claimed
 pub total_counts : (content : Content) (tree : Tree) → false ≡ true → IsTotalFree content tree
 total_counts content tree on = absurd (false≢true on)
 
@@ -27,7 +27,7 @@ kept_by ledger content is old new walk is_free of free tidy places families are 
       (subst (λ (v : _). IsSettled content old.places.items v.items walk.frames.items) (sym families) settled));
 }
 
--- who is active tells where a walk stands
+-- where a walk is depends only on which clients are active
 pub settled_along : (old new : Content) (places : List (Option Place)) (families : List Family) → active_paths old ≡ active_paths new
     → (frames : List Frame) → IsSettled old places families frames → IsSettled new places families frames
 settled_along old new places families same [] settled = tt
@@ -40,7 +40,7 @@ settled_along old new places families same (f ∷ []) at = record {
 settled_along old new places families same (f ∷ g ∷ frames) settled =
     settled_along old new places families same (g ∷ frames) settled
 
--- ---- a change that leaves paths, and who is active, alone
+-- ---- a change that keeps the paths, and which clients are active
 
 first_active : (c : Ranked) (cs : List Ranked)
     → map (λ (d : Ranked). d.path) (filter (λ (d : Ranked). d.active) (c ∷ cs))
@@ -82,7 +82,7 @@ module _ (path : Path) (change : Ranked → Ranked) (paths : (c : Ranked) → (c
   pub active_stays : (content : Content) → active_paths (with_change content path change) ≡ active_paths content
   active_stays content = active_steps content.clients
 
--- a walk over the same places and families comes to the same clients
+-- a walk over the same places and families has the same clients left
 pub queue_stays : (old new : Content) → active_paths new ≡ active_paths old → (tree now : Tree)
     → now.places ≡ tree.places → now.families ≡ tree.families → (frames : List Frame)
     → frames_queue new now frames ≡ frames_queue old tree frames
@@ -100,7 +100,7 @@ kept_along ledger old content is same tree new walk is_free of free tidy places 
     kept_by ledger content is tree new walk is_free of free tidy places families are
     (settled_along old content tree.places.items tree.families.items (sym same) walk.frames.items settled)
 
--- a walk that was stopped is settled
+-- a walk that has ended satisfies the invariant
 pub stopped : (ledger : Ledger) (content : Content) → ledger_content ledger ≡ content → (tree : Tree) (walk : Walk) (is_free : Bool)
     → walk.frames.items ≡ [] → IsTreeOf content tree → (is_free ≡ true → IsTotalFree content tree) → IsTidy content tree.places.items
     → AreInStep ledger tree walk is_free

@@ -1,10 +1,10 @@
--- Frames whose nodes stand below one another.
+-- Frames whose nodes are each below the one before.
 use Rattle.std.specs.Prelude.{◌≡◌, true, List, [], ◌∷◌, ◌++◌, Option}
 use Rattle.std.specs.List.{AllByRecursion}
 use Rattle.drf_tree.proofs.Names.{begins_with, each_append, each_parts, Place, Frame, path_at, AreNested}
 
 module _ (places : List (Option Place)) where
-  -- the node of the second stands at or below that of the first
+  -- the node of the second is at or below that of the first
   abbrev pub IsBelow : Frame → Frame → Type 0
   IsBelow f g = begins_with (path_at places g.node) (path_at places f.node) ≡ true
 

@@ -1,4 +1,4 @@
--- The walk of a tree without marks is the order of its active clients.
+-- The walk of a tree without dirty nodes is the definition's order of its active clients.
 use Rattle.std.specs.List.{AllByRecursion, list_any}
 use Rattle.std.specs.Option.{option_map_or}
 use Rattle.std.proofs.Common.{refl, sym, ap, ◌∙◌, inl, inr, ◌≡◌, ◌≤◌, ℕ, true, List, [], ◌∷◌, ◌++◌, Option, None, Some, length, slice_get, true≢false}

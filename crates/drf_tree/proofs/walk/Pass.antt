@@ -1,4 +1,4 @@
--- Clients that a walk passes by together: those that its later frames still come to.
+-- Clients that a walk passes together: those that its later frames have left.
 use Rattle.std.specs.List.{AllByRecursion, list_all}
 use Rattle.std.proofs.Common.{refl, sym, ap, subst, ◌∙◌, arith, length-append, take-append-drop, ◌≡◌, ◌<◌, ◌+◌, ◌-◌, ℕ, zero, suc, Bool, true, List, [], ◌∷◌, ◌++◌, Option, Some, drop, flat_map, length, slice_get, take, length-take-le}
 use Rattle.std.proofs.Math.Seq.{take-append_seam}
@@ -29,12 +29,12 @@ first_of : {X : Type 0} (P : X → Type 0) (xs ys : List X) (x : X) → 0 < leng
 first_of P [] ys x some all at = absurd (omega (arith, some))
 first_of P (y ∷ xs) ys x some all at = subst P (same_Some y x at) all.0
 
--- what begins with a node begins with its parts
+-- a path that begins with a node begins with its parts
 takes_node : (path node : Path) → begins_with path node ≡ true → take (length node) path ≡ node
 takes_node path node begins =
     ap (take (length node)) (begins_to path node begins) ∙ take-append_seam node (drop (length node) path)
 
--- ---- what frames still come to
+-- ---- the clients that frames have left
 
 module _ (tree : Tree) (shape : IsShapeOf tree) where
   abbrev places : List (Option Place)
@@ -55,7 +55,7 @@ module _ (tree : Tree) (shape : IsShapeOf tree) where
   children : (x : ℕ) → IsNode x → AllByRecursion (IsChild IsNode (path_at places) name x) (kin x)
   children x node = children_are places x (children_at families x) (shape.children x)
 
-  -- all of it begins with a path that the frames' nodes begin with
+  -- all of them begin with a path that the frames' nodes begin with
   module _ (clients : List Path) (above : Path) where
     abbrev begins : Path → Bool
     begins p = begins_with p above
@@ -87,7 +87,7 @@ module _ (tree : Tree) (shape : IsShapeOf tree) where
     abbrev Pending : ℕ → List Frame → List Path
     Pending m frames = pending (active_paths content) (path_at places) kin m frames
 
-    -- the client at which they stand is among them
+    -- the client at which the frames are is among them
     pending_some : (m : ℕ) (f : Frame) (frames : List Frame) → length frames < m
         → IsSettled content places families (f ∷ frames) → 0 < length (Pending m (f ∷ frames))
     pending_some zero f frames few settled = absurd (omega (arith, few))
@@ -99,7 +99,7 @@ module _ (tree : Tree) (shape : IsShapeOf tree) where
           length-append (Pending m (g ∷ frames)) (flat_map (walk (active_paths content) (path_at places) kin m) (drop f.next (kin f.node))),
         )
 
-    -- ---- the frames from one on are left
+    -- ---- the first frames are kept
 
     module _ (kept : List Frame) (f : Frame) (later : List Frame) (are : AreFrames places (kept ++ f ∷ later))
         (settled : IsSettled content places families (kept ++ f ∷ later)) where
@@ -150,7 +150,7 @@ module _ (tree : Tree) (shape : IsShapeOf tree) where
         some = λ first next. some_gone;
       }
 
-    -- as many frames are kept
+    -- so many frames are kept
     passed_at : (frames rest : List Frame) (len : ℕ) → drop len frames ≡ rest → len < length frames → AreFrames places frames
         → IsSettled content places families frames
         → IsPassedFront len (frames_queue content tree frames) (frames_queue content tree (take len frames))

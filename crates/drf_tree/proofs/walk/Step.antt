@@ -1,4 +1,4 @@
--- A step of a walk along a tree: it keeps what the walk comes to.
+-- A step of a walk along a tree keeps the clients that are left.
 use Rattle.std.specs.List.{AllByRecursion, list_any}
 use Rattle.std.specs.Option.{is_some, option_map_or}
 use Rattle.std.proofs.Common.{refl, sym, ap, subst, ◌∙◌, inl, inr, append_assoc, arith, length-append, ◌≡◌, ◌≤◌, ◌<◌, ◌+◌, ◌-◌, ◌==◌, ℕ, zero, suc, Bool, true, false, nat_lt, List, [], ◌∷◌, ◌++◌, Option, None, Some, ◌⊎◌, codes, drop, flat_map, length, slice_get, sum_by, append-nil}
@@ -50,7 +50,7 @@ module _ (places : List (Option Place)) where
     nested = (nested_parts places front rest are.nested).0;
   }
 
-  -- the last frame stands at a node below theirs, as deep as the others are many
+  -- the last frame is at a node below those of the others, one part deeper for each of them
   pub record IsLast (front : List Frame) (f : Frame) : Type 0 where
     pub node : is_node places f.node ≡ true
     pub deep : length (path_at places f.node) ≡ length front
@@ -125,14 +125,14 @@ module _ (tree : Tree) (shape : IsShapeOf tree) where
   moved_on : (f : Frame) (i : ℕ) → slice_get (kin f.node) f.next ≡ Some i → (onward f).next ≡ f.next + 1
   moved_on f i some = omega (arith, place_short families f.node f.next i some)
 
-  -- what a family still has
+  -- what is left of a family
   rest_of : (f : Frame) (i : ℕ) → slice_get (kin f.node) f.next ≡ Some i
       → drop f.next (kin f.node) ≡ i ∷ drop (onward f).next (kin f.node)
   rest_of f i some =
       drop_next (kin f.node) f.next i some
       ∙ ap (λ (k : ℕ). i ∷ drop k (kin f.node)) (sym (moved_on f i some))
 
-  -- ---- what is left to do
+  -- ---- the steps that are left
 
   abbrev Left : List Frame → ℕ
   Left frames = left kin most_parts frames
@@ -178,7 +178,7 @@ module _ (tree : Tree) (shape : IsShapeOf tree) where
         all,
       )
 
-  -- ---- what is still come to
+  -- ---- the clients that are left
 
   module _ (content : Content) (of : IsTreeOf content tree) where
     abbrev clients : List Path
@@ -197,7 +197,7 @@ module _ (tree : Tree) (shape : IsShapeOf tree) where
         → Pending (front ++ f ∷ []) ≡ flat_map (Walked m) (drop f.next (kin f.node)) ++ Pending front
     pending_at front f m deep = pending_last clients (path_at places) kin front f m most_parts deep
 
-    -- the sum of a node tells whether anybody is served below it
+    -- the sum of a node says whether it has active clients
     active_is : (i : ℕ) → is_live places i ≡ true
         → active_at tree.sums.items i ≡ length (active_in (clients_under content (path_at places i)))
     active_is i live = elim (slice_get_cases tree.sums.items i).1 [
@@ -258,7 +258,7 @@ module _ (tree : Tree) (shape : IsShapeOf tree) where
         ∙ ap (λ (is : List ℕ). flat_map (Walked (suc k)) is ++ Pending front) (rest_of f i some)
         ∙ ap (λ (ps : List Path). ((ps ++ below) ++ after) ++ Pending front) own_is)
 
-    -- ---- a client that is next
+    -- ---- a frame at an active client
 
     some_client : (o : Option Path) → is_some o ≡ true → (p : Path) × (o ≡ Some p)
     some_client (Some p) some = (p, refl)
@@ -278,7 +278,7 @@ module _ (tree : Tree) (shape : IsShapeOf tree) where
               (any_served i child.live ∙ lt-ltb 0 (active_at tree.sums.items i) active);
         }
 
-    -- that client comes first of what is left of its family
+    -- this client is the first that is left of its family
     pub family_client : (f : Frame) (m : ℕ) (at : IsAtClient content places families f)
         → flat_map (Walked m) (drop f.next (kin f.node))
         ≡ path_at places at.node ∷ flat_map (Walked m) (drop (onward f).next (kin f.node))
@@ -328,7 +328,7 @@ module _ (content : Content) (places : List (Option Place)) (families : List Fam
 pub nobody_left : (content : Content) (tree : Tree) → frames_queue content tree [] ≡ []
 nobody_left content tree = queue_is content tree.places.items tree.families.items []
 
--- ---- what one step does
+-- ---- one step
 
 pub record IsStep (tree : Tree) (old new : List Frame) : Type 0 where
   pub frames : AreFrames tree.places.items new
@@ -378,7 +378,7 @@ module _ (tree : Tree) (shape : IsShapeOf tree) (front : List Frame) (f : Frame)
         smaller = left_down tree shape front f i deep next.0;
       }
 
-  -- the client that is next is passed
+  -- the current client is passed
   pub passed_on : (content : Content) → IsTreeOf content tree
       → IsSettled content tree.places.items tree.families.items (front ++ f ∷ [])
       → frames_queue content tree (front ++ onward f ∷ []) ≡ drop 1 (frames_queue content tree (front ++ f ∷ []))
@@ -388,7 +388,7 @@ module _ (tree : Tree) (shape : IsShapeOf tree) (front : List Frame) (f : Frame)
       ∙ ap (drop 1)
       (sym (queue_is content tree.places.items tree.families.items (front ++ f ∷ []) ∙ queue_client tree shape content of front f few at))
 
-  -- it is the first that the walk comes to
+  -- it is the first client that is left
   pub first_is : (content : Content) → IsTreeOf content tree
       → (settled : IsSettled content tree.places.items tree.families.items (front ++ f ∷ []))
       → slice_get (frames_queue content tree (front ++ f ∷ [])) 0
@@ -403,12 +403,12 @@ module _ (tree : Tree) (shape : IsShapeOf tree) (front : List Frame) (f : Frame)
   settled_at next content of =
       settled_by content tree.places.items tree.families.items front f (at_client tree shape content of f next.0 next.1 next.2 next.3)
 
--- ---- where a walk begins
+-- ---- the start of a walk
 
 abbrev pub top : Frame
 top = record { node = 0; next = 0 }
 
--- the root is no client
+-- the root is not a client
 pub top_queue : (tree : Tree) → IsShapeOf tree → (content : Content) → IsTreeOf content tree
     → frames_queue content tree (top ∷ []) ≡ order_in content tree.places.items tree.families.items
 unfolding order_in

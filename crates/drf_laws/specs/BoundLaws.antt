@@ -1,4 +1,4 @@
--- The tables stay within the limits of an allocator.
+-- The tables stay within the capacities of the allocator.
 use Rattle.std.specs.Prelude.{◌≤◌, List, length}
 use Rattle.std.specs.List.{AllByRecursion}
 use Rattle.drf_rows.specs.LimitNumbers.{LimitNumbers, IsWithinCeilings}
@@ -9,7 +9,7 @@ use Rattle.drf_rows.specs.declared.event.Event.{Event}
 use Rattle.drf_rows.specs.declared.rows.Rows.{Rows}
 use Rattle.drf_laws.specs.RunLaws.{AreGiven}
 
--- of nothing there is more than the limit
+-- no table exceeds its capacity
 pub record AreWithin (limits : LimitNumbers) (rows : Rows) : Type 0 where
   pub agents : length rows.agents ≤ limits.agents
   pub frameworks : length rows.frameworks ≤ limits.frameworks
@@ -18,12 +18,12 @@ pub record AreWithin (limits : LimitNumbers) (rows : Rows) : Type 0 where
   pub filters_in_force : number_in_force rows.clock rows.filters ≤ limits.filters
   pub weights : length rows.weights ≤ limits.weights
   pub limits_of_roles : length rows.limits ≤ limits.limits
-  -- the names of scalars over all agents, and those that one limit names
+  -- the names of scalars over all agents, and those in each limit
   pub names : length (cluster_total rows.agents) ≤ limits.scalar_names
   pub names_of_each : AllByRecursion (λ l. length l.limit ≤ limits.scalar_names) rows.limits
   pub events : rows.events ≤ limits.events
 
--- so it is from the start on, whatever the events
+-- this is so in every run from the start, whatever the events
 abbrev pub RunsStayWithinLimits : Type 0
 RunsStayWithinLimits =
     (limits : LimitNumbers) (events : List Event)

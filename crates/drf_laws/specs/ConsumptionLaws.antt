@@ -1,4 +1,5 @@
--- What roles consume: those above at least as much, an accept all but the rest, and never as much as 2^52 thousandths.
+-- What roles consume: roles above consume at least as much, accepting frees the rest of an offer, and the sum is below
+-- 2^52 thousandths.
 use Rattle.std.specs.Prelude.{◌≡◌, ℕ, ◌+◌, ◌≤◌, ◌<◌, ◌^◌, Bool, true, false, not, ◌&&◌, List, [], ◌∷◌, ◌++◌, length, drop, sum_by, Option, Some, None, IsTrue}
 use Rattle.std.specs.List.{AllByRecursion}
 use Rattle.std.specs.Option.{option_map_or}
@@ -33,16 +34,17 @@ use Rattle.drf_rows.specs.declared.event.Event.TheVariants.{Accept}
 use Rattle.drf_rows.specs.declared.rows.OfferRow.{OfferRow}
 use Rattle.drf_rows.specs.declared.rows.Rows.{Rows}
 
--- ---- the laws, as statements
+-- ---- the statements
 
--- a role consumes what the roles below it consume, and maybe more
+-- a role consumes at least what each role below it consumes
 abbrev pub RolesAboveConsumeMore : Type 0
 RolesAboveConsumeMore =
     (rows : Rows) (outer role : Path) (label : Text)
     → IsTrue (is_within outer role)
     → consumption rows role label ≤ consumption rows outer label
 
--- of an offer that is accepted the roles consume no more than the tasks: what is left, as far as it is for everyone, counts no longer
+-- of an accepted offer only the tasks are consumed: what is left of it, as far as it is unreserved, is consumed no
+-- longer
 abbrev pub RestIsConsumedNoLonger : Type 0
 RestIsConsumedNoLonger =
     (limits : LimitNumbers) (rows : Rows) (a : accepting.Accept) (o : OfferRow) (test : Path → Bool) (label : Text)
@@ -53,7 +55,7 @@ RestIsConsumedNoLonger =
     → consumption_where test rows label
     ≡ consumption_where test (effect rows (Accept a)) label + cond (test o.role) (unreserved_in label (left_of_offer o a.tasks)) 0
 
--- what any roles consume is below 2^52 thousandths
+-- what any roles consume together is below 2^52 thousandths
 abbrev pub ConsumptionIsSmall : Type 0
 ConsumptionIsSmall =
     (test : Path → Bool) (rows : Rows) (label : Text)
@@ -110,7 +112,7 @@ pub roles_above_consume_more : RolesAboveConsumeMore
 roles_above_consume_more rows outer role label within =
     consumption-more (is_within role) (is_within outer) (λ r below. begins_trans r role outer below within) label rows
 
--- ---- an accept
+-- ---- accepting
 
 module _ (test : Path → Bool) (label : Text) where
   abbrev consumed_in : Holding → ℕ
@@ -140,7 +142,7 @@ module _ (test : Path → Bool) (label : Text) where
   parted true whole part left sums = sums
   parted false whole part left sums = omega arith
 
-  -- the rest is held no longer
+  -- the rest of the offer is no longer held
   consumption-accepted : (rows : Rows) (number : ℕ) (o : OfferRow) (starts : List Start) → IsConsistent rows
       → offer_at rows number ≡ Some o → AllByRecursion IsBundle (uses starts) → covers_all o.bundle (uses starts) ≡ true
       → consumption_where test rows label
@@ -160,7 +162,7 @@ module _ (test : Path → Bool) (label : Text) where
         parted (test o.role) (unreserved_in label o.bundle) (used (uses starts)) (unreserved_in label (left_of_offer o starts)) (omega (arith, has, rest)),
       )
 
--- an accept that is not refused uses parts that the offer covers
+-- an accepted `accept` uses parts that the offer covers
 pub covered-accept : (limits : LimitNumbers) (rows : Rows) (a : accepting.Accept) (o : OfferRow) → offer_at rows a.offer ≡ Some o
     → refusal_of limits rows (Accept a) ≡ None → covers_all o.bundle (uses a.tasks) ≡ true
 covered-accept limits rows a o found accepted =
@@ -176,7 +178,7 @@ rest_is_consumed_no_longer limits rows a o test label consistent each found acce
     (sym (ap (λ (f : Option OfferRow).
     consumption_where test (option_map_or (λ o. offer_accepted (at_moment rows a.at) o a.tasks a.refuse_ms) f rows) label) found))
 
--- ---- no more than there is
+-- ---- no more is consumed than the total
 
 pub consumption_is_small : ConsumptionIsSmall
 consumption_is_small test rows label consistent few =

@@ -1,4 +1,4 @@
--- Offers that are accepted or declined, tasks that finish, and filters that go.
+-- Offers that are accepted or declined, tasks that finish, and filters that are removed.
 use Rattle.std.specs.Prelude.{◌≡◌, ℕ, ◌+◌, ◌-◌, ◌≤◌, ◌==◌, Bool, true, false, not, ◌&&◌, List, [], ◌∷◌, ◌++◌, length, map, filter, drop, slice_get, Some, Option, max}
 use Rattle.std.specs.List.{list_all, AllByRecursion}
 use Rattle.std.specs.Option.{option_map_or}
@@ -38,7 +38,7 @@ use Rattle.drf_rows.specs.declared.rows.Rows.{Rows}
 
 -- ---- an offer is declined at once
 
--- no offer has the next number
+-- no offer has the next number yet
 none_next : (rows : Rows) → IsConsistent rows → AllByRecursion (λ o. (o.number == rows.next_offer) ≡ false) rows.offers
 none_next rows consistent =
     let last : ℕ = rows.next_offer - 1 in
@@ -71,7 +71,7 @@ declined_at_once rows agent client bundle at consistent =
 
 -- ---- an offer is accepted
 
--- the filters that stood, and one more or none
+-- the old filters, and at most one more
 IsAtMostOneMore : OfferRow → List FilterRow → List FilterRow → Type 0
 IsAtMostOneMore o old new =
     (new ≡ old ++ drop (length old) new)
@@ -121,7 +121,7 @@ accepted_starts_tasks rows a o found =
     added : IsAtMostOneMore o rows.filters (filters_with (at_moment rows a.at) (filters_rest o starts a.refuse_ms) o (left_of_offer o starts) a.refuse_ms)
     added = filters_then (at_moment rows a.at) o (left_of_offer o starts) a.refuse_ms (filters_rest o starts a.refuse_ms)
 
--- ---- filters go
+-- ---- filters are removed
 
 pub filters_go : FiltersGoWithTheirOwner
 unfolding effect
@@ -137,7 +137,7 @@ other_filters_stay rows agent framework client = record { agent_removed = refl; 
 
 -- ---- a task finishes
 
--- no other task is the framework's of that name
+-- the framework has no other task with that name
 others_differ : (before later : List TaskRow) (t : TaskRow) → are_distinct_tasks (before ++ t ∷ later) ≡ true
     → AllByRecursion (λ u. is_task t.framework t.name u ≡ false) before × AllByRecursion (λ u. is_task t.framework t.name u ≡ false) later
 others_differ [] later t apart =
@@ -168,7 +168,7 @@ module _ (rows : Rows) (before later : List TaskRow) (t : TaskRow) (consistent :
         tasks = (ap (filter (λ u. not (ends u))) runs ∙ filter_only ends before later t differ.0 itself differ.1) i;
       }
 
-  -- what is held on an agent is what is left there, and the task's part
+  -- what is held on an agent is what is held afterwards and the part of the task
   held_there : (agent : Text) (key : Key) (p : Point)
       → units_on agent (holdings_of rows) key p ≡ cond (same_text t.agent agent) (units t.bundle key p) 0 + units_on agent (holdings_of left) key p
   unfolding left
@@ -201,7 +201,7 @@ module _ (rows : Rows) (before later : List TaskRow) (t : TaskRow) (consistent :
     total : IsBundle agent.total
     total = (each_at IsAgent rows.agents place agent consistent.agents.each at).total
 
-    -- what was free, the task's part and what is free then, by their units
+    -- the free resources afterwards are the free resources before and the part of the task, unit by unit
     free_then : (key : Key) (p : Point)
         → units (free_of left agent) key p ≡ units (free_of rows agent) key p + cond (same_text t.agent agent.name) (units t.bundle key p) 0
     free_then key p = omega (

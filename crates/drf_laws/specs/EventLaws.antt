@@ -1,4 +1,4 @@
--- What holds of each event that is not refused.
+-- What is true of each accepted event.
 use Rattle.std.specs.Prelude.{◌≡◌, false, None}
 use Rattle.std.specs.List.{AllByRecursion}
 use Rattle.drf_rows.specs.LimitNumbers.{LimitNumbers}
@@ -12,14 +12,14 @@ use Rattle.drf_rows.specs.declared.rows.Rows.{Rows}
 use Rattle.drf_laws.specs.Kept.{AreFew, IsCountable}
 use Rattle.drf_laws.specs.RunLaws.{IsGiven}
 
--- no case of refusal holds of it
+-- no refusal case holds
 abbrev pub NoCaseHolds : Type 0
 NoCaseHolds =
     (limits : LimitNumbers) (rows : Rows) (event : Event)
     → refusal_of limits rows event ≡ None
     → AllByRecursion (λ c. c.0 ≡ false) (cases_of limits rows event)
 
--- nor is it refused of other rows with the same live rows, and there it adds the same offers
+-- the event is accepted in any other state with the same current state, and adds the same offers there
 abbrev pub LiveRowsDecide : Type 0
 LiveRowsDecide =
     (limits : LimitNumbers) (rows other : Rows) (event : Event)
@@ -34,7 +34,7 @@ AcceptsCanStart =
     → refusal_of limits rows (Accept a) ≡ None
     → CanAccept rows a.offer a.tasks
 
--- rows that are consistent are so after it
+-- a consistent state is consistent after the event
 abbrev pub EventsKeepConsistent : Type 0
 EventsKeepConsistent =
     (limits : LimitNumbers) (rows : Rows) (event : Event)
@@ -43,7 +43,7 @@ EventsKeepConsistent =
     → refusal_of limits rows event ≡ None
     → IsConsistent (effect rows event)
 
--- rows within the limits, and numbered by their events, are so once it is counted
+-- a state within the capacities, with offers numbered by the events, is so after the event is counted
 abbrev pub EventsKeepCounts : Type 0
 EventsKeepCounts =
     (limits : LimitNumbers) (rows : Rows) (event : Event)

@@ -1,4 +1,4 @@
--- Which filters an accept and a decline set: of which framework in which role, on which agent, of what, and until when.
+-- Which filters an accept and a decline set: for which client, on which agent, with which bundle, and until when.
 use Rattle.std.specs.Prelude.{◌≡◌, ℕ, ◌+◌, ◌<◌, ◌≤◌, min, max, Bool, true, false, not, ◌&&◌, ◌||◌, List, [], ◌∷◌, ◌++◌, Some, None, nat_lt}
 use Rattle.drf_role.specs.Text.{Text, same_text}
 use Rattle.drf_role.specs.Path.{same_path}
@@ -22,16 +22,16 @@ use Rattle.drf_rows.specs.declared.rows.Rows.{Rows}
 
 -- ---- the filter that is set
 
--- it stands last: that of the offer's framework in the offer's role, on the offer's agent
+-- one more filter is added last: it belongs to the client of the offer, and is on its agent
 abbrev pub one_more : Rows → OfferRow → List Resource → ℕ → List FilterRow
 one_more rows o bundle until =
     rows.filters ++ record { framework = o.framework; role = o.role; agent = o.agent; bundle = bundle; until = until } ∷ []
 
--- it ends so long after the event, after 365 days of milliseconds at most, and an event is never before the clock
+-- the end of the filter: `refuse_ms` after the event, at most 365 days; an event is never before the clock
 abbrev pub end_of : Rows → ℕ → ℕ → ℕ
 end_of rows at refuse_ms = max rows.clock at + min refuse_ms 31536000000
 
--- a decline for any time sets that of all that was offered, and one for no time sets none
+-- a decline sets a filter with the whole offer, and none if `refuse_ms` is 0
 abbrev pub DeclinedSetsFilter : Type 0
 DeclinedSetsFilter =
     (rows : Rows) (d : declining.Decline) (o : OfferRow)
@@ -40,13 +40,13 @@ DeclinedSetsFilter =
     (0 < d.refuse_ms → after.filters ≡ one_more rows o o.bundle (end_of rows d.at d.refuse_ms))
     × (d.refuse_ms ≡ 0 → after.filters ≡ rows.filters)
 
--- the bundle is what is left of the offer: it and what the tasks use join to all that was offered
+-- the bundle is what is left of the offer: together with the parts of the tasks it joins to the whole offer
 pub record IsLeft (rows : Rows) (a : accepting.Accept) (o : OfferRow) (left : List Resource) : Type 0 where
   pub at : offer_at rows a.offer ≡ Some o
   pub bundle : IsBundle left
   pub joins : joined left (uses a.tasks) ≡ Some o.bundle
 
--- so much is left of the offer of each accept that is not refused, be it nothing at all
+-- every accepted `accept` leaves such a bundle, which can be empty
 abbrev pub SomeRestIsLeft : Type 0
 SomeRestIsLeft =
     (limits : LimitNumbers) (rows : Rows) (a : accepting.Accept) (o : OfferRow)
@@ -56,7 +56,7 @@ SomeRestIsLeft =
     → refusal_of limits rows (Accept a) ≡ None
     → (left : List Resource) × IsLeft rows a o left
 
--- an accept for any time sets that of what is left, if anything is; one for no time, or of all that was offered, sets none
+-- an accept sets a filter with what is left, and none if `refuse_ms` is 0 or nothing is left
 abbrev pub AcceptedSetsFilter : Type 0
 AcceptedSetsFilter =
     (rows : Rows) (a : accepting.Accept) (o : OfferRow) (left : List Resource)
@@ -68,15 +68,15 @@ AcceptedSetsFilter =
     × (a.refuse_ms ≡ 0 → after.filters ≡ rows.filters)
     × (is_empty left ≡ true → after.filters ≡ rows.filters)
 
--- ---- what is held back then
+-- ---- what filters cover then
 
--- until a moment the offer's client is held back, on the offer's agent, what a bundle covers
+-- until that time, the client of the offer is not offered on the agent of the offer what the bundle covers
 abbrev pub is_filtered : OfferRow → List Resource → ℕ → ℕ → Client → Text → List Resource → Bool
 is_filtered o refused until moment client agent bundle =
     nat_lt moment until
     && ((same_path o.role client.role && same_text o.framework client.framework) && (same_text o.agent agent && covers refused bundle))
 
--- from a decline on that is held back, and what was held back before; of a decline for no time nothing
+-- after a decline, filters cover exactly this and what they covered before
 abbrev pub DeclinedIsHeldBack : Type 0
 DeclinedIsHeldBack =
     (rows : Rows) (d : declining.Decline) (o : OfferRow) (moment : ℕ) (client : Client) (agent : Text) (bundle : List Resource)
@@ -86,7 +86,7 @@ DeclinedIsHeldBack =
     ≡ (is_held_back rows.filters moment client agent bundle
     || is_filtered o o.bundle (end_of rows d.at d.refuse_ms) moment client agent bundle)
 
--- and from an accept on what is left of the offer
+-- after an accept, filters cover exactly what is left of the offer (if anything is) and what they covered before
 abbrev pub LeftIsHeldBack : Type 0
 LeftIsHeldBack =
     (rows : Rows) (a : accepting.Accept) (o : OfferRow) (left : List Resource) (moment : ℕ) (client : Client) (agent : Text) (bundle : List Resource)

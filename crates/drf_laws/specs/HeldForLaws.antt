@@ -1,4 +1,4 @@
--- What is reserved is held by clients of its role and of the roles below it alone, whatever happens.
+-- Reserved resources are held only by clients of their role and of the roles below it.
 use Rattle.std.specs.Prelude.{◌≡◌, ℕ, ◌≤◌, Bool, true, false, not, List, [], ◌∷◌, map, filter, Option, Some, None}
 use Rattle.std.specs.List.{AllByRecursion}
 use Rattle.std.specs.Option.{option_map_or}
@@ -36,14 +36,14 @@ use Rattle.drf_rows.specs.declared.rows.OfferRow.{OfferRow}
 use Rattle.drf_rows.specs.declared.rows.TaskRow.{TaskRow}
 use Rattle.drf_rows.specs.declared.rows.Rows.{Rows}
 
--- a holding has nothing that is reserved, but for its client's role or a role above it
+-- the holding has no resources reserved for another role than its client's or one above it
 abbrev pub IsForItsRole : Holding → Type 0
 IsForItsRole h =
     (label : Text) (byte : ℕ) (bytes : Text) (p : Point)
     → is_within (parts_of (byte ∷ bytes)) h.client.role ≡ false
     → units h.bundle (label, byte ∷ bytes) p ≡ 0
 
--- if that is so of all that is held, then also after an event
+-- if this is true of all holdings, it is true after an event
 abbrev pub ReservedIsHeldByItsRole : Type 0
 ReservedIsHeldByItsRole =
     (limits : LimitNumbers) (rows : Rows) (event : Event)
@@ -57,7 +57,7 @@ each_of : {X Y : Type 0} (P : Y → Type 0) (g : X → Y) (xs : List X) → AllB
 each_of P g [] all = tt
 each_of P g (x ∷ xs) all = (all.0, each_of P g xs all.1)
 
--- ---- where something ends
+-- ---- release of resources
 
 left_for : (rows : Rows) (ending : Ending) → AllByRecursion IsForItsRole (holdings_of rows)
     → AllByRecursion IsForItsRole (holdings_of (without_ended rows ending))
@@ -71,7 +71,7 @@ left_for rows ending all =
     (each_map IsForItsRole of_task (filter q rows.tasks)
     (each_filter (λ t. IsForItsRole (of_task t)) q rows.tasks (each_of IsForItsRole of_task rows.tasks parts.1)))
 
--- ---- an accept
+-- ---- accepting
 
 started_for : (o : OfferRow) (starts : List Start) → IsForItsRole (of_offer o)
     → ((key : Key) (p : Point) → units_of_all (uses starts) key p ≤ units o.bundle key p)

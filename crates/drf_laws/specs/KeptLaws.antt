@@ -1,4 +1,4 @@
--- What holds of rows at all times, by what is kept.
+-- What is true of the state at all times, as it follows from `IsKept`.
 use Rattle.std.specs.Prelude.{ℕ, ◌<◌, ◌≤◌, ◌^◌, length}
 use Rattle.std.specs.List.{AllByRecursion}
 use Rattle.drf_role.specs.Text.{Text}
@@ -11,29 +11,29 @@ use Rattle.drf_rows.specs.declared.limits.TheConstants.{LATEST_MOMENT}
 use Rattle.drf_rows.specs.declared.rows.Rows.{Rows}
 use Rattle.drf_laws.specs.Kept.{IsKept}
 
--- there are few agents, and no number of an offer, not the next one either, is above 2^56
+-- there are at most 4096 agents, and no offer number exceeds 2^56, nor does the next one
 abbrev pub KeptNumbersAreSmall : Type 0
 KeptNumbersAreSmall =
     (limits : LimitNumbers) (rows : Rows)
     → IsKept limits rows
     → (length rows.agents ≤ 4096) × (rows.next_offer ≤ 2 ^ 56) × AllByRecursion (λ o. o.number ≤ 2 ^ 56) rows.offers
 
--- of no scalar is there as much as 2^52 thousandths over all agents
+-- all agents together have less than 2^52 thousandths of a scalar
 abbrev pub KeptTotalsAreSmall : Type 0
 KeptTotalsAreSmall =
     (limits : LimitNumbers) (rows : Rows) (label : Text)
     → IsKept limits rows
     → amount_of (cluster_total rows.agents) label < 2 ^ 52
 
--- no filter that is in force ends at 2^63 or later
+-- every filter in force ends before 2^63
 abbrev pub FiltersEndEarly : Type 0
 FiltersEndEarly = (rows : Rows) → IsConsistent rows → AllByRecursion (λ f. f.until < 2 ^ 63) (live_rows rows).filters
 
--- the live rows are consistent
+-- the current state is consistent
 abbrev pub LiveRowsAreConsistent : Type 0
 LiveRowsAreConsistent = (rows : Rows) → IsConsistent rows → IsConsistent (live_rows rows)
 
--- and so are the rows at another moment
+-- a consistent state is consistent at any other time of the clock
 abbrev pub ClockMayMove : Type 0
 ClockMayMove =
     (rows : Rows) (clock : ℕ)

@@ -1,4 +1,5 @@
--- Over events that add no agent and change no total and no limit, no role comes to consume more than its limit, or than it did.
+-- During events that add no agent, change no total and set no limit, no role's consumption rises above its limit, or
+-- above what it was.
 use Rattle.std.specs.Prelude.{◌≡◌, ℕ, ◌+◌, ◌≤◌, max, Bool, true, false, not, List, [], ◌∷◌, ◌++◌, map, filter, sum_by, slice_get, Option, Some, None, IsTrue}
 use Rattle.std.specs.List.{list_all, AllByRecursion}
 use Rattle.std.specs.Option.{option_map_or}
@@ -37,9 +38,9 @@ use Rattle.drf_rows.specs.declared.rows.OfferRow.{OfferRow}
 use Rattle.drf_rows.specs.declared.rows.TaskRow.{TaskRow}
 use Rattle.drf_rows.specs.declared.rows.Rows.{Rows}
 
--- ---- the laws, as statements
+-- ---- the statements
 
--- with another total of an agent the roles consume what that reserves for them, in place of what the old one did
+-- with a new total of an agent, what it has reserved is consumed in place of what the old total had reserved
 abbrev pub ChangedAgentIsConsumed : Type 0
 ChangedAgentIsConsumed =
     (rows : Rows) (agent : Text) (total : List Resource) (row : AgentRow) (test : Path → Bool) (label : Text)
@@ -55,14 +56,14 @@ changes_totals (SetAgent agent total) = true
 changes_totals (SetLimit role limit) = true
 changes_totals other = false
 
--- what an event uses or moves are bundles
+-- the bundles that an event uses or moves are valid
 abbrev pub IsGivenBundles : Event → Type 0
 IsGivenBundles (Accept a) = AllByRecursion IsBundle (uses a.tasks)
 IsGivenBundles (Reserve agent role resources) = IsAsked role resources
 IsGivenBundles (Unreserve agent role resources) = IsAsked role resources
 IsGivenBundles other = Unit {0}
 
--- live rows are consistent before each event of a run, as those of an allocator are
+-- before each event of a run the current state is consistent, as it is in an allocator
 abbrev pub StayConsistent : LimitNumbers → Rows → List Event → Type 0
 StayConsistent limits rows [] = Unit {0}
 StayConsistent limits rows (event ∷ events) =
@@ -82,7 +83,7 @@ unfolding effect
 changed_agent_is_consumed rows agent total row test label consistent found =
     consumption-with_total rows agent row consistent found (λ old. total) test label
 
--- ---- where something ends
+-- ---- release of resources
 
 some_le : {X : Type 0} (f : X → ℕ) (p : X → Bool) (xs : List X) → sum_by f (filter p xs) ≤ sum_by f xs
 some_le {X} f p xs =
@@ -202,7 +203,7 @@ limits_stay : (rows : Rows) (event : Event) → changes_totals event ≡ false �
 limits_stay rows (SetLimit role limit) kind = cc
 limits_stay rows event kind = ap (λ (r : Rows). r.limits) (only_changed rows event)
 
--- ---- a step, and a run
+-- ---- a step and a run
 
 module _ (limits : LimitNumbers) (rows : Rows) (event : Event) (label : Text) (place : ℕ) (l : LimitRow)
     (consistent : IsConsistent (live_rows rows)) (given : IsGivenBundles event) (kind : changes_totals event ≡ false) (at : slice_get rows.limits place ≡ Some l)
@@ -211,7 +212,7 @@ module _ (limits : LimitNumbers) (rows : Rows) (event : Event) (label : Text) (p
   KeepsBoth after =
       (after.limits ≡ rows.limits) × (consumption after l.role label ≤ max (amount_of l.limit label) (consumption rows l.role label))
 
-  -- after each event the live rows are the same, whatever filters are spent before it
+  -- after each event the current state is the same, whichever filters had expired
   step_keeps : KeepsBoth (rows_after limits rows event)
   step_keeps = subst (λ (after : Rows). KeepsBoth after) (rows_after-live limits rows event) (by (refusal_of limits (live_rows rows) event) refl)
     where

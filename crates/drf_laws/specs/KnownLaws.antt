@@ -1,4 +1,4 @@
--- By what clients, nodes and agents are known.
+-- How clients and lists of nodes are identified, and when a total covers everything held on an agent.
 use Rattle.std.specs.Prelude.{◌≡◌, true, false, not, List, Some}
 use Rattle.std.specs.List.{list_any}
 use Rattle.drf_role.specs.Text.{Text}
@@ -15,11 +15,11 @@ use Rattle.drf_rows.specs.declared.rows.AgentRow.{AgentRow}
 use Rattle.drf_rows.specs.declared.rows.Rows.{Rows}
 use Rattle.drf_row_laws.specs.Laws.{are_in_order}
 
--- clients with one path are one
+-- clients with the same path are equal
 abbrev pub PathsTellClients : Type 0
 PathsTellClients = (c d : Client) → path_of c ≡ path_of d → c ≡ d
 
--- lists of nodes in order that have the same members are one
+-- two lists of nodes in order are equal if they have the same members
 abbrev pub MembersTellNodes : Type 0
 MembersTellNodes =
     (ps qs : List Path)
@@ -36,7 +36,7 @@ StrangersHoldNothing =
     → has_framework rows client.framework ≡ false
     → held_where (is_of (path_of client)) (holdings_of rows) label ≡ 0
 
--- a total is below what is held on an agent just where it does not cover what is not free there
+-- a total does not cover everything held on an agent exactly if it does not cover everything that is not free there
 abbrev pub HeldIsNotFree : Type 0
 HeldIsNotFree =
     (rows : Rows) (name : Text) (a : AgentRow) (total : List Resource)

@@ -1,3 +1,4 @@
+-- Statements about events, turns and runs of the definition. Their proofs are in `laws`.
 pub mod ConsumptionLaws
 pub mod MovingLaws
 pub mod EndedLaws

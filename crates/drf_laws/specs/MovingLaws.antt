@@ -1,4 +1,4 @@
--- What an event moves that reserves resources or gives them back: that part of one agent alone, and whole steps there and back.
+-- Reserving and unreserving: they change this part of one agent and nothing else, and undo each other.
 use Rattle.std.specs.Prelude.{◌≡◌, ℕ, ◌+◌, ◌≤◌, ◌<◌, Bool, true, false, not, ◌&&◌, List, [], ◌∷◌, map, find, filter, slice_get, Option, Some, None, IsTrue, if◌then◌else◌, nat_le}
 use Rattle.std.specs.List.{list_all}
 use Rattle.std.specs.Option.{option_map_or}
@@ -33,9 +33,9 @@ use Rattle.drf_rows.specs.declared.rows.AgentRow.{AgentRow}
 use Rattle.drf_rows.specs.declared.rows.LimitRow.{LimitRow}
 use Rattle.drf_rows.specs.declared.rows.Rows.{Rows}
 
--- ---- the laws, as statements
+-- ---- the statements
 
--- one part stands in place of another in the total of one agent, and in what is free there; all else is as it was
+-- in the total and the free resources of one agent a part is replaced by another one, and nothing else changes
 pub record IsMoved (rows after : Rows) (agent : Text) (row : AgentRow) (old new : List Resource) : Type 0 where
   pub only : after ≡ record rows { agents = after.agents }
   pub names : map (λ a. a.name) after.agents ≡ map (λ a. a.name) rows.agents
@@ -58,7 +58,7 @@ MovedOnly =
     × (refusal_of limits rows (Unreserve agent role resources) ≡ None
     → IsMoved rows (effect rows (Unreserve agent role resources)) agent row (relabel role resources) resources)
 
--- what was reserved can be given back at once, and then all is as it was, but that two events were accepted
+-- a reservation can be undone at once; the state is then the same, except that two events were accepted
 abbrev pub ReservedCanBeGivenBack : Type 0
 ReservedCanBeGivenBack =
     (limits : LimitNumbers) (rows : Rows) (agent : Text) (role : Path) (resources : List Resource)
@@ -70,7 +70,7 @@ ReservedCanBeGivenBack =
     → (refusal_of limits reserved (Unreserve agent role resources) ≡ None)
     × (rows_after limits reserved (Unreserve agent role resources) ≡ record rows { events = rows.events + 1 + 1 })
 
--- and what was given back can be reserved again, if limits admit it
+-- an unreservation can be undone at once if the limits admit it
 abbrev pub GivenBackCanBeReserved : Type 0
 GivenBackCanBeReserved =
     (limits : LimitNumbers) (rows : Rows) (agent : Text) (role : Path) (resources : List Resource)
@@ -84,7 +84,7 @@ GivenBackCanBeReserved =
     × (IsTrue (admits given role (quantities_of resources))
     → rows_after limits given (Reserve agent role resources) ≡ record rows { events = rows.events + 1 + 1 })
 
--- they do where no limit that binds the role was passed
+-- the limits admit it if no limit that restricts the role was exceeded
 abbrev pub WithinLimitsItIsAdmitted : Type 0
 WithinLimitsItIsAdmitted =
     (limits : LimitNumbers) (rows : Rows) (agent : Text) (role : Path) (resources : List Resource)
@@ -95,7 +95,7 @@ WithinLimitsItIsAdmitted =
     → consumption rows l.role label ≤ amount_of l.limit label)
     → IsTrue (admits (rows_after limits rows (Unreserve agent role resources)) role (quantities_of resources))
 
--- what is refused for a limit would take the role, or a role above it, over its limit
+-- with the refused reservation, the role or a role above it would exceed its limit
 pub record WouldPass (rows after : Rows) (role : Path) : Type 0 where
   pub place : ℕ
   pub l : LimitRow
@@ -112,7 +112,7 @@ RefusedWouldPass =
     → refusal_of limits rows (Reserve agent role resources) ≡ Some OverLimit
     → WouldPass rows (effect rows (Reserve agent role resources)) role
 
--- limits refuse what is to be reserved, or a limit that is set, and nothing else
+-- only reserving and setting a limit depend on limits
 abbrev pub reads_limits : Event → Bool
 reads_limits (Reserve agent role resources) = true
 reads_limits (SetLimit role limit) = true
@@ -124,7 +124,7 @@ LimitsRefuseNothingElse =
     → reads_limits event ≡ false
     → refusal_of limits (record rows { limits = others }) event ≡ refusal_of limits rows event
 
--- ---- what moves
+-- ---- the part that is exchanged
 
 find_other : (name other : Text) (made : List Resource → List Resource) (agents : List AgentRow) → same_text name other ≡ false
     → find (λ a. same_text a.name other) (map (total_at name made) agents) ≡ find (λ a. same_text a.name other) agents
@@ -161,7 +161,7 @@ module _ (rows : Rows) (agent : Text) (row : AgentRow) (consistent : IsConsisten
         ∙ ap Some (sym (free_of-exchanged rows agent row consistent found old new can));
   }
 
-  -- then the second part is free, and can be exchanged for the first again
+  -- then the second part is free, and can be exchanged for the first one again
   back_free : covers (free_of after (record row { total = exchanged old new row.total })) new ≡ true
   back_free =
       ap (λ rs. covers rs new) (free_of-exchanged rows agent row consistent found old new can)
@@ -180,7 +180,7 @@ module _ (rows : Rows) (agent : Text) (row : AgentRow) (consistent : IsConsisten
       (if_named rows agent row consistent found (λ a. exchanged new old (exchanged old new a.total) ≡ a.total)
       (exchanged-back row.total old new in_total))
 
--- the same row is found
+-- both searches find the same row
 same_row : (rows : Rows) (agent : Text) (a b : AgentRow) → agent_at rows agent ≡ Some a → agent_at rows agent ≡ Some b → a ≡ b
 same_row rows agent a b first second =
     let same : ◌≡◌ {A = Option AgentRow} (Some a) (Some b) = sym first ∙ second in
@@ -203,9 +203,9 @@ moved_only limits rows agent role resources row consistent asked found = (
       (can_exchange-unreserve rows agent role resources consistent asked can)),
 )
 
--- ---- there and back
+-- ---- reserving and unreserving in turn
 
--- what both events ask beside what is free
+-- what both events require besides free resources
 pub record IsMovable (rows : Rows) (agent : Text) (role : Path) (resources : List Resource) : Type 0 where
   known : has_agent rows agent ≡ true
   other : is_default role ≡ false
@@ -250,7 +250,7 @@ module _ (limits : LimitNumbers) (rows : Rows) (agent : Text) (role : Path) (res
       by true = refl
       by false = refl
 
--- rows once a part has moved, and one more event was accepted
+-- the state after a part is exchanged and the event is counted
 abbrev moved_rows : Rows → Text → List Resource → List Resource → Rows
 moved_rows rows agent old new =
     record rows { agents = with_total rows agent (exchanged old new); events = rows.events + 1 }
@@ -349,7 +349,7 @@ given_back_can_be_reserved limits rows agent role resources consistent asked acc
 
 -- ---- what limits admit
 
--- of amounts in order each is at most that of its label
+-- in a sorted list of amounts, each is at most the amount of its label
 own_amounts : (es : List Entry) → IsTrue (is_in_order es) → IsTrue (covers_amounts es es)
 own_amounts es ordered = covers_from es es ordered (λ label. omega arith)
 
@@ -442,9 +442,9 @@ within_limits_it_is_admitted limits rows agent role resources consistent asked a
       ap (λ (b : Bool). cond b (amount_of amounts label) 0) (and_parts (is_within l.role role) _ binding).0,
     )))
 
--- ---- what is refused for a limit
+-- ---- reservations that limits refuse
 
--- the first case that is told is not an earlier one
+-- if the refusal is not that of the first case, it comes from the other cases
 later_case : (b : Bool) (r q : Refusal) (cases : List (Bool × Refusal)) → (r ≡ q → ⊥) → first_case ((b, r) ∷ cases) ≡ Some q
     → (b ≡ false) × (first_case cases ≡ Some q)
 later_case true r q cases apart told =
@@ -456,7 +456,7 @@ last_case : (b : Bool) (q : Refusal) → first_case ((b, q) ∷ []) ≡ Some q �
 last_case true q told = refl
 last_case false q told = cc
 
--- all is asked that moves resources, but limits do not admit them
+-- the event satisfies everything that is required of a reservation, except that the limits do not admit it
 record IsOverLimit (rows : Rows) (agent : Text) (role : Path) (resources : List Resource) : Type 0 where
   movable : IsMovable rows agent role resources
   free : is_not_free rows agent resources ≡ false
@@ -504,7 +504,7 @@ module _ (rows : Rows) (agent : Text) (role : Path) (resources : List Resource) 
         },
       )
 
--- without limits all is admitted
+-- without limits all amounts are admitted
 without_limits : (consumed : Consumed) (role : Path) (es : List Entry) → list_all (all_stay consumed role []) es ≡ true
 without_limits consumed role [] = refl
 without_limits consumed role (e ∷ es) = without_limits consumed role es

@@ -1,4 +1,4 @@
--- To whom a cycle makes offers, and with what numbers.
+-- To whom a cycle makes offers, and with which numbers.
 use Rattle.std.specs.Prelude.{◌≡◌, ℕ, zero, suc, ◌+◌, Bool, true, false, not, ◌||◌, List, [], ◌∷◌, ◌++◌, length, map, filter, drop, Option, Some, None}
 use Rattle.std.specs.List.{list_all, list_any, flat_map, AllByRecursion}
 use Rattle.std.specs.Option.{option_map_or}
@@ -39,7 +39,7 @@ count_up-append : (first : ℕ) (ns ms : List ℕ) (middle next : ℕ) → Count
 count_up-append first [] ms middle next here there = subst (λ (n : ℕ). CountUp n ms next) here there
 count_up-append first (n ∷ ns) ms middle next here there = (here.0, count_up-append (first + 1) ns ms middle next here.1 there)
 
--- ---- who is served
+-- ---- which clients are tried
 
 is_first : Standing → List Client → Client → Bool
 is_first s clients c = list_all (λ d. same_path (path_of c) (path_of d) || stands_before s (path_of c) (path_of d)) clients
@@ -59,19 +59,19 @@ each_served P s (suc n) clients all = by (first_of s clients) refl (each_served 
 
 -- ---- the offers of a cycle
 
--- a filter in force holds the offer back
+-- a filter in force covers the offer
 abbrev is_stopped : Rows → OfferRow → Bool
 is_stopped rows o = is_held_back rows.filters rows.clock (of_offer o).client o.agent o.bundle
 
--- what a client is granted no filter holds back
+-- no filter covers what a client is granted
 not_stopped : (rows : Rows) (agent : AgentRow) (client : Client) (bundle : List Resource) → is_grantable rows agent client bundle ≡ true
     → is_held_back rows.filters rows.clock client agent.name bundle ≡ false
 not_stopped rows agent client bundle is =
     let held : Bool = is_held_back rows.filters rows.clock client agent.name bundle in
     not-true held (and_parts (is_allocatable bundle) (not held) is).1
 
--- offers were made, with the next numbers, and each to a client of which something holds, as of all that are active; no filter
--- holds one back
+-- offers were made, with the next numbers, each to a client with the property P, if all active clients have it; no
+-- filter covers an offer
 record Offered (P : Client → Type 0) (start after : Rows) : Type 0 where
   made : List OfferRow
   offers : after.offers ≡ start.offers ++ made
@@ -125,7 +125,7 @@ module _ (P : Client → Type 0) (rows : Rows) (at : ℕ) (all : AllByRecursion 
   offered_new : new_offers rows (cycle rows at) ≡ offered.made
   offered_new = ap (drop (length rows.offers)) offered.offers ∙ drop-append_seam rows.offers offered.made
 
--- ---- clients that are suppressed
+-- ---- suppressed clients
 
 module _ (client : Client) where
   IsOther : Client → Type 0
@@ -165,7 +165,7 @@ suppressed_is_not_offered rows client at silent =
     ap (list_any (λ o. is_same_client client (of_offer o).client)) (offered_new (IsOther client) rows at all)
     ∙ any_fails (λ o. is_same_client client (of_offer o).client) (offered (IsOther client) rows at all).made (offered (IsOther client) rows at all).each
 
--- ---- what filters hold back
+-- ---- what filters cover
 
 pub filtered_is_not_offered : FilteredIsNotOffered
 unfolding cycle
@@ -176,7 +176,7 @@ filtered_is_not_offered rows at =
     (λ i. list_any (λ o. is_held_back (sym kept.0 i) (sym kept.1 i) (of_offer o).client o.agent o.bundle) (offered_new Any rows at all i))
     ∙ any_fails (is_stopped after) (offered Any rows at all).made (offered Any rows at all).let_through
 
--- ---- the numbers that a run tells
+-- ---- the offer numbers of a run
 
 abbrev AreTold : Rows → Reply → Rows → Type 0
 AreTold rows reply after = CountUp rows.next_offer (map (λ line. line.number) (lines_told reply)) after.next_offer

@@ -1,4 +1,4 @@
--- What holds in runs of events, from the start on.
+-- What is true in runs of events from the start.
 use Rattle.std.specs.Prelude.{◌≡◌, ℕ, ◌≤◌, max, true, not, List, slice_get, Some, IsTrue}
 use Rattle.std.specs.List.{list_all, AllByRecursion}
 use Rattle.drf_role.specs.Name.{IsName}
@@ -16,11 +16,11 @@ use Rattle.drf_rows.specs.declared.event.Event.TheVariants.{AddAgent, SetAgent, 
 use Rattle.drf_rows.specs.declared.rows.LimitRow.{LimitRow}
 use Rattle.drf_rows.specs.declared.rows.Rows.{Rows}
 
--- ---- rows stay consistent
+-- ---- the state stays consistent
 
--- the resources of an event are bundles, what it moves it moves to a role or from one, the framework that it registers has a
--- valid name and valid roles, the roles that a framework gets are valid, and so is the role whose weight or limit it sets: so it
--- is of each event, by its type
+-- the bundles, names and roles of the event are valid: its resources, the name and roles of a framework that it
+-- registers, the roles that a framework gets, and the role whose weight or limit it sets; every value of the type
+-- `Event` satisfies this
 abbrev pub IsGiven : Event → Type 0
 IsGiven (AddAgent agent total) = IsBundle total
 IsGiven (SetAgent agent total) = IsBundle total
@@ -33,7 +33,7 @@ IsGiven other = IsGivenBundles other
 abbrev pub AreGiven : List Event → Type 0
 AreGiven events = AllByRecursion IsGiven events
 
--- consistent live rows are so after an event
+-- a consistent current state is consistent after an event
 abbrev pub StepsStayConsistent : Type 0
 StepsStayConsistent =
     (limits : LimitNumbers) (rows : Rows) (event : Event)
@@ -41,7 +41,7 @@ StepsStayConsistent =
     → IsGiven event
     → IsConsistent (live_rows (rows_after limits rows event))
 
--- and after all events of a run
+-- the same after all events of a run
 abbrev pub RunsStayConsistent : Type 0
 RunsStayConsistent =
     (limits : LimitNumbers) (rows : Rows) (events : List Event)
@@ -49,7 +49,7 @@ RunsStayConsistent =
     → AreGiven events
     → IsConsistent (live_rows (rows_after_all limits rows events))
 
--- so do rows with the filters that ran out
+-- the same of the rows with expired filters
 abbrev pub AllRowsStayConsistent : Type 0
 AllRowsStayConsistent =
     (limits : LimitNumbers) (rows : Rows) (events : List Event)
@@ -57,14 +57,14 @@ AllRowsStayConsistent =
     → AreGiven events
     → IsConsistent (rows_after_all limits rows events)
 
--- so from the start on all rows are consistent
+-- in every run from the start the rows are consistent
 abbrev pub RunsFromOpeningAreConsistent : Type 0
 RunsFromOpeningAreConsistent =
     (limits : LimitNumbers) (events : List Event)
     → AreGiven events
     → IsConsistent (rows_after_all limits opening events)
 
--- from the start on nothing is granted twice: on each agent what is free and what is held join to its total
+-- in every run from the start nothing is granted twice: on each agent, free and held resources join to its total
 abbrev pub NothingIsGrantedTwice : Type 0
 NothingIsGrantedTwice =
     (limits : LimitNumbers) (events : List Event)
@@ -74,8 +74,8 @@ NothingIsGrantedTwice =
 
 -- ---- limits of roles are kept
 
--- whatever came before: over events that add no agent, change no total and set no limit, no role comes to consume more than its
--- limit, or than it did
+-- in every run from the start, during events that add no agent, change no total and set no limit, the consumption of a
+-- role does not rise above its limit, or above what it was before
 abbrev pub RunsFromOpeningKeepLimits : Type 0
 RunsFromOpeningKeepLimits =
     (limits : LimitNumbers) (earlier events : List Event) (label : Text) (place : ℕ) (l : LimitRow)
@@ -87,7 +87,7 @@ RunsFromOpeningKeepLimits =
     → IsTrue (is_named l.limit label)
     → consumption (rows_after_all limits rows events) l.role label ≤ max (amount_of l.limit label) (consumption rows l.role label)
 
--- the same of any rows whose live rows are consistent
+-- the same from every state whose current state is consistent
 abbrev pub ConsistentRunsKeepLimits : Type 0
 ConsistentRunsKeepLimits =
     (limits : LimitNumbers) (rows : Rows) (events : List Event) (label : Text) (place : ℕ) (l : LimitRow)

@@ -1,4 +1,4 @@
--- Events by which a client is suppressed or revives change that client alone.
+-- Suppressing and reviving change only their client.
 use Rattle.std.specs.Prelude.{◌≡◌, Bool, true, false, not, ◌&&◌, ◌||◌, List, [], ◌∷◌, map, if◌then◌else◌}
 use Rattle.std.specs.List.{list_all}
 use Rattle.std.proofs.Common.{refl, sym, ap, ◌∙◌}
@@ -16,7 +16,7 @@ use Rattle.drf_row_laws.specs.LifeLaws.{is_same_client, quiet_row, quiet_framewo
 use Rattle.drf_rows.specs.declared.rows.ClientRow.{ClientRow}
 use Rattle.drf_rows.specs.declared.rows.FrameworkRow.{FrameworkRow}
 
--- ---- all of a list that is changed
+-- ---- all elements of a changed list
 
 all_as_before : {X : Type 0} (p : X → Bool) (f : X → X) (xs : List X) → ((x : X) → p (f x) ≡ p x) → list_all p (map f xs) ≡ list_all p xs
 all_as_before p f [] same = refl
@@ -26,9 +26,9 @@ all_each : {X Y : Type 0} (p : Y → Bool) (f : X → Y) (xs : List X) → ((x :
 all_each p f [] each = refl
 all_each p f (x ∷ xs) each = and_from _ _ (each x) (all_each p f xs each)
 
--- ---- the client's rows are told as they are to be
+-- ---- the rows of the client are as they should be
 
--- a row is another client's, or is suppressed, or is not, as the test says
+-- the row belongs to another client, or its suppression passes the test
 abbrev passes_row : (Bool → Bool) → Client → FrameworkRow → ClientRow → Bool
 passes_row test client f c = not (is_same_client client (client_of f c)) || test c.suppressed
 

@@ -1,4 +1,4 @@
--- What holds of each turn, and so of each cycle.
+-- What is true of each turn, and so of each cycle.
 use Rattle.std.specs.Prelude.{◌≡◌, ℕ, ◌+◌, ◌*◌, ◌≤◌, true, false, List, length, filter, Some}
 use Rattle.std.specs.List.{AllByRecursion}
 use Rattle.drf_role.specs.Text.{same_text}
@@ -11,20 +11,20 @@ use Rattle.drf_rows.specs.Held.{clients_of, is_registered}
 use Rattle.drf_rows.specs.declared.rows.AgentRow.{AgentRow}
 use Rattle.drf_rows.specs.declared.rows.Rows.{Rows}
 
--- whom it serves is registered
+-- a turn tries only registered clients
 abbrev pub ServedAreRegistered : Type 0
 ServedAreRegistered = (rows : Rows) → AllByRecursion (λ c. is_registered rows.frameworks c ≡ true) (turn_order rows)
 
--- it serves no more clients than there are
+-- a turn tries at most as many clients as are registered
 abbrev pub ServedAreFew : Type 0
 ServedAreFew = (rows : Rows) → length (turn_order rows) ≤ length (clients_of rows)
 
--- a bundle that is part of what is free
+-- the bundle is a part of the free bundle
 pub record IsPart (bundle free : List Resource) : Type 0 where
   pub bundle_is : IsBundle bundle
   pub small : (key : Key) (p : Point) → units bundle key p ≤ units free key p
 
--- what it grants is part of what is free on the agent
+-- a grant is a part of the free resources of the agent
 abbrev pub GrantsArePart : Type 0
 GrantsArePart =
     (rows : Rows) (agent : AgentRow) (client : Client) (bundle : List Resource)
@@ -32,13 +32,13 @@ GrantsArePart =
     → grant rows agent client ≡ Some bundle
     → IsPart bundle (free_of rows agent)
 
--- a cycle makes no more offers than there are active agents times clients
+-- a cycle makes at most as many offers as there are active agents, times the number of clients
 abbrev pub CyclesMakeFewOffers : Type 0
 CyclesMakeFewOffers =
     (rows : Rows) (at : ℕ)
     → (cycle rows at).next_offer ≤ rows.next_offer + length (filter (λ a. a.active) rows.agents) * length (clients_of rows)
 
--- clients that are tried on one agent leave what is free on others
+-- trying clients on one agent leaves the free resources of other agents unchanged
 abbrev pub OtherAgentsStayFree : Type 0
 OtherAgentsStayFree =
     (rows : Rows) (agent : AgentRow) (clients : List Client) (other : AgentRow)

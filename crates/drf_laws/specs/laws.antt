@@ -1,4 +1,4 @@
--- Theorems about the definition, which prove the statements beside this folder.
+-- Theorems about the definition, from which the statements in the folder above are proved.
 pub mod Nodes
 pub mod Clients
 pub mod Tests

@@ -1,4 +1,5 @@
-//! Laws of events, of turns and of runs. The functions do nothing: what they promise is proved of the definitions, and of the type of events.
+//! Theorems about accepted events, turns and runs. The functions do nothing: their contracts are proved about the
+//! definition and the type of events.
 
 ghost use Rattle.std.specs.List.{AllByRecursion};
 ghost use Rattle.drf_role.specs.Role.{IsRole};
@@ -13,9 +14,10 @@ ghost use Rattle.drf_laws.specs.TurnLaws.{ServedAreRegistered, ServedAreFew, Gra
 use drf_role::Role;
 use drf_rows::Event;
 
-/// An event that is not refused: no case of refusal holds of it, be it of the rows or of others with the same live rows, and an accept has an
-/// offer that covers its tasks. After it rows that were consistent are so, and agents, frameworks, clients, weights and accepted events that
-/// were within the limits, with offers numbered by the events, are so.
+/// Proves what is true for an accepted event. No refusal case holds. In any other state with the same current state the
+/// event is accepted too, and makes the same offers. An accept has an offer that covers its tasks. A consistent state is
+/// consistent after the event, and agents, frameworks, clients, weights, accepted events and offer numbers stay within
+/// their bounds.
 pub fn event_law()
     ensures cases { NoCaseHolds }
     ensures live { LiveRowsDecide }
@@ -24,8 +26,9 @@ pub fn event_law()
     ensures counts { EventsKeepCounts }
 {}
 
-/// A turn serves registered clients, no more than there are, grants parts of what is free on its agent, and leaves what is free on others. So a
-/// cycle makes no more offers than there are active agents times clients.
+/// Proves that a turn tries only registered clients, at most as many as there are, grants parts of the free resources of
+/// its agent, and leaves the free resources of other agents. So a cycle makes at most as many offers as there are active
+/// agents, times the number of clients.
 pub fn turns_law()
     ensures registered { ServedAreRegistered }
     ensures few { ServedAreFew }
@@ -34,8 +37,9 @@ pub fn turns_law()
     ensures others { OtherAgentsStayFree }
 {}
 
-/// A client is known by its path, and a list of nodes in order by its members. A client of no registered framework holds no scalar, and a
-/// total covers what is held on an agent just where it covers what is not free there.
+/// Proves that different clients have different paths, that a sorted list of nodes is determined by its members, that a
+/// client of an unregistered framework holds no scalar, and that a total covers everything held on an agent exactly if
+/// it covers everything that is not free there.
 pub fn known_law()
     ensures clients { PathsTellClients }
     ensures nodes { MembersTellNodes }
@@ -43,7 +47,8 @@ pub fn known_law()
     ensures held { HeldIsNotFree }
 {}
 
-/// Rows that are kept have small numbers, and rows that are consistent are so without the filters that ran out, and at another moment.
+/// Proves bounds on offer numbers, totals and the ends of filters in consistent states, and that a state stays
+/// consistent when expired filters are removed or the clock moves.
 pub fn kept_law()
     ensures numbers { KeptNumbersAreSmall }
     ensures totals { KeptTotalsAreSmall }
@@ -52,10 +57,11 @@ pub fn kept_law()
     ensures clock { ClockMayMove }
 {}
 
-/// How a decline and an accept that are not refused change the filters. A decline sets one of all that was offered, an accept one of what
-/// it leaves, if that is anything; for no time they set none. It is that of the offer's framework in the offer's role, on the offer's agent,
-/// until so long after the event as it says, and after 365 days at most. From the event on, while no other event changes a filter, that
-/// client is held back there just what the bundle covers, until then, and nobody anything else that was not held back before.
+/// Proves how accepting and declining set filters. A decline sets a filter with the whole offer, and an accept one with
+/// the rest of the offer, if there is any; with `refuse_ms` 0 they set none. The filter belongs to the client of the
+/// offer, on the agent of the offer, and ends `refuse_ms` after the event, or after 365 days if that is sooner. From
+/// then on, while no other event changes a filter and until the filter ends, the client is not offered what the filter
+/// covers on this agent, and nothing else is withheld that was not withheld before.
 pub fn set_filters_law()
     ensures declined { DeclinedSetsFilter }
     ensures accepted { AcceptedSetsFilter }
@@ -64,7 +70,7 @@ pub fn set_filters_law()
     ensures left { LeftIsHeldBack }
 {}
 
-/// Tells the proof that roles are valid.
+/// Proves that the roles are valid, from the invariant of `Role`.
 fn recall_roles(roles: &[Role])
     ensures { AllByRecursion IsRole roles.now }
 {
@@ -73,8 +79,9 @@ fn recall_roles(roles: &[Role])
     }
 }
 
-/// By its type, the resources of every event are bundles, what it moves it moves to a role or from one, the framework that it
-/// registers has a valid name and valid roles, the roles that a framework gets are valid, and so is the role whose weight or limit it sets.
+/// Proves that the bundles, names and roles in an event are valid, from the invariants of their types: the resources of
+/// each event, the name and roles of a framework that registers or changes its roles, and the role whose weight or
+/// limit is set. Resources are only reserved for, and unreserved from, a valid role.
 pub fn given_law(event: &Event)
     ensures { IsGiven event.now }
 {
@@ -109,8 +116,8 @@ pub fn given_law(event: &Event)
     }
 }
 
-/// Rows that are consistent stay so, over each event and each run, with the filters that ran out or without them. So from the start on they
-/// are, and nothing is granted twice.
+/// Proves that each event and each run keep a consistent state consistent, with or without expired filters. So in every
+/// run from the start the state is consistent, and no resources are granted twice.
 pub fn consistent_runs_law()
     ensures step { StepsStayConsistent }
     ensures run { RunsStayConsistent }
@@ -119,15 +126,17 @@ pub fn consistent_runs_law()
     ensures start { NothingIsGrantedTwice }
 {}
 
-/// Whatever came before, from the start on: over events that add no agent, change no total and set no limit, no role comes to consume
-/// more than its limit, or than it did. So it is from any consistent rows.
+/// Proves that during events that add no agent, change no total and set no limit, the consumption of a role does not
+/// rise above its limit, or above what it was before: from every consistent state, and from every state that a run from
+/// the start reaches.
 pub fn kept_limits_law()
     ensures start { RunsFromOpeningKeepLimits }
     ensures consistent { ConsistentRunsKeepLimits }
 {}
 
-/// From the start on the tables stay within the limits of the allocator: agents, frameworks, the roles of each, clients, the filters
-/// that are in force, weights and limits of roles, the names of scalars over all agents and of each limit, and accepted events.
+/// Proves that in every run from the start the tables stay within the capacities: agents, frameworks, the roles of
+/// each, clients, filters in force, weights and limits of roles, names of scalars over all agents and in each limit,
+/// and accepted events.
 pub fn bounded_runs_law()
     ensures { RunsStayWithinLimits }
 {}

@@ -1,4 +1,5 @@
-//! Laws of events, of turns and of runs, proved of the definition alone.
+//! Theorems about events, turns, limits and runs of the definition. Each is the contract of a function that does
+//! nothing.
 #![tactic(auto)]
 
 mod definition;

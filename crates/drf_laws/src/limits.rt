@@ -1,4 +1,5 @@
-//! Laws of quota limits and reservations. The functions do nothing: what they promise is proved of the definitions alone.
+//! Theorems about quota limits and reservations. The functions do nothing: their contracts are proved about the
+//! definition alone.
 
 ghost use Rattle.drf_row_laws.specs.QuotaLaws.{GrantKeepsLimits, CycleKeepsLimits, SpentLimitLeavesNothing, ConsumptionIsPartOfTotal};
 ghost use Rattle.drf_row_laws.specs.ReservationLaws.{ReservedIsGivenBack, ReservingKeepsLimits, MovedIsConsumed, ChangedAgentKeepsAll};
@@ -9,8 +10,8 @@ ghost use Rattle.drf_laws.specs.HeldForLaws.{ReservedIsHeldByItsRole};
 ghost use Rattle.drf_laws.specs.KeptLimitLaws.{ChangedAgentIsConsumed, RunsKeepLimits};
 ghost use Rattle.drf_row_laws.specs.LimitLaws.{RoleHasItsLimit, OthersKeepTheirLimit, LimitTakesNothing};
 
-/// An offer of what a client may have of a bundle takes neither its role nor a role above it over a limit, and so no cycle does.
-/// A limit that is at most the consumption leaves nothing, and no role consumes more than there is.
+/// Proves that an offer of at most the entitlement takes neither its role nor a role above it over a limit, so that no
+/// cycle does. If at least the limit is consumed, no headroom is left. No role consumes more than the cluster's total.
 pub fn limits_law()
     ensures kept { GrantKeepsLimits }
     ensures cycle { CycleKeepsLimits }
@@ -18,30 +19,31 @@ pub fn limits_law()
     ensures part { ConsumptionIsPartOfTotal }
 {}
 
-/// Of what is free a client may have what is reserved for its role or one above it, nothing else that is reserved, and of what is for
-/// everyone all but the scalars that the headroom cuts. So what is reserved is held by clients of its role and of roles below alone.
+/// Proves what a client can have of a free bundle: everything reserved for its role or a role above it, no other
+/// reserved resources, and all unreserved resources except what the headroom cuts from scalars. So only clients of a
+/// role and of the roles below it hold resources reserved for it.
 pub fn entitlement_law()
     ensures units { EntitledByUnits }
     ensures held { ReservedIsHeldByItsRole }
 {}
 
-/// An event that sets a limit changes the limit of its role, and nothing else: what is consumed above it stays where it is.
+/// Proves that setting a limit changes the limit of its role and nothing else: holdings above the limit stay.
 pub fn set_limit_law()
     ensures set { RoleHasItsLimit }
     ensures others { OthersKeepTheirLimit }
     ensures nothing { LimitTakesNothing }
 {}
 
-/// A role consumes at least what each role below it consumes, less than 2^52 thousandths, and of an offer that was accepted no more
-/// than its tasks.
+/// Proves that a role consumes at least what each role below it consumes, that consumption is less than 2^52
+/// thousandths, and that of an accepted offer only the tasks are consumed.
 pub fn consumption_law()
     ensures above { RolesAboveConsumeMore }
     ensures rest { RestIsConsumedNoLonger }
     ensures small { ConsumptionIsSmall }
 {}
 
-/// An event that reserves or gives back moves that part of one agent alone, and can be taken back at once: what was reserved always,
-/// and what was given back as far as limits admit it.
+/// Proves that reserving and unreserving change the reservation of this part of one agent and nothing else. A
+/// reservation can be undone at once; an unreservation can be undone if the limits admit it.
 pub fn moving_law()
     ensures only { MovedOnly }
     ensures back { ReservedCanBeGivenBack }
@@ -49,28 +51,30 @@ pub fn moving_law()
     ensures admitted { WithinLimitsItIsAdmitted }
 {}
 
-/// Limits refuse nothing but what is to be reserved, where a role would consume more than its limit with it, and limits themselves.
+/// Proves that limits refuse nothing except reservations with which a role would consume more than its limit, and,
+/// through their capacity, limits themselves.
 pub fn limit_refusals_law()
     ensures passed { RefusedWouldPass }
     ensures nothing { LimitsRefuseNothingElse }
 {}
 
-/// What is reserved is consumed by its role and the roles above it, takes none of them over a limit, and once it is given back
-/// all is as it was.
+/// Proves that reserved resources count as consumed by their role and the roles above it, that reserving takes none of
+/// these over a limit, and that reserving and then unreserving restores the state.
 pub fn reservations_law()
     ensures back { ReservedIsGivenBack }
     ensures kept { ReservingKeepsLimits }
     ensures consumed { MovedIsConsumed }
 {}
 
-/// An agent whose total changes keeps all that is held there, and nothing else of the rows changes. What the new total reserves is
-/// consumed in place of what the old one did.
+/// Proves that setting the total of an agent keeps everything held there and changes nothing else in the state. What
+/// the new total has reserved is consumed in place of what the old one had.
 pub fn set_agent_law()
     ensures kept { ChangedAgentKeepsAll }
     ensures consumed { ChangedAgentIsConsumed }
 {}
 
-/// Over events that add no agent, change no total and set no limit, no role comes to consume more than its limit, or than it did.
+/// Proves that during events that add no agent, change no total and set no limit, the consumption of a role does not
+/// rise above its limit, or above what it was before.
 pub fn limited_runs_law()
     ensures { RunsKeepLimits }
 {}

@@ -1,4 +1,4 @@
--- What is promised of each cycle, and of each turn in it.
+-- The promises about each cycle and each of its turns.
 use Rattle.std.specs.Prelude.{◌≡◌, ℕ, ◌≤◌, max, true, false, List, [], ◌∷◌, ◌++◌, filter, flat_map, Some, None}
 use Rattle.std.specs.List.{AllByRecursion}
 use Rattle.drf_bundle.specs.Bundle.{IsBundle, is_unreserved}
@@ -18,23 +18,23 @@ use Rattle.drf_explain.specs.Explained.{explained}
 use Rattle.drf_explain.specs.ExplainedLaws.{grants_in}
 use Rattle.drf_promises.specs.Runs.{Has}
 
--- the agents that take part
+-- the active agents
 abbrev pub active_agents : Rows → List AgentRow
 active_agents rows = filter (λ a. a.active) rows.agents
 
--- as the rows stand the client would be granted nothing on the agent
+-- in this state the client would be granted nothing on the agent
 abbrev pub GetsNothing : Rows → AgentRow → Client → Type 0
 GetsNothing rows agent client = grant rows agent client ≡ None
 
--- no client that takes part would be granted anything on any agent that does
+-- no active client would be granted anything on any active agent
 abbrev pub NothingIsLeft : Rows → Type 0
 NothingIsLeft rows = AllByRecursion (λ agent. AllByRecursion (GetsNothing rows agent) (active_clients rows)) (active_agents rows)
 
--- so it is after every cycle
+-- this is so after every cycle
 abbrev pub CyclesLeaveNothing : Type 0
 CyclesLeaveNothing = (rows : Rows) (at : ℕ) → IsConsistent rows → at ≤ LATEST_MOMENT → NothingIsLeft (cycle rows at)
 
--- and a second cycle changes nothing while no time passes
+-- a second cycle changes nothing if no time passes
 abbrev pub SecondCyclesAreIdle : Type 0
 SecondCyclesAreIdle =
     (rows : Rows) (at later : ℕ)
@@ -43,7 +43,7 @@ SecondCyclesAreIdle =
     → later ≤ max rows.clock at
     → cycle (cycle rows at) later ≡ cycle rows at
 
--- and an explanation tells no grant
+-- an explanation directly after a cycle reports no grant
 abbrev pub NothingIsExplained : Type 0
 NothingIsExplained =
     (rows : Rows) (at later : ℕ)
@@ -52,17 +52,18 @@ NothingIsExplained =
     → later ≤ max rows.clock at
     → flat_map grants_in (explained (cycle rows at) later) ≡ []
 
--- no filter is in force: there may be some that ran out
+-- no filter is in force; there can be expired ones
 abbrev pub IsUnfiltered : Rows → Type 0
 IsUnfiltered rows = in_force rows.clock rows.filters ≡ []
 
--- whatever is free may be offered to anybody: nothing is reserved, limited or refused
+-- the cluster is open: nothing is reserved, there are no limits, and no filter is in force
 pub record IsOpen (rows : Rows) : Type 0 where
   pub unreserved : AllByRecursion (λ a. is_unreserved a.total ≡ true) rows.agents
   pub limits : rows.limits ≡ []
   pub filters : IsUnfiltered rows
 
--- then, if it is so at a cycle's moment, all that is worth an offer is handed out, if anybody takes part
+-- if the cluster is open at the time of the cycle and a client is active, what the cycle leaves free on an agent is too
+-- little for an offer
 abbrev pub AllIsHandedOut : Type 0
 AllIsHandedOut =
     (rows : Rows) (at : ℕ) (client : Client)
@@ -74,7 +75,7 @@ AllIsHandedOut =
 
 -- ---- who comes first
 
--- as a client is tried in a turn, those who were tried before it would be granted nothing more
+-- when a client is tried in a turn, the clients tried before it would be granted nothing more
 abbrev pub NobodyIsPassed : Type 0
 NobodyIsPassed =
     (rows : Rows) (agent : AgentRow) (earlier later : List Client) (client : Client)
@@ -83,8 +84,8 @@ NobodyIsPassed =
     → turn_order rows ≡ earlier ++ client ∷ later
     → AllByRecursion (GetsNothing (all_tried rows agent earlier) agent) earlier
 
--- an offer of a turn: its client is granted its bundle as its turn comes, and whoever stands before that client, as the turn began, would then be
--- granted nothing
+-- an offer of a turn goes to the first client: it is what the client is granted when it is tried, and every client
+-- before it in the order of the turn would then be granted nothing
 pub record GoesToTheFirst (rows : Rows) (agent : AgentRow) (offer : OfferRow) : Type 0 where
   pub earlier : List Client
   pub later : List Client
@@ -94,7 +95,7 @@ pub record GoesToTheFirst (rows : Rows) (agent : AgentRow) (offer : OfferRow) : 
       (λ c. stands_before (standing_of rows) (path_of c) (path_of (of_offer offer).client) ≡ true → GetsNothing (all_tried rows agent earlier) agent c)
       (active_clients rows)
 
--- so is each
+-- so each offer of a turn goes to the first client
 abbrev pub OffersGoToTheFirst : Type 0
 OffersGoToTheFirst =
     (rows : Rows) (agent : AgentRow)

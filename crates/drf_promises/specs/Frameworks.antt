@@ -1,4 +1,5 @@
--- What more frameworks bring their role: nothing. Two clusters that stand alike but for names offer the same to each role.
+-- The promise that more frameworks gain their role nothing: clusters that differ only in frameworks and names offer the
+-- same to each role.
 use Rattle.std.specs.Prelude.{◌≡◌, Bool, true, ⊤, List, [], ◌∷◌, map, is_some, flat_map}
 use Rattle.std.specs.List.{AllByRecursion, list_any}
 use Rattle.drf_role.specs.Path.{Path, begins_with, client_path, same_path}
@@ -20,15 +21,15 @@ use Rattle.drf_promises.specs.Cycles.{IsUnfiltered}
 
 -- ---- two clusters
 
--- an offer, but for the framework that it is made to
+-- the offer without the framework that it is made to
 abbrev pub unnamed_offer : OfferRow → OfferRow
 unnamed_offer o = record o { framework = [] }
 
--- a task, but for its framework and its name
+-- the task without its framework and its name
 abbrev pub unnamed_task : TaskRow → TaskRow
 unnamed_task t = record t { framework = []; name = [] }
 
--- a framework of the role takes part
+-- the role is active: one of its clients is
 abbrev pub has_part : Rows → Path → Bool
 has_part rows role = list_any (λ c. same_path c.role role) (active_clients rows)
 
@@ -36,8 +37,9 @@ has_part rows role = list_any (λ c. same_path c.role role) (active_clients rows
 abbrev pub IsOfRoles : Path → Type 0
 IsOfRoles node = (role : Path) (f g : Text) → begins_with (client_path role f) node ≡ begins_with (client_path role g) node
 
--- Two clusters differ in nothing but which framework of a role has what, and in how many frameworks a role has: agents, weights and limits are the same,
--- and so is each offer and each task but for its framework; the same roles take part, and got as many offers. No filter is in force.
+-- Two clusters differ only in how many frameworks each role has, and in which framework has what. Agents, weights and
+-- limits are the same, and so is each offer and each task except for its framework. The same roles are active, and
+-- received as many offers. No filter is in force.
 pub record StandAlike (rows other : Rows) : Type 0 where
   pub agents : other.agents ≡ rows.agents
   pub weights : other.weights ≡ rows.weights
@@ -50,11 +52,11 @@ pub record StandAlike (rows other : Rows) : Type 0 where
   pub unfiltered : IsUnfiltered rows
   pub unfiltered_too : IsUnfiltered other
 
--- a cluster in which no filter is in force stands as itself
+-- a cluster in which no filter is in force is like itself
 abbrev pub EachStandsAsItself : Type 0
 EachStandsAsItself = (rows : Rows) → IsUnfiltered rows → StandAlike rows rows
 
--- and as before when one more framework comes, in roles that take part without it
+-- it stays like another one when one more framework registers in roles that are already active
 abbrev pub OneMoreStandsAlike : Type 0
 OneMoreStandsAlike =
     (rows other : Rows) (framework : Text) (roles : List Path)
@@ -64,37 +66,37 @@ OneMoreStandsAlike =
 
 -- ---- two runs
 
--- a framework, and what it calls its tasks
+-- another framework, and its names for tasks
 pub record Names : Type 0 where
   pub framework : Text
   pub task : Text → Text
 
--- the event, as another framework brings it about
+-- the event with the framework and the task names replaced
 abbrev pub with_names : Names → Event → Event
 with_names names (Accept a) = Accept (record a { framework = names.framework; tasks = map (λ s. (names.task s.0, s.1)) a.tasks })
 with_names names (Decline d) = Decline (record d { framework = names.framework })
 with_names names (Finish framework task) = Finish names.framework (names.task task)
 with_names names other = other
 
--- which of the tasks an event finishes
+-- for each task, whether the event finishes it
 abbrev pub finished : Rows → Event → List Bool
 finished rows (Finish framework task) = map (is_task framework task) rows.tasks
 finished rows other = []
 
--- the event comes to the same in both: it is refused in both or in neither, and ends the same task; and no filter is set by it
+-- in both clusters the event is refused or in neither, it finishes the same task, and no filter is in force after it
 pub record ComesToTheSame (limits : LimitNumbers) (rows other : Rows) (event : Event) (names : Names) : Type 0 where
   pub refused : is_some (refusal_of limits other (with_names names event)) ≡ is_some (refusal_of limits rows event)
   pub finishes : finished other (with_names names event) ≡ finished rows event
   pub unfiltered : IsUnfiltered (rows_after limits rows event)
 
--- what happens in two runs side by side
+-- a step of two runs side by side
 pub data Step : Type 0 where
-  -- an event, in the other run with other names
+  -- an event in both, with other names in the other run
   in_both : Event → Names → Step
-  -- in the other run alone, a framework comes in some roles
+  -- a framework that registers only in the other run, in some roles
   comes : Text → List Path → Step
 
--- the events of the one run, and of the other
+-- the events of the first run, and those of the other run
 abbrev pub events_of_one : List Step → List Event
 events_of_one [] = []
 events_of_one (in_both event names ∷ steps) = event ∷ events_of_one steps
@@ -105,7 +107,7 @@ events_of_other [] = []
 events_of_other (in_both event names ∷ steps) = with_names names event ∷ events_of_other steps
 events_of_other (comes framework roles ∷ steps) = AddFramework framework roles ∷ events_of_other steps
 
--- an event by which no framework goes or changes its roles, and none changes what it wants
+-- the event does not remove a framework, change its roles, suppress or revive
 abbrev pub NobodyGoes : Event → Type 0
 NobodyGoes (SetFramework framework roles) = ⊥
 NobodyGoes (RemoveFramework framework) = ⊥
@@ -113,7 +115,8 @@ NobodyGoes (Suppress framework role) = ⊥
 NobodyGoes (Revive framework role) = ⊥
 NobodyGoes other = ⊤
 
--- each event comes to the same, and who comes in the other run alone comes in roles that take part without it
+-- each event does the same in both, and frameworks that register only in the other run do so in roles that are already
+-- active
 abbrev pub ComeToTheSame : LimitNumbers → Rows → Rows → List Step → Type 0
 ComeToTheSame limits rows other [] = ⊤
 ComeToTheSame limits rows other (in_both event names ∷ steps) =
@@ -122,17 +125,17 @@ ComeToTheSame limits rows other (comes framework roles ∷ steps) =
     AllByRecursion (λ role. has_part other role ≡ true) roles
     × ComeToTheSame limits rows (rows_after limits other (AddFramework framework roles)) steps
 
--- an offer that is told, but for the framework
+-- the line of an offer without its framework
 abbrev pub to_role : OfferLine → OfferLine
 to_role line = record line { framework = [] }
 
--- what a run offers to roles: number, agent, role and bundle of each offer that is told
+-- what a run offers to roles: number, agent, role and bundle of each offer in its replies
 abbrev pub offers_to_roles : LimitNumbers → Rows → List Event → List OfferLine
 offers_to_roles limits rows events = map to_role (flat_map lines_told (replies_to limits rows events))
 
--- Two clusters that stand alike do so over runs that differ in names alone, and in frameworks that come to roles that take part without them; and each
--- role is made the same offers in both: with limits, reservations and weights, and whatever agents come, go or change, and whoever comes in both, while
--- no framework goes, changes its roles, suppresses or revives.
+-- Two clusters that are alike in this sense stay alike in such runs, and each role is made the same offers in both.
+-- There can be limits, reservations and weights, agents can change in any way, and frameworks can register, while no
+-- framework is removed, changes its roles, is suppressed or revives.
 abbrev pub MoreFrameworksGainNothing : Type 0
 MoreFrameworksGainNothing =
     (limits : LimitNumbers) (rows other : Rows) (steps : List Step)

@@ -1,3 +1,4 @@
+-- Statements of the promises. Their proofs are in `laws`, and computed runs in `examples`.
 pub mod Runs
 pub mod Cycles
 pub mod Siblings

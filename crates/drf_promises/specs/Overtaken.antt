@@ -1,4 +1,4 @@
--- What is promised to who waits while others are made offers: nobody overtakes it.
+-- The promise to a client that waits while others are made offers: no other client overtakes it.
 use Rattle.std.specs.Prelude.{◌≡◌, true, false, List}
 use Rattle.drf_role.specs.Path.{Path, begins_with}
 use Rattle.drf_role.specs.Text.{Text}
@@ -13,13 +13,14 @@ use Rattle.drf_rows.specs.declared.rows.Rows.{Rows}
 use Rattle.drf_laws.specs.RunLaws.{AreGiven}
 use Rattle.drf_promises.specs.Apart.{AllKeepAll}
 
--- the clients of a node got no offer, and hold what they held
+-- between the two states, the clients of the node received no offer, and they hold the same
 pub record GotNothing (rows after : Rows) (node : Path) : Type 0 where
   pub held : (label : Text) → held_by after node label ≡ held_by rows node label
   pub count : count_of after node ≡ count_of rows node
 
--- Over a run of cycles, reports, accepts of whole offers and agents that become active, who is served before another client stays so while it got
--- nothing, nor did any node of its own: a role that the other is not in, or, where their roles differ, the frameworks of its role itself.
+-- In a run of cycles, reports, accepts of whole offers and activations of agents, a client that is served before
+-- another stays before it as long as it gets nothing, and the nodes that only it is under get nothing: roles that the
+-- other is not in, and the `.` node of its role if the other is in a different role.
 abbrev pub NobodyOvertakes : Type 0
 NobodyOvertakes =
     (limits : LimitNumbers) (rows : Rows) (events : List Event) (first second : Client)

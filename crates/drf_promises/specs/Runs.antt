@@ -1,4 +1,5 @@
--- What is promised of whole runs.
+-- The promises about whole runs: offers and tasks stay until they are ended, and reserved resources stay with their
+-- role.
 use Rattle.std.specs.Prelude.{◌≡◌, ℕ, List, [], ◌∷◌, slice_get, Some}
 use Rattle.std.specs.List.{AllByRecursion}
 use Rattle.drf_rows.specs.Holdings.{holdings_of}
@@ -12,18 +13,20 @@ use Rattle.drf_rows.specs.declared.rows.Rows.{Rows}
 use Rattle.drf_rows.specs.declared.rows.TaskRow.{TaskRow}
 use Rattle.drf_laws.specs.RunLaws.{AreGiven}
 
+-- the element occurs in the list
 abbrev pub Has : {X : Type 0} → List X → X → Type 0
 Has xs x = (place : ℕ) × (slice_get xs place ≡ Some x)
 
--- it is not the event by which the offer ends: an accept, a decline or a rescission of it, or the end of its agent's part or of its framework
+-- the event does not end the offer: it is no accept, decline or rescind of it, and does not deactivate or remove its
+-- agent or remove its framework
 abbrev pub SparesOffer : OfferRow → Event → Type 0
 SparesOffer offer event = other_offers event (offer ∷ []) ≡ offer ∷ []
 
--- nor that by which the task ends: its finish, or the removal of its agent or framework
+-- the event does not end the task: it does not finish it, and does not remove its agent or its framework
 abbrev pub SparesTask : TaskRow → Event → Type 0
 SparesTask task event = other_tasks event (task ∷ []) ≡ task ∷ []
 
--- over all other events an offer stands as it was made
+-- during events that do not end it, an offer stays as it was made
 abbrev pub OffersStand : Type 0
 OffersStand =
     (limits : LimitNumbers) (rows : Rows) (events : List Event) (offer : OfferRow)
@@ -31,7 +34,7 @@ OffersStand =
     → AllByRecursion (SparesOffer offer) events
     → Has (rows_after_all limits rows events).offers offer
 
--- and a task keeps all that it uses
+-- during events that do not end it, a task stays and keeps what it uses
 abbrev pub TasksStand : Type 0
 TasksStand =
     (limits : LimitNumbers) (rows : Rows) (events : List Event) (task : TaskRow)
@@ -39,7 +42,7 @@ TasksStand =
     → AllByRecursion (SparesTask task) events
     → Has (rows_after_all limits rows events).tasks task
 
--- in no run from the start does anybody hold what is reserved for a role that is neither its own nor above it
+-- in no run from the start does a client hold resources that are reserved for another role than its own or one above it
 abbrev pub ReservedIsItsRoles : Type 0
 ReservedIsItsRoles =
     (limits : LimitNumbers) (events : List Event)

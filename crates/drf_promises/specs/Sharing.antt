@@ -1,4 +1,4 @@
--- What is promised of the part that each sibling gets.
+-- The promise of a minimum share for each sibling (sharing incentive).
 use Rattle.std.specs.Prelude.{◌≡◌, ℕ, ◌+◌, ◌*◌, ◌<◌, ◌≤◌, true, List, [], ◌∷◌, filter, length, sum_by}
 use Rattle.std.specs.List.{AllByRecursion}
 use Rattle.drf_role.specs.Path.{Path, begins_with}
@@ -17,22 +17,26 @@ use Rattle.drf_promises.specs.Apart.{largest_agent, AreClientsOf, AreOneAgentApa
 use Rattle.drf_promises.specs.Cycles.{IsOpen}
 use Rattle.drf_promises.specs.Siblings.{child, AtMostSum}
 
+-- n times the fraction
 abbrev pub times : ℕ → Fraction → Fraction
 times n f = record { part = n * f.part; whole = f.whole }
 
+-- the dominant share of a node in a state
 abbrev pub share_at : Rows → Path → Fraction
 share_at rows node = share_of (standing_of rows) node
 
+-- the weight of a node in a state, in thousandths
 abbrev pub weight_at : Rows → Path → ℕ
 weight_at rows node = weight_of rows.weights node
 
--- one child and the others hold all that their parent holds
+-- one child and the others together hold everything that their parent holds
 abbrev pub HoldAll : Rows → Path → Text → List Text → Type 0
 HoldAll rows parent one others =
     (label : Text) → held_by rows parent label ≤ held_by rows (child parent one) label + sum_by (λ name. held_by rows (child parent name) label) others
 
--- Where siblings are one agent apart, each child has its part of what its parent has, by weight, but for one agent a sibling. With a weight of w,
--- of W for all, and n siblings its share is at least w/W of the parent's share less n times that of the largest agent.
+-- If siblings are one agent apart, each active child has its part by weight of what its parent has, less one agent for
+-- each sibling. With its weight w, the sum W of all weights, and n siblings, its share is at least w/W times (the share
+-- of the parent - n times the share of the largest agent).
 abbrev pub SharingIncentive : Type 0
 SharingIncentive =
     (rows : Rows) (parent : Path) (one : Text) (others : List Text)
@@ -44,10 +48,11 @@ SharingIncentive =
     let all : ℕ = w + sum_by (λ name. weight_at rows (child parent name)) others in
     AtMostSum (times w (share_at rows parent)) (times all (share_at rows (child parent one))) (times (w * length others) (largest_agent rows))
 
--- ---- of an empty cluster
+-- ---- in an empty cluster
 
--- So of an empty cluster, where every agent is active and worth an offer and at a cycle's moment nothing is reserved, limited or refused, the cycle gives
--- each role at the top its part by weight, but for the largest agent a sibling: at least w/W less n times w/W of that agent's share.
+-- In an empty cluster, in which every agent is active and large enough to be offered, and nothing is reserved, limited
+-- or filtered at the time of the cycle, the cycle gives each active top-level role at least w/W - n w/W times the share
+-- of the largest agent.
 abbrev pub FairShares : Type 0
 FairShares =
     (rows : Rows) (at : ℕ) (one : Text) (others : List Text) (label : Text)
@@ -65,11 +70,11 @@ FairShares =
     let all : ℕ = w + sum_by (λ name. weight_at after (child [] name)) others in
     AtMostSum (times w (record { part = 1; whole = 1 })) (times all (share_at after (child [] one))) (times (w * length others) (largest_agent after))
 
--- how many offers clients of the node have
+-- how many offers the clients of a node have outstanding
 abbrev pub offers_to : Rows → Path → ℕ
 offers_to rows node = length (filter (λ o. begins_with (path_of (of_offer o).client) node) rows.offers)
 
--- so of m equal agents each gets at least w/W of m - n
+-- so of m equal agents each top-level role gets at least w/W of m - n
 abbrev pub EqualAgentsAreShared : Type 0
 EqualAgentsAreShared =
     (rows : Rows) (at : ℕ) (one : Text) (others : List Text) (total : List Resource)

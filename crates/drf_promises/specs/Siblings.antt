@@ -1,4 +1,4 @@
--- What is promised of siblings: the roles and clients at one node of the tree.
+-- The promises about siblings: the roles and clients below one node of the tree.
 use Rattle.std.specs.Prelude.{◌≡◌, ℕ, ◌+◌, ◌*◌, ◌≤◌, true, false, [], ◌∷◌, ◌++◌}
 use Rattle.drf_role.specs.Path.{Path, begins_with}
 use Rattle.drf_role.specs.Text.{Text}
@@ -15,6 +15,7 @@ use Rattle.drf_rows.specs.declared.rows.Rows.{Rows}
 use Rattle.drf_sorter.specs.Fractions.{dominant_of, weigh}
 use Rattle.drf_sorter.specs.Served.{Weighs}
 
+-- the path of a child of the parent
 abbrev pub child : Path → Text → Path
 child parent name = parent ++ name ∷ []
 
@@ -24,7 +25,7 @@ child parent name = parent ++ name ∷ []
 abbrev pub AtMost : Fraction → Fraction → Type 0
 AtMost f g = f.part * g.whole ≤ g.part * f.whole
 
--- the first fraction is at most the sum of the two others
+-- the first fraction is at most the sum of the other two
 abbrev pub AtMostSum : Fraction → Fraction → Fraction → Type 0
 AtMostSum f g h = f.part * (g.whole * h.whole) ≤ (g.part * h.whole + h.part * g.whole) * f.whole
 
@@ -32,14 +33,14 @@ AtMostSum f g h = f.part * (g.whole * h.whole) ≤ (g.part * h.whole + h.part * 
 abbrev pub weighted_share_in : Standing → Path → (Text → ℕ) → Fraction
 weighted_share_in s node amounts = weigh (dominant_of amounts s.total) (s.weight node)
 
--- a node gets some amounts more
+-- from s to t, the node gets these amounts and keeps its weight, and the cluster's total is the same
 pub record GetsMore (s t : Standing) (node : Path) (amounts : Text → ℕ) : Type 0 where
   pub held : (label : Text) → t.held node label ≡ s.held node label + amounts label
   pub weight : t.weight node ≡ s.weight node
   pub total : t.total ≡ s.total
 
--- Who is ahead of a sibling and gets some amounts more comes past it by no more than these: its weighted share is then at most what the
--- sibling's was, and the share of these amounts by its own weight.
+-- If a node comes before a sibling and gets some amounts, it passes it by no more than these: its new weighted share is
+-- at most the sibling's old one, plus the share of these amounts divided by its own weight.
 abbrev pub OneOfferApart : Type 0
 OneOfferApart =
     (s t : Standing) (parent : Path) (a b : Text) (amounts : Text → ℕ)
@@ -49,13 +50,13 @@ OneOfferApart =
 
 -- ---- sums decide
 
--- the clients of a node hold as much together, got as many offers, and the node has the same weight
+-- in both, the clients of the node hold the same together and received as many offers, and the node has the same weight
 pub record HoldsTheSame (s t : Standing) (node : Path) : Type 0 where
   pub held : (label : Text) → s.held node label ≡ t.held node label
   pub count : s.count node ≡ t.count node
   pub weight : s.weight node ≡ t.weight node
 
--- of two siblings these sums decide who is ahead, however they are shared out among clients and roles below
+-- these sums decide which of two siblings comes first, however they are divided among clients and roles below
 abbrev pub SumsDecide : Type 0
 SumsDecide =
     (s t : Standing) (parent : Path) (a b : Text)
@@ -64,15 +65,16 @@ SumsDecide =
     → s.total ≡ t.total
     → is_ahead s parent a b ≡ is_ahead t parent a b
 
--- ---- who holds more is served later
+-- ---- a client that holds more is served later
 
--- a node comes to hold as much or more, to have got as many offers or more, and to have the same weight or less
+-- from s to t, the node holds at least as much, has received at least as many offers, and has at most the same weight
 pub record HoldsMore (s t : Standing) (node : Path) : Type 0 where
   pub held : (label : Text) → s.held node label ≤ t.held node label
   pub count : s.count node ≤ t.count node
   pub weight : t.weight node ≤ s.weight node
 
--- who is served before a client stays so while at no node of its own it holds more, and at none of the other's the other holds less
+-- a client stays before another if no node that only it is under holds more, and no node that only the other is under
+-- holds less
 abbrev pub MoreIsLater : Type 0
 MoreIsLater =
     (s t : Standing) (first second : Path)
@@ -84,7 +86,7 @@ MoreIsLater =
     → stands_before s first second ≡ true
     → stands_before t first second ≡ true
 
--- so whoever is served before a client stays so when that is made an offer
+-- so a client that is served before another stays before it when the other is made an offer
 abbrev pub OfferIsLater : Type 0
 OfferIsLater =
     (rows : Rows) (offer : OfferRow) (first : Client)
@@ -92,7 +94,7 @@ OfferIsLater =
     → stands_before (standing_of rows) (path_of first) (path_of (of_offer offer).client) ≡ true
     → stands_before (standing_of (with_offer rows offer)) (path_of first) (path_of (of_offer offer).client) ≡ true
 
--- and a greater weight of its role puts no client behind another
+-- a greater weight of its role moves no client behind another
 abbrev pub WeightIsNotLater : Type 0
 WeightIsNotLater =
     (rows : Rows) (role : Path) (weight : ℕ) (first second : Client)

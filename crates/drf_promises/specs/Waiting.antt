@@ -1,4 +1,4 @@
--- What is promised to who waits for a machine that others decline.
+-- The promise to a client that waits for an agent which others decline.
 use Rattle.std.specs.Prelude.{◌≡◌, ℕ, ◌+◌, ◌<◌, ◌≤◌, min, true, List, [], ◌∷◌, ◌++◌, length}
 use Rattle.std.specs.List.{AllByRecursion, list_any}
 use Rattle.drf_rows.specs.Client.{Client}
@@ -15,32 +15,34 @@ use Rattle.drf_rows.specs.declared.rows.OfferRow.{OfferRow}
 use Rattle.drf_rows.specs.declared.rows.Rows.{Rows}
 use Rattle.drf_promises.specs.Cycles.{active_agents, IsOpen}
 
--- the offers of a cycle
+-- the offers that a cycle makes
 abbrev pub made_at : Rows → ℕ → List OfferRow
 made_at rows at = new_offers rows (effect rows (Cycle at))
 
--- the rows once each of some offers was declined
+-- the state after each of some offers is declined
 abbrev pub all_declined : ℕ → ℕ → Rows → List OfferRow → Rows
 all_declined at refuse_ms rows [] = rows
 all_declined at refuse_ms rows (offer ∷ offers) =
     all_declined at refuse_ms
     (effect rows (Decline (record { framework = offer.framework; offer = offer.number; at = at; refuse_ms = refuse_ms }))) offers
 
--- the rows after a cycle of which each offer is declined at once
+-- the state after a cycle whose offers are all declined at once
 abbrev pub round : ℕ → Rows → ℕ → Rows
 round refuse_ms rows at = all_declined at refuse_ms (effect rows (Cycle at)) (made_at rows at)
 
--- the offers of such cycles
+-- the offers that a list of such cycles makes
 abbrev pub made_in : ℕ → Rows → List ℕ → List OfferRow
 made_in refuse_ms rows [] = []
 made_in refuse_ms rows (at ∷ moments) = made_at rows at ++ made_in refuse_ms (round refuse_ms rows at) moments
 
+-- one of the offers is made to the client
 abbrev pub IsOffered : List OfferRow → Client → Type 0
 IsOffered offers client = list_any (λ o. is_same_client client (of_offer o).client) offers ≡ true
 
--- One agent is active, what is free on it is worth an offer, and as some cycles begin nothing is reserved, limited or refused. Where each declines what
--- it is offered, for longer than these cycles take, each is offered something in as many of them as there are clients that take part, whatever the tree
--- and the shares.
+-- One agent is active, its free resources are large enough to be offered, and nothing is reserved, limited or filtered
+-- as the first cycle begins. If every client declines what it is offered, with a filter that lasts for all the cycles,
+-- every active client is offered something within as many cycles as there are active clients, whatever the tree and the
+-- shares.
 abbrev pub EverybodyIsOffered : Type 0
 EverybodyIsOffered =
     (rows : Rows) (agent : AgentRow) (moments : List ℕ) (first last refuse_ms : ℕ)

@@ -1,2 +1,2 @@
--- Computed from the definition: what is promised, and what is not.
+-- Runs that are computed from the definition: one for each promise, and one for each expectation that fails.
 pub mod PromiseExamples

@@ -1,4 +1,4 @@
--- Theorems about runs, which prove the statements beside this folder.
+-- Theorems about cycles and runs, from which the promises are proved.
 pub mod Less
 pub mod Left
 pub mod Cycles

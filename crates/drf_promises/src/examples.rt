@@ -1,4 +1,5 @@
-//! Runs that are computed from the definition. The functions do nothing.
+//! Runs that are computed from the definition: one for each promise, and one for each expectation that fails. The
+//! functions do nothing.
 #![tactic(auto, unfolding(drf_rows::specs::Share::is_ahead, drf_rows::specs::Held::standing_of, drf_rows::specs::Cycle::free_of, drf_rows::specs::Cycle::with_offer, drf_rows::specs::Cycle::turn, drf_rows::specs::Cycle::cycle, drf_rows::specs::Step::refusal_of, drf_rows::specs::Step::effect, drf_rows::specs::Step::rows_after, drf_rows::specs::Step::reply_to, drf_explain::specs::Explained::explained))]
 
 ghost use Rattle.std.specs.Prelude.{◌≡◌, ◌∷◌, [], codes, true};
@@ -16,9 +17,10 @@ ghost use Rattle.drf_promises.specs.Passes.{lead_of, passes_in};
 ghost use Rattle.drf_promises.specs.Sharing.{share_at};
 ghost use Rattle.drf_promises.specs.examples.PromiseExamples.{a, alone, among, arrived, b, colleague, cut, declined, declined_by_each, declined_in_role, fa, fb, fc, grown, in_turn, its_task, large, little_used, modest, offered_to, one, one_more, reserved, rows_of, running, shared, six, small, small_agent, unlike, waiting, weighed};
 
-/// What is left is explained by a limit, a task runs on whatever happens, what is reserved goes to its role, a machine that each declines is offered to
-/// each, who holds nothing is passed once where the other has no lead, five equal agents are shared as three and two, and six between roles as before when
-/// one of them has a framework more, and who gets nothing while another does is not overtaken by whom it stands before.
+/// Proves one run for each promise. Free resources that a cycle leaves are explained by a limit; a task keeps running;
+/// reserved resources go to their role; an agent that each client declines is offered to each; a role that holds
+/// nothing is passed over once; five equal agents are shared 3 to 2; one more framework in a role changes nothing in
+/// how six agents are shared between roles; and a client that gets nothing while another one does is not overtaken.
 pub fn promises_example()
     ensures left { explained (rows_of cut) 0 ≡ Tried (codes "n1") (path_of (record { role = a; framework = fa })) (OverLimit a) ∷ [] }
     ensures running { (rows_of running).tasks ≡ its_task ∷ [] }
@@ -31,11 +33,13 @@ pub fn promises_example()
     ensures not_overtaken { offered_to waiting ≡ fa ∷ fb ∷ fc ∷ [] }
 {}
 
-/// What is not promised. Shares of the moment do not decide within a turn, and of one agent one of two gets nothing; a team that splits into two roles
-/// gains; who takes less than it is offered loses the rest; who declines for no time is offered the same again; a greater weight, or one framework
-/// less to share with, may leave a framework with less; who uses little of what it took is not one agent apart; a role is offered what one of its
-/// frameworks declined for a time if it has another; one more agent may leave a framework with less; of two that have the same share one may have room
-/// for fewer tasks; and agents are not offered alike whichever of them came first.
+/// Proves runs in which an expectation fails that is not promised. Shares as they are within a turn do not decide; of
+/// two clients, only one gets the only agent; a team gains by splitting into two roles; a framework that takes less
+/// than it is offered loses the rest; a framework that declines without a filter is offered the same again; a framework
+/// can get less with a greater weight, or with one framework less to share with; a framework that uses little of what
+/// it accepted can get more than one agent more than its sibling; a role is offered what one of its frameworks
+/// declined, if it has another framework; one more agent can leave a framework with less; two frameworks with equal
+/// shares can have room for different numbers of tasks; and the order in which agents register changes who gets what.
 pub fn not_promised_example()
     ensures in_turn { offered_to in_turn ≡ fa ∷ fb ∷ [] }
     ensures one { offered_to one ≡ fa ∷ [] }

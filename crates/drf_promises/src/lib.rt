@@ -1,4 +1,4 @@
-//! What the allocator promises over whole runs, proved of the definition alone.
+//! What an operator can rely on over whole cycles and runs, as theorems about the definition. See docs/PROMISES.md.
 #![tactic(auto)]
 
 mod examples;

@@ -1,4 +1,4 @@
--- How many filters, limits, weights and names of scalars there are after an event, and how many roles each framework has.
+-- Bounds on the numbers of filters, limits, weights and scalar names after an event, and of roles of each framework.
 use Rattle.std.proofs.Common.{◌≡◌, ℕ, ◌+◌, ◌≤◌, Bool, true, false, not, ◌&&◌, List, [], ◌∷◌, ◌++◌, Some, length, map, refl, ap, inl, inr, cond, arith, nat_lt, nat_le, ◌⊎◌}
 use Rattle.std.specs.Prelude.{filter}
 use Rattle.std.specs.List.{list_any, AllByRecursion}
@@ -39,7 +39,7 @@ use Rattle.drf_rows.specs.declared.rows.WeightRow.{WeightRow}
 abbrev one_if_in_force : ℕ → FilterRow → ℕ
 one_if_in_force now f = cond (nat_lt now f.until) 1 0
 
--- some of them
+-- a sublist of the filters has at most as many in force
 pub fewer_in_force : (now : ℕ) (p : FilterRow → Bool) (fs : List FilterRow) → number_in_force now (filter p fs) ≤ number_in_force now fs
 fewer_in_force now p [] = omega arith
 fewer_in_force now p (f ∷ fs) =
@@ -51,7 +51,7 @@ fewer_in_force now p (f ∷ fs) =
       fewer_in_force now p fs,
     )
 
--- later
+-- later at most as many filters are in force
 pub in_force_later : (now later : ℕ) (fs : List FilterRow) → now ≤ later → number_in_force later fs ≤ number_in_force now fs
 in_force_later now later [] le = omega arith
 in_force_later now later (f ∷ fs) le =
@@ -69,7 +69,7 @@ in_force_later now later (f ∷ fs) le =
         rw (here, before) (omega arith)
     one (inr past) = rw past (omega arith)
 
--- one more, where not as many are in force as the limit
+-- one more filter fits if fewer than the capacity are in force
 pub one_more_in_force : (most now : ℕ) (fs : List FilterRow) (f : FilterRow) → nat_le most (number_in_force now fs) ≡ false
     → number_in_force now (fs ++ f ∷ []) ≤ most
 one_more_in_force most now fs f few =
@@ -200,7 +200,7 @@ roles-counted most made fs all =
 
 -- ---- names of scalars
 
--- no name comes with an agent that leaves
+-- removing an agent adds no name of a scalar
 pub names-without_agent : (rows : Rows) (name : Text) (a : AgentRow) → IsConsistent rows → agent_at rows name ≡ Some a
     → length (cluster_total (filter (λ b. not (same_text b.name name)) rows.agents)) ≤ length (cluster_total rows.agents)
 names-without_agent rows name a consistent found =

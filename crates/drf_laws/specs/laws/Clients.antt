@@ -1,4 +1,4 @@
--- Clients: who is registered, and that nobody else holds anything.
+-- Clients: which are registered, and that only these hold anything.
 use Rattle.std.proofs.Common.{refl, ◌≡◌, ◌+◌, true, List, [], ◌∷◌, Some, sym, ap, subst, ◌∙◌, inl, inr, cond}
 use Rattle.std.specs.List.{AllByRecursion, list_any}
 use Rattle.drf_role.specs.Text.{Text, same_text}
@@ -17,7 +17,7 @@ use Rattle.drf_row_laws.specs.ConsistentLaws.{has_its_role, same_text-swap}
 use Rattle.drf_rows.specs.declared.rows.FrameworkRow.{FrameworkRow}
 use Rattle.drf_bundle.specs.ListLaws.{none_has, only_none, each_from}
 
--- clients with one path are one
+-- clients with the same path are equal
 pub path_of-injective : (c d : Client) → path_of c ≡ path_of d → c ≡ d
 path_of-injective c d same =
     let roles : c.role ≡ d.role = sym (role_part-client_path c.role c.framework) ∙ (ap role_part same ∙ role_part-client_path d.role d.framework) in
@@ -26,11 +26,11 @@ path_of-injective c d same =
 
 -- ---- frameworks that are not registered
 
--- the framework is registered, in some role
+-- the row is that of the client's framework
 abbrev pub is_framework : Client → FrameworkRow → Bool
 is_framework client f = same_text f.name client.framework
 
--- no client of a framework that is not registered
+-- if a framework is not registered, none of its clients is
 pub unregistered : (frameworks : List FrameworkRow) (client : Client)
     → list_any (is_framework client) frameworks ≡ false → is_registered frameworks client ≡ false
 unregistered [] client new = refl
@@ -43,7 +43,7 @@ unregistered (f ∷ fs) client new =
     by true later known none next = cc
     by false later known none next = next none
 
--- a client whose framework is not registered holds nothing, as what is held is held by registered clients
+-- a client whose framework is not registered holds nothing, because all holdings belong to registered clients
 module _ (agents : List AgentRow) (frameworks : List FrameworkRow) (client : Client)
     (new : list_any (is_framework client) frameworks ≡ false) where
   held_by_another : (h : Holding) → IsHeld agents frameworks h → is_of (path_of client) h ≡ false
@@ -65,12 +65,12 @@ module _ (agents : List AgentRow) (frameworks : List FrameworkRow) (client : Cli
       held_where-cons (is_of (path_of client)) h hs label
       ∙ (λ i. cond (held_by_another h held.0 i) (amount_in label h) 0 + nothing_held hs label held.1 i)
 
--- ---- the framework of that name
+-- ---- the framework with a name
 
 abbrev pub named : Text → FrameworkRow → Bool
 named name f = same_text f.name name
 
--- it is the only one
+-- only one framework has the name
 pub one_named : (name : Text) (fs : List FrameworkRow) (f : FrameworkRow)
     → are_distinct (map (λ g. g.name) fs) ≡ true → find (named name) fs ≡ Some f
     → AllByRecursion (λ g. named name g ≡ true → g ≡ f) fs

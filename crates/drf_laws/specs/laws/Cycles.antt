@@ -1,4 +1,4 @@
--- Rows that are consistent are so after a cycle.
+-- A cycle keeps a state consistent.
 use Rattle.std.proofs.Common.{◌≡◌, ℕ, suc, ◌≤◌, true, List, [], ◌∷◌, Some, refl, sym, ap, subst, ◌∙◌}
 use Rattle.std.specs.Prelude.{filter, max, slice_get}
 use Rattle.std.specs.List.{AllByRecursion}
@@ -18,7 +18,7 @@ use Rattle.drf_rows.specs.declared.rows.Rows.{Rows}
 use Rattle.drf_laws.specs.laws.Turns.{turn_order-registered, entitled_part}
 use Rattle.drf_laws.specs.laws.Kept.{consistent-clock}
 
--- each element stands at a place
+-- the element occurs at some place
 abbrev pub IsAt : {X : Type 0} → List X → X → Type 0
 IsAt xs x = (place : ℕ) × (slice_get xs place ≡ Some x)
 
@@ -26,7 +26,7 @@ pub each_is_at : {X : Type 0} (xs : List X) → AllByRecursion (IsAt xs) xs
 each_is_at [] = tt
 each_is_at (x ∷ xs) = ((0, refl), each_from (IsAt xs) (IsAt (x ∷ xs)) xs (λ y at. (suc at.0, at.1)) (each_is_at xs))
 
--- rows as they are in the middle of a cycle: consistent, with the same agents and clients
+-- a state within a cycle: it is consistent, with the agents and clients of the beginning
 pub record IsMidway (start rows : Rows) : Type 0 where
   pub consistent : IsConsistent rows
   pub agents : rows.agents ≡ start.agents
@@ -44,7 +44,7 @@ module _ (start : Rows) where
   abbrev IsKnown : Client → Type 0
   IsKnown client = is_registered start.frameworks client ≡ true
 
-  -- whoever is served is known
+  -- all clients that are tried are registered
   known_served : (rows : Rows) → IsMidway start rows → AllByRecursion IsKnown (turn_order rows)
   known_served rows mid =
       each_from (λ c. is_registered rows.frameworks c ≡ true) IsKnown (turn_order rows) (λ c here. sym (mid.clients c) ∙ here) (turn_order-registered rows)

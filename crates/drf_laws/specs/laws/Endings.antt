@@ -1,4 +1,4 @@
--- Rows that are consistent are so once all that is to end has ended.
+-- A consistent state is consistent after an `Ending`.
 use Rattle.std.proofs.Common.{◌≡◌, ℕ, ◌≤◌, Bool, true, not, ◌&&◌, List, [], ◌∷◌, map, refl, subst, inl, inr, arith, nat_lt}
 use Rattle.std.specs.Prelude.{filter}
 use Rattle.std.specs.List.{list_all, AllByRecursion}
@@ -21,7 +21,7 @@ use Rattle.drf_rows.specs.declared.rows.OfferRow.{OfferRow}
 use Rattle.drf_rows.specs.declared.rows.TaskRow.{TaskRow}
 use Rattle.drf_rows.specs.declared.rows.Rows.{Rows}
 
--- ---- lists of which some elements stay
+-- ---- lists with some of their elements kept
 
 pub all_kept : {X : Type 0} (p q : X → Bool) (xs : List X) → list_all p xs ≡ true → list_all p (filter q xs) ≡ true
 all_kept p q [] all = refl
@@ -79,7 +79,7 @@ each_kept_of : {X : Type 0} (P : Holding → Type 0) (g : X → Holding) (p : X 
     → AllByRecursion P (map g xs) → AllByRecursion P (map g (filter p xs))
 each_kept_of P g p xs all = each_map P g (filter p xs) (each_filter (λ x. P (g x)) p xs (each_of P g xs all))
 
--- no more is held on an agent
+-- at most as much is held on an agent as before
 units_kept : {X : Type 0} (agent : Text) (key : Key) (point : Point) (g : X → Holding) (p : X → Bool) (xs : List X)
     → units_on agent (map g (filter p xs)) key point ≤ units_on agent (map g xs) key point
 units_kept agent key point g p [] = omega arith
@@ -90,7 +90,7 @@ units_kept agent key point g p (x ∷ xs) =
       | inr goes ↦ rw goes (omega (arith, more, units_kept agent key point g p xs))
     ]
 
--- ---- what ends
+-- ---- release of resources
 
 module _ (rows : Rows) (ending : Ending) where
   abbrev offers_left : List OfferRow
@@ -125,14 +125,14 @@ module _ (rows : Rows) (ending : Ending) where
       (tasks_kept (λ t. not (ends_task ending t)) rows.tasks consistent.tasks)
       (rising_kept (λ o. not (ends_offer ending o)) rows.offers rows.next_offer consistent.numbered)
 
-  -- then nothing is left to end
+  -- a second time the same ending ends nothing
   pub ended_twice : without_ended (without_ended rows ending) ending ≡ without_ended rows ending
   ended_twice = λ i. record rows {
     offers = filter-again (λ o. not (ends_offer ending o)) rows.offers i;
     tasks = filter-again (λ t. not (ends_task ending t)) rows.tasks i;
   }
 
--- ---- who leaves with all that ends
+-- ---- removed agents and frameworks
 
 pub IsConsistent-agent_left : (rows : Rows) (name : Text) → IsConsistent rows → IsConsistent (agent_removed rows name)
 IsConsistent-agent_left rows name consistent =

@@ -1,4 +1,4 @@
--- Rows that are consistent are so after each event that is not refused.
+-- A consistent state is consistent after each accepted event.
 use Rattle.std.proofs.Common.{◌≡◌, ℕ, ◌≤◌, Bool, true, false, List, [], ◌∷◌, Option, Some, None, map, refl, sym, ap, subst, ◌∙◌}
 use Rattle.std.specs.Prelude.{max}
 use Rattle.std.specs.List.{AllByRecursion}
@@ -79,7 +79,7 @@ module _ (limits : LimitNumbers) (rows : Rows) (consistent : IsConsistent rows) 
 
   -- ---- offers
 
-  -- the filters, with that of an offer if it is refused
+  -- the filters after an accept or a decline are valid, whether it sets a filter or not
   are_filters : (number : ℕ) (o : OfferRow) (bundle : List Resource) (at refuse_ms : ℕ) → offer_at rows number ≡ Some o → IsBundle bundle
       → max rows.clock at ≤ LATEST_MOMENT → (refused : Bool)
       → AllByRecursion (IsFilter rows.agents rows.frameworks) (filters_with (at_moment rows at) refused o bundle refuse_ms)

@@ -1,4 +1,4 @@
--- What is kept after an event that is not refused: no table grows past its limit, and numbers of offers stay below what the events allow.
+-- After an accepted event no table exceeds its capacity, and offer numbers stay below what the number of events allows.
 use Rattle.std.proofs.Common.{◌≡◌, ℕ, ◌+◌, ◌*◌, ◌<◌, ◌≤◌, ◌^◌, Bool, true, false, List, [], ◌∷◌, None, length, map, refl, sym, ap, ◌∙◌, inl, inr, arith, nat_lt}
 use Rattle.std.specs.Prelude.{◌||◌, filter, not}
 use Rattle.std.specs.List.{AllByRecursion}
@@ -49,7 +49,7 @@ length-clients-filter p (f ∷ fs) =
       | inr past ↦ rw past (omega (arith, whole, length-clients-filter p fs))
     ]
 
--- a framework that is suppressed in a role has as many clients
+-- suppressing a framework in a role does not change its number of clients
 length-suppressed : (client : Client) (suppressed : Bool) (f : FrameworkRow)
     → length (map (client_of (suppressed_in client suppressed f)) (suppressed_in client suppressed f).clients)
     ≡ length (map (client_of f) f.clients)
@@ -92,7 +92,7 @@ module _ (limits : LimitNumbers) (rows : Rows) (few : AreFew limits rows) (numbe
       omega (arith, few.agents, length-map rows.agents (total_at agent (exchanged (relabel role resources) resources)))
   agents_after event none = omega (arith, few.agents, ap (λ (r : Rows). length r.agents) (only_changed rows event))
 
-  -- frameworks and their clients
+  -- there are few enough frameworks and clients
   abbrev AreFewFrameworks : List FrameworkRow → Type 0
   AreFewFrameworks frameworks = (length frameworks ≤ limits.frameworks) × (length (clients_in frameworks) ≤ limits.clients)
 
@@ -184,7 +184,7 @@ IsKept-opening limits rows opens within = rw opens (record {
   numbered = omega arith;
 })
 
--- filters are forgotten
+-- expired filters are removed
 pub IsKept-forgot : (limits : LimitNumbers) (rows new : Rows) → IsKept limits rows
     → new ≡ record rows { filters = new.filters } → IsConsistent new → IsKept limits new
 IsKept-forgot limits rows new kept same right = record {
@@ -210,22 +210,22 @@ module _ (limits : LimitNumbers) (rows : Rows) (kept : IsKept limits rows) where
       let numbered : rows.next_offer ≤ 1 + rows.events * 2 ^ 24 = kept.numbered in
       omega (arith, events, numbered)
 
-  -- numbers of offers are below what every run allows
+  -- offer numbers are below the bound for every run
   pub numbers_bounded : AllByRecursion (λ o. o.number ≤ 2 ^ 56) rows.offers
   numbers_bounded = numbers_within rows.offers rows.next_offer (2 ^ 56) kept.consistent.numbered (omega (arith, few_offers_kept))
 
--- and filters, those in force among them, end before 2^63
+-- every filter ends before 2^63, so each one in force does
 pub filters_bounded : (rows : Rows) → IsConsistent rows → AllByRecursion (λ f. f.until < 2 ^ 63) (live_rows rows).filters
 filters_bounded rows consistent =
     let Ends : FilterRow → Type 0 = λ f. f.until < 2 ^ 63 in
     each_filter Ends (is_in_force rows.clock) rows.filters
     (each_from (IsFilter rows.agents rows.frameworks) Ends rows.filters (λ f is. is.until) consistent.filters)
 
--- the rows with the filters in force alone are consistent
+-- the current state of a consistent state is consistent
 pub consistent-live : (rows : Rows) → IsConsistent rows → IsConsistent (live_rows rows)
 consistent-live rows consistent = IsConsistent-filters_kept rows (is_in_force rows.clock) consistent
 
--- consistent rows stay so when the clock moves
+-- a consistent state stays consistent when the clock moves
 pub consistent-clock : (rows : Rows) (clock : ℕ) → IsConsistent rows → clock ≤ LATEST_MOMENT → IsConsistent (record rows { clock = clock })
 consistent-clock rows clock right early = record {
   agents = right.agents;
@@ -243,12 +243,12 @@ consistent-clock rows clock right early = record {
 
 -- ---- what agents have
 
--- over all of them
+-- the sum over all agents is small
 pub sound_total : (limits : LimitNumbers) (rows : Rows) → IsKept limits rows → (label : Text)
     → amount_of (cluster_total rows.agents) label < 2 ^ 52
 sound_total limits rows kept label = small_total rows.agents label kept.consistent.agents.each (few_agents_kept limits rows kept)
 
--- one more fits, where it is not refused
+-- one more agent fits if the event is accepted
 pub few_agents : (limits : LimitNumbers) (rows : Rows) (agent : Text) (total : List Resource) → AreFew limits rows → refusal_of limits rows (AddAgent agent total) ≡ None
     → length rows.agents < 4096
 few_agents limits rows agent total few none =
@@ -256,7 +256,7 @@ few_agents limits rows agent total few none =
     let long : length (with_agent rows agent total) ≤ limits.agents = ltb-false limits.agents (length (with_agent rows agent total)) many.0 in
     omega (arith, long, few.ceilings.agents.1, length-append rows.agents (record { name = agent; total = total; active = true } ∷ []))
 
--- what the others have is small
+-- what the other agents have is small
 pub small_others : (rows : Rows) (agent label : Text) → IsConsistent rows → length rows.agents ≤ 4096
     → amount_of (cluster_total (filter (λ a. not (same_text a.name agent)) rows.agents)) label < 2 ^ 52
 small_others rows agent label consistent few =

@@ -1,4 +1,4 @@
--- Paths in order are known by which they are.
+-- A sorted list of paths is determined by its members.
 use Rattle.std.specs.Prelude.{◌≡◌, Bool, true, false, ◌||◌, List, [], ◌∷◌}
 use Rattle.std.specs.List.{list_all, list_any}
 use Rattle.std.specs.Ordering.{nat_cmp, is_lt, is_eq, ordering_reverse}
@@ -32,7 +32,7 @@ same_as_tie a b = lists_ties (slice_cmp nat_cmp) texts_ties a b
 apart : (a b : Path) → is_below a b ≡ true → same_path a b ≡ false
 apart a b below = same_as_tie a b ∙ ap is_eq (less_from_test (path_cmp a b) below)
 
--- what is below all of them is none of them
+-- a path that is less than all members is not a member
 none_of : (a : Path) (ps : List Path) → list_all (is_below a) ps ≡ true → list_any (same_path a) ps ≡ false
 none_of a [] all = refl
 none_of a (p ∷ ps) all =

@@ -1,4 +1,4 @@
--- An accept that is not refused may start its tasks.
+-- An accepted `accept` can start its tasks.
 use Rattle.std.proofs.Common.{◌≡◌, false, Option, None, sym, ap, ◌∙◌}
 use Rattle.std.specs.Prelude.{not}
 use Rattle.std.specs.Option.{option_map_or}
@@ -16,7 +16,7 @@ use Rattle.drf_rows.specs.declared.rows.OfferRow.{OfferRow}
 use Rattle.drf_rows.specs.declared.rows.Rows.{Rows}
 use Rattle.drf_laws.specs.laws.Welcome.{no_case_of}
 
--- an offer that is accepted stands and covers what the tasks use, and the tasks are new
+-- the offer is outstanding and covers the parts of the tasks, and the tasks are new
 pub can_accept : (limits : LimitNumbers) (rows : Rows) (a : accepting.Accept) → refusal_of limits rows (Accept a) ≡ None
     → CanAccept rows a.offer a.tasks
 can_accept limits rows a none =

@@ -1,4 +1,5 @@
--- Rows that are consistent are so once the roles of a framework change, and the framework has one client for each role of the list.
+-- After the roles of a framework change, a consistent state is consistent, and the framework has one client for each
+-- role of the list.
 use Rattle.std.specs.Prelude.{◌≡◌, ℕ, ◌≤◌, suc, Bool, true, false, not, ◌&&◌, ◌||◌, List, [], ◌∷◌, ◌++◌, length, map, filter, if◌then◌else◌}
 use Rattle.std.specs.List.{list_any, list_all, AllByRecursion}
 use Rattle.std.proofs.Common.{refl, sym, ap, subst, ◌∙◌, inl, inr, arith}
@@ -35,7 +36,7 @@ all-append p (x ∷ xs) ys all more =
     let parts = and_parts (p x) (list_all p xs) all in
     and_from (p x) (list_all p (xs ++ ys)) parts.0 (all-append p xs ys parts.1 more)
 
--- two lists of roles, each once, of which none stands in the other
+-- two lists without repetitions and without a common role, appended
 apart-append : (xs ys : List Path) → are_distinct_roles xs ≡ true → are_distinct_roles ys ≡ true
     → AllByRecursion (λ x. list_all (is_other x) ys ≡ true) xs → are_distinct_roles (xs ++ ys) ≡ true
 apart-append [] ys first second apart = second
@@ -49,7 +50,7 @@ apart-append (x ∷ xs) ys first second apart =
 abbrev pub roles_of : List ClientRow → List Path
 roles_of clients = map (λ c. c.role) clients
 
--- the roles that no client had
+-- the roles of the list that no client had
 abbrev roles_joined : List Path → List ClientRow → List Path
 roles_joined roles clients = filter (λ role. not (has_role clients role)) (distinct roles)
 
@@ -62,7 +63,7 @@ roles_of-with_roles roles clients =
 has_role-roles_of : (clients : List ClientRow) (role : Path) → list_any (is_role role) (roles_of clients) ≡ has_role clients role
 has_role-roles_of clients role = list_any-map (is_role role) (λ (c : ClientRow). c.role) clients
 
--- a role that some client has is none of those that come
+-- a role that some client has is not among the new ones
 none_joined : (roles : List Path) (clients : List ClientRow) (role : Path) → has_role clients role ≡ true
     → (rs : List Path) → list_all (is_other role) (filter (λ r. not (has_role clients r)) rs) ≡ true
 none_joined roles clients role has [] = refl
@@ -99,7 +100,7 @@ valid-with_roles roles clients given valid =
     (each_filter IsRole (is_among roles) (roles_of clients) valid)
     (each_filter IsRole (λ role. not (has_role clients role)) (distinct roles) (each-distinct IsRole roles given)))
 
--- ---- how many they are
+-- ---- how many clients there are
 
 pass_each : (p : Path → Bool) (rs : List Path) → list_all p rs ≡ true → AllByRecursion (λ r. p r ≡ true) rs
 pass_each p [] all = tt
@@ -107,7 +108,7 @@ pass_each p (r ∷ rs) all =
     let parts = and_parts (p r) (list_all p rs) all in
     (parts.0, pass_each p rs parts.1)
 
--- a role that stands in a list, each once, and the others
+-- a list without repetitions consists of one of its roles and the others
 one_fewer : (x : Path) (ys : List Path) → are_distinct_roles ys ≡ true → list_any (is_role x) ys ≡ true
     → length ys ≡ suc (length (filter (is_other x) ys))
 one_fewer x [] apart has = absurd (false≢true has)
@@ -132,7 +133,7 @@ none_of x (y ∷ ys) all =
     let here : same_path y x ≡ false = same_path-swap y x ∙ not-true (same_path x y) parts.0 in
     rw here (none_of x ys parts.1)
 
--- two lists that have the same roles, each once, are equally long
+-- two lists without repetitions that have the same roles have the same length
 same_length : (xs ys : List Path) → are_distinct_roles xs ≡ true → are_distinct_roles ys ≡ true
     → ((r : Path) → list_any (is_role r) xs ≡ list_any (is_role r) ys) → length xs ≡ length ys
 same_length [] [] first second same = refl
@@ -163,7 +164,7 @@ length-with_roles roles clients apart =
     (apart-with_roles roles clients apart) (distinct_apart roles)
     (λ r. has_role-roles_of (with_roles roles clients) r ∙ has_role-with_roles roles clients r ∙ sym (any_distinct roles r))
 
--- ---- the rows
+-- ---- the state
 
 module _ (rows : Rows) (name : Text) (roles : List Path) where
   abbrev changed_to : FrameworkRow → FrameworkRow
@@ -233,7 +234,7 @@ module _ (rows : Rows) (name : Text) (roles : List Path) where
     numbered = consistent.numbered;
   }
 
--- each framework has no more clients than before, or than roles
+-- each framework has at most as many clients as before, or as the list has roles
 pub roles-set : (most : ℕ) (rows : Rows) (name : Text) (roles : List Path) → AreFrameworks rows.frameworks → length (distinct roles) ≤ most
     → AllByRecursion (λ f. length f.clients ≤ most) rows.frameworks
     → AllByRecursion (λ f. length f.clients ≤ most) (with_framework_roles rows name roles)

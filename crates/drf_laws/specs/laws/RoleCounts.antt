@@ -1,4 +1,4 @@
--- How many clients there are once the roles of a framework change.
+-- How many clients there are after the roles of a framework change.
 use Rattle.std.specs.Prelude.{◌≡◌, ◌+◌, Bool, true, false, not, List, [], ◌∷◌, length, map, find, Option, Some, if◌then◌else◌}
 use Rattle.std.specs.List.{list_any, AllByRecursion}
 use Rattle.std.proofs.Common.{refl, sym, ap, ◌∙◌, inl, inr, arith, length-append}
@@ -23,7 +23,7 @@ clients_in-cons f fs =
     ∙ ap (λ n. n + length (clients_in fs)) (length-map f.clients (client_of f))
 
 module _ (name : Text) (roles : List Path) where
-  -- frameworks of other names stay
+  -- frameworks with other names stay
   pub others_stay : (fs : List FrameworkRow) → none_has same_text (λ (f : FrameworkRow). f.name) name fs ≡ true → map (roles_set_in name roles) fs ≡ fs
   others_stay [] none = refl
   others_stay (f ∷ fs) none =
@@ -60,12 +60,12 @@ module _ (name : Text) (roles : List Path) where
             rw other (omega (arith, first, number_then gs f parts.1 each.1 later, clients_in-cons g (map (roles_set_in name roles) gs)))
       ]
 
--- where the framework is unknown, nothing changes
+-- if the framework is not registered, nothing changes
 pub frameworks-unknown : (rows : Rows) (name : Text) (roles : List Path) → has_framework rows name ≡ false
     → with_framework_roles rows name roles ≡ rows.frameworks
 frameworks-unknown rows name roles none = unknown_stay name roles rows.frameworks none
 
--- the clients of the framework then are one for each role of the list
+-- afterwards the framework has one client for each role of the list
 pub clients-then : (rows : Rows) (name : Text) (roles : List Path) (f : FrameworkRow) → IsConsistent rows
     → find (λ f. same_text f.name name) rows.frameworks ≡ Some f
     → length (clients_in (with_framework_roles rows name roles)) + length f.clients ≡ length (clients_of rows) + length (distinct roles)

@@ -1,4 +1,4 @@
--- The roles of a framework that registers, each once, and its clients.
+-- The roles of a new framework without repetitions, and its clients.
 use Rattle.std.specs.Prelude.{◌≡◌, ◌≤◌, Bool, true, false, not, List, [], ◌∷◌, ◌++◌, length, map, filter}
 use Rattle.std.specs.List.{list_any, list_all, AllByRecursion}
 use Rattle.std.proofs.Common.{refl, sym, ap, ◌∙◌, inl, inr, cond, append_assoc, arith}
@@ -13,13 +13,13 @@ use Rattle.drf_rows.specs.Consistent.{are_distinct_roles}
 use Rattle.drf_bundle.specs.ListLaws.{each_filter}
 use Rattle.drf_laws.specs.laws.Endings.{all_kept}
 
--- ---- each role once
+-- ---- a list without repetitions
 
--- the role is that one
+-- the role is equal to the other
 abbrev pub is_role : Path → Path → Bool
 is_role role r = same_path r role
 
--- the role is another one
+-- the role is different from the other
 abbrev pub is_other : Path → Path → Bool
 is_other role r = not (same_path role r)
 
@@ -29,7 +29,7 @@ any_other first role apart =
     any-filter_same (is_role role) (is_other first) true
     (λ r same. ap (is_other first) (same_path-true r role same) ∙ ap not apart)
 
--- a list goes on by one role, which is left out where it was kept already
+-- if one role is appended, it is dropped if it is in the list already
 distinct-more : (roles : List Path) (role : Path)
     → distinct (roles ++ role ∷ [])
     ≡ cond (list_any (is_role role) (distinct roles)) (distinct roles) (distinct roles ++ role ∷ [])
@@ -72,7 +72,7 @@ distinct-new roles kept role is new =
     ∙ ap (λ (b : Bool). cond b (distinct roles) (distinct roles ++ role ∷ []))
     (ap (list_any (is_role role)) (sym is) ∙ new))
 
--- no role is lost where a list goes on
+-- appending roles to a list loses no role
 pub distinct-grows : (roles more : List Path) → length (distinct roles) ≤ length (distinct (roles ++ more))
 distinct-grows roles [] = rw (append-nil roles) (omega arith)
 distinct-grows roles (role ∷ more) =
@@ -86,7 +86,7 @@ distinct-grows roles (role ∷ more) =
     by true = omega arith
     by false = omega (arith, length-append (distinct roles) (role ∷ []))
 
--- each of them stands once
+-- each role occurs once
 all_pass_kept : (p : Path → Bool) (rs : List Path) → list_all p (filter p rs) ≡ true
 all_pass_kept p [] = refl
 all_pass_kept p (r ∷ rs) = elim (cases_Bool (p r)) [
@@ -108,23 +108,23 @@ distinct_apart [] = refl
 distinct_apart (role ∷ roles) =
     rw (all_pass_kept (is_other role) (distinct roles)) (apart-filter (is_other role) (distinct roles) (distinct_apart roles))
 
--- what holds of all roles holds of each of them
+-- what is true of all roles is true of those without repetitions
 pub each-distinct : (P : Path → Type 0) (roles : List Path) → AllByRecursion P roles → AllByRecursion P (distinct roles)
 each-distinct P [] all = tt
 each-distinct P (role ∷ roles) all = (all.0, each_filter P (is_other role) (distinct roles) (each-distinct P roles all.1))
 
--- ---- their clients
+-- ---- the clients
 
 pub roles_of_new : (roles : List Path) → map (λ c. c.role) (map new_client roles) ≡ roles
 roles_of_new [] = refl
 roles_of_new (role ∷ roles) = ap (λ (rs : List Path). role ∷ rs) (roles_of_new roles)
 
--- no offer was made to them
+-- new clients have the count 0
 pub uncounted_new : (roles : List Path) → AllByRecursion (λ c. c.count ≡ 0) (map new_client roles)
 uncounted_new [] = tt
 uncounted_new (role ∷ roles) = (refl, uncounted_new roles)
 
--- a role that stands behind others is none of them
+-- in a list without repetitions a role is not among those before it
 pub none_before : (before : List Path) (role : Path) (roles : List Path)
     → are_distinct_roles (before ++ role ∷ roles) ≡ true → list_any (is_role role) before ≡ false
 none_before [] role roles apart = refl

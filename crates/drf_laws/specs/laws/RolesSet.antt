@@ -1,4 +1,4 @@
--- A framework gets the listed roles, loses the others, and keeps what stays.
+-- Setting the roles of a framework: it gets the listed ones, loses the others, and keeps the clients that stay.
 use Rattle.std.specs.Prelude.{◌≡◌, Bool, true, false, not, ◌&&◌, ◌||◌, List, [], ◌∷◌, ◌++◌, map, filter, if◌then◌else◌}
 use Rattle.std.specs.List.{list_any, AllByRecursion}
 use Rattle.std.proofs.Common.{refl, sym, ap, subst, ◌∙◌, inl, inr}
@@ -26,7 +26,7 @@ use Rattle.drf_laws.specs.RoleChangeLaws.{ListedRolesAreSet, OtherClientsStayReg
 use Rattle.drf_laws.specs.laws.Clients.{unregistered}
 use Rattle.drf_laws.specs.laws.Roles.{each-distinct}
 
--- ---- who is registered
+-- ---- which clients are registered
 
 module _ (name : Text) (roles : List Path) where
   abbrev named : FrameworkRow → Bool
@@ -96,7 +96,7 @@ same_roles roles clients same =
     (each_from (λ r. is_among roles r ≡ true) (λ r. has_role clients r ≡ true) (distinct roles) (λ r among. same r ∙ among) listed)) in
     (λ i. kept i ++ joined i) ∙ append-nil clients
 
--- frameworks of other names stay as they are
+-- frameworks with other names stay as they are
 others_as_before : (name : Text) (roles : List Path) (fs : List FrameworkRow) → list_any (λ f. same_text f.name name) fs ≡ false
     → map (roles_set_in name roles) fs ≡ fs
 others_as_before name roles [] none = refl
@@ -167,7 +167,7 @@ same_roles_change_nothing rows framework roles consistent same =
 
 -- ---- a role that is left and taken again
 
--- where no client had the role, one that has it is new
+-- if no client had the role, the client that has it is new
 module _ (role : Path) where
   abbrev IsNew : ClientRow → Type 0
   IsNew c = same_path c.role role ≡ true → c ≡ new_client role

@@ -1,4 +1,4 @@
--- Rows that are consistent are so after each event, and after each run; so runs keep the limits of roles.
+-- Each event and each run keep a consistent state consistent; so runs keep the limits of roles.
 use Rattle.std.proofs.Common.{◌≡◌, ℕ, ◌+◌, List, [], ◌∷◌, Option, Some, None, refl, sym, subst}
 use Rattle.drf_rows.specs.LimitNumbers.{LimitNumbers}
 use Rattle.std.specs.List.{AllByRecursion}
@@ -21,7 +21,7 @@ use Rattle.drf_laws.specs.laws.Events.{IsConsistent-effect}
 
 -- ---- an event, and a run
 
--- an event that is counted
+-- counting an event keeps a state consistent
 IsConsistent-events : (rows : Rows) (n : ℕ) → IsConsistent rows → IsConsistent (record rows { events = n })
 IsConsistent-events rows n consistent = record {
   agents = consistent.agents;
@@ -99,9 +99,9 @@ runs_from_opening_keep_limits limits earlier events label place l before given =
     consistent_runs_keep_limits limits (rows_after_all limits opening earlier) events label place l
     (runs_stay_consistent limits opening earlier (consistent-live opening IsConsistent-opening) before) given
 
--- ---- what is reserved
+-- ---- reserved resources
 
--- nobody comes to hold what is reserved for others
+-- no client holds what is reserved for other roles
 abbrev AreOwn : Rows → Type 0
 AreOwn rows = AllByRecursion IsForItsRole (holdings_of rows)
 

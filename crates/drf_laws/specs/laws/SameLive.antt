@@ -1,4 +1,5 @@
--- Rows with the same live rows: the same events are refused, for the same reason, and the others do the same.
+-- Two states with the same current state: they refuse the same events, for the same reason, and accept the others with
+-- the same effect.
 use Rattle.std.proofs.Common.{◌≡◌, Option, Some, None, refl, sym, ap, ◌∙◌, length}
 use Rattle.drf_rows.specs.LimitNumbers.{LimitNumbers}
 use Rattle.drf_rows.specs.Step.{live_rows, refusal_of, effect, answer, rows_after, reply_to, new_offers}
@@ -11,12 +12,12 @@ use Rattle.drf_rows.specs.declared.reply.Reply.TheVariants.{Refused}
 use Rattle.drf_rows.specs.declared.rows.Rows.{Rows}
 use Rattle.std.specs.Prelude.{drop}
 
--- what is answered to an event that is not refused is no refusal
+-- the reply to an accepted event is not a refusal
 answer_told : (before after : Rows) (event : Event) (refusal : Refusal) → answer before after event ≡ Refused refusal → Some refusal ≡ None
 answer_told before after (Cycle at) refusal told = cc
 answer_told before after event refusal told = cc
 
--- from rows that have the same live rows
+-- from two states with the same current state
 module _ (limits : LimitNumbers) (rows old : Rows) (event : Event) (live : live_rows rows ≡ live_rows old) where
   pub refused_from : (refusal : Refusal) → refusal_of limits rows event ≡ Some refusal
       → (Refused refusal ≡ reply_to limits old event) × (live_rows rows ≡ live_rows (rows_after limits old event))
@@ -44,7 +45,7 @@ module _ (limits : LimitNumbers) (rows old : Rows) (event : Event) (live : live_
     rows_after-same_live limits rows old live event,
   )
 
--- live rows have all offers
+-- the current state has all offers
 offers-live : (a b : Rows) → live_rows a ≡ live_rows b → a.offers ≡ b.offers
 offers-live a b same = ap (λ (r : Rows). r.offers) same
 

@@ -34,7 +34,7 @@ unfolding effect
 filters-declined rows d o found =
     ap (λ (f : Option OfferRow). (option_map_or (λ o. offer_declined (at_moment rows d.at) o d.refuse_ms) f rows).filters) found
 
--- what is left is what the definition leaves
+-- the bundle of `IsLeft` is what the definition computes
 left_is : (rows : Rows) (a : accepting.Accept) (o : OfferRow) (left : List Resource) → IsConsistent rows → IsGivenBundles (Accept a)
     → IsLeft rows a o left → left ≡ left_of_offer o a.tasks
 left_is rows a o left consistent given is =
@@ -86,7 +86,7 @@ accepted_sets_filter rows a o left consistent given is =
     by true bundle empty after = rw empty at after
     by false bundle empty after = after
 
--- ---- what is held back then
+-- ---- what filters cover then
 
 or_none : (b : Bool) → b ≡ (b || false)
 or_none true = refl
@@ -100,7 +100,7 @@ module _ (rows : Rows) (o : OfferRow) (refused : List Resource) (at refuse_ms mo
   abbrev before : Bool
   before = is_held_back rows.filters moment client agent bundle
 
-  -- a filter more
+  -- with one more filter
   held_back-more : is_held_back (one_more rows o refused until) moment client agent bundle
       ≡ (before || is_filtered o refused until moment client agent bundle)
   held_back-more =
@@ -108,7 +108,7 @@ module _ (rows : Rows) (o : OfferRow) (refused : List Resource) (at refuse_ms mo
       list_any-append (holds_back moment client agent bundle) rows.filters (f ∷ [])
       ∙ ap (λ (b : Bool). before || b) (sym (or_none (is_filtered o refused until moment client agent bundle)))
 
-  -- none, where it would be for no time
+  -- a filter with `refuse_ms` 0 covers nothing
   over : nat_lt 0 refuse_ms ≡ false → is_filtered o refused until moment client agent bundle ≡ false
   over none =
       let zero : refuse_ms ≤ 0 = ltb-false 0 refuse_ms none in

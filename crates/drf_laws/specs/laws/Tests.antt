@@ -1,4 +1,4 @@
--- What a test of refusal asks: what is held on an agent.
+-- The refusal test for a new total: what is held on the agent.
 use Rattle.std.proofs.Common.{◌≡◌, List, Some, ap, arith}
 use Rattle.std.specs.Prelude.{not}
 use Rattle.std.specs.Cmp.{both_ways}
@@ -45,7 +45,7 @@ module _ (rows : Rows) (name : Text) (a : AgentRow) (total : List Resource) (con
     ap (λ (n : Text). units_of_all (parts_on n (holdings_of rows)) key p) (same_name rows name a consistent found),
   )
 
-  -- a total covers what is held just where it covers all parts together
+  -- a total covers what is held exactly if it covers all parts together
   pub below_held : not (covers total held) ≡ is_below_held rows name total
   below_held =
       let each = each_part name (holdings_of rows) (bundles-consistent rows consistent) in

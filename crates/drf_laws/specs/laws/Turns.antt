@@ -1,4 +1,4 @@
--- Turns: whom they serve, what they grant, what they leave alone, and how many offers they make.
+-- Turns: which clients they try, what they grant, what they leave unchanged, and how many offers they make.
 use Rattle.std.specs.Prelude.{◌≡◌, ℕ, zero, suc, ◌≤◌, ◌&&◌, Bool, true, not, List, [], ◌∷◌, length, map, filter, flat_map, Option, Some, None}
 use Rattle.std.specs.List.{list_any, AllByRecursion}
 use Rattle.std.specs.Option.{option_map_or}
@@ -30,11 +30,11 @@ use Rattle.drf_row_laws.specs.CycleLaws.{bundle-free_of, bundle-entitlement, uni
 use Rattle.drf_rows.specs.declared.rows.AgentRow.{AgentRow}
 use Rattle.drf_laws.specs.TurnLaws.{IsPart, CyclesMakeFewOffers}
 
--- a framework's clients that are not suppressed
+-- the clients of a framework that are not suppressed
 abbrev pub active_in : FrameworkRow → List Client
 active_in f = map (client_of f) (filter (λ c. not c.suppressed) f.clients)
 
--- ---- those that are served are registered
+-- ---- the clients that are tried are registered
 
 active_registered : (fs : List FrameworkRow) → AllByRecursion (λ c. is_registered fs c ≡ true) (flat_map active_in fs)
 active_registered [] = tt
@@ -63,7 +63,7 @@ turn_order-registered rows =
     each_served (λ c. is_registered rows.frameworks c ≡ true) (rows_word.standing_of rows)
     (length (active_clients rows)) (active_clients rows) (active_registered rows.frameworks)
 
--- ---- each is served at most once
+-- ---- each client is tried at most once
 
 length-serving_order : (s : Standing) (n : ℕ) (cs : List Client) → length (serving_order s n cs) ≤ n
 length-serving_order s zero cs = omega arith
@@ -98,7 +98,7 @@ length-turn_order rows =
       length-active rows.frameworks,
     )
 
--- ---- what is granted
+-- ---- grants
 
 pub entitled_part : (rows : Rows) (agent : AgentRow) (client : Client) → IsBundle agent.total
     → IsPart (its_part rows agent client) (free_of rows agent)
@@ -117,7 +117,7 @@ grant-part rows agent client bundle total granted = by (is_grantable rows agent 
         subst (λ (b : List Resource). IsPart b (free_of rows agent)) same (entitled_part rows agent client total)
     by false e = cc
 
--- ---- how many offers a cycle makes at most
+-- ---- a bound on the offers of a cycle
 
 tried-next : (rows : Rows) (agent : AgentRow) (client : Client) (granted : Option (List Resource))
     → (option_map_or (λ b. with_offer rows (new_offer rows agent client b)) granted rows).next_offer ≤ rows.next_offer + 1
@@ -130,7 +130,7 @@ all_tried-next rows agent [] = omega arith
 all_tried-next rows agent (client ∷ clients) =
     omega (arith, all_tried-next (tried rows agent client) agent clients, tried-next rows agent client (grant rows agent client))
 
--- the clients, and how many frameworks there are
+-- the clients and the number of frameworks are the same
 abbrev SameClients : Rows → Rows → Type 0
 SameClients start rows = (clients_of rows ≡ clients_of start) × (length rows.frameworks ≡ length start.frameworks)
 
@@ -158,14 +158,14 @@ turns-next_offer rows (agent ∷ agents) =
     subst (λ n. (turns (turn rows agent) agents).next_offer ≤ (turn rows agent).next_offer + length agents * n) same later in
     omega (arith, rest, first, order)
 
--- so a cycle makes no more than active agents times clients
+-- so a cycle makes at most as many offers as there are active agents, times the number of clients
 pub cycles_make_few_offers : CyclesMakeFewOffers
 unfolding cycle
 cycles_make_few_offers rows at = turns-next_offer (at_moment rows at) (filter (λ a. a.active) rows.agents)
 
 -- ---- other agents
 
--- trying clients on one agent leaves what is free on another
+-- trying clients on one agent leaves the free resources of others unchanged
 pub free_of-all_tried_other : (rows : Rows) (agent : AgentRow) (clients : List Client) (other : AgentRow) → same_text agent.name other.name ≡ false
     → free_of (all_tried rows agent clients) other ≡ free_of rows other
 free_of-all_tried_other rows agent clients other apart =

@@ -1,4 +1,4 @@
--- Events that are not refused: no case of refusal holds.
+-- What follows from an event not being refused, case by case.
 use Rattle.std.proofs.Common.{◌≡◌, ℕ, ◌<◌, ◌≤◌, true, false, List, [], ◌∷◌, None, inl, inr, arith, nat_lt}
 use Rattle.std.specs.List.{list_any}
 use Rattle.std.proofs.lemmas.Bool.{cases_Bool, or_parts, not-false, ltb-false, leb-false}
@@ -21,13 +21,13 @@ use Rattle.drf_rows.specs.declared.event.Event.{Event}
 use Rattle.drf_rows.specs.declared.event.Event.TheVariants.{AddAgent, RemoveFramework, AddFramework, Accept, Decline, Suppress, Revive, SetWeight, Cycle}
 use Rattle.drf_rows.specs.declared.rows.Rows.{Rows}
 
--- there is room for the event
+-- the history is not full
 pub room_for : (limits : LimitNumbers) (rows : Rows) (event : Event) → refusal_of limits rows event ≡ None → rows.events < limits.events
 room_for limits rows event none = leb-false limits.events rows.events (no_case_of limits rows event none).0
 
--- ---- what is not the case
+-- ---- the refusal cases that do not hold
 
--- an agent that is welcome
+-- what is true of an agent that is accepted
 pub record IsWelcomeAgent (limits : LimitNumbers) (rows : Rows) (agent : Text) (total : List Resource) : Type 0 where
   pub new : has_agent rows agent ≡ false
   pub small : list_any (λ e. nat_lt LARGEST_AMOUNT e.amount) (quantities_of total) ≡ false
@@ -39,7 +39,7 @@ welcome_agent limits rows agent total none =
     let no = no_case_of limits rows (AddAgent agent total) none in
     record { new = no.1.0; small = no.1.1.0; few = no.1.1.1.0 }
 
--- a framework that is welcome
+-- what is true of a framework that is accepted
 pub record IsWelcomeFramework (limits : LimitNumbers) (rows : Rows) (framework : Text) (roles : List Path) : Type 0 where
   pub new : has_framework rows framework ≡ false
   pub few : too_many_frameworks limits rows roles ≡ false
@@ -50,7 +50,7 @@ welcome_framework limits rows framework roles none =
     let no = no_case_of limits rows (AddFramework framework roles) none in
     record { new = no.1.0; few = no.1.1.1.0 }
 
--- a weight that is welcome
+-- what is true of a weight that is accepted
 pub record IsWelcomeWeight (limits : LimitNumbers) (rows : Rows) (role : Path) (weight : ℕ) : Type 0 where
   pub right : is_weight weight ≡ true
   pub few : too_many_weights limits rows role ≡ false
@@ -61,16 +61,16 @@ welcome_weight limits rows role weight none =
     let no = no_case_of limits rows (SetWeight role weight) none in
     record { right = not-false (is_weight weight) no.1.0; few = no.1.1.0 }
 
--- a cycle that is welcome
+-- the timestamp of an accepted cycle is not too late
 pub early_cycle : (limits : LimitNumbers) (rows : Rows) (at : ℕ) → refusal_of limits rows (Cycle at) ≡ None → at ≤ LATEST_MOMENT
 early_cycle limits rows at none = ltb-false LATEST_MOMENT at (no_case_of limits rows (Cycle at) none).1.0
 
--- a framework that leaves is known
+-- a framework that is removed is registered
 pub known_framework : (limits : LimitNumbers) (rows : Rows) (framework : Text) → refusal_of limits rows (RemoveFramework framework) ≡ None
     → has_framework rows framework ≡ true
 known_framework limits rows framework none = not-false (has_framework rows framework) (no_case_of limits rows (RemoveFramework framework) none).1.0
 
--- a client that is suppressed, or revives, is registered
+-- a client that is suppressed or revives is registered
 pub known_suppressed : (limits : LimitNumbers) (rows : Rows) (framework : Text) (role : Path) → refusal_of limits rows (Suppress framework role) ≡ None
     → is_in_role rows framework role ≡ true
 known_suppressed limits rows framework role none =
@@ -81,11 +81,11 @@ pub known_reviving : (limits : LimitNumbers) (rows : Rows) (framework : Text) (r
 known_reviving limits rows framework role none =
     not-false (is_in_role rows framework role) (no_case_of limits rows (Revive framework role) none).1.1.0
 
--- an accept that is welcome is early
+-- the timestamp of an accepted `accept` is not too late
 pub early_accept : (limits : LimitNumbers) (rows : Rows) (a : accepting.Accept) → refusal_of limits rows (Accept a) ≡ None → a.at ≤ LATEST_MOMENT
 early_accept limits rows a none = ltb-false LATEST_MOMENT a.at (no_case_of limits rows (Accept a) none).1.0
 
--- an offer that is declined stands
+-- an offer that is declined is outstanding
 pub welcome_decline : (limits : LimitNumbers) (rows : Rows) (d : declining.Decline)
     → refusal_of limits rows (Decline d) ≡ None → (d.at ≤ LATEST_MOMENT) × (has_offer rows d.offer ≡ true)
 welcome_decline limits rows d none =

@@ -1,4 +1,4 @@
--- The tables stay within the limits of an allocator, over each event and each run.
+-- The tables stay within the capacities, over each event and each run.
 use Rattle.std.proofs.Common.{◌≡◌, ℕ, ◌+◌, ◌≤◌, Bool, true, false, not, ◌&&◌, List, [], ◌∷◌, Option, Some, None, length, map, refl, sym, ap, subst, arith, nat_lt}
 use Rattle.std.specs.Prelude.{max, filter}
 use Rattle.std.specs.List.{AllByRecursion}
@@ -45,7 +45,7 @@ use Rattle.drf_laws.specs.laws.Bounds.{fewer_in_force, in_force_later, one_more_
 use Rattle.drf_laws.specs.laws.RoleChanges.{roles-set}
 use Rattle.drf_laws.specs.laws.Runs.{IsConsistent-after}
 
--- what is not said of the tables by `IsKept`
+-- what `IsKept` does not say about the tables
 pub record AreBounded (most : LimitNumbers) (rows : Rows) : Type 0 where
   pub roles : AllByRecursion (λ f. length f.clients ≤ most.roles) rows.frameworks
   pub filters : number_in_force rows.clock rows.filters ≤ most.filters

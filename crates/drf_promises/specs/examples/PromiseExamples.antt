@@ -1,4 +1,4 @@
--- Some runs: of each promise one, and of what is not promised one where it fails.
+-- The runs of the promises and of the expectations that fail.
 use Rattle.std.specs.Prelude.{ℕ, List, [], ◌∷◌, ◌++◌, codes, flat_map, map}
 use Rattle.drf_role.specs.Path.{Path}
 use Rattle.drf_role.specs.Text.{Text}
@@ -19,7 +19,7 @@ use Rattle.drf_promises.specs.Waiting.{made_in}
 abbrev pub rows_of : List Event → Rows
 rows_of events = rows_after_all ceilings opening events
 
--- to whom the offers of a run go, one after another
+-- the frameworks to which the offers of a run are made, in order
 abbrev pub offered_to : List Event → List Text
 offered_to events = map (λ line. line.framework) (flat_map lines_told (replies_to ceilings opening events))
 
@@ -38,7 +38,7 @@ a = codes "a" ∷ []
 abbrev pub b : Path
 b = codes "b" ∷ []
 
--- two frameworks, each in a role of its own
+-- two frameworks, each in its own role
 abbrev both : List Event
 both = framework_in fa (codes "a") ∷ framework_in fb (codes "b") ∷ []
 
@@ -47,11 +47,12 @@ agent name total = AddAgent name total
 
 -- ---- what is promised
 
--- a limit leaves 3 of 4 `cpus`, and nobody would be granted them
+-- a limit leaves 3 of 4 `cpus`, which no client would be granted
 abbrev pub cut : List Event
 cut = agent (codes "n1") (cpus 4000 ∷ []) ∷ framework_in fa (codes "a") ∷ cpus_limit a 1000 ∷ Cycle 0 ∷ []
 
--- a task of `fa` runs while `fb` comes with a weight of 1000, and `fa` gets a limit that is less than it uses
+-- a task of `fa` keeps running when `fb` registers with weight 1000, and when the limit of `a` becomes less than it
+-- uses
 abbrev pub running : List Event
 running =
     agent (codes "n1") (cpus 4000 ∷ [])
@@ -67,11 +68,11 @@ running =
 abbrev pub its_task : TaskRow
 its_task = record { name = codes "t"; agent = codes "n1"; framework = fa; role = a; bundle = cpus 3000 ∷ [] }
 
--- what is reserved for `a` is not for `fb`, and not for everyone
+-- resources reserved for `a` are not offered to `fb`
 abbrev pub reserved : List Event
 reserved = agent (codes "n1") (cpus_for (codes "a") 4000 ∷ []) ∷ framework_in fb (codes "b") ∷ Cycle 0 ∷ framework_in fa (codes "a") ∷ Cycle 0 ∷ []
 
--- five agents of one size
+-- five equal agents
 abbrev five : List Event
 five =
     agent (codes "n1") (cpus 1000 ∷ [])
@@ -84,15 +85,15 @@ five =
 abbrev pub shared : List Event
 shared = five ++ (both ++ Cycle 0 ∷ [])
 
--- one agent, of which both would have all
+-- one agent, all of which each of two clients would be granted
 abbrev pub alone : List Event
 alone = agent (codes "n1") (cpus 1000 ∷ []) ∷ both
 
--- to whom it is offered in some cycles, if each declines it for 5000
+-- the frameworks to which the agent is offered in some cycles, if each declines it for 5000 ms
 abbrev pub declined_by_each : List ℕ → List Text
 declined_by_each moments = map (λ o. o.framework) (made_in 5000 (rows_of alone) moments)
 
--- two of three agents become active later: who got nothing of the first two is served before whom the first went to
+-- two of three agents become active later: the client that got nothing comes before the one that got the first agent
 abbrev pub waiting : List Event
 waiting =
     agent (codes "n1") (cpus 4000 ∷ [])
@@ -112,7 +113,8 @@ waiting =
 
 -- ---- what is not promised
 
--- As `fb` in `eng/b` is offered 7 of 8 `cpus`, `eng` has 1 and `ops` nothing. The order is that of the turn's beginning.
+-- When `fb` in `eng/b` is offered 7 of 8 `cpus`, `eng` has 1 and `ops` nothing: the order is that at the beginning of
+-- the turn.
 abbrev pub in_turn : List Event
 in_turn =
     agent (codes "n1") (cpus 8000 ∷ [])
@@ -123,19 +125,19 @@ in_turn =
     ∷ Cycle 0
     ∷ []
 
--- of one agent one of two gets all
+-- of two clients, one gets the only agent
 abbrev pub one : List Event
 one = alone ++ Cycle 0 ∷ []
 
--- six agents of one size, shared with some others
+-- six equal agents, shared with some other frameworks
 abbrev pub six : List Event → List Event
 six others = five ++ (agent (codes "n6") (cpus 1000 ∷ []) ∷ both ++ (others ++ Cycle 0 ∷ []))
 
--- `fa` needs 2 of 4 `cpus` now and 2 later; if it uses no more than it needs now, `fb` gets the others
+-- `fa` needs 2 of 4 `cpus` now and 2 later; if it uses only what it needs now, `fb` gets the others
 abbrev pub modest : List Event
 modest = agent (codes "n1") (cpus 4000 ∷ []) ∷ both ++ (Cycle 0 ∷ accept fa 1 (codes "t") (cpus 2000 ∷ []) ∷ Cycle 0 ∷ [])
 
--- `fb` declines again and again, for no time and then for 5000
+-- `fb` declines several times, first without a filter and then for 5000 ms
 abbrev pub declined : List Event
 declined =
     agent (codes "n1") (cpus 1000 ∷ [])
@@ -152,7 +154,7 @@ declined =
     ∷ Cycle 0
     ∷ []
 
--- four agents of different shapes, shared by two roles of which the first has a weight
+-- four agents of different shapes, shared by two roles of which the first has this weight
 abbrev pub weighed : ℕ → List Event
 weighed weight =
     agent (codes "n1") (cpus 4000 ∷ mem 32000 ∷ [])
@@ -161,7 +163,7 @@ weighed weight =
     ∷ agent (codes "n4") (cpus 4000 ∷ mem 128000 ∷ [])
     ∷ both ++ (weighing (codes "a") weight ∷ Cycle 0 ∷ [])
 
--- four agents, shared with some others
+-- four agents, shared with some other frameworks
 abbrev pub among : List Event → List Event
 among others =
     agent (codes "n1") (cpus 4000 ∷ mem 32000 ∷ [])
@@ -173,7 +175,7 @@ among others =
 abbrev pub one_more : List Event
 one_more = framework_in fc (codes "c") ∷ []
 
--- `fa` takes three of five agents and uses next to nothing there, `fb` keeps two
+-- `fa` takes three of five agents and uses almost nothing there; `fb` keeps two
 abbrev pub little_used : List Event
 little_used =
     shared
@@ -184,7 +186,8 @@ little_used =
     ∷ accept fa 5 (codes "t5") (cpus 1 ∷ [])
     ∷ []
 
--- `fb` declines a machine for 5000 while its role is ahead; so it goes to `fa`, or to another framework of that role
+-- `fb` declines an agent for 5000 ms while its role comes first; it then goes to `fa`, or to another framework of that
+-- role
 abbrev pub declined_in_role : List Event → List Event
 declined_in_role others =
     agent (codes "n1") (cpus 4000 ∷ [])
@@ -208,11 +211,12 @@ grown others =
 abbrev pub small_agent : List Event
 small_agent = agent (codes "n4") (cpus 1000 ∷ mem 32000 ∷ []) ∷ []
 
--- of two agents each is 3/4 of all to whoever gets it, but one has room for three tasks of one of the `cpus`, and the other for one
+-- each of two agents is 3/4 of the total for the client that gets it, but one has room for three tasks with one of the
+-- `cpus`, and the other for one
 abbrev pub unlike : List Event
 unlike = agent (codes "n1") (cpus 3000 ∷ mem 32000 ∷ []) ∷ agent (codes "n2") (cpus 1000 ∷ mem 96000 ∷ []) ∷ both ++ (Cycle 0 ∷ [])
 
--- two agents, which come in this order
+-- two agents, which register in this order
 abbrev pub arrived : Event → Event → List Event
 arrived first second = first ∷ second ∷ both ++ (Cycle 0 ∷ [])
 

@@ -1,4 +1,4 @@
--- What loops find of lists, and what they add of them.
+-- Loops over lists that find or add elements.
 use Rattle.std.specs.Prelude.{◌≡◌, ℕ, ◌+◌, ◌<◌, ◌≤◌, Bool, List, [], ◌∷◌, ◌++◌, length, map, filter, fold, drop, get_or, Option, Some, None}
 use Rattle.std.specs.List.{flat_map, reduce}
 use Rattle.std.proofs.Common.{refl, sym, ap, ◌∙◌, inl, inr, append_assoc, append-nil}
@@ -20,7 +20,7 @@ module _ {A B : Type 0} (step : B → A → B) (whole : B) (xs : List A) (i : �
   pub fold_over : (state : B) → length xs ≤ i → fold step state (drop i xs) ≡ whole → state ≡ whole
   fold_over state past so_far = sym (ap (fold step state) (drop_all i xs past)) ∙ so_far
 
--- ---- what is added of each element
+-- ---- what is added for each element
 
 module _ {A B : Type 0} (f : A → List B) (whole : List B) (xs : List A) (i : ℕ) where
   pub added_more : (old new : List B) (x : A) → i < length xs → x ≡ get_or xs i x → new ≡ old ++ f x
@@ -35,7 +35,7 @@ module _ {A B : Type 0} (f : A → List B) (whole : List B) (xs : List A) (i : �
   pub added_over : (old : List B) → length xs ≤ i → old ++ flat_map f (drop i xs) ≡ whole → old ≡ whole
   added_over old past so_far = sym (append-nil old) ∙ sym (ap (λ ys. old ++ flat_map f ys) (drop_all i xs past)) ∙ so_far
 
--- ---- what is found of the elements that pass a test
+-- ---- the result for the elements that pass a test
 
 module _ {A B : Type 0} (test : A → Bool) (value : A → B) (join : B → B → B) where
   abbrev joined_all : Option B → List B → Option B
@@ -65,7 +65,7 @@ pub same_values : {A : Type 0} (xs : List A) → map (λ x. x) xs ≡ xs
 same_values [] = refl
 same_values (x ∷ xs) = ap (λ ys. x ∷ ys) (same_values xs)
 
--- the elements themselves
+-- with the elements themselves as values
 pub found_of : {A : Type 0} (test : A → Bool) (join : A → A → A) (xs : List A)
     → fold (reduced test (λ x. x) join) None xs ≡ reduce join (filter test xs)
 found_of test join xs = found_all test (λ x. x) join xs ∙ ap (reduce join) (same_values (filter test xs))

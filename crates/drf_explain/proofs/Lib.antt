@@ -1,3 +1,4 @@
+-- Lemmas for the contracts of explanations.
 mod Found
 mod Reasons
 mod Rooms

@@ -1,4 +1,4 @@
--- What each reason says of the cycle, from the definition of what comes of a client.
+-- What each outcome means for the cycle, proved from the definition of outcomes.
 use Rattle.std.specs.Prelude.{◌≡◌, ◌⊎◌, ◌↔◌, ℕ, zero, suc, ◌<◌, ◌≤◌, max, min, Bool, true, false, not, ◌&&◌, ◌||◌, List, [], ◌∷◌, map, fold, filter, slice_get, Option, Some, None, is_some, if◌then◌else◌, nat_lt, nat_le, codes}
 use Rattle.std.specs.List.{flat_map, list_any, reduce, AllByRecursion}
 use Rattle.std.specs.Option.{option_map_or}
@@ -42,7 +42,7 @@ use Rattle.drf_explain.specs.declared.finding.Outcome.{Outcome}
 use Rattle.drf_explain.specs.declared.finding.Outcome.TheVariants.{Grant, HeldBack, OverLimit, BelowThreshold, NothingLeft, ReservedForOthers}
 use Rattle.drf_explain.proofs.Found.{same_values}
 
--- ---- what comes of a client, by what decides it
+-- ---- the outcome of a client, case by case
 
 abbrev told_by : Bool → Option ℕ → List Resource → Bool → Bool → Bool → Path → Outcome
 told_by worth until bundle some gone none limited =
@@ -106,7 +106,7 @@ gone_by false until bundle false true none limited is = refl
 gone_by false until bundle false false true limited is = cc
 gone_by false until bundle false false false limited is = cc
 
--- ---- what is found stands at a place
+-- ---- a value that is found is at an index
 
 module _ {A B : Type 0} (test : A → Bool) (value : A → B) where
   abbrev values : List A → List B
@@ -139,7 +139,7 @@ module _ {A B : Type 0} (test : A → Bool) (value : A → B) where
   values-past x xs past = ap (λ (b : Bool). map value (cond b (x ∷ filter test xs) (filter test xs))) past
 
   module _ (join : B → B → B) (either : (a b : B) → (join a b ≡ a) ⊎ (join a b ≡ b)) where
-    -- a fold that takes one of two is where it began, or is found
+    -- the result of a fold that selects one of two values is the start value, or is found
     found-fold : (start : B) (xs : List A) → (fold join start (values xs) ≡ start) ⊎ IsFound xs (fold join start (values xs))
     found-fold start [] = inl refl
     found-fold start (x ∷ xs) = elim (cases_Bool (test x)) [
@@ -195,7 +195,7 @@ module _ {A : Type 0} (test : A → Bool) where
   none-at (x ∷ xs) none =
       λ i. false_from_ne_true (test x) (none zero x refl) i || none-at xs (λ place y at. none (suc place) y at) i
 
--- ---- the greatest
+-- ---- the greatest value
 
 fold_max_ge : (n : ℕ) (ns : List ℕ) → n ≤ fold max n ns
 fold_max_ge n [] = omega arith
@@ -234,7 +234,7 @@ max_either a b = elim (cases_Bool (nat_le b a)) [
 
 -- ---- what a cut leaves of a scalar
 
--- at least so much of one value, if the limit on it is as high
+-- at least this amount of a value, if the limit on it is not lower
 left-one : (limited : Bool) (limit least : ℕ) (v : Value) → (limited ≡ true → least ≤ limit)
     → min least (units_in v Thousandths) ≤ units_in (cut limited limit v) Thousandths
 left-one true limit least (Scalar t) high = omega (arith, high refl)
@@ -272,7 +272,7 @@ module _ (limits : List Entry) (label : Text) (least : ℕ) (high : is_named lim
 
 -- ---- a headroom that cuts too much
 
--- where a scalar is enough for an offer, and what limits leave of it is not, its headroom is not
+-- if a scalar is enough for an offer, and what the limits leave of it is not, then its headroom is not enough
 module _ (rows : Rows) (role : Path) (label : Text) where
   abbrev value : Text → ℕ
   value name = option_map_or (λ m. m) (headroom_at rows role name) 0
@@ -362,7 +362,7 @@ module _ (rows : Rows) (client : Client) (label : Text) (least : ℕ) where
             omega (arith, same, least_of.2);
       }
 
-  -- the limit of which what comes of a client tells the role
+  -- the limit of the role that the outcome names
   cut_below : (part : List Resource) → least ≤ amount_of (quantities_of part) label
       → amount_of (quantities_of (clip (headroom rows client.role) part)) label < least
       → IsCutBelow rows client (option_map_or (λ l. l.role) found_limit client.role) label least
@@ -380,7 +380,7 @@ module _ (rows : Rows) (client : Client) (label : Text) (least : ℕ) where
           let same : room l ≡ head.0 = cc in
           cut_by l is (omega (arith, same, head.2))
 
--- ---- where no resource is for a role
+-- ---- no resource is for the role
 
 each_for_others : (client : Client) (rs : List Resource) → is_empty (part_for client.role rs) ≡ true → AllByRecursion (IsForOthers client) rs
 each_for_others client [] none = tt
@@ -425,7 +425,7 @@ module _ (rows : Rows) (agent : AgentRow) (client : Client) where
   abbrev holds_at : ℕ → FilterRow → Bool
   holds_at clock f = holds_back clock client agent.name may f
 
-  -- all of it but the clock
+  -- the test of `holds_back` without the clock
   abbrev is_against : FilterRow → Bool
   is_against f = is_of_client client f && (is_on_agent agent.name f && covers f.bundle may)
 
@@ -434,14 +434,14 @@ module _ (rows : Rows) (agent : AgentRow) (client : Client) where
   unfolding free_of
   grant-at at held worth is = λ i. if worth i && not (is i) then Some may else None
 
-  -- a filter that holds back does so until it ends
+  -- a filter that covers a bundle does so until it ends
   still : (at : ℕ) (f : FilterRow) → at < f.until → holds_at rows.clock f ≡ true → holds_at (max rows.clock at) f ≡ true
   still at f early holds =
       let parts = and_parts (is_in_force rows.clock f) (is_against f) holds in
       let begun : rows.clock < f.until = ltb-true rows.clock f.until parts.0 in
       and_from (is_in_force (max rows.clock at) f) (is_against f) (lt-ltb (max rows.clock at) f.until (omega arith)) parts.1
 
-  -- one that holds back at a moment ends later, and holds back now
+  -- a filter that covers a bundle at a timestamp ends later, and covers it now
   sooner : (at : ℕ) (f : FilterRow) → holds_at (max rows.clock at) f ≡ true → (at < f.until) × (holds_at rows.clock f ≡ true)
   sooner at f holds =
       let parts = and_parts (is_in_force (max rows.clock at) f) (is_against f) holds in
@@ -536,7 +536,7 @@ module _ (rows : Rows) (agent : AgentRow) (client : Client) where
       let decided = reserved_by (is_allocatable may) end may (is_allocatable part) (is_empty free) (is_empty part) limiting is in
       record { some = decided.0; others = each_for_others client free decided.1 }
 
--- ---- what an explanation does not tell
+-- ---- an outcome that explanations do not have
 
 tried-otherwise : (rows : Rows) (agent : AgentRow) (client : Client) → is_allocatable (free_of rows agent) ≡ true
     → IsOtherwise (Tried agent.name (path_of client) (outcome rows agent client))

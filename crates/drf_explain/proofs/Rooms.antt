@@ -1,4 +1,4 @@
--- What limits leave, as a quota counts it and as the rows say it, and what comes of a client by that.
+-- A quota leaves what the rows say, and the outcome of a client follows from it.
 use Rattle.std.specs.Prelude.{◌≡◌, ℕ, max, true, false, List, map, filter, Option}
 use Rattle.std.specs.List.{reduce}
 use Rattle.std.specs.Option.{option_map_or}
@@ -25,7 +25,7 @@ use Rattle.drf_explain.specs.declared.finding.Outcome.{Outcome}
 use Rattle.drf_explain.specs.declared.finding.Outcome.TheVariants.{Grant, HeldBack}
 use Rattle.drf_explain.specs.declared.gates.Gates.{Gates}
 
--- what a quota counts is what roles consume
+-- the consumption that a quota counts is that of the rows
 pub counted_is : (rows : Rows) (a : Allowance) → IsAllowanceOf rows a → used_at a.used ≡ consumption rows
 counted_is rows a counted = λ i role label. counted.used (is_within role) label i
 
@@ -50,7 +50,7 @@ module _ (clock : ℕ) (client : Client) (agent : Text) (bundle : List Resource)
       → filter (holds_back clock client agent bundle) (filter (is_on_agent agent) filters) ≡ filter (holds_back clock client agent bundle) filters
   held_there filters = filter_weaker (holds_back clock client agent bundle) (is_on_agent agent) there filters
 
--- the filters on an agent
+-- the filters on an agent decide like all filters
 pub gates_of : (rows : Rows) (agent : AgentRow) (gates : Gates) → gates.agent.now ≡ agent.name → gates.moment ≡ rows.clock
     → gates.filters.items ≡ filter (is_on_agent gates.agent.now) rows.filters → gates.limits.now ≡ rows.limits → AreGatesOf rows agent gates
 gates_of rows agent gates name moment filters limits = record {
@@ -62,14 +62,14 @@ gates_of rows agent gates name moment filters limits = record {
   limits = limits;
 }
 
--- the client of a path is that whose path it is
+-- the client with the path of a client is this client
 pub client_at-path : (path : Path) (client : Client) → path ≡ path_of client → client_at path ≡ client
 client_at-path path client joined =
     let role : role_part path ≡ client.role = ap role_part joined ∙ role_part-client_path client.role client.framework in
     let framework : framework_part path ≡ client.framework = ap framework_part joined ∙ framework_part-client_path client.role client.framework in
     λ i. record { role = role i; framework = framework i }
 
--- ---- what comes of a client
+-- ---- the outcome of a client
 
 module _ (rows : Rows) (agent : AgentRow) (client : Client) (gates : Gates) (path : Path) (are : AreGatesOf rows agent gates)
     (joined : path ≡ path_of client) (free part bundle : List Resource) where

@@ -1,5 +1,5 @@
--- Each client of a turn is told of once, at the rows of its moment; the shorter telling is this one, cut where too little is left; and nobody
--- behind the cut gets anything.
+-- Each client of a turn is listed once, with its outcome in the rows at that point of the cycle. The shorter explanation is this one, cut off
+-- where too little is left; no client after the cut is granted anything.
 use Rattle.std.specs.Prelude.{◌≡◌, ◌≢◌, ℕ, ◌≤◌, suc, max, Bool, true, false, not, ◌&&◌, List, [], ◌∷◌, ◌++◌, length, map, filter, slice_get, Some, if◌then◌else◌, codes}
 use Rattle.std.specs.List.{flat_map, list_all, AllZip}
 use Rattle.std.proofs.Common.{refl, sym, ap, ◌∙◌, inl, inr, cond, arith, append-nil}
@@ -32,7 +32,7 @@ use Rattle.drf_explain.specs.declared.finding.Finding.TheVariants.{Suppressed, I
 use Rattle.drf_explain.specs.declared.finding.Outcome.{Outcome}
 use Rattle.drf_explain.specs.declared.finding.Outcome.TheVariants.{Grant, HeldBack, OverLimit, BelowThreshold, NothingLeft, ReservedForOthers}
 
--- ---- what is promised
+-- ---- statements
 
 -- the client that a finding tries
 abbrev pub tried_in : Finding → List Path
@@ -42,16 +42,16 @@ tried_in (Inactive agent) = []
 tried_in (NothingFree agent) = []
 tried_in (Left agent left clients) = []
 
--- an agent is open: it takes part, and something is free there
+-- the agent is active, and something is free on it
 pub record IsOpen (rows : Rows) (agent : AgentRow) : Type 0 where
   pub active : agent.active ≡ true
   pub some : is_empty (free_of rows agent) ≡ false
 
--- on an open agent the clients of the turn are told of, each once, in its order, and nobody else
+-- on an open agent, exactly the clients of the turn are listed, each once, in order
 abbrev pub EachIsToldOnce : Type 0
 EachIsToldOnce = (rows : Rows) (agent : AgentRow) → IsOpen rows agent → flat_map tried_in (each_on rows agent) ≡ map path_of (turn_order rows)
 
--- what comes of each is told at the rows of its moment: behind the turns of the agents before, and behind the clients before
+-- the outcome of each client is that in the rows at its point of the cycle: after the turns of the agents before, and after the clients before
 pub record IsToldAtItsMoment (rows : Rows) (at : ℕ) (before : List AgentRow) (agent : AgentRow) (start : Rows) : Type 0 where
   pub turn : slice_get (each_by_agent rows at) (length before) ≡ Some (each_on start agent)
   pub client : IsOpen start agent → (earlier later : List Client) (client : Client) → turn_order start ≡ earlier ++ client ∷ later
@@ -62,12 +62,12 @@ EachIsToldAtItsMoment =
     (rows : Rows) (at : ℕ) (before after : List AgentRow) (agent : AgentRow) → rows.agents ≡ before ++ agent ∷ after
     → IsToldAtItsMoment rows at before agent (turns (at_moment rows at) (filter (λ a. a.active) before))
 
--- the telling of turns has of each agent what is told of it
+-- the first part of `turns_by_agent` is the complete explanation
 abbrev pub TurnsAreTold : Type 0
 TurnsAreTold = (rows : Rows) (at : ℕ) → map (λ turn. turn.0) (turns_by_agent rows at) ≡ each_by_agent rows at
 
--- and what would come of each client of the turn, in its order, behind the turns of the agents before, and before all clients: of nobody, where
--- nobody is tried
+-- its second part is the outcome of each client of the turn, in order, after the turns of the agents before and before any client is tried; it
+-- is empty if no client is tried
 pub record IsUntouchedAt (rows : Rows) (at : ℕ) (before : List AgentRow) (agent : AgentRow) (start : Rows) : Type 0 where
   pub turn : slice_get (turns_by_agent rows at) (length before) ≡ Some (each_on start agent, untouched_on start agent)
   pub clients : IsOpen start agent → untouched_on start agent ≡ map (told_here start agent) (turn_order start)
@@ -78,13 +78,13 @@ EachIsUntouched =
     (rows : Rows) (at : ℕ) (before after : List AgentRow) (agent : AgentRow) → rows.agents ≡ before ++ agent ∷ after
     → IsUntouchedAt rows at before agent (turns (at_moment rows at) (filter (λ a. a.active) before))
 
--- where nobody before a client is granted anything on an agent, just that comes of it at its moment
+-- if no client before a client is granted anything on an agent, its two outcomes are the same
 abbrev pub UntouchedIsTold : Type 0
 UntouchedIsTold =
     (rows : Rows) (agent : AgentRow) (earlier : List Client) (client : Client) → flat_map grants_in (told_of_each rows agent earlier) ≡ []
     → told_here (all_tried rows agent earlier) agent client ≡ told_here rows agent client
 
--- too little of what is left is for the client, or none
+-- an outcome that is possible where too little is left for an offer
 abbrev pub is_late : Outcome → Bool
 is_late (Grant bundle) = false
 is_late (HeldBack until) = false
@@ -93,7 +93,7 @@ is_late BelowThreshold = true
 is_late NothingLeft = true
 is_late ReservedForOthers = true
 
--- a finding that a client comes too late
+-- a finding with such an outcome
 abbrev pub is_told_late : Finding → Bool
 is_told_late (Tried agent client outcome) = is_late outcome
 is_told_late (Suppressed client) = false
@@ -106,8 +106,8 @@ abbrev pub counted : Text → List Resource → List Finding → List Finding
 counted agent left [] = []
 counted agent left (finding ∷ findings) = Left agent left (suc (length findings)) ∷ []
 
--- of an agent the shorter telling is the longer one up to where what is left is worth no offer; the clients behind that come too late, and are
--- counted
+-- the shorter list of findings about an agent is the longer one up to where too little is left for an offer; the clients after that are
+-- only counted
 pub record IsCutTo (more less : List Finding) : Type 0 where
   pub before : List Finding
   pub behind : List Finding
@@ -118,7 +118,7 @@ pub record IsCutTo (more less : List Finding) : Type 0 where
   pub little : behind ≢ [] → is_allocatable left ≡ false
   pub late : list_all is_told_late behind ≡ true
 
--- an explanation is the longer telling, cut so on each agent
+-- the shorter explanation is the complete one, cut off in this way on each agent
 pub record IsCutOnEach (rows : Rows) (at : ℕ) : Type 0 where
   pub shorter : List (List Finding)
   pub whole : explained rows at ≡ suppressed_of rows ++ flat_map (λ told. told) shorter
@@ -127,24 +127,24 @@ pub record IsCutOnEach (rows : Rows) (at : ℕ) : Type 0 where
 abbrev pub ExplainedIsCut : Type 0
 ExplainedIsCut = (rows : Rows) (at : ℕ) → IsCutOnEach rows at
 
--- the grants that are told are, in order, the offers that the cycle makes
+-- the grants of the explanation are the cycle's offers, in order
 abbrev pub EachGrantIsAnOffer : Type 0
 EachGrantIsAnOffer = (rows : Rows) (at : ℕ) → flat_map grants_in (each_told rows at) ≡ map offered (new_offers rows (cycle rows at))
 
--- filters that have run out change nothing that is told
+-- expired filters do not change the explanation
 abbrev pub LiveRowsAreTold : Type 0
 LiveRowsAreTold = (rows : Rows) (at : ℕ) → each_by_agent (live_rows rows) at ≡ each_by_agent rows at
 
 abbrev pub LiveTurnsAreTold : Type 0
 LiveTurnsAreTold = (rows : Rows) (at : ℕ) → turns_by_agent (live_rows rows) at ≡ turns_by_agent rows at
 
--- ---- who is told of
+-- ---- which clients are listed
 
 tried-each : (rows : Rows) (agent : AgentRow) (clients : List Client) → flat_map tried_in (told_of_each rows agent clients) ≡ map path_of clients
 tried-each rows agent [] = refl
 tried-each rows agent (client ∷ clients) = ap (λ ps. path_of client ∷ ps) (tried-each (tried rows agent client) agent clients)
 
--- an open agent is told of client by client
+-- the findings about an open agent are those about the clients of the turn
 pub each_on-open : (rows : Rows) (agent : AgentRow) → IsOpen rows agent → each_on rows agent ≡ told_of_each rows agent (turn_order rows)
 each_on-open rows agent opened =
     (λ i. if opened.active i then each_on_active rows agent else Inactive agent.name ∷ [])
@@ -189,7 +189,7 @@ each_is_told_at_its_moment rows at before after agent agents =
           ∙ each-at start agent earlier later client;
     }
 
--- ---- before anything is taken
+-- ---- outcomes at the beginning of a turn
 
 turns-told : (rows : Rows) (agents : List AgentRow) → map (λ turn. turn.0) (turns_on_all rows agents) ≡ each_on_all rows agents
 turns-told rows [] = refl
@@ -242,7 +242,7 @@ untouched_is_told rows agent earlier client none = ap (λ (r : Rows). told_here 
 
 -- ---- where too little is left
 
--- of a bundle that is worth no offer no part is
+-- a part of a bundle that is too small for an offer is too small too
 part_less : (role : Path) (free : List Resource) (name : Text)
     → amount_of (quantities_of (part_for role free)) name ≤ amount_of (quantities_of free) name
 part_less role free name = omega (
@@ -331,7 +331,7 @@ cut-agent rows agent = by agent.active (is_empty (free_of rows agent))
     by true false = cut-clients rows agent (turn_order rows)
     by false none = whole (Inactive agent.name ∷ [])
 
--- the shorter telling, a list for each agent
+-- the shorter explanation, a list for each agent
 abbrev shorter_on_all : Rows → List AgentRow → List (List Finding)
 shorter_on_all rows [] = []
 shorter_on_all rows (agent ∷ agents) = told_of_agent rows agent ∷ shorter_on_all (after_agent rows agent) agents
@@ -354,7 +354,7 @@ explained_is_cut rows at = record {
 
 -- ---- grants
 
--- who comes too late is granted nothing
+-- no client is granted anything where too little is left
 no_grant_late : (findings : List Finding) → list_all is_told_late findings ≡ true → flat_map grants_in findings ≡ []
 no_grant_late [] late = refl
 no_grant_late (Tried agent client (Grant bundle) ∷ findings) late = cc
@@ -399,7 +399,7 @@ each_grant_is_an_offer rows at =
     ∙ ap (flat_map grants_in) (sym cut.whole)
     ∙ grants_are_offers rows at
 
--- ---- filters that have run out
+-- ---- expired filters
 
 each-filters : (rows : Rows) (fs : List FilterRow) (agent : AgentRow) (clients : List Client) → HoldTheSame fs rows.filters rows.clock
     → told_of_each (with_filters rows fs) agent clients ≡ told_of_each rows agent clients
@@ -428,7 +428,7 @@ each_on_all-filters rows fs (agent ∷ agents) same =
     ∙ each_on_all-filters after fs agents (still_the_same rows after fs (kept-agent rows agent agent.active) same) in
     λ i. each_on-filters rows fs agent same i ∷ others i
 
--- those that are in force hold back the same at a moment
+-- the filters in force cover the same bundles at a timestamp as all filters do
 live_filters : (rows : Rows) (at : ℕ) → HoldTheSame (in_force rows.clock rows.filters) rows.filters (max rows.clock at)
 live_filters rows at = λ client agent bundle.
     let late : rows.clock ≤ max rows.clock at = omega arith in

@@ -1,4 +1,4 @@
--- What an explanation tells of the cycle that comes next: what it offers to whom, and where it offers nothing, why.
+-- An explanation of the next cycle: what it offers to each client, and why it offers nothing.
 use Rattle.std.specs.Prelude.{ℕ, suc, max, List, [], ◌∷◌, ◌++◌, length, map, filter, flat_map, Option, if◌then◌else◌, nat_le, nat_lt, codes}
 use Rattle.std.specs.List.{reduce}
 use Rattle.std.specs.Option.{option_map_or}
@@ -26,27 +26,27 @@ use Rattle.drf_explain.specs.declared.finding.Outcome.TheVariants.{Grant, HeldBa
 
 -- ---- why a client is offered nothing
 
--- the greatest end of the filters that hold a bundle back from a client on an agent, if any does
+-- the latest end of the filters of a client on an agent that cover a bundle, if any filter does
 abbrev pub held_until : List FilterRow → ℕ → Client → Text → List Resource → Option ℕ
 held_until filters clock client agent bundle = reduce max (map (λ f. f.until) (filter (holds_back clock client agent bundle) filters))
 
--- of two limits the one that leaves less, and the first where they leave as much
+-- the limit that leaves less, or the first if both leave equally much
 abbrev pub tighter : (LimitRow → ℕ) → LimitRow → LimitRow → LimitRow
 tighter room first second = if nat_lt (room second) (room first) then second else first
 
--- of the limits that bind a role on a scalar the one that leaves least
+-- among the limits that apply to a role and a scalar, the one that leaves least
 abbrev pub tightest : List LimitRow → Consumed → Path → Text → Option LimitRow
 tightest limits consumed role label = reduce (tighter (room_under consumed label)) (filter (binds role label) limits)
 
--- the scalar that makes a part worth an offer
+-- the scalar that makes a part large enough for an offer
 abbrev pub worthy_scalar : List Resource → Text
 worthy_scalar part = if nat_le 10 (amount_of (quantities_of part) (codes "cpus")) then codes "cpus" else codes "mem"
 
--- the role whose limit cuts that scalar most
+-- the role whose limit leaves least of that scalar
 abbrev pub limiting_role : List LimitRow → Consumed → Path → List Resource → Path
 limiting_role limits consumed role part = option_map_or (λ l. l.role) (tightest limits consumed role (worthy_scalar part)) role
 
--- why a client is offered nothing where limits leave too little of the part of its role, of what is free
+-- why a client is offered nothing if the limits leave too little of the part of the free resources that its role can use
 abbrev pub shortage : List LimitRow → Consumed → Path → List Resource → List Resource → Outcome
 shortage limits consumed role free part =
     if is_allocatable part then OverLimit (limiting_role limits consumed role part)
@@ -56,7 +56,7 @@ shortage limits consumed role free part =
 
 -- ---- a client is tried
 
--- what comes of it, by what is free, by the part of that that its role may use, and by what limits leave of the part
+-- its outcome, given the free resources, the part of them that its role can use, and what the limits leave of that part
 abbrev pub outcome_by : Rows → AgentRow → Client → List Resource → List Resource → List Resource → Outcome
 outcome_by rows agent client free part bundle =
     if is_allocatable bundle then option_map_or HeldBack (held_until rows.filters rows.clock client agent.name bundle) (Grant bundle)
@@ -68,7 +68,7 @@ outcome rows agent client =
 
 -- ---- the turn of an agent
 
--- clients are tried one after another, until what is left is not worth an offer
+-- the findings about clients that are tried one after another, until what is left is too small for an offer
 abbrev pub told_of_all : Rows → AgentRow → List Client → List Finding
 told_of_all rows agent [] = []
 told_of_all rows agent (client ∷ clients) =
@@ -76,7 +76,7 @@ told_of_all rows agent (client ∷ clients) =
     then Tried agent.name (path_of client) (outcome rows agent client) ∷ told_of_all (tried rows agent client) agent clients
     else Left agent.name (free_of rows agent) (suc (length clients)) ∷ []
 
--- an agent that is active
+-- the findings about an active agent
 abbrev pub told_of_active : Rows → AgentRow → List Finding
 told_of_active rows agent =
     if is_empty (free_of rows agent) then NothingFree agent.name ∷ [] else told_of_all rows agent (turn_order rows)
@@ -84,18 +84,18 @@ told_of_active rows agent =
 abbrev pub told_of_agent : Rows → AgentRow → List Finding
 told_of_agent rows agent = if agent.active then told_of_active rows agent else Inactive agent.name ∷ []
 
--- the rows after an agent's turn, which it has if it is active
+-- the rows after an agent's turn, which it has only if it is active
 abbrev pub after_agent : Rows → AgentRow → Rows
 after_agent rows agent = if agent.active then turn rows agent else rows
 
--- the turns of agents, one after another
+-- the findings about agents whose turns come one after another
 abbrev pub told_of_agents : Rows → List AgentRow → List Finding
 told_of_agents rows [] = []
 told_of_agents rows (agent ∷ agents) = told_of_agent rows agent ++ told_of_agents (after_agent rows agent) agents
 
 -- ---- the cycle
 
--- the clients that want no offers, by frameworks
+-- the suppressed clients, in the order of the frameworks
 abbrev pub told_if_suppressed : FrameworkRow → ClientRow → List Finding
 told_if_suppressed f c = if c.suppressed then Suppressed (path_of (client_of f c)) ∷ [] else []
 
@@ -105,6 +105,6 @@ suppressed_in f = flat_map (told_if_suppressed f) f.clients
 abbrev pub suppressed_of : Rows → List Finding
 suppressed_of rows = flat_map suppressed_in rows.frameworks
 
--- what is told of the cycle at a moment
+-- the explanation of the cycle at a timestamp
 unfoldable pub explained : Rows → ℕ → List Finding
 explained rows at = suppressed_of rows ++ told_of_agents (at_moment rows at) rows.agents

@@ -1,4 +1,4 @@
--- A cluster in which each cause for which an explanation tells that a client gets nothing stands once, and what is told of it.
+-- A cluster in which each reason for which a client gets nothing occurs once, and its explanation.
 use Rattle.std.specs.Prelude.{List, [], ◌∷◌, ◌++◌, codes}
 use Rattle.drf_role.specs.Path.{Path}
 use Rattle.drf_rows.specs.Client.{path_of}
@@ -17,7 +17,7 @@ use Rattle.drf_explain.specs.declared.finding.Outcome.TheVariants.{Grant, OverLi
 abbrev ops_db : Path
 ops_db = codes "ops" ∷ codes "db" ∷ []
 
--- `f1` holds all of `n2`, and has declined all of `n1` until 5000; a limit leaves `f2` nothing, and `f3` wants nothing
+-- `f1` holds all of `n2`, and has declined all of `n1` until 5000; a limit leaves nothing to `f2`, and `f3` is suppressed
 abbrev pub why_nothing : List Event
 why_nothing =
     AddAgent (codes "n1") (cpus 4000 ∷ mem 1024000 ∷ [])
@@ -45,7 +45,7 @@ f1 = path_of (record { role = codes "eng" ∷ []; framework = codes "f1" })
 abbrev f2 : Path
 f2 = path_of (record { role = ops_db; framework = codes "f2" })
 
--- what is told of all agents but `n6`, where that comes of `f1` on `n1`
+-- the findings about all agents except `n6`, given the outcome of `f1` on `n1`
 abbrev told_before : Outcome → List Finding
 told_before on_n1 =
     Suppressed (path_of (record { role = codes "web" ∷ []; framework = codes "f3" }))
@@ -59,11 +59,11 @@ told_before on_n1 =
     ∷ Tried (codes "n5") f1 (Grant (cpus_for (codes "eng") 2000 ∷ []))
     ∷ []
 
--- what an explanation tells
+-- the explanation
 abbrev pub nothing_told : Outcome → List Finding
 nothing_told on_n1 = told_before on_n1 ++ Left (codes "n6") (cpus 5 ∷ []) 2 ∷ []
 
--- what is told of each
+-- the complete explanation
 abbrev pub nobody_left_out : Outcome → List Finding
 nobody_left_out on_n1 =
     told_before on_n1 ++ Tried (codes "n6") f2 BelowThreshold ∷ Tried (codes "n6") f1 BelowThreshold ∷ []

@@ -1,4 +1,4 @@
--- The grants that are told are the offers of the cycle, and filters that have run out change nothing that is told.
+-- The grants of an explanation are the offers of the cycle, and expired filters do not change the explanation.
 use Rattle.std.specs.Prelude.{◌≡◌, ℕ, ◌≤◌, suc, max, Bool, true, false, not, ◌&&◌, List, [], ◌∷◌, ◌++◌, length, map, filter, drop, Option, Some, None, is_some, if◌then◌else◌, nat_lt}
 use Rattle.std.specs.List.{flat_map, list_any, reduce}
 use Rattle.std.specs.Option.{option_map_or}
@@ -31,13 +31,13 @@ use Rattle.drf_explain.specs.declared.finding.Finding.TheVariants.{Suppressed, I
 use Rattle.drf_explain.specs.declared.finding.Outcome.{Outcome}
 use Rattle.drf_explain.specs.declared.finding.Outcome.TheVariants.{Grant, HeldBack, OverLimit, BelowThreshold, NothingLeft, ReservedForOthers}
 
--- a bundle of an agent that a client gets
+-- a bundle of an agent that is granted to a client
 pub record Granted : Type 0 where
   pub agent : Text
   pub client : Path
   pub bundle : List Resource
 
--- the grants that are told
+-- the grants among the findings
 abbrev pub grants_of : Text → Path → Outcome → List Granted
 grants_of agent client (Grant bundle) = record { agent = agent; client = client; bundle = bundle } ∷ []
 grants_of agent client (HeldBack until) = []
@@ -53,21 +53,21 @@ grants_in (Inactive agent) = []
 grants_in (NothingFree agent) = []
 grants_in (Left agent left clients) = []
 
--- an offer, as it is granted
+-- an offer as a grant
 abbrev pub offered : OfferRow → Granted
 offered o = record { agent = o.agent; client = client_path o.role o.framework; bundle = o.bundle }
 
--- the grants that are told are, in order, the offers that the cycle makes
+-- the grants of the explanation are the cycle's offers, in order
 abbrev pub GrantsAreOffers : Type 0
 GrantsAreOffers = (rows : Rows) (at : ℕ) → flat_map grants_in (explained rows at) ≡ map offered (new_offers rows (cycle rows at))
 
--- filters that have run out change nothing that is told
+-- expired filters do not change the explanation
 abbrev pub LiveRowsAreExplained : Type 0
 LiveRowsAreExplained = (rows : Rows) (at : ℕ) → explained (live_rows rows) at ≡ explained rows at
 
--- ---- what is held back
+-- ---- filters that cover a bundle
 
--- some filter holds a bundle back just where there is a greatest end of those that do
+-- some filter covers a bundle exactly if the filters that do have a latest end
 any_found : (test : FilterRow → Bool) (fs : List FilterRow) → list_any test fs ≡ is_some (reduce max (map (λ f. f.until) (filter test fs)))
 any_found test [] = refl
 any_found test (f ∷ fs) = elim (cases_Bool (test f)) [
@@ -79,7 +79,7 @@ pub held_back-until : (filters : List FilterRow) (clock : ℕ) (client : Client)
     → is_held_back filters clock client agent bundle ≡ is_some (held_until filters clock client agent bundle)
 held_back-until filters clock client agent bundle = any_found (holds_back clock client agent bundle) filters
 
--- a weaker test before another takes nothing out
+-- filtering first by a weaker test changes nothing
 pub filter_weaker : {A : Type 0} (strong weak : A → Bool) → ((x : A) → strong x ≡ true → weak x ≡ true) → (xs : List A)
     → filter strong (filter weak xs) ≡ filter strong xs
 filter_weaker strong weak implies [] = refl
@@ -91,13 +91,13 @@ filter_weaker strong weak implies (x ∷ xs) = elim (cases_Bool (strong x)) [
   ]
 ]
 
--- ---- the grants that are told
+-- ---- the grants of an explanation
 
 flat_map-append : {A B : Type 0} (f : A → List B) (xs ys : List A) → flat_map f (xs ++ ys) ≡ flat_map f xs ++ flat_map f ys
 flat_map-append f [] ys = refl
 flat_map-append f (x ∷ xs) ys = ap (λ zs. f x ++ zs) (flat_map-append f xs ys) ∙ sym (append_assoc (f x) (flat_map f xs) (flat_map f ys))
 
--- what is told between two rows has the offers that were made
+-- the grants among the findings are the offers that were made between two states
 record Makes (before after : Rows) (findings : List Finding) : Type 0 where
   made : List OfferRow
   offers : after.offers ≡ before.offers ++ made
@@ -114,7 +114,7 @@ makes-both before mid after first second a b = record {
   told = flat_map-append grants_in first second ∙ (λ i. a.told i ++ b.told i) ∙ sym (map-append offered a.made b.made);
 }
 
--- a shortage is no grant
+-- a shortage is not a grant
 no_grant : (agent : Text) (client : Path) (worth gone none : Bool) (role : Path)
     → flat_map grants_in (Tried agent client (if worth then OverLimit role else if gone then NothingLeft else if none then ReservedForOthers else BelowThreshold) ∷ []) ≡ []
 no_grant agent client true gone none role = refl
@@ -158,7 +158,7 @@ module _ (rows : Rows) (agent : AgentRow) (client : Client) where
   none-by bundle true held None short same none = absurd cc
   none-by bundle true held (Some until) short same none = rw same refl
 
-  -- where no grant is told of, nothing is granted
+  -- if no grant is reported, nothing is granted
   pub tried-none : grants_in (Tried agent.name (path_of client) (outcome rows agent client)) ≡ [] → tried rows agent client ≡ rows
   tried-none =
       let free = free_of rows agent in
@@ -179,7 +179,7 @@ makes-all rows agent (client ∷ clients) = elim (cases_Bool (is_allocatable (fr
       (sym (all_tried_none rows agent (client ∷ clients) little)) (makes-nothing rows _ refl))
 ]
 
--- where nothing is free, nothing is worth an offer
+-- if nothing is free, that is too small for an offer
 pub nothing_free : (free : List Resource) → is_empty free ≡ true → is_allocatable free ≡ false
 nothing_free [] none = refl
 nothing_free (r ∷ rs) none = cc
@@ -204,7 +204,7 @@ makes-agents rows (agent ∷ agents) = by agent.active (makes-agents (turn rows 
     by true later skipped = makes-both rows (turn rows agent) _ (told_of_active rows agent) _ (makes-active rows agent) later
     by false later skipped = makes-both rows rows _ (Inactive agent.name ∷ []) _ (makes-nothing rows _ refl) skipped
 
--- who wants no offers gets none
+-- a suppressed client is granted nothing
 no_suppressed : (f : FrameworkRow) (cs : List ClientRow) → flat_map grants_in (flat_map (told_if_suppressed f) cs) ≡ []
 no_suppressed f [] = refl
 no_suppressed f (c ∷ cs) = elim (cases_Bool c.suppressed) [
@@ -228,13 +228,13 @@ grants_are_offers rows at =
     ∙ makes.told
     ∙ ap (map offered) (sym (ap (drop (length rows.offers)) makes.offers ∙ drop-append_seam rows.offers makes.made))
 
--- ---- filters that have run out
+-- ---- expired filters
 
 -- the rows with other filters
 abbrev pub with_filters : Rows → List FilterRow → Rows
 with_filters rows filters = record rows { filters = filters }
 
--- the filters of either list that hold a bundle back are the same
+-- the same bundles are covered by the filters of both lists
 abbrev pub HoldTheSame : List FilterRow → List FilterRow → ℕ → Type 0
 HoldTheSame fs gs clock =
     (client : Client) (agent : Text) (bundle : List Resource) → filter (holds_back clock client agent bundle) fs ≡ filter (holds_back clock client agent bundle) gs
@@ -270,7 +270,7 @@ module _ (rows : Rows) (fs : List FilterRow) (same : HoldTheSame fs rows.filters
       ap (λ (granted : Option (List Resource)). option_map_or (λ bundle. with_offer (with_filters rows fs) (new_offer rows agent client bundle)) granted (with_filters rows fs)) grant-filters
       ∙ offer-filters (grant rows agent client)
 
--- filters and clock stay where a client is tried
+-- trying a client does not change filters and clock
 pub kept-tried : (rows : Rows) (agent : AgentRow) (client : Client) (granted : Option (List Resource))
     → let after : Rows = option_map_or (λ bundle. with_offer rows (new_offer rows agent client bundle)) granted rows in
     (after.filters ≡ rows.filters) × (after.clock ≡ rows.clock)
@@ -331,7 +331,7 @@ told_of_agents-filters rows fs (agent ∷ agents) same =
     ∙ told_of_agents-filters after fs agents (still_the_same rows after fs (kept-agent rows agent agent.active) same) in
     λ i. told_of_agent-filters rows fs agent same i ++ others i
 
--- what holds a bundle back at a moment is in force at an earlier one
+-- a filter that covers a bundle at a timestamp is in force at an earlier one
 pub in_force_before : (now later : ℕ) (client : Client) (agent : Text) (bundle : List Resource) → now ≤ later → (f : FilterRow)
     → holds_back later client agent bundle f ≡ true → is_in_force now f ≡ true
 in_force_before now later client agent bundle le f holds =

@@ -1,4 +1,4 @@
--- The lines of an explanation: compact JSON, the keys in order of bytes, and a line feed (RFC 8259).
+-- The lines of an explanation: compact JSON (RFC 8259) with keys in byte order, and a line feed.
 use Rattle.std.specs.Prelude.{ℕ, List, [], ◌∷◌, ◌++◌, codes}
 use Rattle.std.specs.List.{flat_map}
 use Rattle.serde_json.specs.Data.{Data, number, unsigned, string, object, member, no_members}
@@ -13,7 +13,7 @@ use Rattle.drf_explain.specs.declared.finding.Finding.TheVariants.{Suppressed, I
 use Rattle.drf_explain.specs.declared.finding.Outcome.{Outcome}
 use Rattle.drf_explain.specs.declared.finding.Outcome.TheVariants.{Grant, HeldBack, OverLimit, BelowThreshold, NothingLeft, ReservedForOthers}
 
--- why nothing comes to a client on an agent
+-- why a client gets nothing on an agent
 abbrev pub tried_why : Text → Path → Text → Data
 tried_why agent client why = object (
     member (codes "agent") (string agent)
@@ -74,10 +74,10 @@ finding_value (NothingFree agent) = agent_value agent (codes "NothingFree")
 finding_value (Tried agent client outcome) = tried_value agent client outcome
 finding_value (Left agent left clients) = left_value agent left clients
 
--- the line that tells a finding
+-- the line of a finding
 unfoldable pub finding_text : Finding → List ℕ
 finding_text finding = compact_text (finding_value finding) ++ 10 ∷ []
 
--- and those of some findings, one after another
+-- the lines of some findings
 abbrev pub explained_text : List Finding → List ℕ
 explained_text findings = flat_map finding_text findings

@@ -1,3 +1,4 @@
+-- Definitions and theorems of explanations.
 pub mod Explained
 pub mod Each
 pub mod EachLaws

@@ -1,4 +1,4 @@
--- What each reason says of the cycle: why a client gets nothing on an agent, what it gets, and from when on.
+-- What each outcome means for the cycle: why a client gets nothing on an agent, what it gets, and from when on.
 use Rattle.std.specs.Prelude.{◌≡◌, ◌≢◌, ◌↔◌, ℕ, ◌<◌, ◌≤◌, true, false, List, Some, None, IsTrue, slice_get, codes}
 use Rattle.std.specs.List.{AllByRecursion}
 use Rattle.drf_role.specs.Text.{Text}
@@ -20,21 +20,21 @@ use Rattle.drf_explain.specs.declared.finding.Finding.{Finding}
 use Rattle.drf_explain.specs.declared.finding.Finding.TheVariants.{Tried}
 use Rattle.drf_explain.specs.declared.finding.Outcome.TheVariants.{Grant, HeldBack, OverLimit, BelowThreshold, NothingLeft, ReservedForOthers}
 
--- what a client's role may use of what is free on an agent
+-- the part of an agent's free resources that a client's role can use
 abbrev pub usable : Rows → AgentRow → Client → List Resource
 usable rows agent client = part_for client.role (free_of rows agent)
 
--- what limits leave of that: what the client may have
+-- what the limits leave of that part
 abbrev pub entitled : Rows → AgentRow → Client → List Resource
 entitled rows agent client = entitlement rows (free_of rows agent) client
 
--- how much of a scalar the client's role may use, in thousandths
+-- how much of a scalar the client's role can use, in thousandths
 abbrev pub usable_amount : Rows → AgentRow → Client → Text → ℕ
 usable_amount rows agent client label = amount_of (quantities_of (usable rows agent client)) label
 
 -- ---- a grant
 
--- a bundle is told to be granted where the cycle grants it, and there alone
+-- the outcome is a grant of a bundle exactly if the cycle grants this bundle
 abbrev pub GrantIsGranted : Type 0
 GrantIsGranted =
     (rows : Rows) (agent : AgentRow) (client : Client) (bundle : List Resource)
@@ -42,8 +42,8 @@ GrantIsGranted =
 
 -- ---- held back
 
--- what the client may have is worth an offer, and filters hold it back, of which one ends then and none later: in a cycle before
--- then the client is granted nothing, and in one at that moment or later it is granted all of it
+-- what the client could have is large enough for an offer, filters cover it, and the last of them ends at `until`: a cycle before then
+-- grants nothing to the client, and a cycle at that time or later grants all of it
 pub record IsHeldUntil (rows : Rows) (agent : AgentRow) (client : Client) (until : ℕ) : Type 0 where
   pub worth : is_allocatable (entitled rows agent client) ≡ true
   pub place : ℕ
@@ -63,8 +63,8 @@ HeldBackIsHeldUntil =
 
 -- ---- over a limit
 
--- the role has a limit that binds the client on the scalar and leaves too little of it, and no limit that binds leaves less: it is
--- what the cycle cuts the scalar to
+-- the role has a limit that applies to the client and the scalar and leaves too little, and no other such limit leaves less: it is the
+-- amount to which the cycle cuts the scalar
 pub record IsCutBelow (rows : Rows) (client : Client) (limited : Path) (label : Text) (least : ℕ) : Type 0 where
   pub place : ℕ
   pub row : LimitRow
@@ -76,8 +76,8 @@ pub record IsCutBelow (rows : Rows) (client : Client) (limited : Path) (label : 
   pub tightest : (other : ℕ) (l : LimitRow) → slice_get rows.limits other ≡ Some l
       → IsTrue (binds client.role label l) → room_under (consumption rows) label row ≤ room_under (consumption rows) label l
 
--- what the client's role may use is worth an offer, and what limits leave of it is not; the limit is one of `cpus` where enough
--- of them may be used, and else one of `mem`
+-- what the client's role can use is large enough for an offer, and what the limits leave of it is not; the limit is one on `cpus` if
+-- enough of them can be used, and otherwise one on `mem`
 pub record IsOverLimit (rows : Rows) (agent : AgentRow) (client : Client) (limited : Path) : Type 0 where
   pub worth : is_allocatable (usable rows agent client) ≡ true
   pub little : is_allocatable (entitled rows agent client) ≡ false
@@ -91,7 +91,7 @@ OverLimitIsOverLimit =
 
 -- ---- too little
 
--- the client's role may use some of what is free, and that is not worth an offer
+-- the client's role can use some of what is free, but this is too small for an offer
 pub record IsTooLittle (rows : Rows) (agent : AgentRow) (client : Client) : Type 0 where
   pub some : is_empty (usable rows agent client) ≡ false
   pub little : is_allocatable (usable rows agent client) ≡ false
@@ -103,7 +103,7 @@ BelowThresholdIsTooLittle =
 
 -- ---- reserved
 
--- the resource is reserved, for a role that is neither the client's nor above it
+-- the resource is reserved for a role that is neither the client's nor above it
 pub record IsForOthers (client : Client) (r : Resource) : Type 0 where
   pub reserved : is_default r.role ≡ false
   pub apart : is_within r.role client.role ≡ false
@@ -120,16 +120,16 @@ ReservedIsForOthers =
 
 -- ---- nothing
 
--- that nothing is left is told where nothing is free, and there alone
+-- the outcome is `NothingLeft` exactly if nothing is free
 abbrev pub NothingLeftIsNothing : Type 0
 NothingLeftIsNothing =
     (rows : Rows) (agent : AgentRow) (client : Client)
     → (outcome rows agent client ≡ NothingLeft) ↔ (is_empty (free_of rows agent) ≡ true)
 
--- a finding but that nothing is left
+-- the finding is not `NothingLeft`
 abbrev pub IsOtherwise : Finding → Type 0
 IsOtherwise finding = (agent : Text) (client : Path) → finding ≢ Tried agent client NothingLeft
 
--- an explanation does not tell it: there an agent's turn ends before
+-- `NothingLeft` does not occur in an explanation, because the turn ends before
 abbrev pub NothingLeftIsNotExplained : Type 0
 NothingLeftIsNotExplained = (rows : Rows) (at : ℕ) → AllByRecursion IsOtherwise (explained rows at)

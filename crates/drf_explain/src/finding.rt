@@ -1,37 +1,37 @@
-//! What is told of a cycle.
+//! The types of an explanation.
 
 use drf_bundle::Bundle;
 use drf_role::{ClientPath, Name, Role};
 
-/// What comes of trying a client on an agent.
+/// The outcome of trying a client on an agent.
 #[derive(Drop)]
 pub enum Outcome {
-    /// It is offered this.
+    /// It is offered this bundle.
     Grant(Bundle),
-    /// It refused something that covers what it may have there, until this moment in milliseconds.
+    /// Its filters cover what it could have there, until this timestamp in milliseconds.
     HeldBack { until: u64 },
-    /// The limit of this role leaves too little of the scalar that makes the part worth an offer.
+    /// The limit of this role leaves too little of the scalar that makes its part large enough for an offer.
     OverLimit { role: Role },
-    /// What it may have of what is free is not worth an offer.
+    /// What its role can use of the free resources is too small for an offer.
     BelowThreshold,
-    /// All that was free has been granted.
+    /// Everything that was free has been granted.
     NothingLeft,
-    /// All that is free is reserved for other roles.
+    /// Everything that is free is reserved for other roles.
     ReservedForOthers,
 }
 
 /// One line of an explanation.
 #[derive(Drop)]
 pub enum Finding {
-    /// The client wants no offers.
+    /// The client is suppressed.
     Suppressed {
         client: ClientPath,
     },
-    /// The agent takes no part.
+    /// The agent is inactive.
     Inactive {
         agent: Name,
     },
-    /// All that the agent has is offered or in tasks.
+    /// Everything that the agent has is offered or used by tasks.
     NothingFree {
         agent: Name,
     },
@@ -41,7 +41,7 @@ pub enum Finding {
         client: ClientPath,
         outcome: Outcome,
     },
-    /// What is left on the agent is not worth an offer, and so many clients are not tried.
+    /// What is left on the agent is too small for an offer, so this number of clients is not tried.
     Left {
         agent: Name,
         left: Bundle,
@@ -49,11 +49,11 @@ pub enum Finding {
     },
 }
 
-/// What is told of the turn of an agent.
+/// The findings of an agent's turn.
 #[derive(Drop)]
 pub struct TurnTold {
-    /// Of each client at its moment, or of the agent.
+    /// The outcome of each client when it is tried, or a finding about the agent.
     pub told: Vec<Finding>,
-    /// Of each client as if it were the first to be tried: empty where nobody is tried.
+    /// The outcome of each client if it were tried first; empty if no client is tried.
     pub untouched: Vec<Finding>,
 }

@@ -1,4 +1,4 @@
-//! What comes of trying a client on an agent.
+//! The outcome of trying a client on an agent.
 ghost use Rattle.std.specs.Prelude.{◌≡◌, max, filter, IfOk};
 ghost use Rattle.std.specs.Option.{option_copied};
 ghost use Rattle.drf_bundle.specs.Bundle.{covers};
@@ -19,8 +19,8 @@ use drf_role::{ClientPath, Name, Role};
 use drf_rows::{Copied, FilterRow, LimitRow, Rows, is_worth_an_offer};
 use std::alloc::{AllocError, Global};
 
-/// What decides, beside what is free, what a client gets on an agent: the moment in milliseconds, the filters on that agent, and the
-/// limits of all roles.
+/// What decides, besides the free resources, what a client gets on an agent: the timestamp in milliseconds, the filters on that agent, and
+/// the limits of all roles.
 #[derive(Drop)]
 pub struct Gates<'a> {
     agent: &'a Name,
@@ -29,7 +29,7 @@ pub struct Gates<'a> {
     limits: &'a [LimitRow],
 }
 
-/// The scalar that makes a part worth an offer.
+/// Returns the scalar that makes a part large enough for an offer: `cpus` if there is enough of it, otherwise `mem`.
 fn worthy_scalar(part: &Bundle) -> &'static str
     ensures { result.now ≡ worthy_scalar part.now }
 {
@@ -40,14 +40,14 @@ fn worthy_scalar(part: &Bundle) -> &'static str
     }
 }
 
-/// Whether a limit is that of the role or of one above it, and names the scalar.
+/// Returns whether a limit is that of the role or of a role above it, and names the scalar.
 fn binds(limit: &LimitRow, role: &Role, label: &str) -> bool
     ensures { result ≡ binds role.now label.now limit.now }
 {
     role.is_within(&limit.role) && limit.limit.is_named(label)
 }
 
-/// What a limit leaves of a scalar, in thousandths.
+/// Returns how much more of a scalar can be consumed under a limit, in thousandths.
 fn room_under(quota: &Quota<'_>, label: &str, limit: &LimitRow) -> u64
     ensures { result ≡ room_under (used_at quota.now.used) label.now limit.now }
 {
@@ -57,7 +57,7 @@ fn room_under(quota: &Quota<'_>, label: &str, limit: &LimitRow) -> u64
         .saturating_sub(quota.consumption(&limit.role, label))
 }
 
-/// Of two limits the one that leaves less of a scalar, and the first where they leave as much.
+/// Returns the limit that leaves less of a scalar, or the first if both leave equally much.
 fn tighter<'a>(
     quota: &Quota<'_>,
     label: &str,
@@ -73,7 +73,7 @@ fn tighter<'a>(
     }
 }
 
-/// The tightest limit of those found before and one more, if that binds the role.
+/// Returns the tighter of the tightest limit found so far and one more, which counts only if it applies to the role.
 fn tightest_with<'a>(
     quota: &Quota<'_>,
     role: &Role,
@@ -92,7 +92,7 @@ fn tightest_with<'a>(
     }
 }
 
-/// Of the limits that bind a role on a scalar the one that leaves least.
+/// Returns the limit that leaves least of a scalar, among those that apply to the role. Returns `None` if no limit does.
 fn tightest<'a>(
     quota: &Quota<'_>,
     limits: &'a [LimitRow],
@@ -108,7 +108,7 @@ fn tightest<'a>(
     found
 }
 
-/// The role whose limit cuts most of what makes a part worth an offer.
+/// Returns the role with the tightest limit on the scalar that makes a part large enough for an offer, or `role` if no limit applies to it.
 fn limiting_role(
     quota: Option<&Quota<'_>>,
     limits: &[LimitRow],
@@ -127,7 +127,7 @@ fn limiting_role(
     }
 }
 
-/// Why a client of the role is offered nothing of a part of what is free, of which limits leave too little.
+/// Returns why a client is offered nothing. `part` is what its role can use of the free resources; the limits leave too little of it.
 fn shortage(
     quota: Option<&Quota<'_>>,
     limits: &[LimitRow],
@@ -151,14 +151,14 @@ fn shortage(
     Ok(Outcome::BelowThreshold)
 }
 
-/// Whether the first bundle has all that the second has.
+/// Returns whether the first bundle includes all of the second.
 fn covers(whole: &Bundle, part: &Bundle) -> bool
     ensures { result ≡ covers whole.now part.now }
 {
     whole.covers(part)
 }
 
-/// Whether a filter is in force at a moment and holds the bundle back from the client on the agent.
+/// Returns whether a filter of the client on the agent is in force at the timestamp and covers the bundle.
 fn holds_back(
     filter: &FilterRow,
     moment: u64,
@@ -174,7 +174,7 @@ fn holds_back(
         && covers(&filter.bundle, bundle)
 }
 
-/// The greater of a number and of one that may be known.
+/// Returns the greater of two numbers, or the second if there is no first one.
 fn greater(known: Option<u64>, number: u64) -> u64
     ensures { result ≡ joined max known number }
 {
@@ -184,7 +184,7 @@ fn greater(known: Option<u64>, number: u64) -> u64
     }
 }
 
-/// The greatest end of filters that hold the bundle back, as far as it is known, and with one more filter.
+/// Returns the latest end of filters that cover the bundle, given that of the filters before and one more filter.
 fn held_with(
     filter: &FilterRow,
     moment: u64,
@@ -201,7 +201,7 @@ fn held_with(
     Some(greater(until, filter.until))
 }
 
-/// The greatest end of the filters that hold the bundle back from the client on the agent.
+/// Returns the latest end of the filters that cover the bundle for the client on the agent. Returns `None` if none does.
 fn held_until(
     filters: &[FilterRow],
     moment: u64,
@@ -218,7 +218,7 @@ fn held_until(
     until
 }
 
-/// The filters on an agent, copied.
+/// Returns copies of the filters on an agent.
 fn filters_on(
     alloc: Global,
     filters: &[FilterRow],
@@ -236,7 +236,7 @@ fn filters_on(
 }
 
 impl<'a> Gates<'a> {
-    /// What decides on the agent of that name.
+    /// Returns what decides on the agent of that name. Returns an error if memory runs out.
     pub fn on(alloc: Global, rows: &'a Rows, agent: &'a Name) -> Result<Gates<'a>, AllocError>
         ensures { IfOk result (λ gates. (a : AgentRow) → agent.now ≡ a.name → AreGatesOf rows.now a gates) }
     {
@@ -249,7 +249,8 @@ impl<'a> Gates<'a> {
         })
     }
 
-    /// What comes of trying a client whose role may use that part of what is free, of which limits leave that bundle.
+    /// Returns the outcome of trying a client. `free` is what is free, `part` is what its role can use of that, and `bundle` is what the limits
+    /// leave of `part`.
     pub fn outcome(
         &self,
         quota: Option<&Quota<'_>>,

@@ -1,4 +1,4 @@
-//! Why clients get nothing: what the next cycle would offer, client by client, and where it offers nothing, why.
+//! Explains the next cycle: what it would offer to each client, and why it would offer nothing.
 #![tactic(auto)]
 
 mod finding;

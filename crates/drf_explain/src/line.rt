@@ -1,4 +1,4 @@
-//! The writer of an explanation's lines.
+//! Writes the lines of an explanation.
 ghost use Rattle.std.specs.Prelude.{◌≡◌, ◌++◌, IfOk, OnOk, OnErr};
 ghost use Rattle.serde_json.specs.View.{view};
 ghost use Rattle.drf_explain.specs.ExplainedText.{grant_value, held_back_value, over_limit_value, tried_why, tried_value, suppressed_value, agent_value, left_value, finding_value, finding_text, explained_text};
@@ -10,7 +10,7 @@ use drf_text::write_bundle;
 use serde_json::{Value, json};
 use std::alloc::{AllocError, Global};
 
-/// The path of a client, whose text stands for it.
+/// Returns the whole path of a client as a node path.
 fn whole_path(client: &ClientPath) -> Result<NodePath, AllocError>
     ensures { IfOk result (λ node. node ≡ client.now) }
 {
@@ -140,7 +140,7 @@ fn line_text(alloc: Global, finding: &Finding) -> Result<Vec<u8>, AllocError>
     Ok(text)
 }
 
-/// Writes the line of a finding behind a text: compact JSON, the keys in order of bytes. An `Err` leaves the text as it was.
+/// Appends the line of a finding: compact JSON, with keys in byte order. If memory runs out, the text is unchanged.
 pub fn write_explained_line(
     alloc: Global,
     finding: &Finding,
@@ -153,7 +153,7 @@ pub fn write_explained_line(
     text.extend_from_slice(&told)
 }
 
-/// The lines of findings, one after another.
+/// Returns the lines of all findings.
 pub fn write_explained_lines(alloc: Global, findings: &[Finding]) -> Result<Vec<u8>, AllocError>
     ensures { IfOk result (λ text. text.items ≡ explained_text findings.now) }
 {

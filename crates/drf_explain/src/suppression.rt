@@ -1,4 +1,4 @@
-//! The clients that want no offers.
+//! The suppressed clients.
 ghost use Rattle.std.specs.Prelude.{◌≡◌, ◌++◌, IfOk, OnOk};
 ghost use Rattle.drf_explain.specs.Explained.{told_if_suppressed, suppressed_in, suppressed_of};
 
@@ -7,7 +7,7 @@ use drf_role::ClientPath;
 use drf_rows::{ClientRow, FrameworkRow, Rows};
 use std::alloc::{AllocError, Global};
 
-/// Adds a client of a framework, if it wants no offers.
+/// Adds a client of a framework, if it is suppressed.
 fn add_suppressed(
     alloc: Global,
     framework: &FrameworkRow,
@@ -23,7 +23,7 @@ fn add_suppressed(
     Ok(())
 }
 
-/// Adds the clients of a framework that want no offers, in their order.
+/// Adds the suppressed clients of a framework, in their order.
 fn add_all_suppressed(
     alloc: Global,
     framework: &FrameworkRow,
@@ -38,7 +38,7 @@ fn add_all_suppressed(
     Ok(())
 }
 
-/// The clients that want no offers, in order of frameworks and their clients.
+/// Returns the suppressed clients, in the order of the frameworks and of the clients of each.
 pub fn suppressed(alloc: Global, rows: &Rows) -> Result<Vec<Finding>, AllocError>
     ensures { IfOk result (λ findings. findings.items ≡ suppressed_of rows.now) }
 {

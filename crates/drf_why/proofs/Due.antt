@@ -1,4 +1,4 @@
--- What is told is the text that is due to the lines that were read.
+-- The text that is written is the one that the definition gives for the lines that were read.
 use Rattle.std.proofs.Common.{◌≡◌, ℕ, Bool, false, List, [], ◌∷◌, ◌++◌, take, Option, Some, None, Result, Ok, Err, ⊎_elim, refl, sym, ap, ◌∙◌, arith}
 use Rattle.std.specs.List.{flat_map}
 use Rattle.std.specs.Option.{option_map_or}
@@ -26,7 +26,7 @@ use Rattle.drf_why.specs.Written.{Output, HasWritten}
 use Rattle.drf_why.specs.declared.whom.Whom.{Whom}
 use Rattle.drf_why.specs.declared.whom.Whom.TheVariants as whom
 
--- ---- filters that ran out change nothing
+-- ---- expired filters change nothing
 
 picked_live : (pick : Pick) (at : ℕ) (rows : Rows) → picked_of pick (live_rows rows) at ≡ picked_of pick rows at
 picked_live pick at rows = ap (λ lists. flat_map (picked pick) (suppressed_of rows ∷ lists)) (live_rows_are_told rows at)
@@ -43,7 +43,7 @@ asked_live whom.All at rows = asked_by_pick whom.All at rows refl refl
 asked_live (whom.Agent name) at rows = asked_by_pick (whom.Agent name) at rows refl refl
 asked_live (whom.Client framework role) at rows = asked_by_pick (whom.Client framework role) at rows refl refl
 
--- what is told where nobody is picked, and where somebody is
+-- the text if the subject is not registered, and if it is
 module _ (asked : Whom) (at : ℕ) (rows live_ones : Rows) (same : rows ≡ live_ones) where
   asked_here : asked_text asked at rows ≡ asked_text asked at live_ones
   asked_here = ap (asked_text asked at) same
@@ -63,10 +63,10 @@ unfolding summed_text
 summed_live at rows =
     λ i. explained_text (suppressed_of rows) ++ flat_map (tally_lines (report_of-live rows i)) (tallies_of rows (live_turns_are_told rows at i))
 
--- ---- how it ends
+-- ---- the result
 
 module _ (tell : Rows → List ℕ) (tell_live : (rows : Rows) → tell (live_rows rows) ≡ tell rows) where
-  -- what is told of an allocator that has taken all lines
+  -- the text for an allocator that has taken all lines
   pub due : (old new : Engine) (read : List ℕ) → live new ≡ resumed (live old) (lines_of read)
       → tell (live_rows new.rows) ≡ told_of_lines tell (live old) (lines_of read)
   unfolding live told_of_lines
@@ -74,7 +74,7 @@ module _ (tell : Rows → List ℕ) (tell_live : (rows : Rows) → tell (live_ro
       ap (λ (m : Machine). tell m.rows) is ∙ tell_live (rows_after_lines old.limits (live_rows old.rows) (lines_of read))
 
 module _ (tell : Rows → List ℕ) (machine : Machine) (unread_before unread_after : Option (List ℕ)) where
-  -- nothing was written where not all lines were taken
+  -- nothing was written if not all lines were taken
   pub told_unread : (T : Type 0) (written : Option (List ℕ)) (fault : RunFault) (reads : ℕ) (reader_failed : Bool) (read : List ℕ)
       → HasCause {T = T} (Err fault) reader_failed reads false → Consumes unread_before unread_after read
       → HasToldOfRows tell machine unread_before unread_after written written (Err fault)
@@ -84,7 +84,7 @@ module _ (tell : Rows → List ℕ) (machine : Machine) (unread_before unread_af
   told_unread T written Memory reads reader_failed read cause consumed =
       record { read = read; written = []; consumed = consumed; appended = Appends-nil written; told = (0, refl); whole = tt; late = λ some. absurd (omega arith) }
 
-  -- the text was written, or a front of it
+  -- the text was written, or a prefix of it
   pub told_ends : (old new : Output) (read text : List ℕ) (result : Result (Unit {0}) RunFault)
       → Consumes unread_before unread_after read → IsAtEnd unread_after
       → text ≡ told_of_lines tell machine (lines_of read)

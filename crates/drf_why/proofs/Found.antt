@@ -10,22 +10,22 @@ module _ {X : Type 0} (test : X → Bool) (xs : List X) (i : ℕ) (so_far : list
     at : list_any test xs ≡ (test x || list_any test (drop (i + 1) xs))
     at = sym so_far ∙ at_drop_more (list_any test) xs i x inside ∙ ap (λ y. test y || list_any test (drop (i + 1) xs)) (sym is)
 
-    -- one passes
+    -- the element passes the test
     pub any_found : test x ≡ true → list_any test xs ≡ true
     any_found here = at ∙ ap (λ b. b || list_any test (drop (i + 1) xs)) here
 
-    -- one does not
+    -- it does not
     pub any_passed : test x ≡ false → list_any test (drop (i + 1) xs) ≡ list_any test xs
     any_passed past = sym (at ∙ ap (λ b. b || list_any test (drop (i + 1) xs)) past)
 
-  -- none does
+  -- no element passes it
   pub any_over : length xs ≤ i → list_any test xs ≡ false
   any_over past = sym so_far ∙ ap (list_any test) (drop_all i xs past)
 
--- ---- what is picked of a row that passes, or none
+-- ---- the selection in a row that passes the test, or nothing
 
 module _ {Y : Type 0} (y : Y) where
-  -- the test and what is picked by it
+  -- if something was found, the test holds
   pub picked_yes : (test : Bool) (found : Option Y) → found ≡ (if test then Some y else None) → is_some found ≡ true → test ≡ true
   picked_yes true found is some = refl
   picked_yes false found is some = absurd (false≢true (sym (ap is_some is) ∙ some))
@@ -34,7 +34,7 @@ module _ {Y : Type 0} (y : Y) where
   picked_no true found is none = absurd (false≢true (sym none ∙ ap is_some is))
   picked_no false found is none = refl
 
-  -- what is picked where one passes, and where none does
+  -- the selection if the test holds, and if it does not
   pub picked_if : (test : Bool) → test ≡ true → Some y ≡ (if test then Some y else None)
   picked_if test is = ap (λ (b : Bool). if b then Some y else None) (sym is)
 

@@ -1,4 +1,4 @@
--- What is told list by list, written or counted.
+-- Lists of findings that are written or counted one after the other.
 use Rattle.std.proofs.Common.{◌≡◌, ℕ, List, [], ◌∷◌, ◌++◌, length, map, Ok, Err, refl, sym, ap, subst, ◌∙◌, append_assoc, append-nil}
 use Rattle.std.specs.List.{flat_map}
 use Rattle.std.proofs.lemmas.List.{length-map}
@@ -18,22 +18,22 @@ use Rattle.drf_summary.specs.declared.tally.Tally.{Tally}
 use Rattle.drf_why.specs.Written.{Output, HasWritten}
 use Rattle.drf_why.proofs.Writes.{and_then, nothing_written, stopped, unwritten}
 
--- what is told in some turns
+-- the lists of findings of some turns
 abbrev pub told_in : List Turn → List (List Finding)
 told_in turns = map (λ turn. turn.0) turns
 
--- the text of what is picked of some lists
+-- the text of the selected findings of some lists
 abbrev pub text_of : Pick → List (List Finding) → List ℕ
 text_of pick lists = explained_text (flat_map (picked pick) lists)
 
--- that of the first list, and then of the others
+-- the text of the first list, followed by that of the others
 pub text_of_lists : (pick : Pick) (told : List Finding) (lists : List (List Finding))
     → text_of pick (told ∷ lists) ≡ explained_text (picked pick told) ++ text_of pick lists
 text_of_lists pick told lists = flat_map-append finding_text (picked pick told) (flat_map (picked pick) lists)
 
 -- ---- lists that are written
 
--- all but the lists that are left were written
+-- all lists except the remaining ones were written
 pub record IsWrittenTo (pick : Pick) (whole left : List (List Finding)) (old now : Output) : Type 0 where
   pub before : List ℕ
   pub wrote : HasWritten before old now (Ok tt)
@@ -58,7 +58,7 @@ module _ (pick : Pick) (whole left : List (List Finding)) (old now : Output) (so
       rest = parted;
     }
 
-    -- or fails
+    -- writing it fails
     pub written_front : (new : Output) (fault : RunFault) → HasWritten (explained_text (picked pick told)) now new (Err fault)
         → HasWritten (text_of pick whole) old new (Err fault)
     written_front new fault wrote =
@@ -66,7 +66,7 @@ module _ (pick : Pick) (whole left : List (List Finding)) (old now : Output) (so
         (stopped (so_far.before ++ explained_text (picked pick told)) (text_of pick next) old new fault
         (and_then so_far.before (explained_text (picked pick told)) old now new (Err fault) so_far.wrote wrote))
 
-  -- as a slice
+  -- the list as a slice
   module _ (told shown : List Finding) (next : List (List Finding)) (is : left ≡ told ∷ next) (same : shown ≡ told) where
     shown_first : left ≡ shown ∷ next
     shown_first = is ∙ ap (λ (t : List Finding). t ∷ next) (sym same)
@@ -78,13 +78,13 @@ module _ (pick : Pick) (whole left : List (List Finding)) (old now : Output) (so
         → HasWritten (text_of pick whole) old new (Err fault)
     written_part new fault wrote = written_front shown next shown_first new fault wrote
 
-  -- none is left
+  -- no list remains
   pub written_all : left ≡ [] → HasWritten (text_of pick whole) old now (Ok tt)
   written_all none =
       subst (λ (text : List ℕ). HasWritten text old now (Ok tt))
       (sym (so_far.rest ∙ ap (λ lists. so_far.before ++ text_of pick lists) none ∙ append-nil so_far.before)) so_far.wrote
 
-  -- memory runs out before the next one
+  -- memory runs out before the next list
   pub written_before : HasWritten (text_of pick whole) old now (Err Memory)
   written_before =
       subst (λ (text : List ℕ). HasWritten text old now (Err Memory)) (sym so_far.rest)
@@ -92,7 +92,7 @@ module _ (pick : Pick) (whole left : List (List Finding)) (old now : Output) (so
 
 -- ---- turns that are counted
 
--- all but the turns that are left were counted
+-- all turns except the remaining ones were counted
 pub record AreCountedTo (whole left : List Turn) (old now : List Tally) : Type 0 where
   pub before : List Turn
   pub rest : whole ≡ before ++ left
@@ -122,7 +122,7 @@ module _ (whole left : List Turn) (old now : List Tally) (so_far : AreCountedTo 
       let all : so_far.before ≡ whole = sym (append-nil so_far.before) ∙ ap (λ ts. so_far.before ++ ts) (sym none) ∙ sym so_far.rest in
       so_far.counted rows turns first ∙ ap (λ before. tallies_of rows (turns ++ before)) all
 
--- there are as many before anything is told as behind it
+-- the number of tallies does not depend on the turns
 pub length-tallies : (rows : Rows) (some others : List Turn) → length (tallies_of rows some) ≡ length (tallies_of rows others)
 length-tallies rows some others =
     length-map (active_clients rows) (λ (c : Client). tally_of some (path_of c))

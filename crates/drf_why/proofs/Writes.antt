@@ -1,4 +1,4 @@
--- A text that goes out part by part.
+-- A text that is written in several parts.
 use Rattle.std.proofs.Common.{◌≡◌, ℕ, false, true, List, [], ◌++◌, take, drop, Result, Ok, Err, OnOk, OnErr, IfErr, is_err, refl, sym, ap, ◌∙◌, append_assoc, take-append-drop}
 use Rattle.std.specs.Io.KnownBytes.{Appends}
 use Rattle.std.proofs.KnownBytes.{Appends-nil, Appends-trans}
@@ -9,7 +9,7 @@ use Rattle.drf_journal.proofs.Audits.{cause-written, flushed-written}
 use Rattle.drf_journal.proofs.Devices.{wrote-front}
 use Rattle.drf_why.specs.Written.{Output, HasWritten}
 
--- nothing was to be written
+-- there was nothing to write
 pub nothing_written : (old : Output) → HasWritten [] old old (Ok tt)
 nothing_written old = record { whole = Appends-nil old.bytes; front = tt; cause = λ sound. (refl, sound); sent = λ flushed. flushed }
 
@@ -17,7 +17,7 @@ nothing_written old = record { whole = Appends-nil old.bytes; front = tt; cause 
 pub unwritten : (text : List ℕ) (old : Output) → HasWritten text old old (Err Memory)
 unwritten text old = record { whole = tt; front = (0, Appends-nil old.bytes); cause = λ sound. (refl, sound); sent = λ flushed. flushed }
 
--- a text was written in one
+-- a text was written in one part
 pub written_whole : (text : List ℕ) (old new : Output) (result : Result (Unit {0}) RunFault)
     → OnOk result (Appends old.bytes new.bytes text)
     → OnErr result (AppendsFrontOf old.bytes new.bytes text)
@@ -54,7 +54,7 @@ and_then before text old now new (Err fault) first next =
       sent = λ flushed. next.sent (first.sent flushed);
     }
 
--- a part failed, and what is behind it was not written
+-- a part failed, and the text after it was not written
 pub stopped : (before text : List ℕ) (old new : Output) (fault : RunFault)
     → HasWritten before old new (Err fault) → HasWritten (before ++ text) old new (Err fault)
 stopped before text old new fault first =

@@ -1,4 +1,4 @@
--- What is told of the next cycle to who asks for one agent, for one client, or for all of them.
+-- The explanation of the next cycle for one agent, for one client, or for all of them.
 use Rattle.std.specs.Prelude.{ℕ, Bool, ◌&&◌, List, [], ◌∷◌, ◌++◌, Option, Some, None, if◌then◌else◌, codes}
 use Rattle.std.specs.List.{list_any}
 use Rattle.std.specs.Option.{option_map_or}
@@ -19,17 +19,17 @@ use Rattle.drf_summary.specs.declared.pick.Pick.TheVariants as pick
 use Rattle.drf_why.specs.declared.whom.Whom.{Whom}
 use Rattle.drf_why.specs.declared.whom.Whom.TheVariants as whom
 
--- ---- who is asked for
+-- ---- the subject
 
--- the client of a framework in a role, by their texts
+-- the client of a framework in a role, given their texts
 abbrev pub client_named : Text → Text → Client
 client_named framework role = record { role = parts_of role; framework = framework }
 
--- a framework has that name, and is registered in that role
+-- the framework has this name, and is registered in this role
 abbrev pub has_client : Text → Text → FrameworkRow → Bool
 has_client framework role f = same_text f.name framework && list_any (λ c. same_path c.role (parts_of role)) f.clients
 
--- what is picked, where it is registered
+-- the selection of a subject, if it is registered
 abbrev pub pick_of : Rows → Whom → Option Pick
 pick_of rows whom.All = Some pick.All
 pick_of rows (whom.Agent name) = if has_agent rows name.now then Some (pick.Agent name.now) else None
@@ -37,7 +37,7 @@ pick_of rows (whom.Client framework role) =
     if list_any (has_client framework.now role.now) rows.frameworks
     then Some (pick.Client (path_of (client_named framework.now role.now))) else None
 
--- ---- where it is not registered
+-- ---- a subject that is not registered
 
 abbrev pub no_agent_value : Text → Data
 no_agent_value agent = object (
@@ -45,7 +45,7 @@ no_agent_value agent = object (
     (member (codes "why") (string (codes "UnknownAgent"))
     no_members))
 
--- the framework is not known, or not in that role
+-- the framework is not registered, or not in this role
 abbrev pub why_no_client : Rows → Text → Text
 why_no_client rows framework = if has_framework rows framework then codes "NotInRole" else codes "UnknownFramework"
 
@@ -56,19 +56,19 @@ no_client_value framework role why = object (
     (member (codes "why") (string why)
     no_members)))
 
--- the line that says so: compact JSON, the keys in order of bytes
+-- the line that says so: compact JSON, with keys in byte order
 abbrev pub absent_text : Rows → Whom → List ℕ
 absent_text rows whom.All = []
 absent_text rows (whom.Agent name) = compact_text (no_agent_value name.now) ++ 10 ∷ []
 absent_text rows (whom.Client framework role) =
     compact_text (no_client_value framework.now role.now (why_no_client rows framework.now)) ++ 10 ∷ []
 
--- ---- what is told
+-- ---- the text
 
--- of the cycle at a moment, as the rows stand: what is picked of it, or why nothing is
+-- of the cycle at a timestamp in these rows: the selected findings, or why there are none
 unfoldable pub asked_text : Whom → ℕ → Rows → List ℕ
 asked_text asked at rows = option_map_or (λ pick. explained_text (picked_of pick rows at)) (pick_of rows asked) (absent_text rows asked)
 
--- the sums of it
+-- the summary of the cycle
 unfoldable pub summed_text : ℕ → Rows → List ℕ
 summed_text at rows = summary_text rows at

@@ -1,2 +1,3 @@
+-- Definitions of the text of an explanation.
 pub mod Asked
 pub mod Written

@@ -1,4 +1,4 @@
--- How the writing of a text ends that goes out part by part.
+-- The result of writing a text in several parts.
 use Rattle.std.specs.Prelude.{◌≡◌, ℕ, Bool, false, true, List, Option, Result, OnOk, OnErr}
 use Rattle.std.specs.Io.KnownBytes.{Appends}
 use Rattle.drf_journal.specs.Device.{AppendsFrontOf}
@@ -6,7 +6,7 @@ use Rattle.drf_journal.specs.Ended.{HasCause, HasFlushed}
 use Rattle.drf_journal.specs.declared.device.Device.{Device}
 use Rattle.drf_journal.specs.declared.fault.RunFault.{RunFault}
 
--- a writer: what it holds, where that is known, whether it failed, and whether all of it was flushed
+-- a writer: its content, if that is known, whether it failed, and whether all of it was flushed
 pub record Output : Type 0 where
   pub bytes : Option (List ℕ)
   pub failed : Bool
@@ -15,7 +15,7 @@ pub record Output : Type 0 where
 abbrev pub output_of : {T : Type 0} → (T → Option (List ℕ)) → Device T → Output
 output_of bytes device = record { bytes = bytes device.inner; failed = device.failed; flushed = device.flushed }
 
--- the whole text was written at `Ok`, and else a front of it
+-- on success the whole text was written, otherwise a prefix of it
 pub record HasWritten (text : List ℕ) (old new : Output) (result : Result (Unit {0}) RunFault) : Type 0 where
   pub whole : OnOk result (Appends old.bytes new.bytes text)
   pub front : OnErr result (AppendsFrontOf old.bytes new.bytes text)

@@ -1,4 +1,4 @@
-//! Runs that tell of the next cycle and leave nobody out: of each client on each agent, of one agent, of one client, or in sums.
+//! Runs that explain the next cycle without leaving any client out: for each client on each agent, for one agent, for one client, or in sums.
 #![tactic(auto)]
 
 mod summary;

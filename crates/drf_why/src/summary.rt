@@ -1,4 +1,4 @@
-//! What is told of the next cycle, summed up: a line for each client.
+//! A summary of the next cycle, with a line for each client.
 ghost use Rattle.std.specs.Prelude.{◌≡◌, ◌++◌, ◌≤◌, ◌^◌, true, List, IfOk, OnOk};
 ghost use Rattle.drf_core.specs.Machine.{live};
 ghost use Rattle.drf_explain.specs.Each.{turns_by_agent};
@@ -22,7 +22,7 @@ use drf_summary::{Tally, take_turn, tallies, write_tallies};
 use std::alloc::{AllocError, Global};
 use std::io::{Read, Write};
 
-/// Counts what is told of each client on each agent.
+/// Counts all turns in the tallies.
 fn count_agents(
     telling: &mut Telling<ProgramSorter>,
     key: HashKey,
@@ -36,7 +36,7 @@ fn count_agents(
     Ok(())
 }
 
-/// What the cycle at a moment, in milliseconds, comes to for each client.
+/// Returns the tallies of all clients in the cycle at a timestamp in milliseconds.
 fn tallies_at(
     alloc: Global,
     core: &Core<ProgramSorter>,
@@ -53,7 +53,7 @@ fn tallies_at(
     Ok(found)
 }
 
-/// The summary of the cycle at a moment, in milliseconds.
+/// Returns the summary of the cycle at a timestamp in milliseconds.
 fn summary(alloc: Global, core: &Core<ProgramSorter>, at: u64) -> Result<Vec<u8>, AllocError>
     requires { at ≤ LATEST_MOMENT }
     ensures { IfOk result (λ text. text.items ≡ summed_text at (live_rows core.now.rows)) }
@@ -67,6 +67,7 @@ fn summary(alloc: Global, core: &Core<ProgramSorter>, at: u64) -> Result<Vec<u8>
     Ok(text)
 }
 
+/// Writes the summary of the cycle at a timestamp in milliseconds.
 fn write_summary<W: Write>(
     alloc: Global,
     core: &Core<ProgramSorter>,
@@ -80,9 +81,10 @@ fn write_summary<W: Write>(
     write_whole(writer, &text)
 }
 
-/// Takes the events of a reader's lines, and then writes what the cycle at that moment, in milliseconds, comes to for each client over all agents,
-/// and who passes it, with shares as the cycle begins, not those of the turn. The clock never goes back: 0 is the moment at which it stands.
-/// Lines that are no events are passed over.
+/// Applies the events of a reader's lines, and then writes a summary of the cycle at a timestamp in milliseconds: the outcomes of each client
+/// over all agents, and the clients that pass it over. Shares are those at the beginning of the cycle, not those of the turn. The clock
+/// never goes back; if `at` is 0, the cycle is at the time of the clock. Lines that are not events are skipped.
+/// Returns an error if a read or a write fails, or if memory runs out.
 pub fn tell_summary<R: Read, W: Write>(
     alloc: Global,
     core: Core<ProgramSorter>,

@@ -1,4 +1,4 @@
-//! What is told of each client on each agent, of one agent, or of one client, agent by agent.
+//! An explanation of the next cycle, written agent by agent.
 ghost use Rattle.std.specs.Prelude.{◌≡◌, ◌∷◌, ◌≤◌, ◌^◌, map, true};
 ghost use Rattle.std.specs.List.{flat_map};
 ghost use Rattle.drf_core.specs.Machine.{live};
@@ -21,7 +21,7 @@ use drf_summary::{Pick, write_picked};
 use std::alloc::Global;
 use std::io::{Read, Write};
 
-/// Writes what is picked of one list of findings.
+/// Writes the selected findings of one list.
 fn write_list<W: Write>(
     alloc: Global,
     pick: &Pick,
@@ -35,7 +35,7 @@ fn write_list<W: Write>(
     write_whole(writer, &text)
 }
 
-/// Writes what is picked of each agent, as soon as it is told of.
+/// Writes the selected findings of each agent, as soon as they are computed.
 fn write_agents<W: Write>(
     alloc: Global,
     pick: &Pick,
@@ -50,7 +50,7 @@ fn write_agents<W: Write>(
     Ok(())
 }
 
-/// Writes what is picked of the cycle at a moment, in milliseconds: of the clients that want no offers, and then of each agent.
+/// Writes the selected findings of the cycle at a timestamp in milliseconds: those of the suppressed clients, and then those of each agent.
 fn write_cycle<W: Write>(
     alloc: Global,
     core: &Core<ProgramSorter>,
@@ -69,7 +69,7 @@ fn write_cycle<W: Write>(
     write_agents(alloc, pick, &mut telling, writer)
 }
 
-/// Writes that nobody is told of, and why.
+/// Writes that the subject is not registered, and why.
 fn write_absent<W: Write>(
     alloc: Global,
     rows: &Rows,
@@ -82,7 +82,7 @@ fn write_absent<W: Write>(
     write_whole(writer, &text)
 }
 
-/// Writes what is told of the cycle at a moment, in milliseconds.
+/// Writes the explanation of a subject for the cycle at a timestamp in milliseconds.
 fn write_asked<W: Write>(
     alloc: Global,
     core: &Core<ProgramSorter>,
@@ -100,9 +100,9 @@ fn write_asked<W: Write>(
     write_cycle(alloc, core, &rows, at, &pick, writer)
 }
 
-/// Takes the events of a reader's lines, and then writes what the cycle at that moment, in milliseconds, would offer to each client on each
-/// agent, and where it would offer nothing, why: of all of them, or of whom is asked for. The clock never goes back: 0 is the moment at
-/// which it stands. Lines that are no events are passed over.
+/// Applies the events of a reader's lines, and then writes what the cycle at a timestamp in milliseconds would offer to each client on each
+/// agent, and why it would offer nothing: for all clients, or for the subject `whom`. The clock never goes back; if `at` is 0, the cycle is at
+/// the time of the clock. Lines that are not events are skipped. Returns an error if a read or a write fails, or if memory runs out.
 pub fn tell_each<R: Read, W: Write>(
     alloc: Global,
     core: Core<ProgramSorter>,

@@ -1,4 +1,4 @@
-//! Of whom is told, by the names that a user gives.
+//! The subject of an explanation, by the names that a user gives.
 ghost use Rattle.std.specs.Prelude.{◌≡◌, Some, None, if◌then◌else◌, IfOk};
 ghost use Rattle.std.specs.List.{list_any};
 ghost use Rattle.drf_role.specs.Text.{same_text};
@@ -16,14 +16,14 @@ use drf_summary::Pick;
 use serde_json::{Value, json};
 use std::alloc::{AllocError, Global};
 
-/// Of whom to tell.
+/// The subject of an explanation.
 #[derive(Clone, Copy)]
 pub enum Whom<'a> {
-    /// Of all clients on all agents.
+    /// All clients on all agents.
     All,
-    /// Of all clients on the agent of that name.
+    /// All clients on the agent of that name.
     Agent(&'a str),
-    /// Of the client of that framework in that role on all agents, and on each of those that are granted something there before it.
+    /// The client of that framework in that role on all agents, and on each agent the grants before it.
     Client { framework: &'a str, role: &'a str },
 }
 
@@ -39,7 +39,7 @@ fn is_of_role(role: &Role, text: &str) -> bool
     role.text() == text
 }
 
-/// Picks the agent of that name, if it is registered.
+/// Returns the selection of the agent of that name, if it is registered.
 fn pick_agent(agents: &[AgentRow], name: &str) -> Result<Option<Pick>, AllocError>
     ensures { IfOk result (λ pick. pick ≡ (if list_any (λ a. same_text a.name name.now) agents.now then Some (Agent name.now) else None)) }
 {
@@ -52,7 +52,7 @@ fn pick_agent(agents: &[AgentRow], name: &str) -> Result<Option<Pick>, AllocErro
     Ok(None)
 }
 
-/// Picks the client of a framework in that role, if it is registered in it.
+/// Returns the selection of a framework's client in that role, if the framework has the role.
 fn pick_in_role(
     alloc: Global,
     framework: &FrameworkRow,
@@ -71,7 +71,7 @@ fn pick_in_role(
     Ok(None)
 }
 
-/// Picks the client in that role of a row, if that is of the framework of that name.
+/// Returns the selection of the client in that role, if the row is that of the framework of that name and has the role.
 fn pick_in_row(
     alloc: Global,
     row: &FrameworkRow,
@@ -88,7 +88,7 @@ fn pick_in_row(
     Ok(None)
 }
 
-/// Picks the client of that framework in that role, if it is registered.
+/// Returns the selection of the client of that framework in that role, if it is registered.
 fn pick_client(
     alloc: Global,
     frameworks: &[FrameworkRow],
@@ -107,7 +107,7 @@ fn pick_client(
     Ok(None)
 }
 
-/// Picks whom to tell of, if that is registered.
+/// Returns the selection of a subject, if it is registered.
 pub(crate) fn pick_of(
     alloc: Global,
     rows: &Rows,
@@ -131,7 +131,7 @@ fn has_framework(rows: &Rows, framework: &str) -> bool
     frameworks.iter().any(|row| is_named(&row.name, framework))
 }
 
-/// Why a client is not registered.
+/// Returns why a client is not registered: `NotInRole` if the framework is registered, otherwise `UnknownFramework`.
 fn why_no_client(rows: &Rows, framework: &str) -> &'static str
     ensures { result.now ≡ why_no_client rows.now framework.now }
 {
@@ -159,7 +159,7 @@ fn no_client_value(
     json!(in alloc; {"framework": framework, "role": role, "why": why})
 }
 
-/// The line that says why nothing is told.
+/// Returns the line that says that the subject is not registered.
 pub(crate) fn absent_text(alloc: Global, rows: &Rows, whom: Whom<'_>) -> Result<Vec<u8>, AllocError>
     ensures { IfOk result (λ text. text.items ≡ absent_text rows.now whom.entry) }
 {

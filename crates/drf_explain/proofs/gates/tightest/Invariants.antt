@@ -6,7 +6,7 @@ use Rattle.drf_explain.specs.Explained.{tighter}
 use Rattle.drf_explain.specs.Gates.{reduced}
 use Rattle.drf_explain.proofs.gates.tightest.Given as goal
 
--- what is found, with the limits to come, is what is found of all
+-- the result so far, continued over the remaining limits, is the result for all
 abbrev pub invariant-loop-limit : goal.invariant-loop-limit
 invariant-loop-limit l =
     fold (reduced (binds l.role l.label) (λ m. m) (tighter (room_under (used_at l.quota.used) l.label))) (option_copied l.found) (drop l.limit-index l.limits)

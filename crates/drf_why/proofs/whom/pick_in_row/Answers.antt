@@ -7,7 +7,7 @@ use Rattle.drf_role.specs.Path.{client_path}
 use Rattle.drf_summary.specs.declared.pick.Pick.TheVariants as pick
 use Rattle.drf_why.proofs.whom.pick_in_row.Goals as goal
 
--- where the framework has that name
+-- if the framework has this name
 named_so : (name framework : Text) (others : Bool) (role : Text) → same_text name framework ≡ true
     → (if others then Some (pick.Client (client_path (parts_of role) name)) else None)
     ≡ (if same_text name framework && others then Some (pick.Client (client_path (parts_of role) framework)) else None)

@@ -1,2 +1,3 @@
+-- Lemmas for the contracts of the audit.
 mod Parts
 mod Lines

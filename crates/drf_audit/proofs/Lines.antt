@@ -1,4 +1,4 @@
--- Audit lines, and their tokens one after another.
+-- Audit lines, and the JSON tokens that are written for them.
 use Rattle.std.specs.Prelude.{◌≡◌, List, [], ◌∷◌, ◌++◌, Result, Ok, Err, map, filter, IfOk, MatchResult, Contains}
 use Rattle.std.specs.Global.{Vec}
 use Rattle.std.specs.List.{AllZip}
@@ -14,17 +14,17 @@ use Rattle.drf_rows.specs.declared.rows.Rows.{Rows}
 use Rattle.drf_audit.specs.Audit.{line_of, line_with}
 use Rattle.drf_audit.specs.declared.agents.AuditLine.{AuditLine}
 
--- those tokens alone were written
+-- exactly these tokens were written
 pub record IsText (w : Written) (tokens : List Token) : Type 0 where
   pub before : w.before ≡ []
   pub all : w.tokens ≡ tokens
 
--- one token more
+-- one more token
 pub next : {E : Type 0} {u : Unit {0}} {old new : Written} {t : Token} {ts : List Token}
     → IsText old ts → Writes {E = E} (Ok u) old new t → IsText new (ts ++ t ∷ [])
 next {t = t} so_far w = record { before = w.room.0 ∙ so_far.before; all = w.ok ∙ ap (λ (ts : List Token). ts ++ t ∷ []) so_far.all }
 
--- lines that are all there are those of a function
+-- if each line is the value of a function at its agent, all lines are
 all_of : {Y : Type 0} (E : Type 0) (f : AgentRow → Y) (agents : List AgentRow) (ys : List Y)
     → AllZip (λ agent (r : Result Y E). IfOk r (λ y. y ≡ f agent)) agents (map Ok ys) → ys ≡ map f agents
 all_of E f [] [] each = refl
@@ -41,7 +41,7 @@ collected {E} (Ok v) f agents lines each made =
     (subst (λ (ls : List (Result AuditLine E)). AllZip (λ agent (line : Result AuditLine E). IfOk line (λ l. l ≡ f agent)) agents ls) made.1 each)
 collected (Err e) f agents lines each made = tt
 
--- the bundles that are held on an agent make its line
+-- the line that is made from the bundles held on the agent is its line
 pub line_is : (rows : Rows) (agent : AgentRow) → line_with agent (parts_on agent.name (holdings_of rows)) ≡ line_of rows agent
 unfolding free_of
 line_is rows agent =

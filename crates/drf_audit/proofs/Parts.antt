@@ -1,4 +1,4 @@
--- Bundles that are held on agents, after one more, after a list of them, and all of them.
+-- The bundles that are held on agents: after one more, after a list of them, and after all of them.
 use Rattle.std.specs.Prelude.{◌≡◌, ℕ, ◌+◌, ◌<◌, ◌≤◌, Bool, true, false, List, [], ◌∷◌, ◌++◌, Option, cond, map, filter, drop, get_or, length}
 use Rattle.std.specs.Borrow.{Bor}
 use Rattle.std.specs.Global.{Vec}
@@ -22,7 +22,7 @@ bundles_or o = option_map_or (λ v. parts_of v.items) o []
 abbrev pub parts_at : List (Text × Lent) → Text → List (List Resource)
 parts_at es q = bundles_or (lookup (same_text q) es)
 
--- one bundle more is kept for an agent
+-- one more bundle is stored for an agent
 pub added_at : (old new : List (Text × Lent)) (agent : Text) (w : Option Lent) (bundle : List Resource)
     → ((q : Text) → lookup (same_text q) new ≡ cond (same_text agent q) w (lookup (same_text q) old))
     → bundles_or w ≡ parts_at old agent ++ bundle ∷ []
@@ -44,7 +44,7 @@ one_more agent h hs old = by (same_text h.agent agent) refl
     by false test = rw test (append_assoc old [] (parts_on agent hs))
 
 module _ {X : Type 0} (of : X → Holding) (agent : Text) (xs : List X) (whole : List (List Resource)) where
-  -- with what is left of a list all that is held comes to the same, after one more
+  -- after one more element, the stored bundles and those of the remaining elements are still all bundles
   pub held_more : (old new : List (List Resource)) (i : ℕ) (x : X) → i < length xs → x ≡ get_or xs i x
       → old ++ parts_on agent (map of (drop i xs)) ≡ whole
       → new ≡ old ++ cond (same_text (of x).agent agent) ((of x).bundle ∷ []) []
@@ -57,13 +57,13 @@ module _ {X : Type 0} (of : X → Holding) (agent : Text) (xs : List X) (whole :
       ∙ sym (at_drop_more (λ ys. old ++ parts_on agent (map of ys)) xs i x inside)
       ∙ so_far
 
-  -- and at the end
+  -- and at the end all bundles are stored
   pub held_all : (old : List (List Resource)) (i : ℕ) → length xs ≤ i
       → old ++ parts_on agent (map of (drop i xs)) ≡ whole → old ≡ whole
   held_all old i past so_far =
       sym (append-nil old) ∙ sym (ap (λ ys. old ++ parts_on agent (map of ys)) (drop_all i xs past)) ∙ so_far
 
--- what is held of two lists
+-- the bundles of two lists
 pub parts_on-append : (agent : Text) (xs ys : List Holding) → parts_on agent (xs ++ ys) ≡ parts_on agent xs ++ parts_on agent ys
 parts_on-append agent xs ys =
     ap (map (λ h. h.bundle)) (filter-append (is_on agent) xs ys)

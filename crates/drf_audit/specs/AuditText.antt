@@ -1,4 +1,4 @@
--- The line of an audit: compact JSON, the keys in order of bytes, and a line feed (RFC 8259).
+-- The line of an audit: compact JSON (RFC 8259) with keys in byte order, and a line feed.
 use Rattle.std.specs.Prelude.{ℕ, List, [], ◌∷◌, ◌++◌, codes}
 use Rattle.serde_json.specs.Data.{Data, number, unsigned, string, object, member, no_members}
 use Rattle.serde_json.specs.Written.{compact_text}
@@ -13,6 +13,6 @@ audit_value line = object (
     (member (codes "total") (string (bundle_text line.total))
     no_members))))
 
--- the line that tells of an agent
+-- the line of an agent
 unfoldable pub audit_text : AuditLine → List ℕ
 audit_text line = compact_text (audit_value line) ++ 10 ∷ []

@@ -1,4 +1,4 @@
-//! An audit of the agents.
+//! The audit of the agents.
 ghost use Rattle.std.specs.Prelude.{◌≡◌, map, IfOk};
 ghost use Rattle.drf_bundle.specs.Taken.{rest_of_all};
 ghost use Rattle.drf_audit.specs.Audit.{line_with, line_of};
@@ -14,7 +14,7 @@ use rayon::prelude::*;
 use std::alloc::{AllocError, Global};
 use std::thread::Threads;
 
-/// An agent with all its resources, what is free of them, and how many offers and tasks stand on it.
+/// An agent with its total, its free resources, and the number `out` of offers and tasks on it.
 #[derive(Drop)]
 pub struct AuditLine {
     pub agent: Name,
@@ -23,7 +23,7 @@ pub struct AuditLine {
     pub out: u64,
 }
 
-/// What is left of a bundle without the parts.
+/// Returns what is left of a bundle after all parts are taken from it.
 fn left_of(whole: &Bundle, parts: &[&Bundle]) -> Result<Bundle, AllocError>
     ensures { IfOk result (λ left. left ≡ rest_of_all whole.now (parts_of parts.now)) }
 {
@@ -34,7 +34,7 @@ fn left_of(whole: &Bundle, parts: &[&Bundle]) -> Result<Bundle, AllocError>
     Ok(left)
 }
 
-/// The line of an agent on which those bundles are held.
+/// Returns the line of an agent on which these bundles are held.
 fn line_with(agent: &AgentRow, parts: &[&Bundle]) -> Result<AuditLine, AllocError>
     ensures { IfOk result (λ line. line ≡ line_with agent.now (parts_of parts.now)) }
 {
@@ -46,6 +46,7 @@ fn line_with(agent: &AgentRow, parts: &[&Bundle]) -> Result<AuditLine, AllocErro
     })
 }
 
+/// Returns the line of an agent, given the bundles that are held on all agents.
 fn agent_line(held: &Held, agent: &AgentRow) -> Result<AuditLine, AllocError>
     ensures { IfOk result (λ line. line ≡ line_with agent.now (parts_in held.now agent.now.name)) }
 {
@@ -55,7 +56,7 @@ fn agent_line(held: &Held, agent: &AgentRow) -> Result<AuditLine, AllocError>
     }
 }
 
-/// A line for each agent, in order of registration. Names are found by hashes that begin with the key.
+/// Returns a line for each agent, in order of registration. Agents are found by hashes that begin with `key`. Returns an error if memory runs out.
 pub fn audit(
     rt: &(impl Threads + Sync),
     alloc: Global,

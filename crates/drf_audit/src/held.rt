@@ -1,4 +1,4 @@
-//! What is held on each agent.
+//! The bundles that are held on each agent.
 ghost use Rattle.std.specs.Prelude.{◌≡◌, [], ◌∷◌, ◌++◌, cond, map, IfOk, OnOk};
 ghost use Rattle.drf_role.specs.Text.{Text, same_text};
 ghost use Rattle.drf_rows.specs.Holdings.{holdings_of, of_offer, of_task, parts_on};
@@ -11,7 +11,7 @@ use drf_rows::{OfferRow, Rows, TaskRow};
 use indexmap::IndexMap;
 use std::alloc::{AllocError, Global};
 
-/// The bundles that are held on each agent, by its name.
+/// The bundles that are held on each agent, by the agent's name.
 #[derive(Drop)]
 pub(crate) struct Held<'a> {
     pub(crate) by_agent: ByName<Vec<&'a Bundle>>,
@@ -26,7 +26,7 @@ impl<'a> Held<'a> {
         }
     }
 
-    /// Adds a bundle behind those that are held on the agent.
+    /// Adds a bundle at the end of those that are held on the agent. Returns an error if memory runs out.
     fn add(&mut self, agent: &Name, bundle: &'a Bundle) -> Result<(), AllocError>
         ensures { OnOk result ((name : Text) → parts_in self.new name
             ≡ parts_in self.old name ++ cond (same_text agent.now name) (bundle.now ∷ []) []) }
@@ -41,6 +41,7 @@ impl<'a> Held<'a> {
         Ok(())
     }
 
+    /// Adds the bundles of offers, in their order.
     fn add_offers(&mut self, offers: &'a [OfferRow]) -> Result<(), AllocError>
         ensures { OnOk result ((name : Text) → parts_in self.new name
             ≡ parts_in self.old name ++ parts_on name (map of_offer offers.now)) }
@@ -51,6 +52,7 @@ impl<'a> Held<'a> {
         Ok(())
     }
 
+    /// Adds the bundles of tasks, in their order.
     fn add_tasks(&mut self, tasks: &'a [TaskRow]) -> Result<(), AllocError>
         ensures { OnOk result ((name : Text) → parts_in self.new name
             ≡ parts_in self.old name ++ parts_on name (map of_task tasks.now)) }
@@ -61,7 +63,7 @@ impl<'a> Held<'a> {
         Ok(())
     }
 
-    /// What is offered and what is in tasks, looked at once each.
+    /// Returns the bundles of all offers and then of all tasks, by agent.
     pub(crate) fn of(alloc: Global, key: HashKey, rows: &'a Rows) -> Result<Held<'a>, AllocError>
         ensures { IfOk result (λ held. (name : Text) → parts_in held name ≡ parts_on name (holdings_of rows.now)) }
     {

@@ -1,4 +1,4 @@
-//! What each agent has, what is free there and how much is out, from as many threads as there are processors.
+//! Audits agents: the total of each, what is free, and how many offers and tasks it has, computed by several threads.
 #![tactic(auto)]
 
 mod agents;

@@ -1,4 +1,4 @@
-//! The writer of an audit line.
+//! Writes the lines of an audit.
 ghost use Rattle.std.specs.Prelude.{◌≡◌, ◌++◌, IfOk, OnOk, OnErr};
 ghost use Rattle.drf_audit.specs.AuditText.{audit_text};
 
@@ -28,7 +28,7 @@ fn line_text(alloc: Global, line: &AuditLine) -> Result<Vec<u8>, AllocError>
     Ok(text)
 }
 
-/// Writes the line of an agent behind a text: compact JSON, the keys in order of bytes. An `Err` leaves the text as it was.
+/// Appends the line of an agent: compact JSON, with keys in byte order. If memory runs out, the text is unchanged.
 pub fn write_audit_line(
     alloc: Global,
     line: &AuditLine,

@@ -1,17 +1,17 @@
--- An input with a line feed behind its last line.
+-- An input whose last line gets a line feed.
 use Rattle.std.proofs.Common.{◌≡◌, ℕ, ◌==◌, Bool, true, false, cond, List, [], ◌∷◌, ◌++◌, length, length-append, inl, inr, ⊎_elim, refl, sym, ap, ◌∙◌, arith, eqb-true}
 use Rattle.drf_journal.specs.Lines.{ended_lines_of, is_line_feed, lines_of, open_line_of}
 use Rattle.drf_journal.specs.Resumed.{IsCutBehindLine}
 use Rattle.drf_journal.proofs.Cuts.{goes_on, lines-feed, lines-goes_on, open-feed, open-within, within-nil, within-push}
 use Rattle.drf_resume.specs.ResumeLaws.{with_last_feed}
 
--- ---- where nothing is open
+-- ---- inputs without an open line
 
 last_of : (b : ℕ) (bytes : List ℕ) → (front : List ℕ) × (last : ℕ) × (b ∷ bytes ≡ front ++ last ∷ [])
 last_of b [] = ([], b, refl)
 last_of b (c ∷ bytes) = let rest = last_of c bytes in (b ∷ rest.0, rest.1, ap (λ (l : List ℕ). b ∷ l) rest.2)
 
--- behind another byte than a line feed a line is open
+-- after a byte that is not a line feed, a line is open
 open_behind : (front : List ℕ) (b : ℕ) → is_line_feed b ≡ false → open_line_of (front ++ b ∷ []) ≡ open_line_of front ++ b ∷ []
 open_behind front b other =
     let on = goes_on front (b ∷ []) in
@@ -41,9 +41,9 @@ nothing_open bytes cut =
 pub whole_stays : (input : List ℕ) → IsCutBehindLine input → with_last_feed input ≡ input
 whole_stays input cut = rw (nothing_open input cut) refl
 
--- ---- with a line feed more
+-- ---- with one more line feed
 
--- it is cut behind a line, and has the same lines
+-- the input ends after a line, and has the same lines
 pub record IsFed (input fed : List ℕ) : Type 0 where
   pub cut : IsCutBehindLine fed
   pub lines : lines_of fed ≡ lines_of input

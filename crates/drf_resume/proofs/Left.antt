@@ -1,4 +1,4 @@
--- What is read of what was saved is the allocator that was left.
+-- The allocator that is read from a saved state is the one that was saved.
 use Rattle.std.proofs.Common.{◌≡◌, ℕ, Bool, false, List, Ok, sym, ap, ◌∙◌}
 use Rattle.drf_core.specs.Machine.{Machine}
 use Rattle.drf_rows.specs.declared.rows.Rows.{Rows}
@@ -16,7 +16,7 @@ read_is_saved machine start new_epoch first text saved from =
     let rows : start.rows ≡ left = cc in
     (λ i. record { limits = from.limits i; rows = rows i })
 
--- that after the lines of the first input, a line feed more or not
+-- it is the one after the lines of the first input, whether or not the last line has a line feed
 pub left_is_read : (machine start : Machine) (first text : List ℕ) → IsSavedAfter machine false first text → IsReadFrom machine text start
     → resumed machine (lines_of (with_last_feed first)) ≡ start
 left_is_read machine start first text saved from =

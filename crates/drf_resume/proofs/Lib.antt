@@ -1,3 +1,4 @@
+-- Lemmas for the theorems about resuming.
 pub mod Live
 pub mod Wrote
 pub mod Feeds

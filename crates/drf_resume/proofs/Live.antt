@@ -1,4 +1,4 @@
--- What is saved has live rows alone.
+-- What is saved does not include expired filters.
 use Rattle.std.proofs.Common.{◌≡◌, Bool, true, false, ap}
 use Rattle.drf_rows.specs.Step.{live_rows}
 use Rattle.drf_rows.specs.declared.rows.Rows.{Rows}

@@ -1,4 +1,4 @@
--- How the writing of what is saved ends.
+-- The result of writing a saved state.
 use Rattle.std.proofs.Common.{◌≡◌, ℕ, List, take, Option, Result, Ok, Err, refl}
 use Rattle.std.specs.Prelude.{Bool, OnOk, OnErr, IfErr}
 use Rattle.std.specs.Io.KnownBytes.{Appends, Consumes, IsAtEnd}
@@ -8,7 +8,7 @@ use Rattle.drf_journal.specs.declared.fault.RunFault.{RunFault}
 use Rattle.drf_journal.specs.declared.fault.RunFault.TheVariants as fault
 use Rattle.drf_resume.specs.Saving.{HasSaved, IsSavedAfter, IsWritten}
 
--- a failed write left a front of the text
+-- a failed write left a prefix of the text
 front_written : (machine : Machine) (e : Bool) (read text : List ℕ) (count : ℕ) (f : RunFault) → f ≡ fault.Write
     → IsSavedAfter machine e read text → IsWritten machine e (Err f) read (take count text)
 front_written machine e read text count fault.Write is saved = (text, count, saved, refl)

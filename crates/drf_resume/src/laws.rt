@@ -1,13 +1,13 @@
-//! Laws of runs that go on. The functions do nothing: what they promise is proved of the definitions alone.
+//! Theorems about runs that resume from a saved state. The functions do nothing; their contracts are proved of the definitions alone.
 
 ghost use Rattle.drf_resume.specs.ResumeLaws.{AuditIsTheSame, EpochKeepsWhatStands, ExplanationIsTheSame, GoesOnFromSaved, GoodJournalsArePairs, JournalsAreGlued, LinesAreJoined, ResumeIsExact, ResumedIsTheSame, SavedIsTheSame, WholeLinesStay};
 
 use drf_journal::{cut_law, glue_law, reply_lines_law};
 use drf_saved_laws::epoch_law;
 
-/// Resume exact, for all inputs: what was saved after a first input, read back, goes on with a second one as the allocator did that took the
-/// lines of both: byte for byte it writes the end of what that one writes, it stands where that one stands, and audits, explanations and what
-/// is saved of it are the same.
+/// Proves that resuming is exact, for all inputs. Save an allocator after a first input, read what was saved, and run a second input from it.
+/// The output is, byte for byte, the end of the output of one run over the lines of both inputs, and the state is the same. So are audits,
+/// explanations and later saves.
 pub fn resume_law()
     ensures lines { LinesAreJoined }
     ensures whole { WholeLinesStay }
@@ -20,7 +20,7 @@ pub fn resume_law()
     cut_law();
 }
 
-/// A journal that is right, and one that is right from what was saved of the first, are right together, and a journal is right only so.
+/// Proves that a journal in two parts is good exactly if its first part is good, and its second part is good from the state saved after the first.
 pub fn journals_law()
     ensures glued { JournalsAreGlued }
     ensures pairs { GoodJournalsArePairs }
@@ -29,8 +29,8 @@ pub fn journals_law()
     reply_lines_law();
 }
 
-/// What goes on from what was saved is the run from these rows; behind an epoch from those of the epoch, which keeps all but offers, counts
-/// and numbers.
+/// Proves that a run that resumes from a saved state is a run from the saved rows. After an epoch these are the rows of the epoch, which keeps
+/// everything except offers, counts and numbers.
 pub fn saved_rows_law()
     ensures goes_on { GoesOnFromSaved }
     ensures rest { EpochKeepsWhatStands }

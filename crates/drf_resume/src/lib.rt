@@ -1,4 +1,4 @@
-//! Runs that are saved, and go on from what was saved.
+//! Saves a run, and proves that it can be resumed from what was saved.
 #![tactic(auto)]
 
 mod laws;

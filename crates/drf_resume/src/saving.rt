@@ -1,4 +1,4 @@
-//! The state after the events of a stream of lines.
+//! Saves the state after the events of a stream of lines.
 ghost use Rattle.std.specs.Prelude.{◌≡◌, ◌≤◌, ◌^◌, true, IfOk};
 ghost use Rattle.drf_core.specs.Machine.{live};
 ghost use Rattle.drf_journal.specs.Device.{IsNew};
@@ -14,7 +14,7 @@ use drf_state::{begin_epoch, write_state};
 use std::alloc::{AllocError, Global};
 use std::io::{Read, Write};
 
-/// The rows that are saved of an allocator, as they are or with an epoch.
+/// Returns the rows of an allocator that are saved: the current state, or the rows after an epoch if `epoch` is set.
 fn rows_to_save(alloc: Global, core: &Core<ProgramSorter>, epoch: bool) -> Result<Rows, AllocError>
     ensures rows { IfOk result (λ rows. rows ≡ saved_of epoch (live_rows core.now.rows)) }
     ensures saveable { IfOk result (IsSaveable core.now.limits) }
@@ -27,7 +27,7 @@ fn rows_to_save(alloc: Global, core: &Core<ProgramSorter>, epoch: bool) -> Resul
     Ok(rows)
 }
 
-/// The text of an allocator's state, as it is or with an epoch.
+/// Returns the text of an allocator's state, or of its state after an epoch if `epoch` is set.
 fn state_text(alloc: Global, core: &Core<ProgramSorter>, epoch: bool) -> Result<Vec<u8>, AllocError>
     ensures { IfOk result (λ text. IsTextOf core.now.limits (saved_of epoch (live_rows core.now.rows)) text.items) }
 {
@@ -36,8 +36,8 @@ fn state_text(alloc: Global, core: &Core<ProgramSorter>, epoch: bool) -> Result<
     Ok(text)
 }
 
-/// Takes the events of a reader's lines, and then writes the allocator's state, as it is or with an epoch. Lines that are no events are
-/// passed over, so that a journal may be read.
+/// Applies the events of a reader's lines, and then writes the allocator's state, or its state after an epoch if `epoch` is set. Lines that are
+/// not events are skipped, so the input can be a journal. Returns an error if a read or a write fails, or if memory runs out.
 pub fn save<R: Read, W: Write>(
     alloc: Global,
     core: Core<ProgramSorter>,

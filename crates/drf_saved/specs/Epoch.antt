@@ -1,17 +1,17 @@
--- An epoch: how a cluster outlives a history that is full.
+-- An epoch: a reset with which a cluster continues after its history has become full.
 use Rattle.std.specs.Prelude.{[], map}
 use Rattle.drf_rows.specs.declared.rows.ClientRow.{ClientRow}
 use Rattle.drf_rows.specs.declared.rows.FrameworkRow.{FrameworkRow}
 use Rattle.drf_rows.specs.declared.rows.Rows.{Rows}
 
--- no offer was made to the client
+-- the client, as if no offer had been made to it
 abbrev pub uncounted : ClientRow → ClientRow
 uncounted c = record c { count = 0 }
 
 abbrev pub begun_anew : FrameworkRow → FrameworkRow
 begun_anew f = record f { clients = map uncounted f.clients }
 
--- Offers are rescinded, and counts, numbers and accepted events begin anew. All else is as it was.
+-- Offers are rescinded, and counts, offer numbers and the number of accepted events are reset. Everything else stays as it was.
 abbrev pub epoch : Rows → Rows
 epoch rows = record rows {
   frameworks = map begun_anew rows.frameworks;

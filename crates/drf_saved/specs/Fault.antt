@@ -1,4 +1,4 @@
--- The numbers and the names that faults of rows are told by.
+-- The numbers and names of the errors of rows.
 use Rattle.std.specs.Prelude.{ℕ, codes}
 use Rattle.drf_role.specs.Text.{Text}
 use Rattle.drf_rows.specs.Refusal.{refusal_number, refusal_name}

@@ -1,4 +1,4 @@
--- A state: the live rows of an allocator as a list, table by table, and when a row may stand behind those before it.
+-- A saved state: the current state of an allocator as a list of rows, table by table, and the rule that says when a row may follow others.
 use Rattle.std.specs.Prelude.{◌+◌, ◌*◌, ◌^◌, Bool, false, not, ◌&&◌, ◌||◌, List, [], ◌∷◌, ◌++◌, length, map, find, Option, Some, None, is_some, if◌then◌else◌, nat_lt, nat_le}
 use Rattle.std.specs.List.{list_all}
 use Rattle.std.specs.Option.{option_map, option_map_or}
@@ -31,7 +31,7 @@ use Rattle.drf_saved.specs.declared.saved.SavedRow.TheVariants.{Agent, Framework
 
 -- ---- the list
 
--- the live rows, each table behind those that it rests on
+-- the current state as rows, each table after those to which it refers
 abbrev pub saved_rows : Rows → List SavedRow
 saved_rows rows =
     map Agent rows.agents ++ (map Framework rows.frameworks ++ (map Weight rows.weights ++ (map Limit rows.limits
@@ -40,7 +40,7 @@ saved_rows rows =
 abbrev pub head_of : Rows → Head
 head_of rows = record { clock = rows.clock; next_offer = rows.next_offer; events = rows.events }
 
--- what the type of a row gives: valid names and roles, and bundles
+-- what the type of a row ensures: valid names, roles and bundles
 abbrev pub IsTyped : SavedRow → Type 0
 IsTyped (Agent a) = IsName a.name × IsBundle a.total
 IsTyped (Framework f) = IsFramework f
@@ -50,13 +50,13 @@ IsTyped (Offer o) = IsName o.agent × IsName o.framework × IsRole o.role × IsB
 IsTyped (Task t) = IsName t.name × IsName t.agent × IsName t.framework × IsRole t.role × IsBundle t.bundle
 IsTyped (Filter f) = IsName f.agent × IsName f.framework × IsRole f.role × IsBundle f.bundle
 
--- ---- the rows that a list makes
+-- ---- the rows that a list restores
 
--- a state begins with its numbers, and no rows
+-- a state begins with its numbers and without rows
 abbrev pub begun : Head → Rows
 begun head = record opening { clock = head.clock; next_offer = head.next_offer; events = head.events }
 
--- a row goes behind those of its table
+-- adds a row at the end of its table
 abbrev pub with_row : Rows → SavedRow → Rows
 with_row rows (Agent a) = record rows { agents = rows.agents ++ a ∷ [] }
 with_row rows (Framework f) = record rows { frameworks = rows.frameworks ++ f ∷ [] }
@@ -66,9 +66,9 @@ with_row rows (Offer o) = record rows { offers = rows.offers ++ o ∷ [] }
 with_row rows (Task t) = record rows { tasks = rows.tasks ++ t ∷ [] }
 with_row rows (Filter f) = record rows { filters = rows.filters ++ f ∷ [] }
 
--- ---- why a row may not stand behind others
+-- ---- why a row may not follow others
 
--- from a table to the last one nothing stands
+-- this table and all later ones are empty
 abbrev pub no_filters : Rows → Bool
 no_filters rows = is_empty rows.filters
 
@@ -90,17 +90,17 @@ no_frameworks rows = is_empty rows.frameworks && no_weights rows
 abbrev pub roles_of : FrameworkRow → List Path
 roles_of f = map (λ c. c.role) f.clients
 
--- with one more framework the frameworks, its clients, or all clients would be too many
+-- one more framework would exceed the capacity of frameworks, of the roles of a framework, or of clients
 abbrev pub has_too_many_clients : LimitNumbers → Rows → FrameworkRow → Bool
 has_too_many_clients limits rows f =
     nat_lt limits.frameworks (length rows.frameworks + 1)
     || (nat_lt limits.roles (length f.clients) || nat_lt limits.clients (length (clients_of rows) + length f.clients))
 
--- what the role may use of what is free on the agent covers the bundle
+-- the part of the agent's free resources that the role can use covers the bundle
 abbrev pub is_usable : Rows → Text → Path → List Resource → Bool
 is_usable rows agent role bundle = option_map_or (λ a. covers (part_for role (free_of rows a)) bundle) (agent_at rows agent) false
 
--- a holding or a filter is that of a registered client on a registered agent
+-- the errors of a holding or a filter whose agent, framework or client is not registered
 abbrev pub owner_cases : Rows → Text → Text → Path → List (Bool × RowFault)
 owner_cases rows agent framework role =
     (not (has_agent rows agent), Refused UnknownAgent)
@@ -108,7 +108,7 @@ owner_cases rows agent framework role =
     ∷ (not (is_registered rows.frameworks (record { role = role; framework = framework })), Refused NotInRole)
     ∷ []
 
--- the cases in which a row may not stand behind others, in the order in which they are told
+-- the conditions under which a row may not follow others, each with its error; the first that holds is reported
 abbrev pub row_cases : LimitNumbers → Rows → SavedRow → List (Bool × RowFault)
 row_cases limits rows (Agent a) =
     (not (no_frameworks rows), OutOfOrder)
@@ -154,7 +154,7 @@ row_cases limits rows (Filter f) =
     ∷ (nat_le limits.filters (length rows.filters), Refused TooMany)
     ∷ []
 
--- the cases in which numbers may not stand at the head: each event makes at most 2^24 offers
+-- the conditions under which numbers may not be the head; an event makes at most 2^24 offers
 abbrev pub head_cases : LimitNumbers → Head → List (Bool × RowFault)
 head_cases limits head =
     (nat_lt limits.events head.events, Refused HistoryFull)
@@ -162,25 +162,25 @@ head_cases limits head =
     ∷ (not (nat_le 1 head.next_offer) || nat_lt (1 + head.events * 2 ^ 24) head.next_offer, BadNumber)
     ∷ []
 
--- the first of some cases that holds
+-- the error of the first condition that holds
 abbrev pub first_fault : List (Bool × RowFault) → Option RowFault
 first_fault cases = option_map (λ c. c.1) (find (λ c. c.0) cases)
 
--- why a row may not stand behind others, if it may not
+-- why a row may not follow others, or `None` if it may
 unfoldable pub row_fault : LimitNumbers → Rows → SavedRow → Option RowFault
 row_fault limits rows row = first_fault (row_cases limits rows row)
 
--- why numbers may not stand at the head
+-- why numbers may not be the head, or `None` if they may
 unfoldable pub head_fault : LimitNumbers → Head → Option RowFault
 head_fault limits head = first_fault (head_cases limits head)
 
--- ---- a list that is read back
+-- ---- restoring a list
 
--- the rows that a list makes behind others, if each may stand behind those before it
+-- the rows after those of a list are added, if each of them may follow those before it
 abbrev pub restored_from : LimitNumbers → Rows → List SavedRow → Option Rows
 restored_from limits rows [] = Some rows
 restored_from limits rows (row ∷ more) = if is_some (row_fault limits rows row) then None else restored_from limits (with_row rows row) more
 
--- the rows that numbers and a list make
+-- the rows that a head and a list restore
 abbrev pub restored : LimitNumbers → Head → List SavedRow → Option Rows
 restored limits head saved = if is_some (head_fault limits head) then None else restored_from limits (begun head) saved

@@ -1,24 +1,24 @@
-//! Why a row may not stand behind others.
+//! Why a row may not follow others in a saved state.
 ghost use Rattle.std.specs.Prelude.{◌≡◌};
 ghost use Rattle.drf_saved.specs.Fault.{row_fault_number, row_fault_name};
 
 use drf_rows::Refusal;
 
-/// Why a row may not stand behind others, or numbers not at the head.
+/// Why a row may not follow others, or why numbers may not be the head.
 #[derive(Clone, Copy, PartialEq, Eq)]
 pub enum RowFault {
-    /// What an event that brings the row would be refused for.
+    /// An event that added the row would be refused for this reason.
     Refused(Refusal),
-    /// A row of a later table stands before it.
+    /// A row of a later table comes before it.
     OutOfOrder,
-    /// A role stands twice, among the clients of a framework, the weights or the limits.
+    /// A role occurs twice among the clients of a framework, among the weights or among the limits.
     KnownRole,
-    /// A number of an offer, a count, or the end of a filter does not fit the numbers before it.
+    /// The number of an offer, a count or the end of a filter contradicts the numbers before it.
     BadNumber,
 }
 
 impl RowFault {
-    /// The number that the fault is told by.
+    /// Returns the number of the error, as it is written.
     pub fn number(self) -> u64
         ensures { result ≡ row_fault_number self }
     {
@@ -30,7 +30,7 @@ impl RowFault {
         }
     }
 
-    /// The name that the fault is told by.
+    /// Returns the name of the error, as it is written.
     pub fn name(self) -> &'static str
         ensures { result.now ≡ row_fault_name self }
     {

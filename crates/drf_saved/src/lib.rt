@@ -1,4 +1,4 @@
-//! The rows of an allocator as a list, one by one, and when a row may stand behind others.
+//! The rows of an allocator as a list, and the rule that says when a row may follow others.
 #![tactic(auto)]
 
 mod fault;

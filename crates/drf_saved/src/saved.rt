@@ -1,4 +1,4 @@
-//! The rows of an allocator, one by one.
+//! The rows of an allocator as single values.
 ghost use Rattle.std.specs.Prelude.{map};
 ghost use Rattle.std.specs.List.{AllByRecursion};
 ghost use Rattle.drf_role.specs.Role.{IsRole};
@@ -9,7 +9,7 @@ use drf_rows::{
     AgentRow, ClientRow, FilterRow, FrameworkRow, LimitRow, OfferRow, TaskRow, WeightRow,
 };
 
-/// The numbers with which a state begins: the clock in milliseconds, the number of the next offer, and how many events were accepted.
+/// The numbers at the head of a state: the clock in milliseconds, the number of the next offer, and the number of accepted events.
 #[derive(Clone, Copy)]
 pub struct Head {
     pub clock: u64,
@@ -29,7 +29,7 @@ pub enum SavedRow {
     Filter(FilterRow),
 }
 
-/// Tells a proof that clients have valid roles.
+/// Makes the invariants of the clients' roles available to a proof.
 fn recall_roles(clients: &[ClientRow])
     ensures { AllByRecursion IsRole (map (λ c. c.role) clients.now) }
 {
@@ -38,7 +38,7 @@ fn recall_roles(clients: &[ClientRow])
     }
 }
 
-/// Tells a proof that a framework has a valid name and valid roles.
+/// Makes the invariants of a framework's name and roles available to a proof.
 fn recall_framework(row: &FrameworkRow)
     ensures { IsFramework row.now }
 {
@@ -47,7 +47,7 @@ fn recall_framework(row: &FrameworkRow)
 }
 
 impl SavedRow {
-    /// Tells a proof what the types of every row give. It does nothing.
+    /// Makes the invariants of a row's types available to a proof. Does nothing when it is called.
     pub fn recall(&self)
         ensures { IsTyped self.now }
     {
@@ -82,7 +82,7 @@ impl SavedRow {
     }
 }
 
-/// What a line of a state file says. The last line is known by its bytes, of which nothing is kept.
+/// The content of a line of a state file. The last line has no content: it is recognized by its bytes.
 #[derive(Drop)]
 pub enum StateLine {
     Head(Head),

@@ -1,3 +1,4 @@
+-- Theorems about saved rows, and examples.
 pub mod SavedLaws
 pub mod laws
 pub mod examples

@@ -18,7 +18,7 @@ use Rattle.drf_saved.specs.Saved.{begun, head_fault, head_of, restored, row_faul
 use Rattle.drf_saved.specs.declared.saved.Head.{Head}
 use Rattle.drf_saved.specs.declared.saved.SavedRow.{SavedRow}
 
--- rows that can be saved: consistent, within the limits, numbered by their events, and nobody holds what is reserved for others
+-- rows that can be saved: consistent, within the capacities, with numbers that agree with their events, and without holdings reserved for others
 pub record IsSaveable (limits : LimitNumbers) (rows : Rows) : Type 0 where
   pub consistent : IsConsistent rows
   pub within : AreWithin limits rows
@@ -27,14 +27,14 @@ pub record IsSaveable (limits : LimitNumbers) (rows : Rows) : Type 0 where
 
 -- ---- row by row
 
--- numbers without a fault make rows that can be saved
+-- a head without an error makes rows that can be saved
 abbrev pub HeadIsSaveable : Type 0
 HeadIsSaveable =
     (limits : LimitNumbers) (head : Head)
     → head_fault limits head ≡ None
     → IsSaveable limits (begun head)
 
--- and a row without a fault keeps them so
+-- adding a row without an error keeps them so
 abbrev pub RowKeepsSaveable : Type 0
 RowKeepsSaveable =
     (limits : LimitNumbers) (rows : Rows) (row : SavedRow)
@@ -43,9 +43,9 @@ RowKeepsSaveable =
     → row_fault limits rows row ≡ None
     → IsSaveable limits (with_row rows row)
 
--- ---- a list that is read back
+-- ---- restoring a list
 
--- rows that are read back can be saved, if the rows of the list are typed
+-- restored rows can be saved, if the rows of the list are typed
 abbrev pub RestoredCanBeSaved : Type 0
 RestoredCanBeSaved =
     (limits : LimitNumbers) (head : Head) (saved : List SavedRow) (rows : Rows)
@@ -53,21 +53,21 @@ RestoredCanBeSaved =
     → restored limits head saved ≡ Some rows
     → IsSaveable limits rows
 
--- and just that list is saved of them, with those numbers; all of them are live. So no two lists make the same rows.
+-- exactly that list and that head are saved of them, and no filter has expired; so no two lists restore the same rows
 abbrev pub RestoredIsListed : Type 0
 RestoredIsListed =
     (limits : LimitNumbers) (head : Head) (saved : List SavedRow) (rows : Rows)
     → restored limits head saved ≡ Some rows
     → (saved_rows rows ≡ saved) × (head_of rows ≡ head) × (live_rows rows ≡ rows)
 
--- what is saved of rows that can be is read back as their live rows: so a list is taken just where it is that of some such rows
+-- what is saved of rows that can be saved is restored as their current state; so a list is accepted exactly if it is saved of some such rows
 abbrev pub SavedIsRestored : Type 0
 SavedIsRestored =
     (limits : LimitNumbers) (rows : Rows)
     → IsSaveable limits rows
     → restored limits (head_of rows) (saved_rows rows) ≡ Some (live_rows rows)
 
--- what is saved hangs on the live rows alone
+-- what is saved depends only on the current state
 abbrev pub LiveRowsAreSaved : Type 0
 LiveRowsAreSaved =
     (a b : Rows)
@@ -76,7 +76,7 @@ LiveRowsAreSaved =
 
 -- ---- runs that are saved
 
--- after every run from the start the rows can be saved
+-- after every run from the empty cluster the rows can be saved
 abbrev pub RunsCanBeSaved : Type 0
 RunsCanBeSaved =
     (limits : LimitNumbers) (events : List Event)
@@ -84,7 +84,7 @@ RunsCanBeSaved =
     → AreGiven events
     → IsSaveable limits (rows_after_all limits opening events)
 
--- and after every run from rows that can be
+-- and after every run from rows that can be saved
 abbrev pub SaveableRowsStaySo : Type 0
 SaveableRowsStaySo =
     (limits : LimitNumbers) (rows : Rows) (events : List Event)
@@ -93,7 +93,7 @@ SaveableRowsStaySo =
     → IsSaveable limits rows
     → IsSaveable limits (rows_after_all limits rows events)
 
--- what is saved after the first events is read back, and from what was read the others give the same replies and come to the same live rows
+-- what is saved after the first events is restored, and from there the other events have the same replies and reach the same current state
 abbrev pub GoesOn : LimitNumbers → Rows → List Event → List Event → Type 0
 GoesOn limits start first second =
     let rows : Rows = rows_after_all limits start first in
@@ -101,7 +101,7 @@ GoesOn limits start first second =
     × (replies_to limits start (first ++ second) ≡ replies_to limits start first ++ replies_to limits read second)
     × (live_rows (rows_after_all limits start (first ++ second)) ≡ live_rows (rows_after_all limits read second))
 
--- so every run from the start goes on
+-- this holds for every run from the empty cluster
 abbrev pub RunsGoOnFromSaved : Type 0
 RunsGoOnFromSaved =
     (limits : LimitNumbers) (first second : List Event)
@@ -109,7 +109,7 @@ RunsGoOnFromSaved =
     → AreGiven first
     → GoesOn limits opening first second
 
--- and every run from rows that can be saved, so from those that were read back: as often as it is saved
+-- and for every run from rows that can be saved, such as restored ones; so a run can be saved any number of times
 abbrev pub SavedRowsGoOn : Type 0
 SavedRowsGoOn =
     (limits : LimitNumbers) (rows : Rows) (first second : List Event)
@@ -118,16 +118,16 @@ SavedRowsGoOn =
     → IsSaveable limits rows
     → GoesOn limits rows first second
 
--- ---- runs that go on from live rows
+-- ---- runs that resume from the current state
 
--- the replies to a run are those to its beginning, and then those that the live rows give to the others
+-- the replies to a run are those to its first events, followed by those that the current state then gives to the other events
 abbrev pub RunsResume : Type 0
 RunsResume =
     (limits : LimitNumbers) (rows : Rows) (first second : List Event)
     → replies_to limits rows (first ++ second)
     ≡ replies_to limits rows first ++ replies_to limits (live_rows (rows_after_all limits rows first)) second
 
--- and the live rows at its end are those that the live rows on the way come to
+-- the current state at its end is the one that the other events reach from the current state on the way
 abbrev pub RowsResume : Type 0
 RowsResume =
     (limits : LimitNumbers) (rows : Rows) (first second : List Event)
@@ -136,18 +136,18 @@ RowsResume =
 
 -- ---- epochs
 
--- with an epoch rows that can be saved are so again
+-- rows that can be saved can still be saved after an epoch
 abbrev pub EpochCanBeSaved : Type 0
 EpochCanBeSaved =
     (limits : LimitNumbers) (rows : Rows)
     → IsSaveable limits rows
     → IsSaveable limits (epoch (live_rows rows))
 
--- a framework, but for how many offers were made to its clients
+-- a framework without the counts of its clients
 abbrev pub but_for_counts : FrameworkRow → Text × List (Path × Bool)
 but_for_counts f = (f.name, map (λ c. (c.role, c.suppressed)) f.clients)
 
--- what an epoch keeps of some rows
+-- what an epoch keeps
 pub record IsKeptByEpoch (rows new : Rows) : Type 0 where
   pub agents : new.agents ≡ rows.agents
   pub frameworks : map but_for_counts new.frameworks ≡ map but_for_counts rows.frameworks
@@ -157,7 +157,7 @@ pub record IsKeptByEpoch (rows new : Rows) : Type 0 where
   pub filters : new.filters ≡ rows.filters
   pub clock : new.clock ≡ rows.clock
 
--- and what it ends: offers, counts, and the events that fill the history
+-- what an epoch resets: offers, counts, and the events that fill the history
 pub record IsNewEpoch (new : Rows) : Type 0 where
   pub offers : new.offers ≡ []
   pub counts : offers_counted new.frameworks ≡ 0

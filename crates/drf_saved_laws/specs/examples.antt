@@ -1,2 +1,2 @@
--- Computed from the definitions of saved rows.
+-- Examples that are computed from the definitions of saved rows.
 pub mod StateExamples

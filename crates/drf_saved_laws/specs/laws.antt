@@ -1,4 +1,4 @@
--- Theorems about the definitions of saved rows, which prove the statements beside this folder.
+-- Theorems about the definitions of saved rows, from which the statements in `SavedLaws` follow.
 pub mod Faults
 pub mod Apart
 pub mod Room

@@ -1,4 +1,4 @@
-//! A state and rows that may not stand in it, computed from the definitions.
+//! A state, and rows that may not occur in it, computed from the definitions.
 #![tactic(auto, unfolding(drf_rows::specs::Cycle::free_of, drf_saved::specs::Saved::head_fault, drf_saved::specs::Saved::row_fault))]
 
 ghost use Rattle.std.specs.Prelude.{◌≡◌, Some, None};
@@ -10,14 +10,14 @@ ghost use Rattle.drf_saved_laws.specs.examples.StateExamples.{faulty_heads, faul
 use drf_rows::Refusal;
 use drf_saved::RowFault;
 
-/// A state makes just the rows that it lists, whatever ports are in it.
+/// Proves that a state restores exactly the rows in its list, with any ports in it.
 pub fn state_example()
     ensures restored { restored ceilings state_head state ≡ Some state_rows }
     ensures ports { PortsAreRestored }
     ensures listed { saved_rows state_rows ≡ state }
 {}
 
-/// Of a row behind others the first fault is told, if it has one; so it is of numbers at the head.
+/// Proves which error is reported for some rows after others, and for some heads, and that other rows have none.
 pub fn faults_example()
     ensures rows { AllByRecursion (λ f. row_fault ceilings (first_rows f.0) f.1 ≡ Some f.2) faulty_rows }
     ensures too_many { AllByRecursion (λ f. row_fault f.0 (first_rows f.1) f.2 ≡ Some (RowFault.Refused Refusal.TooMany)) one_too_many }

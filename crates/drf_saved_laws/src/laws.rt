@@ -1,15 +1,15 @@
-//! Laws of saved rows. The functions do nothing: what they promise is proved of the definitions alone.
+//! Theorems about saved rows. The functions do nothing; their contracts are proved of the definitions alone.
 
 ghost use Rattle.drf_saved_laws.specs.SavedLaws.{HeadIsSaveable, RowKeepsSaveable, RestoredCanBeSaved, RestoredIsListed, SavedIsRestored, LiveRowsAreSaved, RunsCanBeSaved, SaveableRowsStaySo, RunsGoOnFromSaved, SavedRowsGoOn, RunsResume, RowsResume, EpochCanBeSaved, EpochKeepsTheRest};
 
-/// Row by row: numbers without a fault make rows that can be saved, and a row without a fault keeps them so.
+/// Proves that a head without an error makes rows that can be saved, and that adding a row without an error keeps them so.
 pub fn row_law()
     ensures head { HeadIsSaveable }
     ensures row { RowKeepsSaveable }
 {}
 
-/// A list is taken just where it is what is saved of some rows that can be, and then it makes their live rows. What is saved hangs on the
-/// live rows alone.
+/// Proves that a list is accepted exactly if it is saved from some rows that can be saved, and that it then restores their current state. What
+/// is saved depends only on the current state.
 pub fn saved_law()
     ensures saveable { RestoredCanBeSaved }
     ensures listed { RestoredIsListed }
@@ -17,8 +17,8 @@ pub fn saved_law()
     ensures live { LiveRowsAreSaved }
 {}
 
-/// From the start on, and from any rows that can be saved, a run comes to rows that can be, and what is read of them goes on as if it were
-/// one run.
+/// Proves that every run, from the empty cluster or from rows that can be saved, reaches rows that can be saved. If these are saved and restored,
+/// further events have the same results as in one run.
 pub fn saved_runs_law()
     ensures runs { RunsCanBeSaved }
     ensures stay { SaveableRowsStaySo }
@@ -26,13 +26,13 @@ pub fn saved_runs_law()
     ensures again { SavedRowsGoOn }
 {}
 
-/// A run goes on from the live rows on its way: the replies are the same, and the live rows at its end.
+/// Proves that a run that resumes from the current state of another has the same replies and reaches the same current state.
 pub fn resume_law()
     ensures replies { RunsResume }
     ensures rows { RowsResume }
 {}
 
-/// With an epoch rows stay saveable. It ends the offers, the counts and the history, and keeps all else.
+/// Proves that rows can still be saved after an epoch, which ends offers, counts and the history, and keeps everything else.
 pub fn epoch_law()
     ensures saveable { EpochCanBeSaved }
     ensures rest { EpochKeepsTheRest }

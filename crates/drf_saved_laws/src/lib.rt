@@ -1,4 +1,4 @@
-//! Laws of saved rows, proved of the definition alone.
+//! Theorems about saved rows, proved of the definition alone.
 #![tactic(auto)]
 
 mod examples;

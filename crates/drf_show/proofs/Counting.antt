@@ -1,4 +1,4 @@
--- What is counted while rows are gone through.
+-- What has been counted while a loop goes through rows.
 use Rattle.std.specs.Prelude.{◌≡◌, ℕ, ◌+◌, ◌<◌, Bool, cond, List, [], ◌∷◌, fold, get_or, length, map, take}
 use Rattle.std.proofs.Common.{sym, ap, ◌∙◌}
 use Rattle.std.proofs.lemmas.List.{take_more}
@@ -17,7 +17,7 @@ use Rattle.drf_show.specs.Shown.{limit_line}
 
 -- ---- consumption
 
--- what roles consume, table by table
+-- the consumption of roles, table by table
 pub consumption_parts : (rows : Rows) (test : Path → Bool) (label : Text)
     → consumption_where test rows label
     ≡ (held_unreserved test (map of_offer rows.offers) label + held_unreserved test (map of_task rows.tasks) label) + reserved_for test rows.agents label
@@ -25,7 +25,7 @@ consumption_parts rows test label =
     ap (λ n. n + reserved_for test rows.agents label)
     (sum_by-append (λ (h : Holding). cond (test h.client.role) (unreserved_in label h.bundle) 0) (map of_offer rows.offers) (map of_task rows.tasks))
 
--- one scalar of a limit more
+-- one more scalar of a limit
 pub used_more : (used : List Usage) (role : Path) (entries now new : List Entry) (i : ℕ) (e : Entry) → i < length entries → e ≡ get_or entries i e
     → now ≡ used_of used role (take i entries) → new ≡ with_amount now e.label (used_at used role e.label)
     → new ≡ used_of used role (take (i + 1) entries)
@@ -35,7 +35,7 @@ used_more used role entries now new i e inside is so_far added =
     ∙ (λ j. add (so_far j) (is j))
     ∙ sym (ap (used_of used role) (take_more entries i e inside) ∙ fold-append add [] (take i entries) (get_or entries i e ∷ []))
 
--- a line by what is consumed is that of the rows
+-- a line that is made from the counted consumption is the one that the definition gives
 pub limit_line_is : (rows : Rows) (used : List Usage) (l : LimitRow)
     → IsConsumptionOf rows used → limit_line_by used l ≡ limit_line rows l
 limit_line_is rows used l same = λ i. record {

@@ -1,4 +1,4 @@
--- A sorter of the rows knows their clients.
+-- A sorter with the content of the rows has their clients.
 use Rattle.std.specs.Prelude.{◌≡◌, zero, suc, Bool, true, List, [], ◌∷◌, map, flat_map}
 use Rattle.std.specs.List.{Contains, list_any}
 use Rattle.std.proofs.Common.{refl, sym, ap, ◌∙◌, arith, append-nil}
@@ -16,7 +16,7 @@ use Rattle.drf_sorter.specs.Content.{Ranked}
 use Rattle.drf_content.specs.Content.{content_of, ranked}
 use Rattle.drf_show.specs.Had.{KnowsClients}
 
--- what some element becomes passes a test
+-- an image of some element passes a test
 any_made : {X Y : Type 0} (test : Y → Bool) (f : X → Y) (xs : List X) (x : X)
     → Contains xs x → test (f x) ≡ true → list_any test (map f xs) ≡ true
 any_made test f [] x (k, inside, is) passes = absurd (omega (arith, inside))
@@ -25,7 +25,7 @@ any_made test f (y ∷ ys) x (zero, inside, is) passes =
 any_made test f (y ∷ ys) x (suc k, inside, is) passes =
     or_right (test (f y)) (list_any test (map f ys)) (any_made test f ys x (k, omega (arith, inside), is) passes)
 
--- one of what some element becomes does
+-- an element of a list that is the image of some element passes a test
 any_among : {X Y : Type 0} (test : Y → Bool) (f : X → List Y) (xs : List X) (x : X)
     → Contains xs x → list_any test (f x) ≡ true → list_any test (flat_map f xs) ≡ true
 any_among test f [] x (k, inside, is) passes = absurd (omega (arith, inside))

@@ -1,3 +1,4 @@
+-- Lemmas for the contracts of the tables and their text.
 mod Known
 mod Parts
 mod Sums

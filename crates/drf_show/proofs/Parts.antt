@@ -1,4 +1,4 @@
--- What frameworks have, after one part more, after a list of them, and what is summed of it.
+-- The parts that are stored for frameworks: after one more, and after a list of them.
 use Rattle.std.specs.Prelude.{◌≡◌, ℕ, ◌+◌, ◌<◌, ◌≤◌, Bool, true, false, List, [], ◌∷◌, ◌++◌, Option, cond, map, drop, get_or, length}
 use Rattle.std.specs.Borrow.{Bor}
 use Rattle.std.specs.Global.{Vec}
@@ -22,7 +22,7 @@ parts_or o = option_map_or (λ v. parts_of v.items) o []
 abbrev pub parts_at : List (Text × Lent) → Text → List Part
 parts_at es q = parts_or (lookup (same_text q) es)
 
--- one part more is kept for a framework
+-- one more part is stored for a framework
 pub added_at : (old new : List (Text × Lent)) (framework : Text) (w : Option Lent) (part : Part)
     → ((q : Text) → lookup (same_text q) new ≡ cond (same_text framework q) w (lookup (same_text q) old))
     → parts_or w ≡ parts_at old framework ++ part ∷ []
@@ -44,7 +44,7 @@ one_more framework h hs old = by (same_text h.client.framework framework) refl
     by false test = rw test (append_assoc old [] (parts_for framework hs))
 
 module _ {X : Type 0} (of : X → Holding) (framework : Text) (xs : List X) (whole : List Part) where
-  -- with what is left of a list all that a framework has comes to the same, after one more
+  -- after one more element, the stored parts and those of the remaining elements are still all parts
   pub had_more : (old new : List Part) (i : ℕ) (x : X) → i < length xs → x ≡ get_or xs i x
       → old ++ parts_for framework (map of (drop i xs)) ≡ whole
       → new ≡ old ++ cond (same_text (of x).client.framework framework) (((of x).client.role, (of x).bundle) ∷ []) []
@@ -57,7 +57,7 @@ module _ {X : Type 0} (of : X → Holding) (framework : Text) (xs : List X) (who
       ∙ sym (at_drop_more (λ ys. old ++ parts_for framework (map of ys)) xs i x inside)
       ∙ so_far
 
-  -- and at the end
+  -- and at the end all parts are stored
   pub had_all : (old : List Part) (i : ℕ) → length xs ≤ i
       → old ++ parts_for framework (map of (drop i xs)) ≡ whole → old ≡ whole
   had_all old i past so_far =

@@ -1,4 +1,4 @@
--- The cells of a row, one after the other: with those that are left the text is that of all.
+-- The cells of a row, one after the other: the text so far, followed by the remaining cells, is the text of all cells.
 use Rattle.std.specs.Prelude.{◌≡◌, ℕ, ◌+◌, ◌<◌, List, ◌∷◌, ◌++◌, drop, get_or, length, map}
 use Rattle.std.proofs.Common.{sym, ap, ◌∙◌, append_assoc}
 use Rattle.std.proofs.lemmas.List.{at_drop_more}
@@ -9,7 +9,7 @@ module _ {X : Type 0} (text_in : X → Text) (width : ℕ → ℕ) (cells : List
   abbrev left : ℕ → List ℕ
   left i = cells_text width i (map text_in (drop i cells))
 
-  -- a cell behind which another stands
+  -- a cell that is not the last
   pub cell_more : (old new whole : List ℕ) (i : ℕ) (cell : X) → i < length cells → i + 1 < length cells → cell ≡ get_or cells i cell
       → old ++ left i ≡ whole → new ≡ old ++ padded (width i) (text_in cell) → new ++ left (i + 1) ≡ whole
   cell_more old new whole i cell inside another is so_far added =

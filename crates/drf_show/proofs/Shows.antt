@@ -1,4 +1,4 @@
--- What is written of an allocator.
+-- The text that is written for an allocator.
 use Rattle.std.specs.Prelude.{◌≡◌, ℕ, List, [], ◌∷◌, ◌++◌, fold}
 use Rattle.std.specs.List.{flat_map}
 use Rattle.std.proofs.Common.{refl, sym, ◌∙◌, append_assoc, append-nil}
@@ -10,17 +10,17 @@ use Rattle.drf_content.specs.Content.{content_of}
 use Rattle.drf_show.specs.ShownText.{ShownTable, behind}
 use Rattle.drf_show.specs.declared.form.Form.{Form}
 
--- live rows are reported as all are
+-- the current state has the same report
 pub report_live : (rows : Rows) → report_of rows ≡ report_of (live_rows rows)
 unfolding report_of standing_of
 report_live rows = refl
 
--- and a sorter holds the same of them
+-- and the same content of a sorter
 pub content_live : (rows : Rows) → content_of rows ≡ content_of (live_rows rows)
 unfolding content_of
 content_live rows = refl
 
--- tables one after another are those behind what stands there
+-- appending tables one after the other appends their texts
 behind_text : (form : Form) (text : List ℕ) (tables : List ShownTable)
     → fold (λ text table. text ++ behind form table) text tables ≡ text ++ flat_map (behind form) tables
 behind_text form text [] = sym (append-nil text)

@@ -31,7 +31,7 @@ use Rattle.drf_show.specs.Shown.{client_line, had_of}
 abbrev pub part_amount : Text → Part → ℕ
 part_amount label p = amount_of (quantities_of p.1) label
 
--- a framework has no more than all have
+-- a framework has no more than all frameworks together
 parts-le : (framework label : Text) (hs : List Holding)
     → sum_by (part_amount label) (parts_for framework hs) ≤ sum_by (amount_in label) hs
 parts-le framework label [] = omega arith
@@ -59,7 +59,7 @@ module _ (rows : Rows) (fit : IsFit rows) (framework : Text) where
 abbrev Lent : Type 0
 Lent = Bor Path × Bor (List Resource)
 
--- the sum, after one part more of some
+-- the sum after one more part
 module _ (role : Path) (parts : List Lent) (i : ℕ) (part : Lent) (inside : i < length parts) (is : part ≡ get_or parts i part) where
   abbrev its : Part → Bool
   its p = same_path p.0 role
@@ -98,7 +98,7 @@ module _ (role : Path) (parts : List Lent) (i : ℕ) (part : Lent) (inside : i <
       by true test = rw test (sym (step true test))
       by false test = rw test (sym (step false test))
 
-  -- what is left there
+  -- the parts that remain
   pub left_there : (label : Text) → sum_by (part_amount label) (parts_of (drop i parts))
       ≡ part_amount label now + sum_by (part_amount label) (parts_of (drop (i + 1) parts))
   left_there label =
@@ -106,7 +106,7 @@ module _ (role : Path) (parts : List Lent) (i : ℕ) (part : Lent) (inside : i <
       ∙ ap (λ (p : Lent). sum_by (part_amount label) (parts_of (p ∷ drop (i + 1) parts))) (sym is)
       ∙ sum_by-cons (part_amount label) now (parts_of (drop (i + 1) parts))
 
--- a part more adds no more than it has
+-- a part adds no more than it has
 pub sum_with-le : (role : Path) (sum : List Entry) (p : Part) (label : Text) → IsTrue (is_in_order (quantities_of p.1))
     → amount_of (sum_with role sum p) label ≤ amount_of sum label + part_amount label p
 sum_with-le role sum p label ordered = by (same_path p.0 role)
@@ -132,13 +132,13 @@ had-from client start (h ∷ hs) = elim (cases_Bool (same_text h.client.framewor
   ]
 ]
 
--- the parts of its framework that are for its role are what a client has
+-- what a client has is the sum of its framework's parts that are for its role
 pub had_is : (client : Client) (hs : List Holding) → sum_for client.role (parts_for client.framework hs) ≡ had_of client hs
 had_is client hs =
     ap without_zeros (had-from client [] hs)
     ∙ (λ i. without_zeros (sum_of (filter (λ h. sym (same_path-client_path h.client.role client.role h.client.framework client.framework) i) hs)))
 
--- so its line is that of the rows
+-- so its line is the one that the definition gives
 pub client_line_is : (rows : Rows) (weighted : Path → ℕ × ℕ) (offered used : Text → List Part) (framework : FrameworkRow) (client : ClientRow)
     → ((node : Path) → weighted node ≡ terms_of (weighted_share_of (standing_of rows) node))
     → ((name : Text) → offered name ≡ parts_for name (map of_offer rows.offers))

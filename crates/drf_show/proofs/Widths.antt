@@ -1,4 +1,4 @@
--- How wide columns are, and what is written of a row.
+-- The widths of columns, and the text of a row.
 use Rattle.std.specs.Prelude.{◌≡◌, ◌≢◌, ℕ, ◌+◌, ◌-◌, ◌<◌, max, List, [], ◌∷◌, ◌++◌, get_or, length, map, set, take}
 use Rattle.std.specs.Prelude.{◌⊎◌}
 use Rattle.std.proofs.Common.{sym, ap, subst, ◌∙◌, arith, inl, inr, length-append}
@@ -11,7 +11,7 @@ use Rattle.drf_show.specs.Aligned.{Cells, IsWidenedAt, width_at}
 
 -- ---- widths
 
--- one row more
+-- one more row
 pub width_more : (rows : List Cells) (i : ℕ) (row : Cells) (column : ℕ) → i < length rows → row ≡ get_or rows i row
     → width_at (take (i + 1) rows) column ≡ max (width_at (take i rows) column) (length (get_or row column []))
 width_more rows i row column inside is =
@@ -19,7 +19,7 @@ width_more rows i row column inside is =
     ∙ fold-append (λ width (row : Cells). max width (length (get_or row column []))) 0 (take i rows) (get_or rows i row ∷ [])
     ∙ ap (λ (r : Cells). max (width_at (take i rows) column) (length (get_or r column []))) (sym is)
 
--- columns that are as wide as they were or as a cell of a front of the row
+-- each column is as wide as before, or as wide as its cell in these cells of the row if that is wider
 abbrev pub AreWidened : List ℕ → List ℕ → Cells → Type 0
 AreWidened old new cells = (q : ℕ) → get_or new q 0 ≡ max (get_or old q 0) (length (get_or cells q []))
 
@@ -83,7 +83,7 @@ widened_more old now new cells column cell front so_far widened = λ q. by q (ca
         ∙ ap (λ (t : Text). max (get_or old q 0) (length t))
         (get_or_past cells q [] (omega (arith, behind, front)) ∙ sym (get_or_past (cells ++ cell ∷ []) q [] (omega (arith, behind, front, length-append cells (cell ∷ [])))))
 
--- the same for texts of a list, up to one
+-- one more text of a list
 module _ {X : Type 0} (text_in : X → Text) (cells : List X) (i : ℕ) (cell : X) (inside : i < length cells) (is : cell ≡ get_or cells i cell) where
   front_more : map text_in (take (i + 1) cells) ≡ map text_in (take i cells) ++ text_in cell ∷ []
   front_more =

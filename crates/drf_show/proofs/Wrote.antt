@@ -1,4 +1,4 @@
--- How the writing of what is shown ends.
+-- The result of writing what is shown.
 use Rattle.std.proofs.Common.{◌≡◌, ℕ, Bool, false, List, [], take, Option, Result, Ok, Err, OnOk, OnErr, IfErr, refl, ap, ◌∙◌, arith}
 use Rattle.std.specs.Io.KnownBytes.{Appends, Consumes, IsAtEnd}
 use Rattle.std.proofs.KnownBytes.{Appends-nil}
@@ -18,12 +18,12 @@ use Rattle.drf_show.specs.Showing.{HasShown}
 use Rattle.drf_show.specs.ShownText.{rows_text, shown}
 use Rattle.drf_show.specs.declared.form.Form.{Form}
 
--- live rows are shown
+-- only the current state is shown
 shown_live : (form : Form) (limits : LimitNumbers) (a b : Rows) → live_rows a ≡ live_rows b → shown form limits a ≡ shown form limits b
 unfolding shown
 shown_live form limits a b same = ap (λ (rows : Rows). rows_text form limits rows) same
 
--- what is shown of an allocator that has taken all lines is the text that is due
+-- the text of an allocator that has taken all lines is the one that the definition gives
 pub shown_due : (form : Form) (old new : Engine) (read text : List ℕ)
     → live new ≡ resumed (live old) (lines_of read)
     → text ≡ shown form old.limits new.rows
@@ -33,7 +33,7 @@ shown_due form old new read text is told =
     told ∙ shown_live form old.limits new.rows (rows_after_lines old.limits (live_rows old.rows) (lines_of read)) (ap (λ (m : Machine). m.rows) is)
 
 module _ (form : Form) (machine : Machine) (unread_before unread_after : Option (List ℕ)) where
-  -- nothing was written where not all lines were taken
+  -- nothing was written if not all lines were taken
   pub shown_unread : (T : Type 0) (written : Option (List ℕ)) (fault : RunFault) (reads : ℕ) (reader_failed : Bool) (read : List ℕ)
       → HasCause {T = T} (Err fault) reader_failed reads false → Consumes unread_before unread_after read
       → HasShown form machine unread_before unread_after written written (Err fault)
@@ -43,13 +43,13 @@ module _ (form : Form) (machine : Machine) (unread_before unread_after : Option 
   shown_unread T written Memory reads reader_failed read cause consumed =
       record { read = read; written = []; consumed = consumed; appended = Appends-nil written; told = (0, refl); whole = tt; late = λ some. absurd (omega arith) }
 
-  -- nor where memory ran out behind them
+  -- and nothing was written if memory ran out after them
   pub shown_forgotten : (written : Option (List ℕ)) (read : List ℕ) → Consumes unread_before unread_after read
       → HasShown form machine unread_before unread_after written written (Err Memory)
   shown_forgotten written read consumed =
       record { read = read; written = []; consumed = consumed; appended = Appends-nil written; told = (0, refl); whole = tt; late = λ some. absurd (omega arith) }
 
-  -- the text was written, or a front of it
+  -- the text was written, or a prefix of it
   pub shown_ends : (written_before written_after : Option (List ℕ)) (read text : List ℕ) (result : Result (Unit {0}) RunFault)
       → Consumes unread_before unread_after read → IsAtEnd unread_after
       → text ≡ told_of_lines (shown form machine.limits) machine (lines_of read)

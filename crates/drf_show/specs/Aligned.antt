@@ -1,4 +1,4 @@
--- Tables whose columns stand one below the other.
+-- Tables with aligned columns.
 use Rattle.std.specs.Prelude.{◌≡◌, ◌≢◌, ◌≤◌, ℕ, ◌+◌, ◌-◌, max, min, List, [], ◌∷◌, ◌++◌, length, get_or, replicate, fold, flat_map}
 use Rattle.drf_role.specs.Text.{Text}
 
@@ -6,15 +6,15 @@ use Rattle.drf_role.specs.Text.{Text}
 abbrev pub Cells : Type 0
 Cells = List Text
 
--- how many bytes the widest cell of a column has
+-- the length in bytes of the widest cell of a column
 abbrev pub width_at : List Cells → ℕ → ℕ
 width_at rows column = fold (λ width row. max width (length (get_or row column []))) 0 rows
 
--- no column is made wider than that: a longer cell moves what stands behind it in its own row alone
+-- the greatest width of a column: a longer cell shifts only the cells after it in its own row
 abbrev pub widest : ℕ
 widest = 48
 
--- a cell with blanks up to the width of its column, and two more
+-- a cell with spaces up to the width of its column, and two more
 abbrev pub padded : ℕ → Text → Text
 padded width cell = cell ++ replicate (2 + (min width widest - length cell)) 32
 
@@ -32,7 +32,7 @@ row_text width cells = cells_text width 0 cells ++ 10 ∷ []
 abbrev pub table_text : List Cells → List ℕ
 table_text rows = flat_map (row_text (width_at rows)) rows
 
--- one column is as wide as it was or as so much more, the others are as they were, and all up to it have a width
+-- one column has at least this width, the others are unchanged, and all columns up to it exist
 pub record IsWidenedAt (old new : List ℕ) (column width : ℕ) : Type 0 where
   pub there : get_or new column 0 ≡ max (get_or old column 0) width
   pub others : (q : ℕ) → q ≢ column → get_or new q 0 ≡ get_or old q 0

@@ -1,3 +1,4 @@
+-- Definitions of the tables, their text, and what the code stores to compute them.
 pub mod Shown
 pub mod Aligned
 pub mod ShownText

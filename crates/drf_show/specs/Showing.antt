@@ -6,7 +6,7 @@ use Rattle.drf_journal.specs.declared.fault.RunFault.{RunFault}
 use Rattle.drf_show.specs.ShownText.{shown}
 use Rattle.drf_show.specs.declared.form.Form.{Form}
 
--- bytes were taken from a reader, and the text that shows the rows after their lines was given to a writer
+-- bytes were read from a reader, and the text that shows the rows after their lines was written to a writer
 abbrev pub HasShown : Form → Machine → (unread_before unread_after written_before written_after : Option (List ℕ))
     → Result (Unit {0}) RunFault → Type 0
 HasShown form machine = HasToldOfRows (shown form machine.limits) machine

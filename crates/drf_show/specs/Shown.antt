@@ -1,6 +1,5 @@
--- What is shown of an allocator's rows besides what they say themselves and what a report tells of them, in a line for each: the agents with
--- what is free and held there, the clients with what is offered to them and used in their tasks, the limits beside what is consumed, the
--- filters with the time that is left, and how full the tables are beside their limits.
+-- What is shown besides the rows themselves and the nodes of a report, with a line for each: the agents with what is free and held, the clients
+-- with what they are offered and use, the limits with what is consumed, the filters with the time that is left, and how full the tables are.
 use Rattle.std.specs.Prelude.{ℕ, ◌-◌, List, [], ◌∷◌, length, map, fold, filter, flat_map}
 use Rattle.drf_role.specs.Path.{Path}
 use Rattle.drf_bundle.specs.Bundle.{rest}
@@ -30,7 +29,7 @@ use Rattle.drf_show.specs.declared.tables.TableLine.{TableLine}
 
 -- ---- agents
 
--- an agent: its total, what is free of it, what is held there, which is the rest of the total, and how many offers and tasks hold it
+-- an agent: its total, what is free, what is held (the rest of the total), and how many offers and tasks are on it
 abbrev pub agent_line : Rows → AgentRow → AgentLine
 agent_line rows agent = record {
   agent = agent.name;
@@ -46,11 +45,11 @@ agent_lines rows = map (agent_line rows) rows.agents
 
 -- ---- clients
 
--- the scalars that a client has of some holdings
+-- the scalars that a client has in some holdings
 abbrev pub had_of : Client → List Holding → List Entry
 had_of client holdings = without_zeros (sum_of (filter (is_of (path_of client)) holdings))
 
--- a client: how many offers it got, its weighted share, what is offered to it, and what its tasks use
+-- a client: how many offers were made to it, its weighted share, what it is offered, and what its tasks use
 abbrev pub client_line : Rows → FrameworkRow → ClientRow → ClientLine
 client_line rows framework client = record {
   framework = framework.name;
@@ -67,11 +66,11 @@ client_lines rows = flat_map (λ framework. map (client_line rows framework) fra
 
 -- ---- limits
 
--- what a role consumes of each scalar that a limit names, together with the roles below it
+-- what a role and the roles below it consume of each scalar that a limit names
 abbrev pub consumed : Rows → Path → List Entry → List Entry
 consumed rows role limit = fold (λ sum e. with_amount sum e.label (consumption rows role e.label)) [] limit
 
--- a limit beside what is consumed of it
+-- a limit with what is consumed
 abbrev pub limit_line : Rows → LimitRow → LimitLine
 limit_line rows l = record { role = l.role; limit = l.limit; consumed = consumed rows l.role l.limit }
 
@@ -80,7 +79,7 @@ limit_lines rows = map (limit_line rows) rows.limits
 
 -- ---- filters
 
--- a filter with the milliseconds from the clock to its end
+-- a filter with the time in milliseconds from the clock to its end
 abbrev pub filter_line : ℕ → FilterRow → FilterLine
 filter_line clock f = record {
   framework = f.framework;
@@ -96,11 +95,11 @@ filter_lines rows = map (filter_line rows.clock) rows.filters
 
 -- ---- how full the tables are
 
--- so many rows stand in a table that may have so many
+-- a table with its number of rows and its capacity
 abbrev pub table_line : CountedTable → ℕ → ℕ → TableLine
 table_line table rows limit = record { table = table; rows = rows; limit = limit }
 
--- agents, the names of the scalars that they have, frameworks, their clients, weights, limits, filters, and the events that were accepted
+-- agents, the names of their scalars, frameworks, clients, weights, limits, filters, and accepted events
 abbrev pub table_lines : LimitNumbers → Rows → List TableLine
 table_lines limits rows =
     table_line Agents (length rows.agents) limits.agents

@@ -25,7 +25,7 @@ role_a = codes "a" ∷ []
 abbrev cpus_of : ℕ → Entry
 cpus_of amount = record { label = codes "cpus"; amount = amount }
 
--- `f1` runs a task under a limit, has refused the rest, and wants no more; that is offered to `f2`
+-- `f1` runs a task under a limit, has declined the rest, and is suppressed; the rest is offered to `f2`
 abbrev pub small : List Event
 small =
     AddAgent (codes "n1") (cpus 4000 ∷ mem 1024000 ∷ [])

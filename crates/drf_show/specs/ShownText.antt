@@ -1,4 +1,4 @@
--- What is shown as text: as aligned tables, or in JSON, a line for each row with its keys in order of bytes (RFC 8259).
+-- The text that is shown: aligned tables, or a line of JSON (RFC 8259) for each row, with keys in byte order.
 use Rattle.std.specs.Prelude.{ℕ, Bool, true, false, List, [], ◌∷◌, ◌++◌, map, codes, decimal}
 use Rattle.std.specs.List.{flat_map}
 use Rattle.serde_json.specs.Data.{Data, number, unsigned, boolean, string, object, member, no_members}
@@ -36,7 +36,7 @@ use Rattle.drf_show.specs.declared.tables.TableLine.{TableLine}
 
 -- ---- cells
 
--- nothing is shown as `-`
+-- an empty text is shown as `-`
 abbrev pub text_cell : Text → Text
 text_cell [] = 45 ∷ []
 text_cell (byte ∷ bytes) = byte ∷ bytes
@@ -58,7 +58,7 @@ pub record ShownRow : Type 0 where
   pub cells : Cells
   pub line : List ℕ
 
--- the numbers of an allocator, as in a state
+-- the numbers of an allocator, as in a saved state
 abbrev pub head_heads : Cells
 head_heads = codes "CLOCK" ∷ codes "EVENTS" ∷ codes "NEXT OFFER" ∷ []
 
@@ -123,7 +123,7 @@ node_value n = object (
     (member (codes "weighted") (string (fraction_text n.weighted))
     no_members))))))
 
--- a node as a report has it
+-- a node, as in a report
 abbrev pub node_shown : NodeLine → ShownRow
 node_shown n = record {
   cells = text_of n.path ∷ decimal n.count ∷ fraction_text n.share ∷ fraction_text n.weighted ∷ quantities_cell n.held ∷ [];
@@ -133,7 +133,7 @@ node_shown n = record {
 abbrev pub weight_heads : Cells
 weight_heads = codes "ROLE" ∷ codes "WEIGHT" ∷ []
 
--- as in a state
+-- as in a saved state
 abbrev pub weight_shown : WeightRow → ShownRow
 weight_shown w = record { cells = text_of w.role ∷ amount_text w.weight ∷ []; line = row_line (Weight w) }
 
@@ -157,7 +157,7 @@ limit_shown l = record {
 abbrev pub offer_heads : Cells
 offer_heads = codes "OFFER" ∷ codes "FRAMEWORK" ∷ codes "ROLE" ∷ codes "AGENT" ∷ codes "RESOURCES" ∷ []
 
--- as in a state
+-- as in a saved state
 abbrev pub offer_shown : OfferRow → ShownRow
 offer_shown o = record {
   cells = decimal o.number ∷ o.framework ∷ text_of o.role ∷ o.agent ∷ bundle_cell o.bundle ∷ [];
@@ -167,7 +167,7 @@ offer_shown o = record {
 abbrev pub task_heads : Cells
 task_heads = codes "TASK" ∷ codes "FRAMEWORK" ∷ codes "ROLE" ∷ codes "AGENT" ∷ codes "USE" ∷ []
 
--- as in a state
+-- as in a saved state
 abbrev pub task_shown : TaskRow → ShownRow
 task_shown t = record {
   cells = t.name ∷ t.framework ∷ text_of t.role ∷ t.agent ∷ bundle_cell t.bundle ∷ [];
@@ -223,7 +223,7 @@ table_shown t = record {
 
 -- ---- tables
 
--- the heads of its columns, and its rows
+-- the headings of its columns, and its rows
 pub record ShownTable : Type 0 where
   pub heads : Cells
   pub rows : List ShownRow
@@ -258,26 +258,26 @@ filter_table rows = record { heads = filter_heads; rows = map filter_shown (filt
 abbrev pub count_table : LimitNumbers → Rows → ShownTable
 count_table limits rows = record { heads = table_heads; rows = map table_shown (table_lines limits rows) }
 
--- what is shown of rows within limits behind the numbers of the allocator
+-- all tables after that of the numbers
 abbrev pub later_tables : LimitNumbers → Rows → List ShownTable
 later_tables limits rows =
     agent_table rows ∷ client_table rows ∷ node_table (report_of rows) ∷ weight_table rows ∷ limit_table rows ∷ offer_table rows
     ∷ task_table rows ∷ filter_table rows ∷ count_table limits rows ∷ []
 
--- a table in a form: its heads and rows in columns, or the lines of its rows
+-- a table in a form: its headings and rows in columns, or the lines of its rows
 abbrev pub table_in : Form → ShownTable → List ℕ
 table_in Aligned t = table_text (t.heads ∷ map (λ r. r.cells) t.rows)
 table_in Json t = flat_map (λ r. r.line ++ 10 ∷ []) t.rows
 
--- a table behind another: an empty line stands between aligned tables
+-- a table after another one: an aligned table comes after an empty line
 abbrev pub behind : Form → ShownTable → List ℕ
 behind Aligned t = 10 ∷ table_in Aligned t
 behind Json t = table_in Json t
 
--- the text that shows rows within limits
+-- the text that shows rows with these capacities
 abbrev pub rows_text : Form → LimitNumbers → Rows → List ℕ
 rows_text form limits rows = table_in form (head_table rows) ++ flat_map (behind form) (later_tables limits rows)
 
--- the text that shows the live rows
+-- the text that shows the current state
 unfoldable pub shown : Form → LimitNumbers → Rows → List ℕ
 shown form limits rows = rows_text form limits (live_rows rows)

@@ -1,4 +1,4 @@
-//! The agents.
+//! The table of the agents.
 ghost use Rattle.std.specs.Prelude.{◌≡◌, IfOk};
 ghost use Rattle.serde_json.specs.View.{view};
 ghost use Rattle.drf_audit.specs.Audit.{line_of};
@@ -20,7 +20,7 @@ use serde_json::{Value, json};
 use std::alloc::{AllocError, Global};
 use std::thread::Threads;
 
-/// An agent with all its resources, what is held there and what is free, and how many offers and tasks hold it.
+/// An agent with its total, what is held, what is free, and the number `out` of its offers and tasks.
 #[derive(Drop)]
 pub(crate) struct AgentLine {
     pub(crate) agent: Name,
@@ -31,7 +31,7 @@ pub(crate) struct AgentLine {
     pub(crate) free: Bundle,
 }
 
-/// The line of an agent of which so much was audited.
+/// Returns the line of an agent, given its audit.
 fn agent_line(agent: &AgentRow, audited: &AuditLine) -> Result<AgentLine, AllocError>
     ensures { IfOk result (λ line. (rows : Rows) → audited.now ≡ line_of rows agent.now → line ≡ agent_line rows agent.now) }
 {
@@ -45,7 +45,7 @@ fn agent_line(agent: &AgentRow, audited: &AuditLine) -> Result<AgentLine, AllocE
     })
 }
 
-/// A line for each agent, in order of registration.
+/// Returns a line for each agent, in order of registration.
 pub(crate) fn agent_lines(
     rt: &(impl Threads + Sync),
     alloc: Global,

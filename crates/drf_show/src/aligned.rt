@@ -1,4 +1,4 @@
-//! Tables whose columns stand one below the other.
+//! Tables with aligned columns.
 ghost use Rattle.std.specs.Prelude.{◌≡◌, ◌≤◌, ℕ, ◌++◌, [], get_or, length, map, max, replicate, string_bytes, IfOk, OnOk};
 ghost use Rattle.std.specs.List.{flat_map};
 ghost use Rattle.drf_show.specs.Aligned.{IsWidenedAt, cells_text, padded, row_text, table_text, width_at};
@@ -6,10 +6,10 @@ ghost use Rattle.drf_show.specs.Aligned.{IsWidenedAt, cells_text, padded, row_te
 use crate::cells::Row;
 use std::alloc::{AllocError, Global};
 
-/// No column is made wider than that.
+/// The greatest width of a column in bytes.
 const WIDEST: usize = 48;
 
-/// Widens a column, if it is not as wide.
+/// Makes a column at least this wide. A column that does not exist yet is added.
 #[tactic(auto, using(crate::proofs::Widths::widened_there, crate::proofs::Widths::widened_last))]
 fn widen_at(widths: &mut Vec<usize>, column: usize, width: usize) -> Result<(), AllocError>
     requires { column ≤ length widths.old.items }
@@ -23,7 +23,7 @@ fn widen_at(widths: &mut Vec<usize>, column: usize, width: usize) -> Result<(), 
     Ok(())
 }
 
-/// Widens columns to the cells of a row.
+/// Makes each column at least as wide as its cell in a row.
 fn widen(widths: &mut Vec<usize>, cells: &[String]) -> Result<(), AllocError>
     ensures { OnOk result ((column : ℕ) → get_or widths.new.items column 0
         ≡ max (get_or widths.old.items column 0) (length (get_or (map string_bytes cells.now) column []))) }
@@ -34,7 +34,7 @@ fn widen(widths: &mut Vec<usize>, cells: &[String]) -> Result<(), AllocError>
     Ok(())
 }
 
-/// How wide the columns of rows are.
+/// Returns the widths of the columns in bytes.
 fn widths_of(alloc: Global, rows: &[Row]) -> Result<Vec<usize>, AllocError>
     ensures { IfOk result (λ widths. (column : ℕ) → get_or widths.items column 0 ≡ width_at rows.now column) }
 {
@@ -45,7 +45,7 @@ fn widths_of(alloc: Global, rows: &[Row]) -> Result<Vec<usize>, AllocError>
     Ok(widths)
 }
 
-/// The width of a column.
+/// Returns the width of a column, or 0 if there is no such column.
 fn width_in(widths: &[usize], column: usize) -> usize
     ensures { result ≡ get_or widths.now column 0 }
 {
@@ -55,7 +55,7 @@ fn width_in(widths: &[usize], column: usize) -> usize
     }
 }
 
-/// Adds so many blanks.
+/// Appends this number of spaces.
 fn push_blanks(text: &mut Vec<u8>, count: usize) -> Result<(), AllocError>
     ensures { OnOk result (text.new.items ≡ text.old.items ++ replicate count 32) }
 {
@@ -65,7 +65,7 @@ fn push_blanks(text: &mut Vec<u8>, count: usize) -> Result<(), AllocError>
     Ok(())
 }
 
-/// Adds a cell, and blanks behind it.
+/// Appends a cell, and spaces up to two more than the width of its column.
 fn push_padded(text: &mut Vec<u8>, cell: &str, width: usize) -> Result<(), AllocError>
     ensures { OnOk result (text.new.items ≡ text.old.items ++ padded width cell.now) }
 {
@@ -74,7 +74,7 @@ fn push_padded(text: &mut Vec<u8>, cell: &str, width: usize) -> Result<(), Alloc
     push_blanks(text, blanks)
 }
 
-/// Adds the cells of a row.
+/// Appends the cells of a row.
 fn push_cells(text: &mut Vec<u8>, widths: &[usize], cells: &[String]) -> Result<(), AllocError>
     ensures { OnOk result (text.new.items
         ≡ text.old.items ++ cells_text (λ column. get_or widths.now column 0) 0 (map string_bytes cells.now)) }
@@ -88,7 +88,7 @@ fn push_cells(text: &mut Vec<u8>, widths: &[usize], cells: &[String]) -> Result<
     Ok(())
 }
 
-/// Adds a row, with its line feed.
+/// Appends a row and a line feed.
 fn push_row(text: &mut Vec<u8>, widths: &[usize], row: &Row) -> Result<(), AllocError>
     ensures { OnOk result (text.new.items ≡ text.old.items ++ row_text (λ column. get_or widths.now column 0) row.now) }
 {
@@ -97,7 +97,7 @@ fn push_row(text: &mut Vec<u8>, widths: &[usize], row: &Row) -> Result<(), Alloc
     Ok(())
 }
 
-/// Adds rows.
+/// Appends rows.
 fn push_rows(text: &mut Vec<u8>, widths: &[usize], rows: &[Row]) -> Result<(), AllocError>
     ensures { OnOk result (text.new.items ≡ text.old.items ++ flat_map (row_text (λ column. get_or widths.now column 0)) rows.now) }
 {
@@ -107,7 +107,7 @@ fn push_rows(text: &mut Vec<u8>, widths: &[usize], rows: &[Row]) -> Result<(), A
     Ok(())
 }
 
-/// Adds a table.
+/// Appends a table.
 pub(crate) fn push_table(text: &mut Vec<u8>, rows: &[Row]) -> Result<(), AllocError>
     ensures { OnOk result (text.new.items ≡ text.old.items ++ table_text rows.now) }
 {

@@ -29,7 +29,7 @@ impl Model for Row {
 }
 
 impl Row {
-    /// A row without cells.
+    /// Returns a row without cells.
     pub(crate) fn new(alloc: Global) -> Row
         ensures { result ≡ [] }
     {
@@ -38,7 +38,7 @@ impl Row {
         }
     }
 
-    /// Its cells.
+    /// Returns the cells.
     pub(crate) fn texts(&self) -> &[String]
         ensures { map string_bytes result.now ≡ self.now }
     {
@@ -66,7 +66,7 @@ impl Row {
         self.push(cell)
     }
 
-    /// Adds a cell with a text, or with `-` where that is empty.
+    /// Adds a cell with a text, or with `-` if the text is empty.
     fn push_any(&mut self, text: String) -> Result<(), AllocError>
         ensures { OnOk result (self.new ≡ self.old ++ text_cell (string_bytes text) ∷ []) }
     {
@@ -107,7 +107,7 @@ impl Row {
         self.put(role.text())
     }
 
-    /// Adds a cell with a weight, in thousandths.
+    /// Adds a cell with a weight, which is given in thousandths.
     pub(crate) fn put_weight(&mut self, weight: u64) -> Result<(), AllocError>
         ensures { OnOk result (self.new ≡ self.old ++ amount_text weight ∷ []) }
     {

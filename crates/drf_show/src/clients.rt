@@ -1,4 +1,4 @@
-//! Clients.
+//! The table of the clients.
 ghost use Rattle.std.specs.Prelude.{◌≡◌, ◌++◌, map, IfOk, IsTrue, OnOk};
 ghost use Rattle.std.specs.List.{Contains, flat_map};
 ghost use Rattle.serde_json.specs.View.{view};
@@ -28,20 +28,20 @@ use drf_text::write_quantities;
 use serde_json::{Value, json};
 use std::alloc::{AllocError, Global};
 
-/// A client: how many offers it got, its weighted share, and the scalars that are offered to it and that its tasks use.
+/// A client, with the number of offers made to it, its weighted share, the scalars that are offered to it, and those that its tasks use.
 #[derive(Drop)]
 pub(crate) struct ClientLine {
     pub(crate) framework: Name,
     pub(crate) role: Role,
     pub(crate) suppressed: bool,
     pub(crate) count: u64,
-    /// In lowest terms.
+    /// Numerator and denominator, in lowest terms.
     pub(crate) weighted: (u128, u128),
     pub(crate) offered: Quantities,
     pub(crate) used: Quantities,
 }
 
-/// The weighted share of a client that the sorter knows.
+/// Returns the weighted share of a client in lowest terms, or 0/1 if the sorter does not have it.
 fn weighted_share<S: Sorter>(
     alloc: Global,
     sorter: &S,
@@ -60,7 +60,7 @@ fn weighted_share<S: Sorter>(
     }
 }
 
-/// The line of a client.
+/// Returns the line of a client.
 fn client_line<S: Sorter>(
     alloc: Global,
     sorter: &S,
@@ -88,7 +88,7 @@ fn client_line<S: Sorter>(
     })
 }
 
-/// Adds the lines of a framework's clients.
+/// Appends the lines of a framework's clients.
 fn push_clients<S: Sorter>(
     alloc: Global,
     sorter: &S,
@@ -111,7 +111,7 @@ fn push_clients<S: Sorter>(
     Ok(())
 }
 
-/// The lines of the clients of frameworks.
+/// Returns the lines of the clients of all frameworks.
 fn lines_of<S: Sorter>(
     alloc: Global,
     sorter: &S,
@@ -133,7 +133,7 @@ fn lines_of<S: Sorter>(
     Ok(lines)
 }
 
-/// A line for each client, in order of frameworks.
+/// Returns a line for each client, in order of frameworks. Frameworks are found by hashes that begin with `key`.
 pub(crate) fn client_lines<S: Sorter>(
     alloc: Global,
     key: HashKey,

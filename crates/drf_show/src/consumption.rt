@@ -1,4 +1,4 @@
-//! What roles consume, counted from rows, and the lines of their limits.
+//! The consumption of roles, computed from rows, and the lines of their limits.
 ghost use Rattle.std.specs.Prelude.{◌≡◌, ◌+◌, ◌<◌, ◌^◌, [], Bool, map, IfOk, OnOk};
 ghost use Rattle.drf_role.specs.Text.{Text};
 ghost use Rattle.drf_role.specs.Path.{Path};
@@ -16,7 +16,7 @@ use drf_role::Role;
 use drf_rows::{AgentRow, LimitRow, OfferRow, Rows, TaskRow};
 use std::alloc::{AllocError, Global};
 
-/// Nothing is consumed yet. Totals of the roles that have a limit will be kept.
+/// Returns an empty consumption, which will have totals for the roles that have a limit.
 fn none_under(alloc: Global, key: HashKey, limits: &[LimitRow]) -> Result<Consumption, AllocError>
     ensures { IfOk result (λ consumption. consumption ≡ []) }
 {
@@ -27,7 +27,7 @@ fn none_under(alloc: Global, key: HashKey, limits: &[LimitRow]) -> Result<Consum
     Ok(Consumption::new(alloc, &kept))
 }
 
-/// What clients consume by offers.
+/// Adds what offers consume.
 fn consume_offers(consumption: &mut Consumption, offers: &[OfferRow]) -> Result<(), AllocError>
     requires { (test : Path → Bool) (label : Text)
         → used_where test consumption.old label + held_unreserved test (map of_offer offers.now) label < 2 ^ 64 }
@@ -39,7 +39,7 @@ fn consume_offers(consumption: &mut Consumption, offers: &[OfferRow]) -> Result<
     Ok(())
 }
 
-/// What clients consume by tasks.
+/// Adds what tasks consume.
 fn consume_tasks(consumption: &mut Consumption, tasks: &[TaskRow]) -> Result<(), AllocError>
     requires { (test : Path → Bool) (label : Text)
         → used_where test consumption.old label + held_unreserved test (map of_task tasks.now) label < 2 ^ 64 }
@@ -51,7 +51,7 @@ fn consume_tasks(consumption: &mut Consumption, tasks: &[TaskRow]) -> Result<(),
     Ok(())
 }
 
-/// What is consumed by what agents have reserved.
+/// Adds what agents have reserved for roles.
 fn consume_agents(consumption: &mut Consumption, agents: &[AgentRow]) -> Result<(), AllocError>
     requires { (test : Path → Bool) (label : Text)
         → used_where test consumption.old label + reserved_for test agents.now label < 2 ^ 64 }
@@ -63,7 +63,7 @@ fn consume_agents(consumption: &mut Consumption, agents: &[AgentRow]) -> Result<
     Ok(())
 }
 
-/// What roles consume by the rows.
+/// Returns the consumption of all roles that have a limit.
 fn consumption_of(alloc: Global, key: HashKey, rows: &Rows) -> Result<Consumption, AllocError>
     requires { (test : Path → Bool) (label : Text) → consumption_where test rows.now label < 2 ^ 64 }
     ensures { IfOk result (IsConsumptionOf rows.now) }
@@ -75,7 +75,7 @@ fn consumption_of(alloc: Global, key: HashKey, rows: &Rows) -> Result<Consumptio
     Ok(consumption)
 }
 
-/// What a role consumes of the scalars that its limit names.
+/// Returns what a role consumes of the scalars that its limit names.
 fn consumed(
     alloc: Global,
     consumption: &Consumption,
@@ -107,7 +107,7 @@ fn limit_line(
     })
 }
 
-/// The lines of limits, by what is consumed.
+/// Returns the lines of limits, given the consumption.
 fn lines_under(
     alloc: Global,
     consumption: &Consumption,
@@ -122,7 +122,7 @@ fn lines_under(
     Ok(lines)
 }
 
-/// A line for each limit.
+/// Returns a line for each limit.
 pub(crate) fn limit_lines(
     alloc: Global,
     key: HashKey,

@@ -1,4 +1,4 @@
-//! Filters.
+//! The table of the filters.
 ghost use Rattle.std.specs.Prelude.{◌≡◌, map, IfOk};
 ghost use Rattle.serde_json.specs.View.{view};
 ghost use Rattle.drf_show.specs.Shown.{filter_line};
@@ -15,7 +15,7 @@ use drf_text::write_bundle;
 use serde_json::{Value, json};
 use std::alloc::{AllocError, Global};
 
-/// A filter of a client on an agent, with its end and the time that is left until then, in milliseconds.
+/// A filter of a client on an agent, with its end and the time that is left until then, both in milliseconds.
 #[derive(Drop)]
 pub(crate) struct FilterLine {
     pub(crate) framework: Name,
@@ -39,7 +39,7 @@ fn filter_line(clock: u64, filter: &FilterRow) -> Result<FilterLine, AllocError>
     })
 }
 
-/// A line for each filter.
+/// Returns a line for each filter. `clock` is in milliseconds.
 pub(crate) fn filter_lines(
     alloc: Global,
     clock: u64,

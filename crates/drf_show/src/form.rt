@@ -1,8 +1,9 @@
+//! The two forms of output.
 /// How rows are shown.
 #[derive(Clone, Copy, PartialEq, Eq)]
 pub enum Form {
-    /// In tables, whose columns stand one below the other.
+    /// As tables with aligned columns.
     Aligned,
-    /// In JSON, a line for each row.
+    /// As JSON, with a line for each row.
     Json,
 }

@@ -1,4 +1,4 @@
-//! What frameworks have of offers, or in tasks.
+//! What each framework is offered or uses.
 ghost use Rattle.std.specs.Prelude.{◌≡◌, ◌+◌, ◌<◌, ◌^◌, [], ◌∷◌, ◌++◌, cond, map, IfOk, IsTrue, OnOk};
 ghost use Rattle.drf_bundle.specs.Bundle.{quantities_of};
 ghost use Rattle.drf_bundle.specs.Quantities.{amount_of, is_in_order};
@@ -13,7 +13,7 @@ use drf_rows::{OfferRow, TaskRow};
 use indexmap::IndexMap;
 use std::alloc::{AllocError, Global};
 
-/// The roles and bundles that each framework has, by its name.
+/// The bundles that each framework has, each with its role, by the framework's name.
 #[derive(Drop)]
 pub(crate) struct Had<'a> {
     pub(crate) by_framework: ByName<Vec<(&'a Role, &'a Bundle)>>,
@@ -28,7 +28,7 @@ impl<'a> Had<'a> {
         }
     }
 
-    /// Adds a bundle of a role behind what the framework has.
+    /// Adds a bundle at the end of those of the framework. Returns an error if memory runs out.
     fn add(
         &mut self,
         framework: &Name,
@@ -48,7 +48,7 @@ impl<'a> Had<'a> {
         Ok(())
     }
 
-    /// What is offered.
+    /// Returns the bundles of offers, by framework.
     pub(crate) fn of_offers(
         alloc: Global,
         key: HashKey,
@@ -63,7 +63,7 @@ impl<'a> Had<'a> {
         Ok(had)
     }
 
-    /// What tasks use.
+    /// Returns the bundles of tasks, by framework.
     pub(crate) fn of_tasks(
         alloc: Global,
         key: HashKey,
@@ -78,7 +78,7 @@ impl<'a> Had<'a> {
         Ok(had)
     }
 
-    /// The scalars that a framework has for a role.
+    /// Returns the sum of the scalars that a framework has for a role.
     pub(crate) fn sum_for(
         &self,
         alloc: Global,
@@ -95,7 +95,7 @@ impl<'a> Had<'a> {
     }
 }
 
-/// A sum, with the scalars of a part if that is for the role.
+/// Returns a sum, to which the scalars of a part are added if the part is for the role.
 fn with_part(
     sum: Quantities,
     part: &(&Role, &Bundle),
@@ -114,7 +114,7 @@ fn with_part(
     Ok(more)
 }
 
-/// The scalars of the parts that are for a role.
+/// Returns the sum of the scalars of those parts that are for a role.
 fn sum_of(alloc: Global, parts: &[(&Role, &Bundle)], role: &Role) -> Result<Quantities, AllocError>
     requires { AreSmall (parts_of parts.now) }
     ensures { IfOk result (λ sum. sum ≡ sum_for role.now (parts_of parts.now)) }

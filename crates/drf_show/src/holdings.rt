@@ -1,4 +1,4 @@
-//! Offers and tasks.
+//! The tables of offers and tasks.
 use crate::cells::Row;
 use crate::shown::Shown;
 use drf_lines::{push_offer_row, push_task_row};

@@ -1,5 +1,5 @@
-//! What stands in an allocator, for people and for programs: its numbers, agents, clients, nodes, weights, limits, offers, tasks, filters
-//! and how full its tables are, in aligned tables or as lines of JSON.
+//! Shows the content of an allocator to people and programs: its numbers, agents, clients, nodes, weights, limits, offers, tasks, filters and how
+//! full its tables are, as aligned tables or as lines of JSON.
 #![tactic(auto)]
 
 mod agents;

@@ -1,4 +1,4 @@
-//! Limits of roles beside what is consumed.
+//! The table of the limits of roles, with what is consumed.
 ghost use Rattle.std.specs.Prelude.{◌≡◌, IfOk};
 ghost use Rattle.serde_json.specs.View.{view};
 ghost use Rattle.drf_show.specs.ShownText.{limit_value};

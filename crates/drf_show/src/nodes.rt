@@ -1,4 +1,4 @@
-//! The nodes of the tree of roles, as a report has them.
+//! The table of the nodes of the tree of roles, as in a report.
 ghost use Rattle.std.specs.Prelude.{◌≡◌, IfOk};
 ghost use Rattle.serde_json.specs.View.{view};
 ghost use Rattle.drf_show.specs.ShownText.{node_value};

@@ -1,4 +1,4 @@
-//! The numbers of an allocator.
+//! The table of the clock, the number of events and the next offer number.
 ghost use Rattle.std.specs.Prelude.{◌≡◌, ◌∷◌, ◌++◌, [], decimal, IfOk, OnOk};
 
 use crate::cells::Row;

@@ -1,4 +1,4 @@
-//! Rows that are shown, and their tables.
+//! The trait of types that are shown as rows, and their tables.
 ghost use Rattle.std.specs.Prelude.{◌≡◌, ◌∷◌, ◌++◌, [], map, IfOk, OnOk};
 ghost use Rattle.std.specs.List.{flat_map};
 ghost use Rattle.drf_show.specs.ShownText.{table_in};
@@ -9,7 +9,7 @@ use crate::cells::Row;
 use crate::form::Form;
 use std::alloc::{AllocError, Global};
 
-/// What has a row in a table, and a line of JSON.
+/// A type that is shown as a row of a table and as a line of JSON.
 pub(crate) trait Shown {
     ghost use Rattle.drf_show.specs.Aligned.{Cells};
     ghost use Rattle.drf_show.specs.ShownText.{ShownRow};
@@ -18,20 +18,20 @@ pub(crate) trait Shown {
 
     ghost shown: { Self → ShownRow };
 
-    /// The heads of the columns.
+    /// Returns the headings of the columns.
     fn heads(alloc: Global) -> Result<Row, AllocError>
         ensures { IfOk result (λ row. row ≡ heads) };
 
-    /// Its cells.
+    /// Returns the cells of the row.
     fn row(&self, alloc: Global) -> Result<Row, AllocError>
         ensures { IfOk result (λ row. row ≡ (shown self.now).cells) };
 
-    /// Adds its line, without a line feed.
+    /// Appends the line, without a line feed.
     fn push_line(&self, alloc: Global, text: &mut Vec<u8>) -> Result<(), AllocError>
         ensures { OnOk result (text.new.items ≡ text.old.items ++ (shown self.now).line) };
 }
 
-/// The heads of a table, and its rows.
+/// Returns the headings of a table, followed by its rows.
 fn rows_of<T: Shown>(alloc: Global, items: &[T]) -> Result<Vec<Row>, AllocError>
     ensures { IfOk result (λ rows. rows.items ≡ T.heads ∷ map (λ r. r.cells) (map T.shown items.now)) }
 {
@@ -43,7 +43,7 @@ fn rows_of<T: Shown>(alloc: Global, items: &[T]) -> Result<Vec<Row>, AllocError>
     Ok(rows)
 }
 
-/// Adds the lines of rows.
+/// Appends a line for each row.
 fn push_lines<T: Shown>(alloc: Global, items: &[T], text: &mut Vec<u8>) -> Result<(), AllocError>
     ensures { OnOk result (text.new.items ≡ text.old.items ++ flat_map (λ r. r.line ++ 10 ∷ []) (map T.shown items.now)) }
 {
@@ -54,7 +54,7 @@ fn push_lines<T: Shown>(alloc: Global, items: &[T], text: &mut Vec<u8>) -> Resul
     Ok(())
 }
 
-/// Adds a table.
+/// Appends a table in the given form.
 pub(crate) fn push_shown<T: Shown>(
     alloc: Global,
     form: Form,

@@ -1,4 +1,4 @@
-//! What stands in an allocator after a stream of lines.
+//! Shows an allocator after a stream of lines.
 ghost use Rattle.std.specs.Prelude.{◌≡◌, ◌≤◌, ◌^◌, true};
 ghost use Rattle.drf_core.specs.Machine.{live};
 ghost use Rattle.drf_journal.specs.Device.{IsNew};
@@ -14,8 +14,8 @@ use std::alloc::Global;
 use std::io::{Read, Write};
 use std::thread::Threads;
 
-/// Takes the events of a reader's lines, and then writes what stands in the allocator, which has those limits. Lines that are no events
-/// are passed over, so that a journal may be read.
+/// Applies the events of a reader's lines, and then writes the content of the allocator, which has these capacities. Lines that are not events
+/// are skipped, so the input can be a journal. Returns an error if a read or a write fails, or if memory runs out.
 pub fn run_show<R: Read, W: Write>(
     rt: &(impl Threads + Sync),
     alloc: Global,

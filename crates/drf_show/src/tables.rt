@@ -1,4 +1,4 @@
-//! How full the tables are.
+//! The table that says how full the tables are.
 ghost use Rattle.std.specs.Prelude.{◌≡◌, ◌<◌, ◌^◌, ◌∷◌, ◌++◌, [], length, IfOk, OnOk};
 ghost use Rattle.serde_json.specs.View.{view};
 ghost use Rattle.drf_bundle.specs.Quantities.{without_zeros};
@@ -13,7 +13,7 @@ use drf_rows::{FrameworkRow, Limits, Rows};
 use serde_json::{Value, json};
 use std::alloc::{AllocError, Global};
 
-/// What has a limit.
+/// A table that has a capacity.
 #[derive(Clone, Copy)]
 pub(crate) enum CountedTable {
     Agents,
@@ -27,7 +27,7 @@ pub(crate) enum CountedTable {
 }
 
 impl CountedTable {
-    /// Its name.
+    /// Returns the name of the table.
     fn name(self) -> &'static str
         ensures { result.now ≡ table_name self }
     {
@@ -44,7 +44,7 @@ impl CountedTable {
     }
 }
 
-/// A table, how many rows stand in it, and how many may.
+/// A table, the number of its rows, and its capacity.
 #[derive(Clone, Copy)]
 pub(crate) struct TableLine {
     pub(crate) table: CountedTable,
@@ -52,7 +52,7 @@ pub(crate) struct TableLine {
     pub(crate) limit: u64,
 }
 
-/// How many clients there are.
+/// Returns the number of clients.
 fn count_clients(frameworks: &[FrameworkRow]) -> u64
     requires { length (clients_in frameworks.now) < 2 ^ 64 }
     ensures { result ≡ length (clients_in frameworks.now) }
@@ -64,7 +64,7 @@ fn count_clients(frameworks: &[FrameworkRow]) -> u64
     count
 }
 
-/// Adds the line of a table.
+/// Appends the line of a table.
 fn push_count(
     lines: &mut Vec<TableLine>,
     table: CountedTable,
@@ -77,7 +77,7 @@ fn push_count(
     Ok(())
 }
 
-/// A line for each table, where agents have so many names of scalars.
+/// Returns a line for each table. `scalar_names` is the number of names of scalars that agents have.
 pub(crate) fn table_lines(
     alloc: Global,
     limits: &Limits,

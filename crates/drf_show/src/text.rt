@@ -24,7 +24,7 @@ use drf_sorter::Sorter;
 use std::alloc::{AllocError, Global};
 use std::thread::Threads;
 
-/// Adds a table behind another.
+/// Appends a table; an aligned one comes after an empty line.
 fn push_behind<T: Shown>(
     alloc: Global,
     form: Form,
@@ -39,6 +39,7 @@ fn push_behind<T: Shown>(
     push_shown(alloc, form, items, text)
 }
 
+/// Appends the table of the clock, the events and the next offer number.
 fn push_head(alloc: Global, form: Form, rows: &Rows, text: &mut Vec<u8>) -> Result<(), AllocError>
     ensures { OnOk result (text.new.items ≡ text.old.items ++ table_in form (head_table rows.now)) }
 {
@@ -50,6 +51,7 @@ fn push_head(alloc: Global, form: Form, rows: &Rows, text: &mut Vec<u8>) -> Resu
     push_shown(alloc, form, &[head], text)
 }
 
+/// Appends the table of the agents.
 fn push_agents(
     rt: &(impl Threads + Sync),
     alloc: Global,
@@ -64,6 +66,7 @@ fn push_agents(
     push_behind(alloc, form, &lines, text)
 }
 
+/// Appends the table of the clients.
 fn push_clients<S: Sorter>(
     alloc: Global,
     key: HashKey,
@@ -80,6 +83,7 @@ fn push_clients<S: Sorter>(
     push_behind(alloc, form, &lines, text)
 }
 
+/// Appends the table of the limits.
 fn push_limits(
     alloc: Global,
     key: HashKey,
@@ -94,6 +98,7 @@ fn push_limits(
     push_behind(alloc, form, &lines, text)
 }
 
+/// Appends the table of the filters.
 fn push_filters(
     alloc: Global,
     form: Form,
@@ -106,6 +111,7 @@ fn push_filters(
     push_behind(alloc, form, &lines, text)
 }
 
+/// Appends the table that says how full the tables are.
 fn push_counts(
     alloc: Global,
     form: Form,
@@ -123,7 +129,7 @@ fn push_counts(
     push_behind(alloc, form, &lines, text)
 }
 
-/// Adds all tables.
+/// Appends all tables.
 fn push_tables<S: Sorter>(
     rt: &(impl Threads + Sync),
     alloc: Global,
@@ -152,8 +158,8 @@ fn push_tables<S: Sorter>(
     push_counts(alloc, form, rows, report, limits, text)
 }
 
-/// The text that shows an allocator's live rows, where it has those limits: its numbers, agents, clients, the nodes of its report, weights,
-/// limits, offers, tasks and filters, and how full its tables are. It changes nothing.
+/// Returns the text that shows the current state of an allocator with these capacities: its numbers, agents, clients, the nodes of its report,
+/// weights, limits, offers, tasks and filters, and how full its tables are. Returns an error if memory runs out.
 pub fn show<S: Sorter>(
     rt: &(impl Threads + Sync),
     alloc: Global,
@@ -164,7 +170,7 @@ pub fn show<S: Sorter>(
     requires limits { core.now.limits ≡ limits.now }
     ensures { IfOk result (λ text. text.items ≡ shown form limits.now core.now.rows) }
 {
-    // The contract of this call tells that the limits are within their ceilings, and so that the rows are few.
+    // The contract of this call says that the capacities have an upper bound, so the number of rows has one too.
     let _ = limits.agents();
     let rows = core.rows()?;
     let report = core.report()?;

@@ -1,4 +1,4 @@
-//! The weights of roles.
+//! The table of the weights of roles.
 use crate::cells::Row;
 use crate::shown::Shown;
 use drf_lines::push_weight_row;

@@ -1,4 +1,4 @@
--- A state, the rows that it makes, and rows that may not stand in it.
+-- A state, the rows that it restores, and rows that may not occur in it.
 use Rattle.std.specs.FinSet as set
 use Rattle.std.specs.Prelude.{◌≡◌, ◌<◌, ℕ, ◌+◌, ◌^◌, true, false, List, [], ◌∷◌, codes, fold, take, Some, nat_lt, IsTrue}
 use Rattle.std.proofs.Common.{refl}
@@ -40,7 +40,7 @@ ops = codes "ops" ∷ []
 
 -- ---- the state
 
--- the first agent, its offer, its task and its filter each with some more resources, as ports
+-- the first agent, its offer, its task and its filter, each with additional resources such as ports
 abbrev first_agent : List Resource → AgentRow
 first_agent others = record { name = codes "n1"; total = cpus 4000 ∷ mem 1024000 ∷ others; active = true }
 
@@ -101,7 +101,7 @@ rows_with all offered used = record {
   events = 11;
 }
 
--- ---- without ports, and with any
+-- ---- without ports, and with any ports
 
 abbrev pub state : List SavedRow
 state = state_with [] [] []
@@ -109,7 +109,7 @@ state = state_with [] [] []
 abbrev pub state_rows : Rows
 state_rows = rows_with [] [] []
 
--- of the ports of the first agent some are offered, and some of the others used
+-- some of the ports of the first agent are offered, and some of the others are used
 abbrev pub PortsAreRestored : Type 0
 PortsAreRestored =
     (all offered used : Numbers)
@@ -125,9 +125,9 @@ ports_are_restored all offered used first second left =
     let some : nat_lt 0 (set.len (set.difference all offered)) ≡ true = lt-ltb 0 (set.len (set.difference all offered)) left in
     simp (first, some, second) refl
 
--- ---- rows that may not stand in it
+-- ---- rows that may not occur in it
 
--- the rows that so many of the list make
+-- the rows that the first rows of the list restore
 abbrev pub first_rows : ℕ → Rows
 first_rows number = fold with_row (begun state_head) (take number state)
 
@@ -138,7 +138,7 @@ abbrev offer_on : ℕ → Text → Text → Path → List Resource → SavedRow
 offer_on number agent framework role bundle =
     Offer (record { number = number; agent = agent; framework = framework; role = role; bundle = bundle })
 
--- behind so many rows, a row, and why it may not stand there
+-- the number of rows before it, a row, and its error there
 abbrev pub faulty_rows : List (ℕ × SavedRow × RowFault)
 faulty_rows =
     (3, Agent (record (first_agent []) { name = codes "n3" }), OutOfOrder)
@@ -159,22 +159,22 @@ faulty_rows =
     ∷ (6, offer_on 4 (codes "n3") (codes "f2") ops [], Refused UnknownAgent)
     ∷ (6, offer_on 4 (codes "n1") (codes "f3") ops [], Refused UnknownFramework)
     ∷ (6, offer_on 4 (codes "n1") (codes "f2") web [], Refused NotInRole)
-    -- all but two of the `cpus` there, and what is reserved for another role
+    -- more than the `cpus` that are free there, and resources that are reserved for another role
     ∷ (7, offer_on 4 (codes "n1") (codes "f2") ops (cpus 2001 ∷ []), Refused NotCovered)
     ∷ (7, offer_on 4 (codes "n2") (codes "f2") ops (cpus_for (codes "eng") 1000 ∷ []), Refused NotCovered)
-    -- a number that stands, and the next one
+    -- the number of an offer that exists, and the next number
     ∷ (7, offer_on 4 (codes "n1") (codes "f2") ops (cpus 2000 ∷ []), BadNumber)
     ∷ (7, offer_on 5 (codes "n1") (codes "f2") ops (cpus 2000 ∷ []), BadNumber)
     ∷ (9, Task (record (task []) { name = codes "t2" }), OutOfOrder)
     ∷ (8, Task (task []), Refused KnownTask)
     ∷ (8, Task (record (task []) { name = codes "t2"; bundle = mem 1 ∷ [] }), Refused NotCovered)
     ∷ (9, Filter (record (filter []) { framework = codes "f2" }), Refused NotInRole)
-    -- it ended at the clock
+    -- it has expired at the time of the clock, or ends too late
     ∷ (9, Filter (record (filter []) { until = 2000 }), BadNumber)
     ∷ (9, Filter (record (filter []) { until = 2 ^ 63 }), BadNumber)
     ∷ []
 
--- rows that are one too many behind so many, where there may be that many
+-- rows that exceed a capacity after this number of rows
 abbrev pub one_too_many : List (LimitNumbers × ℕ × SavedRow)
 one_too_many =
     (record ceilings { agents = 1 }, 1, Agent second_agent)
@@ -187,7 +187,7 @@ one_too_many =
     ∷ (record ceilings { filters = 1 }, 9, Filter (filter []))
     ∷ []
 
--- rows that may stand behind so many: what is reserved for a role is its own and those below it
+-- rows that may follow this number of rows: what is reserved for a role can be used by it and the roles below it
 abbrev pub other_rows : List (ℕ × SavedRow)
 other_rows =
     (4, Framework (framework_of (client ops 0 ∷ client eng 0 ∷ [])))
@@ -197,7 +197,7 @@ other_rows =
     ∷ (9, Filter (record (filter []) { until = 2001 }))
     ∷ []
 
--- numbers that may not stand at the head, and why
+-- numbers that may not be the head, and their errors
 abbrev pub faulty_heads : List (Head × RowFault)
 faulty_heads =
     (record state_head { events = 4294967296 }, Refused HistoryFull)

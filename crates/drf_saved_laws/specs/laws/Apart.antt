@@ -1,4 +1,4 @@
--- Elements that stand apart from all behind them, be it by their names, their roles or their numbers.
+-- Elements that differ from all elements after them, by their names, their roles or their numbers.
 use Rattle.std.specs.Prelude.{◌≡◌, ℕ, Bool, true, false, not, ◌&&◌, List, [], ◌∷◌, ◌++◌, map, nat_lt}
 use Rattle.std.specs.List.{list_all, list_any}
 use Rattle.std.proofs.Common.{refl, sym, ap, ◌∙◌, inl, inr}
@@ -12,7 +12,7 @@ use Rattle.drf_row_laws.specs.EndingLaws.{is_task-swap}
 use Rattle.drf_rows.specs.declared.rows.OfferRow.{OfferRow}
 use Rattle.drf_rows.specs.declared.rows.TaskRow.{TaskRow}
 
--- each passes a test with all behind it
+-- each element passes a test with every element after it
 abbrev pub are_apart : {X : Type 0} → (X → X → Bool) → List X → Bool
 are_apart test [] = true
 are_apart test (x ∷ xs) = list_all (test x) xs && are_apart test xs
@@ -24,7 +24,7 @@ both_twice true false true d = refl
 both_twice true false false d = refl
 both_twice false b c d = refl
 
--- one more behind them
+-- one more element at the end
 apart_last : {X : Type 0} (test : X → X → Bool) (xs : List X) (x : X)
     → are_apart test (xs ++ x ∷ []) ≡ (are_apart test xs && list_all (λ y. test y x) xs)
 apart_last test [] x = refl
@@ -32,7 +32,7 @@ apart_last test (y ∷ ys) x =
     (λ i. list_all-append (test y) ys (x ∷ []) i && apart_last test ys x i)
     ∙ both_twice (list_all (test y) ys) (test y x) (are_apart test ys) (list_all (λ z. test z x) ys)
 
--- those before one are apart from it
+-- the elements before an element differ from it
 apart_before : {X : Type 0} (test : X → X → Bool) (before after : List X) (x : X)
     → are_apart test (before ++ x ∷ after) ≡ true → list_all (λ y. test y x) before ≡ true
 apart_before test [] after x apart = refl
@@ -43,7 +43,7 @@ apart_before test (y ∷ ys) after x apart =
     and_from (test y x) (list_all (λ z. test z x) ys) (and_parts (test y x) (list_all (test y) after) first.1).0
     (apart_before test ys after x parts.1)
 
--- all fail where none passes
+-- all elements fail a test exactly if none passes it
 all_not : {X : Type 0} (test : X → Bool) (xs : List X) → list_all (λ x. not (test x)) xs ≡ not (list_any test xs)
 all_not test [] = refl
 all_not test (x ∷ xs) = elim (cases_Bool (test x)) [
@@ -51,7 +51,7 @@ all_not test (x ∷ xs) = elim (cases_Bool (test x)) [
   | inr past ↦ rw past (all_not test xs)
 ]
 
--- ---- by a key
+-- ---- elements that differ by a key
 
 module _ {X : Type 0} (same : X → X → Bool) where
   abbrev other : X → X → Bool
@@ -99,7 +99,7 @@ module _ {X : Type 0} (role : X → Path) where
       → list_any (λ y. same_path (role y) (role x)) before ≡ false
   roles_before before after x apart = other_before same_role before after x (sym (by_role (before ++ x ∷ after)) ∙ apart)
 
--- tasks: by their framework and their name
+-- tasks differ by their framework and their name
 abbrev same_task : TaskRow → TaskRow → Bool
 same_task s t = is_task t.framework t.name s
 
@@ -115,7 +115,7 @@ pub tasks_before : (before after : List TaskRow) (t : TaskRow) → are_distinct_
     → list_any (is_task t.framework t.name) before ≡ false
 tasks_before before after t apart = other_before same_task before after t (sym (by_task (before ++ t ∷ after)) ∙ apart)
 
--- ---- by a number that rises
+-- ---- elements that differ by a rising number
 
 abbrev pub is_below : OfferRow → OfferRow → Bool
 is_below o p = nat_lt o.number p.number

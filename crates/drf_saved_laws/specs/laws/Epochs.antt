@@ -1,4 +1,4 @@
--- An epoch keeps rows saveable, and all but offers, counts and the history.
+-- Rows can still be saved after an epoch, which keeps everything except offers, counts and the history.
 use Rattle.std.specs.Prelude.{◌≡◌, ◌<◌, ◌≤◌, ◌&&◌, true, List, [], ◌∷◌, ◌++◌, length, map, sum_by}
 use Rattle.std.specs.List.{list_any, AllByRecursion}
 use Rattle.std.proofs.Common.{refl, sym, ap, subst, ◌∙◌, arith}
@@ -26,7 +26,7 @@ use Rattle.drf_laws.specs.laws.Kept.{consistent-live}
 use Rattle.drf_saved.specs.Epoch.{begun_anew, epoch, uncounted}
 use Rattle.drf_saved_laws.specs.SavedLaws.{but_for_counts, EpochCanBeSaved, EpochKeepsTheRest, IsSaveable}
 
--- ---- frameworks whose clients are not counted yet
+-- ---- frameworks whose clients have no counts
 
 roles_anew : (f : FrameworkRow) → map (λ c. c.role) (begun_anew f).clients ≡ map (λ c. c.role) f.clients
 roles_anew f = map-map (λ (c : ClientRow). c.role) uncounted f.clients
@@ -89,7 +89,7 @@ consistent_anew rows consistent =
     search consistent
 
 module _ (limits : LimitNumbers) (rows : Rows) (can : IsSaveable limits rows) where
-  -- without the filters that ran out
+  -- without the expired filters
   pub live_saveable : IsSaveable limits (live_rows rows)
   live_saveable =
       let consistent = consistent-live rows can.consistent in
@@ -116,7 +116,7 @@ module _ (limits : LimitNumbers) (rows : Rows) (can : IsSaveable limits rows) wh
 pub epoch_can_be_saved : EpochCanBeSaved
 epoch_can_be_saved limits rows can = epoch_saveable limits (live_rows rows) (live_saveable limits rows can)
 
--- ---- what stays, and what begins anew
+-- ---- what is kept, and what is reset
 
 pub epoch_keeps_the_rest : EpochKeepsTheRest
 epoch_keeps_the_rest rows = (

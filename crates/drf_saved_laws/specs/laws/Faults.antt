@@ -1,4 +1,4 @@
--- Rows and numbers without a fault: none of the cases holds. And what that means for a list that is read back.
+-- Rows and heads without an error: none of the conditions holds. And what this means for restoring a list.
 use Rattle.std.specs.Prelude.{◌≡◌, Bool, true, false, List, [], ◌∷◌, Option, Some, None, is_some, if◌then◌else◌}
 use Rattle.std.specs.List.{AllByRecursion}
 use Rattle.std.proofs.Common.{refl, ap}
@@ -9,7 +9,7 @@ use Rattle.drf_saved.specs.declared.fault.RowFault.{RowFault}
 use Rattle.drf_saved.specs.declared.saved.Head.{Head}
 use Rattle.drf_saved.specs.declared.saved.SavedRow.{SavedRow}
 
--- none of the cases holds
+-- none of the conditions holds
 abbrev pub NoneHolds : List (Bool × RowFault) → Type 0
 NoneHolds cases = AllByRecursion (λ c. c.0 ≡ false) cases
 
@@ -40,9 +40,9 @@ module _ (limits : LimitNumbers) (head : Head) where
   unfolding head_fault
   no_head_fault none = none_to (head_cases limits head) none
 
--- ---- a list that is read back
+-- ---- restoring a list
 
--- rows are made only without a fault
+-- rows are restored only if there is no error
 goes_on : (fault : Option RowFault) (rest : Option Rows) (made : Rows)
     → (if is_some fault then None else rest) ≡ Some made → (fault ≡ None) × (rest ≡ Some made)
 goes_on None rest made is = (refl, is)
@@ -59,7 +59,7 @@ pub taken_head : (limits : LimitNumbers) (head : Head) (saved : List SavedRow) (
     → (head_fault limits head ≡ None) × (restored_from limits (begun head) saved ≡ Some made)
 taken_head limits head saved made is = goes_on (head_fault limits head) (restored_from limits (begun head) saved) made is
 
--- and without one they are made
+-- if there is no error, they are restored
 pub goes_first : (limits : LimitNumbers) (rows : Rows) (row : SavedRow) (more : List SavedRow) → row_fault limits rows row ≡ None
     → restored_from limits rows (row ∷ more) ≡ restored_from limits (with_row rows row) more
 goes_first limits rows row more none =

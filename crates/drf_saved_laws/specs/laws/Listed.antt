@@ -1,4 +1,4 @@
--- A list that is read back is that of the rows that it made.
+-- A list that is restored is the list that is saved of the restored rows.
 use Rattle.std.specs.Prelude.{◌≡◌, ◌^◌, Bool, true, ◌&&◌, List, [], ◌∷◌, ◌++◌, map, Some, nat_le}
 use Rattle.std.proofs.Common.{refl, sym, ap, subst, ◌∙◌, cond, append_assoc}
 use Rattle.std.proofs.lemmas.Bool.{leb-false, lt-ltb, not-false, or_parts}
@@ -15,9 +15,9 @@ use Rattle.drf_saved.specs.declared.saved.SavedRow.TheVariants.{Agent, Framework
 use Rattle.drf_saved_laws.specs.SavedLaws.{RestoredIsListed}
 use Rattle.drf_saved_laws.specs.laws.Faults.{NoneHolds, no_row_case, taken_first, taken_head}
 
--- ---- tables behind which nothing stands
+-- ---- tables after which there is nothing
 
--- an empty table, and then nothing
+-- the table is empty, and so are those after it
 table_gone : {X : Type 0} (variant : X → SavedRow) (xs : List X) (none : Bool) (behind : List SavedRow)
     → (is_empty xs && none) ≡ true → (none ≡ true → behind ≡ []) → map variant xs ++ behind ≡ []
 table_gone variant [] none behind empty gone = gone empty
@@ -64,7 +64,7 @@ module _ (rows : Rows) where
   frameworks_gone : no_frameworks rows ≡ true → from_frameworks ≡ []
   frameworks_gone empty = table_gone Framework rows.frameworks (no_weights rows) from_weights empty weights_gone
 
--- ---- a row without a fault stands last in the list
+-- ---- a row without an error is the last of the list
 
 module _ (limits : LimitNumbers) (rows : Rows) where
   -- a filter is in force
@@ -84,7 +84,7 @@ module _ (limits : LimitNumbers) (rows : Rows) where
   row_last (Task t) none = rw (filters_gone rows (not-false (no_filters rows) none.0)) (simp (map-append, append-nil, append_assoc))
   row_last (Filter f) none = rw (filter_last f none) (simp (map-append, append_assoc))
 
-  -- the numbers stay, and all filters are in force
+  -- the numbers are unchanged, and all filters are in force
   others_stay : (row : SavedRow) → NoneHolds (row_cases limits rows row) → in_force rows.clock rows.filters ≡ rows.filters
       → (head_of (with_row rows row) ≡ head_of rows) × (in_force rows.clock (with_row rows row).filters ≡ (with_row rows row).filters)
   others_stay (Filter f) none live = (refl, filter_last f none ∙ ap (λ (fs : List FilterRow). fs ++ f ∷ []) live)

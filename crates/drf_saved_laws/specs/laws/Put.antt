@@ -1,4 +1,4 @@
--- A row without a fault keeps the rows consistent, table by table.
+-- Adding a row without an error keeps the rows consistent, table by table.
 use Rattle.std.specs.Prelude.{◌≡◌, ◌^◌, ◌&&◌, ◌<◌, Bool, true, false, not, List, [], ◌∷◌, ◌++◌, length, map, nat_lt, nat_le}
 use Rattle.std.specs.List.{list_all, list_any, AllByRecursion}
 use Rattle.std.proofs.Common.{refl, ap, ◌∙◌, arith}
@@ -39,11 +39,11 @@ use Rattle.drf_saved_laws.specs.laws.Apart.{names_last, numbers_last, roles_last
 use Rattle.drf_saved_laws.specs.laws.Faults.{NoneHolds}
 use Rattle.drf_saved_laws.specs.laws.Room.{covered_one_more, each_one_more, one_offer_more, one_task_more, room_of}
 
--- what is among some is among one more
+-- an element that passes a test is also in the list with one more element
 among_more : {X : Type 0} (test : X → Bool) (xs : List X) (x : X) → list_any test xs ≡ true → list_any test (xs ++ x ∷ []) ≡ true
 among_more test xs x known = list_any-append test xs (x ∷ []) ∙ or_left (list_any test xs) (list_any test (x ∷ [])) known
 
--- what holds of some and of one holds of one more
+-- what holds for all elements and for one more holds for the longer list
 all_more : {X : Type 0} (test : X → Bool) (xs : List X) (x : X) → list_all test xs ≡ true → test x ≡ true → list_all test (xs ++ x ∷ []) ≡ true
 all_more test xs x all one =
     list_all-append test xs (x ∷ []) ∙ and_from (list_all test xs) (test x && true) all (and_from (test x) true one refl)
@@ -51,14 +51,14 @@ all_more test xs x all one =
 pub each_more : {X : Type 0} (P : X → Type 0) (xs : List X) (x : X) → AllByRecursion P xs → P x → AllByRecursion P (xs ++ x ∷ [])
 each_more P xs x all one = each_append P xs (x ∷ []) all (one, tt)
 
--- after one holding more: all are held by who is registered, on agents that cover them, and nobody holds what is reserved for others
+-- after one more holding: each holding is that of a registered client on an agent that covers it, and includes nothing reserved for others
 pub record IsPut (rows : Rows) (after : List Holding) : Type 0 where
   pub held : AllByRecursion (IsHeld rows.agents rows.frameworks) after
   pub covered : AllByRecursion (IsCovered after) rows.agents
   pub own : AllByRecursion IsForItsRole (holdings_of rows) → AllByRecursion IsForItsRole after
 
 module _ (limits : LimitNumbers) (rows : Rows) (consistent : IsConsistent rows) where
-  -- ---- an agent, a framework: who was registered still is
+  -- ---- an agent or a framework: those that were registered still are
 
   put_agent : (a : AgentRow) → IsTyped (Agent a) → NoneHolds (row_cases limits rows (Agent a)) → IsConsistent (with_row rows (Agent a))
   put_agent a typed none =
@@ -106,7 +106,7 @@ module _ (limits : LimitNumbers) (rows : Rows) (consistent : IsConsistent rows) 
       let counted : offers_counted more < rows.next_offer = leb-false rows.next_offer (offers_counted more) none.1.1.1.1.0 in
       search consistent
 
-  -- ---- a weight, a limit
+  -- ---- a weight or a limit
 
   put_weight : (w : WeightRow) → IsTyped (Weight w) → NoneHolds (row_cases limits rows (Weight w)) → IsConsistent (with_row rows (Weight w))
   put_weight w typed none =

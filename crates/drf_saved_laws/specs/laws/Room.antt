@@ -1,5 +1,5 @@
--- A holding is usable just where what is free on its agent has room for it, and it has nothing that is reserved for others. And one
--- holding more.
+-- A holding is usable exactly if its agent has enough free resources for it, and nothing in it is reserved for other roles. And the rows with
+-- one more holding.
 use Rattle.std.specs.Prelude.{◌≡◌, ℕ, ◌≤◌, Bool, true, false, List, [], ◌∷◌, ◌++◌, map, Option, Some, None}
 use Rattle.std.specs.List.{AllByRecursion}
 use Rattle.std.specs.Option.{option_map_or}
@@ -33,14 +33,14 @@ use Rattle.drf_rows.specs.declared.rows.TaskRow.{TaskRow}
 use Rattle.drf_rows.specs.declared.rows.Rows.{Rows}
 use Rattle.drf_saved.specs.Saved.{is_usable}
 
--- its agent is there, what is free on it has as much of everything, and nothing of it is reserved for others
+-- its agent is registered and has at least as much of everything free, and nothing in it is reserved for other roles
 pub record HasRoom (rows : Rows) (h : Holding) : Type 0 where
   pub row : AgentRow
   pub found : agent_at rows h.agent ≡ Some row
   pub fits : (key : Key) (p : Point) → units h.bundle key p ≤ units (free_of rows row) key p
   pub own : IsForItsRole h
 
--- what a role may use of something is what it is entitled to where there are no limits
+-- what a role can use of a bundle is its entitlement if there are no limits
 units-part : (free : List Resource) (client : Client) (key : Key) (p : Point) → IsBundle free
     → (units (part_for client.role free) key p ≡ units_for opening client.role key p (units free key p))
     × (units (part_for client.role free) key p ≤ units free key p)
@@ -48,7 +48,7 @@ units-part free client key p is =
     let same = ap (λ (b : List Resource). units b key p) (sym (entitlement-unlimited opening free client is refl)) in
     (same ∙ entitled_by_units opening free client key p is, omega (arith, same, units-entitlement opening free client key p))
 
--- it may use as much of what it is entitled to as it may of all
+-- if a holding is for its role, and there is at least as much of a resource, then the part that the role can use is enough for it too
 units-own : (h : Holding) (key : Key) (p : Point) (n : ℕ) → IsForItsRole h → units h.bundle key p ≤ n
     → units h.bundle key p ≤ units_for opening h.client.role key p n
 units-own h (label, []) Thousandths n own fits = fits
@@ -90,7 +90,7 @@ module _ (rows : Rows) (h : Holding) (is : IsBundle h.bundle) where
       ∙ (covers_by_units (part_for h.client.role free) h.bundle (bundle-part_for h.client.role free is_free) is).1
       (λ key p. omega (arith, units-own h key p (units free key p) room.own (room.fits key p), (units-part free h.client key p is_free).0))
 
--- ---- one holding more
+-- ---- one more holding
 
 pub one_offer_more : (os : List OfferRow) (others : List Holding) (o : OfferRow)
     → IsOneLess (map of_offer (os ++ o ∷ []) ++ others) (map of_offer os ++ others) (of_offer o)
@@ -116,7 +116,7 @@ module _ (old new : List Holding) (h : Holding) (less : IsOneLess old new h) whe
       let parts = each_parts P less.before less.after (subst (AllByRecursion P) less.lacks all) in
       subst (AllByRecursion P) (sym less.has) (each_append P less.before (h ∷ less.after) parts.0 (one, parts.1))
 
--- with one more that there is room for all agents are covered
+-- after one more holding for which there is enough, all agents still cover their holdings
 pub covered_one_more : (rows : Rows) (h : Holding) (after : List Holding) → IsConsistent rows → HasRoom rows h
     → IsOneLess after (holdings_of rows) h → AllByRecursion (IsCovered after) rows.agents
 covered_one_more rows h after consistent room less =

@@ -1,4 +1,4 @@
--- Runs stay saveable, and go on from what they saved.
+-- Rows can be saved after every run, and a run can resume from what was saved.
 use Rattle.std.specs.Prelude.{◌≡◌, List, ◌++◌}
 use Rattle.std.proofs.Common.{refl, sym, ap, ◌∙◌, arith}
 use Rattle.std.proofs.lemmas.Bool.{le-ltb}
@@ -18,7 +18,7 @@ use Rattle.drf_saved_laws.specs.laws.Faults.{no_head_fault}
 use Rattle.drf_saved_laws.specs.laws.Saveable.{head_is_saveable}
 use Rattle.drf_saved_laws.specs.laws.Taken.{saved_is_restored}
 
--- ---- rows stay saveable
+-- ---- rows can still be saved
 
 pub saveable_rows_stay_so : SaveableRowsStaySo
 saveable_rows_stay_so limits rows events ceilings given can =
@@ -34,7 +34,7 @@ opening_saveable limits =
 pub runs_can_be_saved : RunsCanBeSaved
 runs_can_be_saved limits events ceilings given = saveable_rows_stay_so limits opening events ceilings given (opening_saveable limits)
 
--- ---- runs go on from live rows
+-- ---- runs resume from the current state
 
 pub runs_resume : RunsResume
 runs_resume limits rows first second =
@@ -47,7 +47,7 @@ rows_resume limits rows first second =
     let mid : Rows = rows_after_all limits rows first in
     ap live_rows (rows_after_all-append limits rows first second) ∙ rows_after_all-same_live limits mid (live_rows mid) second (sym (live_rows-twice mid))
 
--- ---- and from what they saved
+-- ---- runs resume from what was saved
 
 pub saved_rows_go_on : SavedRowsGoOn
 saved_rows_go_on limits rows first second ceilings given can =

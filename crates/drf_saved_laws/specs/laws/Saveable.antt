@@ -1,4 +1,4 @@
--- Numbers without a fault make rows that can be saved, and a row without a fault keeps them so.
+-- A head without an error makes rows that can be saved, and adding a row without an error keeps them so.
 use Rattle.std.specs.Prelude.{◌≡◌, ℕ, ◌+◌, ◌*◌, ◌^◌, ◌≤◌, not, List, [], ◌∷◌, ◌++◌, length, Some, nat_lt, nat_le}
 use Rattle.std.specs.List.{AllByRecursion}
 use Rattle.std.proofs.Common.{subst, arith, length-append}
@@ -24,7 +24,7 @@ use Rattle.drf_saved_laws.specs.SavedLaws.{IsSaveable, HeadIsSaveable, RestoredC
 use Rattle.drf_saved_laws.specs.laws.Faults.{NoneHolds, no_head_case, no_row_case, taken_first, taken_head}
 use Rattle.drf_saved_laws.specs.laws.Put.{each_more, offer_is_put, put, task_is_put}
 
--- ---- the limits
+-- ---- the capacities
 
 one_more : {X : Type 0} (xs : List X) (x : X) → length (xs ++ x ∷ []) ≡ length xs + 1
 one_more xs x = length-append xs (x ∷ [])
@@ -117,7 +117,7 @@ head_is_saveable limits head stands =
       own = tt;
     }
 
--- ---- a list that is read back
+-- ---- restoring a list
 
 saveable_from : (limits : LimitNumbers) (rows : Rows) (saved : List SavedRow) (made : Rows) → IsSaveable limits rows → AllByRecursion IsTyped saved
     → restored_from limits rows saved ≡ Some made → IsSaveable limits made

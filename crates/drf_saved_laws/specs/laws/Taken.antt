@@ -1,4 +1,4 @@
--- What is saved of rows that can be saved is taken, row by row.
+-- What is saved of rows that can be saved is accepted, row by row.
 use Rattle.std.specs.Prelude.{◌≡◌, ℕ, ◌+◌, ◌*◌, ◌^◌, ◌≤◌, Bool, true, false, not, ◌&&◌, ◌||◌, List, [], ◌∷◌, ◌++◌, length, map, filter, find, flat_map, fold, sum_by, None, nat_lt, nat_le, IsTrue}
 use Rattle.std.specs.List.{list_all, list_any, AllByRecursion}
 use Rattle.std.proofs.Common.{refl, sym, ap, subst, ◌∙◌, inl, inr, cond, arith, append_assoc, length-append}
@@ -50,10 +50,10 @@ use Rattle.drf_saved_laws.specs.laws.Apart.{names_before, numbers_before, roles_
 use Rattle.drf_saved_laws.specs.laws.Faults.{NoneHolds, goes_first, goes_head, no_head_fault, no_row_fault}
 use Rattle.drf_saved_laws.specs.laws.Room.{usable_of}
 
--- ---- a row at its place in a table
+-- ---- a row at its index in a table
 
 module _ {X : Type 0} (xs before after : List X) (x : X) (stands : xs ≡ before ++ x ∷ after) where
-  -- what holds of all holds of it
+  -- what holds for all rows of the table holds for it
   its : (P : X → Type 0) → AllByRecursion P xs → P x
   its P all = each-one P before after x (subst (AllByRecursion P) stands all)
 
@@ -63,7 +63,7 @@ module _ {X : Type 0} (xs before after : List X) (x : X) (stands : xs ≡ before
       (sym (list_all-append test before (x ∷ after)) ∙ ap (list_all test) (sym stands) ∙ all) in
       (and_parts (test x) (list_all test after) parts.1).0
 
-  -- the table up to it is no longer
+  -- the prefix of the table that ends with it is not longer than the table
   front_length : length (before ++ x ∷ []) ≤ length xs
   front_length = omega (arith, ap length stands, length-append before (x ∷ after), length-append before (x ∷ []))
 
@@ -72,7 +72,7 @@ module _ {X : Type 0} (xs before after : List X) (x : X) (stands : xs ≡ before
 
 -- ---- agents
 
--- no entry is larger than all amounts may be
+-- no entry is greater than the upper bound of all amounts
 small_entries : (es : List Entry) (most : ℕ) → IsTrue (is_in_order es) → ((label : Text) → amount_of es label ≤ most)
     → list_any (λ e. nat_lt most e.amount) es ≡ false
 small_entries [] most ordered small = refl
@@ -87,7 +87,7 @@ small_entries (e ∷ es) most ordered small =
     or_from (nat_lt most e.amount) (list_any (λ f. nat_lt most f.amount) es)
     (le-ltb most e.amount (omega (arith, small e.label, amount_head e es))) (small_entries es most parts.1 later)
 
--- more agents have no fewer names of scalars
+-- more agents do not have fewer scalar names
 names_grow : (sum : List Entry) (agents : List AgentRow) → IsTrue (is_in_order sum) → AllByRecursion IsAgent agents
     → length sum ≤ length (fold (λ s a. plus s (quantities_of a.total)) sum agents)
 names_grow sum [] ordered each = omega arith
@@ -98,7 +98,7 @@ names_grow sum (a ∷ agents) ordered each = omega (
 )
 
 module _ (limits : LimitNumbers) (rows : Rows) (can : IsSaveable limits rows) where
-  -- ---- the rows that the list makes, up to a place in a table
+  -- ---- the rows that the list restores, up to an index in a table
 
   abbrev with_agents : List AgentRow → Rows
   with_agents before = record (begun (head_of rows)) { agents = before }
@@ -121,7 +121,7 @@ module _ (limits : LimitNumbers) (rows : Rows) (can : IsSaveable limits rows) wh
   abbrev with_filters : List FilterRow → Rows
   with_filters before = record (with_tasks rows.tasks) { filters = before }
 
-  -- ---- each row stands behind those before it
+  -- ---- each row may follow those before it
 
   agent_stands : (before after : List AgentRow) (a : AgentRow) → rows.agents ≡ before ++ a ∷ after
       → row_fault limits (with_agents before) (Agent a) ≡ None
@@ -208,7 +208,7 @@ module _ (limits : LimitNumbers) (rows : Rows) (can : IsSaveable limits rows) wh
       some_names [] some = cc
       some_names (e ∷ es) some = refl
 
-  -- ---- what is held
+  -- ---- holdings
 
   owner_stands : (agent framework : Text) (role : Path) → has_agent rows agent ≡ true
       → is_registered rows.frameworks (record { role = role; framework = framework }) ≡ true → NoneHolds (owner_cases rows agent framework role)
@@ -223,7 +223,7 @@ module _ (limits : LimitNumbers) (rows : Rows) (can : IsSaveable limits rows) wh
     its_held : IsHeld rows.agents rows.frameworks h
     its_held = its (holdings_of rows) (holdings_of state) behind h stands (IsHeld rows.agents rows.frameworks) can.consistent.holdings
 
-    -- what is held before it leaves room for it
+    -- the holdings before it leave enough for it
     holding_usable : not (is_usable state h.agent h.client.role h.bundle) ≡ false
     holding_usable =
         let known = found_known rows h.agent its_held.agent in
@@ -303,7 +303,7 @@ module _ (limits : LimitNumbers) (rows : Rows) (can : IsSaveable limits rows) wh
         | inr past ↦ rw past (all_kept test xs)
       ]
 
-  -- ---- the numbers at the head
+  -- ---- the numbers of the head
 
   head_stands : head_fault limits (head_of rows) ≡ None
   head_stands =
@@ -315,7 +315,7 @@ module _ (limits : LimitNumbers) (rows : Rows) (can : IsSaveable limits rows) wh
 
 -- ---- table by table
 
--- a table of which each row stands behind those before it is taken whole
+-- a table of which each row may follow those before it is accepted as a whole
 table_taken : {X : Type 0} (limits : LimitNumbers) (variant : X → SavedRow) (state : List X → Rows) (table : List X)
     → ((before : List X) (x : X) → with_row (state before) (variant x) ≡ state (before ++ x ∷ []))
     → ((before after : List X) (x : X) → table ≡ before ++ x ∷ after → row_fault limits (state before) (variant x) ≡ None)

@@ -5,7 +5,7 @@ use Rattle.drf_rows.specs.Quota.{reserved_for}
 use Rattle.drf_gates.specs.quota.Allowance.{used_where}
 use Rattle.drf_show.proofs.consumption.consume_agents.Given as goal
 
--- with what is left all is counted
+-- what is counted, and what remains, is all
 abbrev pub invariant-loop-agent : goal.invariant-loop-agent
 invariant-loop-agent l =
     (test : Path → Bool) (label : Text) → used_where test l.consumption label + reserved_for test (drop l.agent-index l.agents) label

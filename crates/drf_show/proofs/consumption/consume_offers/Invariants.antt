@@ -6,7 +6,7 @@ use Rattle.drf_rows.specs.Quota.{held_unreserved}
 use Rattle.drf_gates.specs.quota.Allowance.{used_where}
 use Rattle.drf_show.proofs.consumption.consume_offers.Given as goal
 
--- with what is left all is counted
+-- what is counted, and what remains, is all
 abbrev pub invariant-loop-offer : goal.invariant-loop-offer
 invariant-loop-offer l =
     (test : Path → Bool) (label : Text) → used_where test l.consumption label + held_unreserved test (map of_offer (drop l.offer-index l.offers)) label

@@ -7,7 +7,7 @@ use Rattle.drf_show.specs.Had.{Part, parts_of}
 use Rattle.drf_show.proofs.Sums.{part_amount}
 use Rattle.drf_show.proofs.had.sum_of.Given as goal
 
--- the sum of those so far, and with what is left no more than there is
+-- the sum of the parts so far, which together with the remaining parts is at most the sum of all
 abbrev pub invariant-loop-part : goal.invariant-loop-part
 invariant-loop-part l = record {
   sum : l.sum ≡ fold (λ sum (p : Part). plus sum (quantities_of p.1)) [] (filter (λ (p : Part). same_path p.0 l.role) (parts_of (take l.part-index l.parts)));

@@ -1,4 +1,4 @@
--- Clients that came in another order are served in the same order.
+-- Clients that were added in another order are served in the same order.
 use Rattle.std.proofs.Common.{◌≡◌, ℕ, Bool, true, not, ◌&&◌, ◌||◌, IsTrue, List, [], ◌∷◌, map, refl, sym, ap, ◌∙◌, inl, inr}
 use Rattle.std.specs.List.{filter, list_all, list_any, sum_by}
 use Rattle.std.specs.List.Sorted.{IsPermutation}
@@ -13,7 +13,7 @@ use Rattle.drf_sorter.specs.Content.{Ranked, Content, IsOrderOf, active_paths, s
 use Rattle.drf_bundle.specs.ListLaws.{sum_by-filter}
 use Rattle.drf_sorter.proofs.SumLemmas.{part_of}
 
--- ---- a serving order is known by its members
+-- ---- a serving order is determined by its members
 
 abbrev SameMembers : List (List (List ℕ)) → List (List (List ℕ)) → Type 0
 SameMembers xs ys = (t : List (List ℕ) → Bool) → list_any t xs ≡ list_any t ys
@@ -27,7 +27,7 @@ all_at t x (p ∷ ps) there all = elim (or_cases (same_path x p) (list_any (same
 ]
 
 module _ (s : Standing) where
-  -- the first path is no later one
+  -- the first path is not among the later ones
   none_later : (p : List (List ℕ)) (t : List (List ℕ) → Bool) (ps : List (List (List ℕ)))
       → list_all (stands_before s p) ps ≡ true → list_any (λ q. not (same_path p q) && t q) ps ≡ list_any t ps
   none_later p t [] all = refl
@@ -73,7 +73,7 @@ module _ (s : Standing) where
       let rest = one_order xs ys tails one.1 two.1 in
       λ i. head i ∷ rest i
 
--- ---- what an order depends on does not depend on arrival
+-- ---- what decides the order does not depend on the order of arrival
 
 any_active : (t : List (List ℕ) → Bool) (cs : List Ranked)
     → list_any t (map (λ c. c.path) (filter (λ c. c.active) cs)) ≡ list_any (λ c. c.active && t c.path) cs

@@ -1,4 +1,4 @@
--- Paths that stand behind another, by their texts.
+-- Comparing paths by their texts.
 use Rattle.std.proofs.Common.{◌≡◌, ◌+◌, ◌-◌, ◌≤◌, [], ◌∷◌, ◌++◌, ℕ, length, take, Some, slice_get, get_or, refl, sym, ap, subst, ◌∙◌, arith}
 use Rattle.std.specs.Cmp.Lexicographic.{slice_cmp}
 use Rattle.std.specs.List.{All}
@@ -16,13 +16,13 @@ use Rattle.drf_role.specs.TextLaws.{cmp_itself}
 use Rattle.drf_role.specs.PartLaws.{HasNoSlash, first_part, parts_no_slash, parts_of-append, parts_of-text_of, text_of-append}
 use Rattle.drf_rows.specs.Report.{path_cmp}
 
--- behind a front that two paths share, the rest decides
+-- after a prefix that two paths share, the rest decides
 rest_decides : (front a b : Path) → path_cmp (front ++ a) (front ++ b) ≡ path_cmp a b
 rest_decides [] a b = refl
 rest_decides (p ∷ ps) a b =
     ap (λ (o : Ordering). ordering_then o (path_cmp (ps ++ a) (ps ++ b))) (cmp_itself p) ∙ rest_decides ps a b
 
--- a path stands behind what it goes on after
+-- a path is greater than a proper prefix of it
 behind_front : (front : Path) (p : Text) (ps : Path) → path_cmp (front ++ p ∷ ps) front ≡ Greater
 behind_front [] p ps = refl
 behind_front (q ∷ qs) p ps =
@@ -36,14 +36,14 @@ goes_on_behind path other text front more is its whole =
     sym is ∙ ap parts_of whole ∙ parts_of-append front more ∙ (λ i. its i ++ first.2 i) in
     ap (λ (p : Path). path_cmp p other) parts ∙ behind_front other first.0 first.1
 
--- the first parts have no slash where all have none
+-- if no part has a slash, the first parts have none
 front_no_slash : (ps qs : Path) → All HasNoSlash (ps ++ qs) → All HasNoSlash ps
 front_no_slash [] qs all = All-nil HasNoSlash
 front_no_slash (p ∷ ps) qs all =
     All-cons HasNoSlash p ps (All-head HasNoSlash p (ps ++ qs) all)
     (front_no_slash ps qs (All-tail HasNoSlash p (ps ++ qs) all))
 
--- a text up to its last part
+-- a text without its last part
 text_front : (p : Text) (ps : Path) (x : Text) (text : Text) → text ≡ text_of ((p ∷ ps) ++ x ∷ [])
     → take (length text - length x) text ≡ text_of (p ∷ ps) ++ 47 ∷ []
 text_front p ps x text is =
@@ -54,14 +54,14 @@ text_front p ps x text is =
     omega (arith, ap length whole, length-append front x) in
     ap (λ (n : ℕ). take n text) long ∙ ap (λ (t : Text). take (length front) t) whole ∙ take-append_seam front x
 
--- a path and its last part
+-- a path as the parts before its last one, and the last one
 split_last : (path : Path) (i : ℕ) (x : Text) → slice_get path i ≡ Some x → length path ≤ i + 1
     → path ≡ take i path ++ x ∷ []
 split_last path i x at last =
     sym (take_all (i + 1) path last) ∙ take_more path i x (slice_get_within path i x at)
     ∙ ap (λ (y : Text). take i path ++ y ∷ []) (get_or_from_slice_get path i x x at)
 
--- which is no longer than the text
+-- the last part is no longer than the text
 pub part_fits : (path : Path) (i : ℕ) (x text : Text) → slice_get path i ≡ Some x → length path ≤ i + 1
     → text ≡ text_of path → length x ≤ length text
 part_fits path i x text at last is = of (take i path) (is ∙ ap text_of (split_last path i x at last))
@@ -72,7 +72,7 @@ part_fits path i x text at last is = of (take i path) (is ∙ ap text_of (split_
         omega
         (arith, ap length (is ∙ text_of-append p ps x []), length-append (text_of (p ∷ ps)) (47 ∷ x))
 
--- a path that is the other's up to its last part, which is behind that of the other
+-- a path is greater if it is the same up to its last part, and this part is greater than the other's at its place
 pub ends_behind : (path other : Path) (i : ℕ) (x y text its more : Text) → slice_get path i ≡ Some x
     → length path ≤ i + 1 → slice_get other i ≡ Some y → slice_cmp nat_cmp x y ≡ Greater → text ≡ text_of path
     → parts_of text ≡ path → parts_of its ≡ other → its ≡ take (length text - length x) text ++ more
@@ -83,7 +83,7 @@ ends_behind path other i x y text its more at last there less joined parts its_p
     long : length (take i path) ≡ i
     long = omega (arith, length-take i path, slice_get_within path i x at)
 
-    -- what the other has from there on begins with y
+    -- the rest of the other path begins with y
     from : (front rest : Path) → other ≡ front ++ rest → path ≡ front ++ x ∷ [] → length front ≡ i
         → (q : Text) (qs : Path) → rest ≡ q ∷ qs → path_cmp path other ≡ Greater
     from front rest split is long q qs first =

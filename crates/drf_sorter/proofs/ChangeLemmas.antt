@@ -1,4 +1,4 @@
--- What adding and changing one client does to the content.
+-- Adding, changing and removing one client of the content.
 use Rattle.std.proofs.Common.{◌≡◌, ◌<◌, ◌≤◌, ◌+◌, ◌-◌, ℕ, zero, suc, Bool, true, false, cond, List, [], ◌∷◌, ◌++◌, ◌||◌, Some, None, map, length, get_or, set, take, filter, remove, not, nat_lt, refl, sym, ap, subst, ◌∙◌, arith}
 use Rattle.std.specs.List.{AllByRecursion, IsDistinct, list_any, position, position_or_len, sum_by}
 use Rattle.std.specs.Cmp.Lexicographic.{lists_equiv, nat_list_eq_equiv, pointwise_decides, bytes_decides}
@@ -28,7 +28,7 @@ same_from_paths a b = (pointwise_decides bytes_decides a b).0
 
 -- ---- where a client is
 
--- the client that was found
+-- a client was found at this position
 pub record IsFound (clients : List Client) (path : List (List ℕ)) (i : ℕ) (x : Client) : Type 0 where
   pub inside : i < length clients
   pub is : x ≡ get_or clients i x
@@ -41,7 +41,7 @@ place-found clients path i x at is =
     let found = position-Some (λ (x : Client). same_path x.path path) clients i x (sym at) in
     record { inside = found.0; is = is; there = rw (← is) at (found.1) }
 
--- the paths of the clients, in which one is looked up
+-- a client is looked up in the list of paths
 row-path : (clients : List Client) (path : List (List ℕ))
     → position_or_len (same_path path) (map (λ (x : Client). x.path) clients)
     ≡ position_or_len (λ (x : Client). same_path x.path path) clients
@@ -72,7 +72,7 @@ distinct_added clients x distinct fresh =
     (IsDistinct-push paths_equiv (map (λ (x : Client). x.path) clients) x.path distinct
     (any_other_way x.path clients ∙ fresh))
 
--- its path is put behind those of the others
+-- its path is appended to those of the others
 pub listed_added : (clients : List Client) (keys : List (List (List ℕ))) (x : Client) (key : List (List ℕ))
     → keys ≡ map (λ (x : Client). x.path) clients → key ≡ x.path
     → list_any (λ c. same_path c.path x.path) (map ranked clients) ≡ false
@@ -83,7 +83,7 @@ listed_added clients keys x key listed same fresh =
     (map (λ (x : Client). x.path) clients ++ x.path ∷ []))
     ∙ sym (map_push (λ (x : Client). x.path) clients x)
 
--- ---- a client among those of other paths
+-- ---- a client among those with other paths
 
 apart_at : (p : List (List ℕ)) (clients : List Client) (i : ℕ) (x : Client) → i < length clients
     → x ≡ get_or clients i x → AllByRecursion (λ q. same_path p q ≡ false) (map (λ (x : Client). x.path) clients)
@@ -92,7 +92,7 @@ apart_at p [] i x inside is all = absurd (omega arith)
 apart_at p (y ∷ ys) zero x inside is all = subst (λ (z : Client). same_path p z.path ≡ false) (sym is) all.0
 apart_at p (y ∷ ys) (suc i) x inside is all = apart_at p ys i x (omega arith) is all.1
 
--- after a client of that path there is no other
+-- after a client with this path there is no other
 far_from : (path : List (List ℕ)) (z : Client) (zs : List Client)
     → IsDistinct same_path (map (λ (x : Client). x.path) (z ∷ zs)) → same_path z.path path ≡ true
     → AllByRecursion (λ q. same_path path q ≡ false) (map (λ (x : Client). x.path) zs)
@@ -100,7 +100,7 @@ far_from path z zs distinct here =
     subst (λ (p : List (List ℕ)). AllByRecursion (λ q. same_path p q ≡ false) (map (λ (x : Client). x.path) zs))
     (same_from_paths z.path path here) (IsDistinct-head same_path z.path (map (λ (x : Client). x.path) zs) distinct)
 
--- and before one there is none
+-- before it there is none either
 other_before : (path : List (List ℕ)) (z : Client) (zs : List Client) (i : ℕ) (x : Client)
     → IsDistinct same_path (map (λ (x : Client). x.path) (z ∷ zs)) → i < length zs → x ≡ get_or zs i x
     → same_path x.path path ≡ true → same_path z.path path ≡ false
@@ -131,7 +131,7 @@ removed_at path (z ∷ zs) (suc i) x distinct inside is there =
     (ap (λ cs. z ∷ cs) (removed_at path zs i x
     (IsDistinct-tail same_path z.path (map (λ (x : Client). x.path) zs) distinct) within is there))
 
--- the client that was found is the only one of its path
+-- the client that was found is the only one with its path
 pub removed_one : (clients : List Client) (path : List (List ℕ)) (i : ℕ) (x : Client)
     → IsDistinct same_path (map (λ (x : Client). x.path) clients)
     → Some i ≡ position (λ (x : Client). same_path x.path path) clients → x ≡ get_or clients i x
@@ -140,7 +140,7 @@ removed_one clients path i x distinct at is =
     let found = place-found clients path i x at is in
     removed_at path clients i x distinct found.inside found.is found.there
 
--- its path is taken out at the same place
+-- its path is removed at the same position
 pub listed_removed : (clients : List Client) (keys : List (List (List ℕ))) (i : ℕ)
     → keys ≡ map (λ (x : Client). x.path) clients
     → remove keys i ≡ map (λ (x : Client). x.path) (remove clients i)
@@ -149,14 +149,14 @@ listed_removed clients keys i listed =
 
 -- ---- a client is changed
 
--- a client that keeps its path is put in place of one
+-- a client is replaced by one with the same path
 pub distinct_stays : (clients : List Client) (i : ℕ) (x y : Client) → x ≡ get_or clients i x → y.path ≡ x.path
     → IsDistinct same_path (map (λ (x : Client). x.path) clients)
     → IsDistinct same_path (map (λ (x : Client). x.path) (set clients i y))
 distinct_stays clients i x y is same distinct =
     rw (map-set_same (λ (x : Client). x.path) clients i y x (same ∙ ap (λ (x : Client). x.path) is)) distinct
 
--- and the paths stay those of the clients
+-- the paths stay those of the clients
 pub listed_stays : (clients : List Client) (keys : List (List (List ℕ))) (i : ℕ) (x y : Client) → x ≡ get_or clients i x
     → y.path ≡ x.path → keys ≡ map (λ (x : Client). x.path) clients
     → keys ≡ map (λ (x : Client). x.path) (set clients i y)
@@ -177,7 +177,7 @@ fresh_at (y ∷ ys) (suc i) x distinct inside is =
     let rest = fresh_at ys i x (IsDistinct-tail same_path y.path (map (λ (x : Client). x.path) ys) distinct) within is in
     λ j. (paths_equiv.symm x.path y.path ∙ apart) j || rest j
 
--- the paths of the clients up to one, and of that one
+-- the paths of the clients up to a position, and of the one there
 pub listed_more : (clients : List Client) (keys : List (List (List ℕ))) (i : ℕ) (x : Client) (key : List (List ℕ))
     → IsDistinct same_path (map (λ (x : Client). x.path) clients) → i < length clients → x ≡ get_or clients i x
     → keys ≡ map (λ (x : Client). x.path) (take i clients) → key ≡ x.path
@@ -237,7 +237,7 @@ pub any_ranked : (p : Ranked → Bool) (clients : List Client)
 any_ranked p [] = refl
 any_ranked p (x ∷ xs) = ap (λ b. p (ranked x) || b) (any_ranked p xs)
 
--- a client that is there is found
+-- a client that has this path is found
 pub known-found : (clients : List Client) (path : List (List ℕ))
     → list_any (λ c. same_path c.path path) (map ranked clients) ≡ true
     → None ≡ position (λ (x : Client). same_path x.path path) clients → ⊥
@@ -256,7 +256,7 @@ charged_is x quantities offers sum is = λ i. record {
   count = x.count + offers;
 }
 
--- what holds of each client holds of the one that was found
+-- what holds of each client with the path holds of the one that was found
 pub at_found : (P : Ranked → Type 0) (clients : List Client) (path : List (List ℕ)) (i : ℕ) (x : Client)
     → IsFound clients path i x → AllByRecursion (λ c. same_path c.path path ≡ true → P c) (map ranked clients)
     → P (ranked x)

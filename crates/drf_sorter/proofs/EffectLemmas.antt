@@ -1,4 +1,4 @@
--- What changes of one client do to the others, and to shares.
+-- The effect of a change of one client on shares.
 use Rattle.std.proofs.Common.{◌≡◌, ◌+◌, ◌-◌, ℕ, Bool, cond, List, [], ◌∷◌, map, refl, sym, ap, ◌∙◌, inl, inr, arith}
 use Rattle.std.specs.List.{filter, sum_by}
 use Rattle.std.proofs.lemmas.Bool.{cases_Bool}
@@ -9,7 +9,7 @@ use Rattle.drf_role.specs.Path.{same_path, begins_with}
 use Rattle.drf_sorter.specs.Content.{Ranked, Content, activated, charged, discharged, standing_in, with_change}
 
 module _ (path : List (List ℕ)) where
-  -- ---- a charge is taken back
+  -- ---- a charge is undone
 
   same_client : (quantities : List Entry) (c : Ranked) → discharged quantities (charged quantities 1 c) ≡ c
   same_client quantities c = λ i. record {

@@ -1,3 +1,4 @@
+-- The lemmas of this crate.
 pub mod PrefixLemmas
 pub mod SumLemmas
 pub mod PlainLemmas

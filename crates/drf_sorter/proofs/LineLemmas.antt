@@ -32,7 +32,7 @@ use Rattle.drf_sorter.specs.Share.{fraction_of}
 use Rattle.drf_sorter.specs.laws.ShareLaws.{above_zero, below_128}
 use Rattle.drf_sorter.specs.declared.share.Share.{Share}
 
--- a share of weight 1 has the terms of the dominant share
+-- a share with weight 1 has the lowest terms of the dominant share
 pub lowest-share : (total : List Entry) (held : Text → ℕ) (share : Share) → IsTrue (is_in_order total)
     → ((label : Text) → amount_of total label < 2 ^ 52) → fraction_of share ≡ weigh (dominant_of held total) 1000
     → lowest_terms (fraction_of share) ≡ lowest_terms (dominant_of held total)
@@ -42,7 +42,7 @@ lowest-share total held share ordered small is =
     (above_zero share) (below_128 share) part.some (omega (arith, part.small))
     (same_as_weighed (fraction_of share) (dominant_of held total) is)
 
--- ---- lines whose paths rise
+-- ---- lines with increasing paths
 
 all_through : {X : Type 0} (P Q : X → Type 0) → ((x : X) → P x → Q x) → (xs : List X) → AllByRecursion P xs
     → AllByRecursion Q xs
@@ -110,7 +110,7 @@ in_order-rising (l ∷ ls) rising =
     and_from (list_all (λ p. is_lt (path_cmp l.path p)) (paths_of ls)) (are_in_order (paths_of ls))
     (all_above l.path ls rising.0) (in_order-rising ls rising.1)
 
--- ---- a line put behind others
+-- ---- a line is inserted after others
 
 ahead-end : (ls : List NodeLine) (x line : NodeLine) → path_cmp line.path x.path ≡ Less
     → with_line (ls ++ x ∷ []) line ≡ with_line ls line ++ x ∷ []
@@ -124,7 +124,7 @@ ahead-end (l ∷ ls) x line less = by (path_cmp line.path l.path) (ahead-end ls 
     by Equal later = refl
     by Greater later = ap (λ (rest : List NodeLine). l ∷ rest) later
 
--- where it is behind all that the last is behind
+-- the line is after all lines that are before the last one
 past-end : (ls : List NodeLine) (x line : NodeLine) (end : List NodeLine)
     → ((path : Path) → path_cmp path x.path ≡ Less → path_cmp line.path path ≡ Greater)
     → with_line (x ∷ []) line ≡ end → AreRising (ls ++ x ∷ []) → with_line (ls ++ x ∷ []) line ≡ ls ++ end
@@ -134,7 +134,7 @@ past-end (l ∷ ls) x line end behind at rising =
     (behind l.path (all_last (λ (y : NodeLine). path_cmp l.path y.path ≡ Less) ls x rising.0))
     ∙ ap (λ (rest : List NodeLine). l ∷ rest) (past-end ls x line end behind at rising.1)
 
--- a line of that path goes among so many lines from the front
+-- a line with this path belongs among the first `i` lines
 abbrev pub IsAmong : Path → List NodeLine → ℕ → Type 0
 IsAmong path lines i = (line : NodeLine) → line.path ≡ path → with_line lines line ≡ with_line (take i lines) line ++ drop i lines
 
@@ -194,7 +194,7 @@ module _ (path : Path) (lines : List NodeLine) (i : ℕ) (x : NodeLine) (some : 
       ∙ sym (append_assoc (take (i - 1) lines) (x ∷ []) (line ∷ drop i lines))
       ∙ ap (λ (ls : List NodeLine). ls ++ line ∷ drop i lines) (sym front)
 
--- where a path goes behind all lines
+-- the path is greater than all in the list
 pub goes_last : (path : Path) (lines : List NodeLine) (x : NodeLine) → slice_get lines (length lines - 1) ≡ Some x
     → path_cmp path x.path ≡ Greater → AreRising lines → BelongsBehind path lines (length lines)
 goes_last path lines x last more rising =
@@ -202,7 +202,7 @@ goes_last path lines x last more rising =
     belongs_behind path lines (length lines) x (omega (arith, within)) within
     (sym (get_or_from_slice_get lines (length lines - 1) x x last)) (among_all path lines (length lines) refl) more rising
 
--- its line is put there
+-- its line is appended
 pub put_last : (lines : List NodeLine) (line : NodeLine) → BelongsBehind line.path lines (length lines)
     → with_line lines line ≡ lines ++ line ∷ []
 put_last lines line behind =
@@ -219,7 +219,7 @@ any_through p q step (x ∷ xs) some = elim (or_cases (p x) (list_any p xs) some
   | inr past ↦ or_right (q x) (list_any q xs) (any_through p q step xs past)
 ]
 
--- each front of a client's path is a node
+-- each prefix of a client's path is a node with clients
 pub has_node-front : (content : Content) (path : Path) (k : ℕ) → has_client content path ≡ true
     → has_node content (take k path) ≡ true
 has_node-front content path k has =
@@ -227,7 +227,7 @@ has_node-front content path k has =
     (λ c same. ap (λ (p : Path). begins_with p (take k path)) (same_path-true c.path path same) ∙ begins_take path k)
     content.clients has
 
--- and each of its nodes is a front
+-- each node of a client is a prefix of its path
 pub has_line-fronts : (lines : List NodeLine) (path node : Path) → 1 ≤ length node → begins_with path node ≡ true
     → ((k : ℕ) → 1 ≤ k → k ≤ length path → has_line lines (take k path) ≡ true) → has_line lines node ≡ true
 has_line-fronts lines path node some begins fronts = elim (cases_lt (length path) (length node)) [
@@ -236,7 +236,7 @@ has_line-fronts lines path node some begins fronts = elim (cases_lt (length path
       ap (has_line lines) (sym (begins_to path node begins)) ∙ fronts (length node) some within
 ]
 
--- of the fronts that have a line, one more
+-- one more of the prefixes has a line
 pub fronts-more : (old : List NodeLine) (line : NodeLine) (path : Path) (i : ℕ) → line.path ≡ take (i + 1) path
     → ((k : ℕ) → 1 ≤ k → k ≤ i → has_line old (take k path) ≡ true)
     → (k : ℕ) → 1 ≤ k → k ≤ i + 1 → has_line (with_line old line) (take k path) ≡ true

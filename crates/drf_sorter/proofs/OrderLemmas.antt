@@ -1,4 +1,4 @@
--- Candidates that are sorted by their keys stand in the order in which their clients are served.
+-- Candidates that are sorted by their keys are in the order in which their clients are served.
 use Rattle.std.proofs.Common.{◌≡◌, ◌≢◌, ◌<◌, ℕ, suc, Bool, true, false, IsTrue, List, [], ◌∷◌, All, map, length, get_or, refl, sym, ap, ◌∙◌, inl, inr, arith}
 use Rattle.std.specs.declared.cmp.Ordering.{Ordering}
 use Rattle.std.specs.Cmp.{IsTotalOrder, nat_cmp_total}
@@ -44,7 +44,7 @@ slice_cmp-map (x ∷ xs) [] = refl
 slice_cmp-map (x ∷ xs) (y ∷ ys) = ap (λ o. ordering_then (made_cmp x y) o) (slice_cmp-map xs ys)
 
 module _ (s : Standing) where
-  -- the ranks of two clients decide as their paths do
+  -- comparing the keys of two candidates gives the order of their clients
   candidate_lt-is : (a b : Candidate) → HasKeys s a → HasKeys s b → a.path ≢ b.path
       → candidate_lt a b ≡ stands_before s a.path b.path
   candidate_lt-is a b p q other =
@@ -53,7 +53,7 @@ module _ (s : Standing) where
       ∙ is_lt-keys s [] a.path b.path (client_paths-apart a.path b.path p.right q.right other)
       (client_paths-apart b.path a.path q.right p.right (λ e. other (sym e)))
 
-  -- of two that are sorted, the first stands before the second
+  -- the first of two sorted candidates comes before the second
   sorted_before : (a b : Candidate) → HasKeys s a → HasKeys s b → a.path ≢ b.path → candidate_lt b a ≡ false
       → stands_before s a.path b.path ≡ true
   sorted_before a b p q other sorted =
@@ -96,7 +96,7 @@ module _ (s : Standing) where
       (sorted_far candidate_lt (ranks_by (lists_total made_total) (λ (c : Candidate). c.keys.items)) cs sorted i j d
       (omega arith) inside))
 
--- ---- paths that are distinct
+-- ---- paths are distinct
 
 kept : {X : Type 0} (f : X → List (List ℕ)) (p : X → Bool) (path : List (List ℕ)) (xs : List X)
     → AllByRecursion (λ q. same_path path q ≡ false) (map f xs)

@@ -1,4 +1,4 @@
--- What a sound content says of the clients themselves.
+-- What a sound content says about single clients.
 use Rattle.std.proofs.Common.{◌≡◌, ◌<◌, ◌≤◌, ◌+◌, ◌^◌, ◌-◌, ℕ, Bool, true, false, List, [], ◌∷◌, ◌++◌, map, min, length, take, get_or, refl, sym, ap, ◌∙◌, inl, inr, arith}
 use Rattle.std.proofs.lemmas.Bool.{cases_Bool}
 use Rattle.std.proofs.lemmas.List.{append-nil, map-append, take_more}
@@ -28,7 +28,7 @@ filter-map p f (x ∷ xs) = elim (cases_Bool (p (f x))) [
   | inr fails ↦ rw fails (filter-map p f xs)
 ]
 
--- ---- what the clients of a node have
+-- ---- what the clients of a node hold
 
 module _ (sorter : PlainSorter) (sound : IsSound (plain_content sorter)) (node : List (List ℕ)) where
   pub held-within : (label : List ℕ) → held_by sorter.clients.items node label ≤ amount_of sorter.total label
@@ -89,7 +89,7 @@ pub has_node-is : (sorter : PlainSorter) (node : List (List ℕ))
     → list_any (λ (x : Client). begins_with x.path node) sorter.clients.items ≡ has_node (plain_content sorter) node
 has_node-is sorter node = sym (any_ranked (λ c. begins_with c.path node) sorter.clients.items)
 
--- one more client is looked at
+-- one more client is visited
 module _ {X Y : Type 0} (p : X → Bool) (f : X → Y) (xs : List X) (i : ℕ) (x : X) (inside : i < length xs)
     (is : x ≡ get_or xs i x) where
   one_more : take (i + 1) xs ≡ take i xs ++ x ∷ []
@@ -102,7 +102,7 @@ module _ {X Y : Type 0} (p : X → Bool) (f : X → Y) (xs : List X) (i : ℕ) (
   pub passed_same : p x ≡ false → map f (filter p (take (i + 1) xs)) ≡ map f (filter p (take i xs))
   passed_same fails = rw (one_more, filter-append p (take i xs) (x ∷ []), fails, append-nil (filter p (take i xs)))
 
--- the keys of one more path are made
+-- the keys for one more path are computed
 pub made_more : (old mid new : ℕ) (paths more : List (List (List ℕ))) (path : List (List ℕ))
     → mid ≡ min (old + sum_by length paths) (2 ^ 64 - 1) → new ≡ min (mid + length path) (2 ^ 64 - 1)
     → more ≡ paths ++ path ∷ [] → new ≡ min (old + sum_by length more) (2 ^ 64 - 1)

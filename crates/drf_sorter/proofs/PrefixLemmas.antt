@@ -1,4 +1,4 @@
--- What it takes to begin with a node, and to be one.
+-- Tests whether a path begins with a node, and whether it is the node.
 use Rattle.std.proofs.Common.{◌≡◌, ◌<◌, ◌+◌, ℕ, true, false, List, [], Some, length, take, get_or, slice_get, sym, ap, ◌∙◌, arith}
 use Rattle.std.specs.Cmp.Lexicographic.{pointwise_decides, bytes_decides}
 use Rattle.std.proofs.lemmas.Bool.{false≢true, false_from_ne_true}
@@ -42,7 +42,7 @@ module _ (path node : List (List ℕ)) where
       (get_or_from_slice_get path i a [] here ∙ (bytes_decides a b).0 same
       ∙ sym (get_or_from_slice_get node i b [] there))
 
--- paths are the same where their texts are
+-- paths are equal if and only if their texts are
 pub same_as_texts : (a b : List (List ℕ)) (s t : List ℕ) → s ≡ text_of a → t ≡ text_of b → parts_of s ≡ a
     → parts_of t ≡ b → same_text s t ≡ same_path a b
 same_as_texts a b s t text_a text_b parts_a parts_b =

@@ -1,4 +1,4 @@
--- An order of all clients exists: it is the one that a turn picks.
+-- There is an order of all clients: the one that an agent's turn picks.
 use Rattle.std.specs.Prelude.{◌≡◌, true, IsTrue, List, [], ◌∷◌, length, map}
 use Rattle.std.specs.List.Sorted.{IsPermutation}
 use Rattle.std.proofs.Common.{refl, sym, subst}
@@ -13,7 +13,7 @@ use Rattle.drf_row_laws.specs.ServingOrder.{serving_order-unique}
 use Rattle.drf_sorter.specs.Served.{AreClients, Weighs}
 use Rattle.drf_sorter.specs.laws.SortedLaws.{sorted, moved_sorted, ordered_sorted}
 
--- a path tells its client
+-- the client with a path
 abbrev client_at : Path → Client
 client_at path = record { role = role_part path; framework = framework_part path }
 

@@ -1,4 +1,4 @@
--- The greatest of some fractions, found among weighted shares from the last one on.
+-- Computing the greatest of some fractions, from the last one to the first.
 use Rattle.std.proofs.Common.{◌≡◌, ◌<◌, ◌≤◌, ◌+◌, ◌-◌, ◌*◌, ℕ, zero, suc, Bool, true, false, cond, IsTrue, List, [], ◌∷◌, length, drop, get_or, sym, ap, subst, ◌∙◌, arith}
 use Rattle.std.proofs.Math.Nat.{mul-mul-mul_comm}
 use Rattle.std.specs.List.{list_all}
@@ -20,7 +20,7 @@ use Rattle.drf_sorter.specs.laws.FractionLaws.{nat_cmp-scale, product_above, is_
 use Rattle.drf_sorter.specs.laws.ShareLaws.{above_zero, below_128}
 use Rattle.drf_sorter.specs.Share.{IsUnweighted, fraction_of, share_cmp}
 
--- one weight on both sides does not matter
+-- an equal weight on both sides does not matter
 fraction_cmp-weigh : (f g : Fraction) (weight : ℕ) → 1 ≤ weight
     → fraction_cmp (weigh f weight) (weigh g weight) ≡ fraction_cmp f g
 fraction_cmp-weigh f g weight weighs =
@@ -29,7 +29,7 @@ fraction_cmp-weigh f g weight weighs =
     ∙ sym
     (nat_cmp-scale (f.part * g.whole) (g.part * f.whole) (1000 * weight) (product_above 1000 weight (omega arith) weighs))
 
--- so two shares of one weight compare as those of weight 1
+-- two shares with the same weight compare as with weight 1
 pub same_weight : (a b : Share) → a.weight ≡ b.weight
     → share_cmp a b ≡ nat_cmp (a.part * b.whole) (b.part * a.whole)
 same_weight a b same =
@@ -42,7 +42,7 @@ chosen : (b : Bool) (d e : Share) (f g : Fraction) → IsUnweighted g d → IsUn
 chosen true d e f g p q = p
 chosen false d e f g p q = q
 
--- what a share of weight 1 is
+-- the fraction of a share with weight 1
 pub fraction-unweighted : (f : Fraction) (share : Share) → IsUnweighted f share → fraction_of share ≡ weigh f 1000
 fraction-unweighted f share is = λ i. weighted (is.part i) (is.whole i) (is.weight i)
 
@@ -54,7 +54,7 @@ max-unweighted d e f g p q =
     ∙ ap is_lt (fraction_cmp-weigh f g 1000 (omega arith)) ∙ is_lt-fraction_cmp f g in
     subst (λ (b : Bool). IsUnweighted (cond (is_less f g) g f) (cond b d e)) (sym test) (chosen (is_less f g) d e f g p q)
 
--- where the weight is 1, the share over it has the terms of the share
+-- a share with weight 1 has the lowest terms of its part and whole
 pub lowest-of_weight_one : (share : Share) → share.weight ≡ 1000
     → lowest_terms (record { part = share.part; whole = share.whole }) ≡ lowest_terms (fraction_of share)
 lowest-of_weight_one share one =
@@ -63,13 +63,13 @@ lowest-of_weight_one share one =
     (omega (arith, share.fits))
     (same_as_weighed (fraction_of share) plain (λ i. weighted share.part share.whole (one i))))
 
--- what is the one form in lowest terms is in lowest terms
+-- the result of `lowest_terms` is in lowest terms
 pub lowest-terms_are : (share : Share) (result : Fraction) → result ≡ lowest_terms (fraction_of share)
     → IsLowest (fraction_of share) result
 lowest-terms_are share result is =
     subst (IsLowest (fraction_of share)) (sym is) (lowest_terms-is (fraction_of share) (above_zero share) (below_128 share))
 
--- one more scalar, from the last one on
+-- one more scalar is considered, from the last one on
 module _ (held : List ℕ → ℕ) (total : List Entry) (i : ℕ) (e : Entry) (some : 0 < i) (inside : i - 1 < length total)
     (is : e ≡ get_or total (i - 1) e) where
   ends : drop (i - 1) total ≡ e ∷ drop i total
@@ -91,7 +91,7 @@ module _ (held : List ℕ → ℕ) (total : List Entry) (i : ℕ) (e : Entry) (s
       subst (λ (g : Fraction). IsUnweighted g (ord_max share_cmp d new)) (sym (dominant-more above))
       (max-unweighted d new f (dominant_of held (drop i total)) so_far more)
 
--- an entry's amount is that of its label
+-- the amount of an entry is that of its label
 pub amount_at : (total : List Entry) (i : ℕ) (e : Entry) → IsTrue (is_in_order total) → i < length total
     → e ≡ get_or total i e → amount_of total e.label ≡ e.amount
 amount_at [] i e ordered inside is = absurd (omega arith)

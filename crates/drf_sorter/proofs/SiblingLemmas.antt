@@ -1,4 +1,4 @@
--- Siblings that differ in nothing but their names.
+-- Siblings that differ only in their names.
 use Rattle.std.proofs.Common.{◌≡◌, ◌*◌, ℕ, true, IsTrue, List, [], ◌∷◌, ◌++◌, ◌&&◌, ◌||◌, ◌==◌, nat_lt, sym, ap, ◌∙◌}
 use Rattle.std.proofs.lemmas.Bool.{or_right, and_from, eq-eqb}
 use Rattle.std.proofs.lemmas.List.{append-nil, append_assoc}

@@ -5,7 +5,7 @@ use Rattle.std.proofs.lemmas.List.{take_all}
 use Rattle.std.proofs.lemmas.List.Sums.{sum_by_more, sum_by-take-le, sum_by-le-sum_by}
 use Rattle.drf_bundle.specs.ListLaws.{sum_by-filter, cond_le}
 
--- f at the elements that pass, and 0 at the others
+-- f of an element that passes, and 0 otherwise
 abbrev pub part_of : {X : Type 0} → (X → Bool) → (X → ℕ) → X → ℕ
 part_of p f x = cond (p x) (f x) 0
 
@@ -32,7 +32,7 @@ pub sum_part_all : {X : Type 0} (p : X → Bool) (f : X → ℕ) (xs : List X) (
 sum_part_all p f xs i n end so_far =
     so_far ∙ ap (λ ys. sum_by (part_of p f) ys) (take_all i xs end) ∙ sym (sum_by-filter f p xs)
 
--- those that pass have no more than all have
+-- the sum over those that pass is at most the sum over all
 pub sum_part_le : {X : Type 0} (p : X → Bool) (f : X → ℕ) (xs : List X) → sum_by f (filter p xs) ≤ sum_by f xs
 sum_part_le p f xs =
     omega (arith, sum_by-filter f p xs, sum_by-le-sum_by (part_of p f) f xs (λ y. cond_le (p y) (f y)))

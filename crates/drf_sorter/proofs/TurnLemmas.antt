@@ -1,4 +1,4 @@
--- The active clients of consistent rows have different paths, and so a turn serves each of them.
+-- The active clients of consistent rows have different paths, so a turn serves each of them.
 use Rattle.std.specs.Prelude.{◌≡◌, Bool, true, false, not, ◌&&◌, List, [], ◌∷◌, ◌++◌, map, filter, flat_map}
 use Rattle.std.specs.List.{AllByRecursion, IsDistinct}
 use Rattle.std.specs.List.Sorted.{IsPermutation}
@@ -86,7 +86,7 @@ each_active P f cs all =
     each_map P (client_of f) (filter (λ c. not c.suppressed) cs)
     (each_filter (λ c. P (client_of f c)) (λ c. not c.suppressed) cs all)
 
--- those of a framework differ by their roles
+-- the clients of one framework have different roles
 one_framework : (f : FrameworkRow) (cs : List ClientRow) → are_distinct_roles (map (λ c. c.role) cs) ≡ true
     → AllDiffer (active_of f cs)
 one_framework f [] distinct = tt
@@ -103,7 +103,7 @@ one_framework f (c ∷ cs) distinct =
       | inr past ↦ rw past later
     ]
 
--- those of two frameworks differ by their frameworks
+-- the clients of two frameworks have different frameworks
 two_frameworks : (f : FrameworkRow) (c : ClientRow) (gs : List FrameworkRow)
     → AllByRecursion (λ g. same_text f.name g.name ≡ false) gs
     → DiffersFromAll (flat_map active_in gs) (client_of f c)

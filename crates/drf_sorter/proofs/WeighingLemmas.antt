@@ -1,4 +1,4 @@
--- What a weight does to a share, and which nodes have one.
+-- The effect of a weight on a share, and which nodes have a weight.
 use Rattle.std.proofs.Common.{◌≡◌, ◌<◌, ◌≤◌, ◌*◌, ℕ, zero, suc, true, false, cond, IsTrue, All, List, [], ◌∷◌, ◌++◌, nat_lt, length, get_or, refl, sym, ap, subst, ◌∙◌, inl, inr, arith}
 use Rattle.std.specs.List.{AllByRecursion}
 use Rattle.std.specs.Prelude.{codes}
@@ -21,13 +21,13 @@ use Rattle.drf_sorter.specs.Fractions.{dominant_of, weigh}
 use Rattle.drf_sorter.specs.laws.Laws.{ClientsHaveDefaultWeight}
 use Rattle.drf_sorter.specs.laws.OrderLaws.{greatest_above}
 
--- ---- what is held makes a share above 0
+-- ---- a node that holds something has a share above 0
 
 factor_above : (m n : ℕ) → 0 < m * n → 0 < m
 factor_above zero n h = absurd (omega (arith, h, zero-mul n))
 factor_above (suc m) n h = omega arith
 
--- the greater of two fractions is above 0 where one of them is
+-- the greater of two fractions is above 0 if one of them is
 greater_some : (f g : Fraction) → 0 < f.part → 0 < f.whole → 0 < (cond (is_less f g) g f).part
 greater_some f g part whole = elim (cases_Bool (is_less f g)) [
   | inl less ↦
@@ -64,7 +64,7 @@ held_some held label (e ∷ es) some there = elim (cases_same e.label label) [
       ]
 ]
 
--- ---- a role is weighed
+-- ---- a role's weight changes
 
 weighed : (content : Content) (role : List (List ℕ)) (weight : ℕ)
     → weighted_share_of (standing_in (with_weight content role weight)) role

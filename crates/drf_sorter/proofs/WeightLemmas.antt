@@ -1,4 +1,4 @@
--- The weights of roles: each in its range, and one put in its place.
+-- Weights stay within their range when one is set.
 use Rattle.std.proofs.Common.{◌≡◌, ◌<◌, ◌≤◌, ℕ, zero, suc, false, IsTrue, List, [], ◌∷◌, ◌++◌, Some, length, get_or, set, refl, sym, ap, inl, inr, arith, nat_le, nat_lt}
 use Rattle.std.specs.List.{list_any, position, position_or_len}
 use Rattle.std.proofs.lemmas.Bool.{true≢false, cases_Bool, and_parts, and_from, le-leb}
@@ -7,7 +7,7 @@ use Rattle.drf_role.specs.Path.{same_path}
 use Rattle.drf_rows.specs.declared.rows.WeightRow.{WeightRow}
 use Rattle.drf_rows.specs.Weights.{is_weight, are_weights, weights_with}
 
--- a weight that is in its range is put in place of one
+-- a weight within the range replaces another
 pub weights-stay : (ws : List WeightRow) (i : ℕ) (w : WeightRow) → 1 ≤ w.weight → w.weight ≤ 1000000
     → IsTrue (are_weights ws) → IsTrue (are_weights (set ws i w))
 weights-stay [] i w some most all = refl

@@ -1,4 +1,4 @@
--- What decides between siblings, and between the clients below them.
+-- The keys that decide between siblings, and between the clients below them.
 use Rattle.std.specs.Prelude.{ℕ, List, [], ◌∷◌, ◌++◌}
 use Rattle.std.specs.declared.cmp.Ordering.{Ordering}
 use Rattle.std.specs.Ordering.{nat_cmp, ordering_then}
@@ -11,13 +11,13 @@ use Rattle.drf_role.specs.Path.{Path}
 use Rattle.drf_role.specs.Text.{Text}
 use Rattle.drf_sorter.specs.declared.key.Key as made
 
--- a node, as its siblings see it
+-- the key of a node, by which it is ordered among its siblings
 pub record Key : Type 0 where
   pub share : Fraction
   pub count : ℕ
   pub name : Text
 
--- by weighted share, then by count, then by name
+-- keys are compared by weighted share, then by count, then by name
 abbrev pub key_cmp : Key → Key → Ordering
 key_cmp a b =
     ordering_then (fraction_cmp a.share b.share)
@@ -31,11 +31,11 @@ key_of s parent name = record {
   name = name;
 }
 
--- the keys of the nodes of a path below a node, from the top down
+-- the keys of the nodes of a path below a node, from the top of the tree down
 abbrev pub keys_of : Standing → Path → Path → List Key
 keys_of s parent [] = []
 keys_of s parent (name ∷ below) = key_of s parent name ∷ keys_of s (parent ++ name ∷ []) below
 
--- the key that a program made
+-- the value of a `Key` as contracts see it
 abbrev pub key_by : made.Key → Key
 key_by key = record { share = fraction_of key.share; count = key.count; name = string_bytes key.name }

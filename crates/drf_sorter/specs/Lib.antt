@@ -1,3 +1,4 @@
+-- The definitions that the contracts of this crate use.
 pub mod Content
 pub mod Work
 pub mod Passed

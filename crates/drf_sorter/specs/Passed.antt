@@ -1,9 +1,9 @@
--- Clients that are passed by together.
+-- Clients that are passed together.
 use Rattle.std.specs.Prelude.{◌≡◌, ◌<◌, ℕ, List, ◌++◌, Some, length, slice_get, take}
 use Rattle.std.specs.List.{AllByRecursion}
 use Rattle.drf_role.specs.Path.{Path}
 
--- the next client is passed, and perhaps clients right behind it that share its first parts, so many
+-- the current client is passed, and perhaps clients right after it whose paths have the same first `len` parts
 pub record IsPassedFront (len : ℕ) (old new : List Path) : Type 0 where
   pub passed : List Path
   pub split : old ≡ passed ++ new

@@ -1,4 +1,4 @@
--- That everybody is served: an order in which clients are tried one by one has each of them.
+-- Statements that each client is served: an order that is picked client by client has each of them.
 use Rattle.std.specs.Prelude.{◌≤◌, List, length, map, IsTrue}
 use Rattle.std.specs.List.{AllByRecursion, IsDistinct}
 use Rattle.std.specs.List.Sorted.{IsPermutation}
@@ -10,7 +10,7 @@ use Rattle.drf_rows.specs.Held.{active_clients}
 use Rattle.drf_rows.specs.Consistent.{IsConsistent}
 use Rattle.drf_rows.specs.declared.rows.Rows.{Rows}
 
--- frameworks in roles, none of them twice
+-- different clients with client paths
 pub record AreClients (clients : List Client) : Type 0 where
   pub each : AllByRecursion (λ c. IsClientPath (path_of c)) clients
   pub distinct : IsDistinct same_path (map path_of clients)
@@ -19,7 +19,7 @@ pub record AreClients (clients : List Client) : Type 0 where
 abbrev pub Weighs : Standing → Type 0
 Weighs s = (node : Path) → 1 ≤ s.weight node
 
--- the order has each of the clients, and each once
+-- the order has each client exactly once
 abbrev pub EachIsServedOnce : Type 0
 EachIsServedOnce =
     (s : Standing) (clients : List Client)
@@ -27,7 +27,7 @@ EachIsServedOnce =
     → AreClients clients
     → IsPermutation clients (serving_order s (length clients) clients)
 
--- each stands before all later ones
+-- each client comes before all later ones
 abbrev pub EachBeforeAllLater : Type 0
 EachBeforeAllLater =
     (s : Standing) (clients : List Client)
@@ -35,7 +35,7 @@ EachBeforeAllLater =
     → AreClients clients
     → IsTrue (is_serving_order s (map path_of (serving_order s (length clients) clients)))
 
--- the turn of an agent serves each active client, and each once
+-- an agent's turn tries each active client exactly once
 abbrev pub EachHasItsTurn : Type 0
 EachHasItsTurn =
     (rows : Rows) → IsConsistent rows → IsPermutation (active_clients rows) (turn_order rows)

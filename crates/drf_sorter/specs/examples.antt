@@ -1,2 +1,2 @@
--- Computed from the definitions beside this folder.
+-- Examples, computed from the definitions of this crate.
 pub mod Examples

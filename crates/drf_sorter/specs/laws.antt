@@ -1,4 +1,4 @@
--- Theorems about the definitions beside this folder.
+-- Theorems about the definitions of this crate.
 pub mod FractionLaws
 pub mod ShareLaws
 pub mod OrderLaws

@@ -1,10 +1,10 @@
--- Contents of which the order and the shares are computed.
+-- Contents whose orders and shares are computed.
 use Rattle.std.specs.Prelude.{ℕ, List, [], ◌∷◌, codes}
 use Rattle.drf_bundle.specs.declared.quantities.Entry.{Entry}
 use Rattle.drf_role.specs.Path.{Path, client_path}
 use Rattle.drf_sorter.specs.Content.{Content, charged, empty, refunded, with_change, with_client, with_weight}
 
--- so many thousandths
+-- an amount of cpus, in thousandths
 abbrev pub cpus : ℕ → List Entry
 cpus amount = record { label = codes "cpus"; amount = amount } ∷ []
 
@@ -32,23 +32,23 @@ three_clients =
 abbrev pub with_charge : Path → ℕ → Content → Content
 with_charge path amount content = with_change content path (charged (cpus amount) 1)
 
--- each was made one offer
+-- each client was made one offer
 abbrev pub three_charges : Content
 three_charges =
     with_charge client_of_eng_web 2000 (with_charge client_of_ops 2000 (with_charge client_of_eng 1000 three_clients))
 
--- and the client of `ops` a second
+-- the client of `ops` was made a second offer
 abbrev pub four_charges : Content
 four_charges = with_charge client_of_ops 2000 three_charges
 
--- what is given back counts no more as held, and the offers still count
+-- what is refunded is no longer held, but the offers still count
 abbrev pub ops_gave_back : Content
 ops_gave_back = with_change four_charges client_of_ops (refunded (cpus 4000))
 
 abbrev pub eng_has_half_weight : Content
 eng_has_half_weight = with_weight four_charges eng 500
 
--- a role below may stand before the role's own clients
+-- a role below another can come before that role's own clients
 abbrev pub client_of_eng_mark : Path
 client_of_eng_mark = client_path (codes "eng" ∷ codes "!x" ∷ []) (codes "f2")
 

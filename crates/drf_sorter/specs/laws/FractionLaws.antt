@@ -1,4 +1,4 @@
--- Fractions of which no whole is 0 are in a total order.
+-- Fractions whose denominators are above 0 are in a total order.
 use Rattle.std.proofs.Common.{◌≡◌, ℕ, ◌*◌, ◌<◌, ◌≤◌, Bool, true, false, cond, nat_lt, ◌==◌, refl, sym, ap, subst, ◌∙◌, arith}
 use Rattle.std.proofs.Math.Nat.{mul_right_comm, mul_assoc, mul-le-mul_right, mul-lt-mul_of_pos_right}
 use Rattle.std.specs.declared.cmp.Ordering.{Ordering}
@@ -30,7 +30,7 @@ is_lt-cases false false = refl
 pub is_lt-nat_cmp : (x y : ℕ) → is_lt (nat_cmp x y) ≡ nat_lt x y
 is_lt-nat_cmp x y = is_lt-cases (nat_lt x y) (x == y)
 
--- the two tests of fractions are those of their comparison
+-- the two tests of fractions agree with their comparison
 pub is_lt-fraction_cmp : (a b : Fraction) → is_lt (fraction_cmp a b) ≡ is_less a b
 is_lt-fraction_cmp a b = is_lt-nat_cmp (a.part * b.whole) (b.part * a.whole)
 
@@ -54,7 +54,7 @@ fraction_cmp-trans a b c p q r h k =
     ∙ ap (λ n. nat_cmp (a.part * b.whole * c.whole) n) (mul_right_comm c.part a.whole b.whole)
     ∙ both
 
--- numbers that tie are the same
+-- numbers that tie are equal
 pub same_from_nat_cmp : (x y : ℕ) → nat_cmp x y ≡ Equal → x ≡ y
 same_from_nat_cmp x y h = subst (λ r. MatchOrdering r (x < y) (x ≡ y) (y < x)) h (ranks x y)
 
@@ -69,7 +69,7 @@ fraction_cmp-congr a b c p q r h =
     ∙ ap (λ n. nat_cmp (b.part * c.whole * a.whole) n) (mul_right_comm c.part a.whole b.whole)
     ∙ sym (nat_cmp-scale (b.part * c.whole) (c.part * b.whole) a.whole p)
 
--- 1000 thousandths change nothing
+-- a weight of 1000 thousandths changes nothing
 pub same_as_weighed : (f g : Fraction) → f ≡ weigh g 1000 → is_same f g ≡ true
 same_as_weighed f g is =
     ap (λ h. is_same h g) is

@@ -1,4 +1,4 @@
--- What is proved of shares and of the order of clients.
+-- Statements about shares and about the order of clients, which are proved.
 use Rattle.std.specs.Prelude.{◌≡◌, ◌<◌, ◌≤◌, ◌^◌, ℕ, Bool, List, [], ◌∷◌, ◌++◌, IsTrue, codes}
 use Rattle.std.specs.List.Sorted.{IsPermutation}
 use Rattle.std.specs.Ordering.{nat_cmp}
@@ -14,20 +14,20 @@ use Rattle.drf_sorter.specs.Content.{Content, IsOrderOf, activated, charged, dis
 use Rattle.drf_sorter.specs.Share.{cross_product, share_cmp}
 use Rattle.drf_sorter.specs.declared.share.Share.{Share}
 
--- shares are compared by products that fit in 124 bits
+-- shares are compared by products that are below 2^124
 abbrev pub ProductsFit : Type 0
 ProductsFit =
     (a b : Share) → (share_cmp a b ≡ nat_cmp (cross_product a b) (cross_product b a)) × (cross_product a b < 2 ^ 124)
 
--- a fraction has one form in lowest terms
+-- a fraction has at most one form in lowest terms
 abbrev pub OneLowestForm : Type 0
 OneLowestForm = (f a b : Fraction) → 1 ≤ f.whole → IsLowest f a → IsLowest f b → a ≡ b
 
--- it is found
+-- the function finds it
 abbrev pub LowestIsFound : Type 0
 LowestIsFound = (f : Fraction) → 1 ≤ f.whole → f.whole < 2 ^ 128 → IsLowest f (lowest_terms f)
 
--- equal fractions have the same
+-- equal fractions have the same form in lowest terms
 abbrev pub SameLowestForm : Type 0
 SameLowestForm =
     (f g : Fraction)
@@ -38,7 +38,7 @@ SameLowestForm =
     → IsTrue (is_same f g)
     → lowest_terms f ≡ lowest_terms g
 
--- that of nothing is 0/1
+-- the form of nothing is 0/1
 abbrev pub NothingIsZero : Type 0
 NothingIsZero =
     (whole : ℕ)
@@ -46,8 +46,7 @@ NothingIsZero =
     → whole < 2 ^ 128
     → lowest_terms (record { part = 0; whole = whole }) ≡ record { part = 0; whole = 1 }
 
--- of two siblings of one weight that hold the same and got as many offers, the one whose name is less comes first, with
--- all clients below it
+-- of two siblings with the same weight, holdings and count of offers, the one whose name is less comes first, with all clients below it
 abbrev pub LesserNameFirst : Type 0
 LesserNameFirst =
     (s : Standing) (parent : Path) (a b : Text) (below_a below_b : Path)
@@ -57,7 +56,7 @@ LesserNameFirst =
     → IsTrue (text_below a b)
     → IsTrue (stands_before s (parent ++ a ∷ below_a) (parent ++ b ∷ below_b))
 
--- a role that holds something has a less weighted share under a greater weight
+-- a role that holds something has a smaller weighted share under a greater weight
 abbrev pub HeavierHasLess : Type 0
 HeavierHasLess =
     (content : Content) (role : Path) (label : Text) (light heavy : ℕ)
@@ -68,26 +67,26 @@ HeavierHasLess =
     (is_less (weighted_share_of (standing_in (with_weight content role heavy)) role)
     (weighted_share_of (standing_in (with_weight content role light)) role))
 
--- `.` and a framework have no weight of their own, since no component of a role is `.`
+-- a `.` node and a framework have no weight of their own, since no component of a role is `.`
 abbrev pub ClientsHaveDefaultWeight : Type 0
 ClientsHaveDefaultWeight =
     (rows : Rows) (role : Path) (framework : Text)
     → IsConsistent rows
     → (weight_of rows.weights (role ++ codes "." ∷ []) ≡ 1000) × (weight_of rows.weights (client_path role framework) ≡ 1000)
 
--- a charge of one offer that is taken back leaves all as it was
+-- a charge of one offer that is undone changes nothing
 abbrev pub UndoneChargeChangesNothing : Type 0
 UndoneChargeChangesNothing =
     (content : Content) (path : Path) (quantities : List Entry)
     → with_change (with_change content path (charged quantities 1)) path (discharged quantities) ≡ content
 
--- a client that is suppressed, or is not any more, counts as before in all shares and counts
+-- suppressing or activating a client changes no share and no count
 abbrev pub SuppressedCounts : Type 0
 SuppressedCounts =
     (content : Content) (path : Path) (active : Bool)
     → standing_in (with_change content path (activated active)) ≡ standing_in content
 
--- in whichever order clients were added, they are served in one order
+-- the order in which clients are added does not affect the order in which they are served
 abbrev pub ArrivalDoesNotMatter : Type 0
 ArrivalDoesNotMatter =
     (one other : Content) (first second : List Path)

@@ -1,4 +1,4 @@
--- Laws of the lines of nodes, for the crates that make them.
+-- Theorems about the lines of nodes, for the crates that compute them.
 use Rattle.std.specs.Prelude.{◌≡◌, ℕ, ◌≤◌, Bool, true, false, ◌||◌, IsTrue, List, [], ◌∷◌, length}
 use Rattle.std.specs.List.{AllByRecursion}
 use Rattle.std.specs.Ordering.{nat_cmp, is_eq, match_ordering}
@@ -19,7 +19,7 @@ use Rattle.drf_sorter.specs.Content.{Content, has_node, standing_in}
 use Rattle.drf_sorter.specs.Fractions.{dominant_of, weigh}
 use Rattle.drf_sorter.specs.Lines.{IsLineOf, has_line, line_with, with_line}
 
--- what is told of a node by its sums is what its clients hold
+-- a line that is computed from the sums of a node is the line of its clients
 pub IsLineOf-with : (content : Content) (weight : ℕ) (path : Path) (held : List Entry) (count : ℕ) → 1 ≤ length path
     → has_node content path ≡ true → IsTrue (is_in_order held)
     → ((label : Text) → amount_of held label ≡ (standing_in content).held path label)
@@ -36,7 +36,7 @@ IsLineOf-with content weight path held count some clients ordered amounts counte
   count = counted;
 }
 
--- ---- one line more
+-- ---- one more line
 
 pub each-with : (P : NodeLine → Type 0) (ls : List NodeLine) (line : NodeLine) → AllByRecursion P ls → P line
     → AllByRecursion P (with_line ls line)
@@ -52,7 +52,7 @@ each-with P (l ∷ ls) line all here = by (path_cmp line.path l.path) (each-with
 pub same_from_tie : (a b : Path) → path_cmp a b ≡ Equal → a ≡ b
 same_from_tie a b equal = same_path-true a b (lists_ties (slice_cmp nat_cmp) texts_ties a b ∙ ap is_eq equal)
 
--- it is there
+-- the new line is in the list
 pub has_line-new : (ls : List NodeLine) (line : NodeLine) → has_line (with_line ls line) line.path ≡ true
 has_line-new [] line = ap (λ (b : Bool). b || has_line [] line.path) (same_path_itself line.path)
 has_line-new (l ∷ ls) line = by (path_cmp line.path l.path) (has_line-new ls line)
@@ -63,7 +63,7 @@ has_line-new (l ∷ ls) line = by (path_cmp line.path l.path) (has_line-new ls l
     by Equal later = ap (λ (b : Bool). b || has_line ls line.path) (same_path_itself line.path)
     by Greater later = or_right (same_path line.path l.path) (has_line (with_line ls line) line.path) later
 
--- and the nodes of the others have a line still
+-- the other nodes still have lines
 pub has_line-others : (ls : List NodeLine) (line : NodeLine) (node : Path) → has_line ls node ≡ true
     → has_line (with_line ls line) node ≡ true
 has_line-others [] line node had = or_right (same_path node line.path) (has_line [] node) had

@@ -1,4 +1,4 @@
--- Laws of the order in which clients are served.
+-- Theorems about the order in which clients are served.
 use Rattle.std.proofs.Common.{◌≡◌, ◌≢◌, ℕ, ◌*◌, ◌<◌, ◌≤◌, Bool, true, false, not, ◌&&◌, ◌||◌, cond, List, [], ◌∷◌, ◌++◌, nat_lt, refl, sym, ap, subst, ◌∙◌, inl, inr, arith}
 use Rattle.std.specs.declared.cmp.Ordering.{Ordering}
 use Rattle.std.specs.declared.cmp.Ordering.TheVariants.{Less, Equal, Greater}
@@ -62,7 +62,7 @@ both_tied Less p h = absurd (false≢true (ap is_eq h))
 both_tied Equal p h = (refl, h)
 both_tied Greater p h = absurd (false≢true (ap is_eq h))
 
--- siblings with two names are never tied
+-- siblings with different names are never tied
 pub sibling_cmp-apart : (s : Standing) (parent : Path) (a b : Text) → a ≢ b
     → sibling_cmp s parent a b ≢ Equal
 sibling_cmp-apart s parent a b other tied =
@@ -79,7 +79,7 @@ is_ahead-total s parent a b other =
     ∙ one_of_both (sibling_cmp s parent a b) (sibling_cmp-apart s parent a b other)
     ∙ ap not (sym (is_ahead-is s parent a b))
 
--- ---- wholes are above 0
+-- ---- denominators are above 0
 
 greater_above : (b : Bool) (f g : Fraction) → 0 < f.whole → 0 < g.whole → 0 < (cond b g f).whole
 greater_above true f g p q = q
@@ -130,12 +130,12 @@ module _ (s : Standing) (weighs : (node : Path) → 1 ≤ s.weight node) (parent
 
 -- ---- clients
 
--- names that differ decide
+-- different names decide
 differ : (s : Standing) (parent : Path) (a b : Text) (xs ys : Path) → same_text a b ≡ false
     → stands_before_below s parent (a ∷ xs) (b ∷ ys) ≡ is_ahead s parent a b
 differ s parent a b xs ys other = rw other
 
--- names that are the same do not
+-- equal names do not decide
 agree : (s : Standing) (parent : Path) (a : Text) (xs ys : Path)
     → stands_before_below s parent (a ∷ xs) (a ∷ ys) ≡ stands_before_below s (parent ++ a ∷ []) xs ys
 agree s parent a xs ys = rw (same_itself a)
@@ -143,7 +143,7 @@ agree s parent a xs ys = rw (same_itself a)
 other_way : (a b : Text) → same_text a b ≡ false → same_text b a ≡ false
 other_way a b other = nat_list_eq_equiv.symm b a ∙ other
 
--- one path is not below the other where the rest after a shared name is not
+-- if no path begins with the other, the rests after a shared name do not either
 below_same : (a : Text) (xs ys : Path) → begins_with (a ∷ xs) (a ∷ ys) ≡ false → begins_with xs ys ≡ false
 below_same a xs ys h = rw (same_itself a) at h
 
@@ -165,7 +165,7 @@ below-total s parent (a ∷ xs) (b ∷ ys) first second = elim (cases_same a b) 
       ∙ ap not (sym (differ s parent a b xs ys other.0))
 ]
 
--- of two clients neither of which is below the other, exactly one stands before the other
+-- if neither client's path begins with the other's, exactly one client comes before the other
 pub stands_before-total : (s : Standing) (a b : Path) → begins_with a b ≡ false → begins_with b a ≡ false
     → stands_before s b a ≡ not (stands_before s a b)
 stands_before-total s a b = below-total s [] a b
@@ -213,7 +213,7 @@ module _ (s : Standing) (weighs : (node : Path) → 1 ≤ s.weight node) where
         ]
   ]
 
-  -- the order goes on from one client to the next
+  -- the order is transitive
   pub stands_before-transitive : (a b c : Path) → stands_before s a b ≡ true → stands_before s b c ≡ true
       → stands_before s a c ≡ true
   stands_before-transitive a b c = below-transitive [] a b c
@@ -230,7 +230,7 @@ first_decides Less p other = refl
 first_decides Equal p other = absurd (other refl)
 first_decides Greater p other = refl
 
--- for two clients neither of which is below the other
+-- for two clients whose paths do not begin with one another
 pub is_lt-keys : (s : Standing) (parent : Path) (a b : Path) → begins_with a b ≡ false
     → begins_with b a ≡ false
     → is_lt (slice_cmp key_cmp (keys_of s parent a) (keys_of s parent b)) ≡ stands_before_below s parent a b

@@ -1,11 +1,11 @@
--- Passing one client by.
+-- Passing one client.
 use Rattle.std.specs.Prelude.{ℕ, List, [], ◌∷◌, drop, take}
 use Rattle.std.proofs.Common.{ap, arith, refl}
 use Rattle.std.proofs.lemmas.Option.{same_Some}
 use Rattle.drf_role.specs.Path.{Path}
 use Rattle.drf_sorter.specs.Passed.{IsPassedFront}
 
--- one that passes by alone shares its first parts with itself
+-- a client that is passed alone shares its first parts with itself
 pub one_is_front : (len : ℕ) (paths : List Path) → IsPassedFront len paths (drop 1 paths)
 one_is_front len [] = record { passed = []; split = refl; alike = λ first none. absurd cc; some = λ first none. absurd cc }
 one_is_front len (path ∷ paths) = record {

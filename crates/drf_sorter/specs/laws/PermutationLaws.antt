@@ -1,4 +1,4 @@
--- Lists in another order: what is kept of them when elements are taken out, and what holds of each element.
+-- Permutations of lists: what holds of the elements that pass a test, and of each element.
 use Rattle.std.proofs.Common.{ℕ, zero, suc, ◌<◌, Bool, List, [], ◌∷◌, filter, length, get_or, set, swap, arith, inl, inr}
 use Rattle.std.specs.List.{AllByRecursion}
 use Rattle.std.specs.List.Sorted.{IsPermutation}
@@ -6,7 +6,8 @@ use Rattle.std.proofs.lemmas.Bool.{cases_Bool}
 use Rattle.std.proofs.lemmas.List.Elements.{All-from_recursion, recursion_from_All}
 use Rattle.std.proofs.lemmas.List.Sorted.{All-permutation, IsPermutation-refl, IsPermutation-keeps, IsPermutation-cons, IsPermutation-middle, IsPermutation-trans}
 
--- a relation holds along each permutation if it is reflexive and transitive, goes under a first element, and over an exchange of the first two
+-- a relation holds of a list and each permutation of it, if it is reflexive and transitive and holds after an exchange of the first two
+-- elements
 module _ {X : Type 0} (R : List X → List X → Type 0) (same : (xs : List X) → R xs xs)
     (skip : (x : X) (xs ys : List X) → R xs ys → R (x ∷ xs) (x ∷ ys))
     (turn : (x y : X) (xs : List X) → R (x ∷ y ∷ xs) (y ∷ x ∷ xs))
@@ -31,7 +32,7 @@ module _ {X : Type 0} (R : List X → List X → Type 0) (same : (xs : List X) �
   along : (xs ys : List X) → IsPermutation xs ys → R xs ys
   along xs = IsPermutation-keeps xs (R xs) (same xs) (λ l i j p q h. chain xs l _ h (swapped l i j p q))
 
--- the elements that pass a test are the same, in another order
+-- the elements that pass a test are a permutation, too
 module _ {X : Type 0} (p : X → Bool) where
   abbrev Kept : List X → List X → Type 0
   Kept xs ys = IsPermutation (filter p xs) (filter p ys)
@@ -56,6 +57,6 @@ module _ {X : Type 0} (p : X → Bool) where
       along Kept (λ xs. IsPermutation-refl (filter p xs)) kept_under kept_turned
       (λ xs ys zs. IsPermutation-trans (filter p xs) (filter p ys) (filter p zs))
 
--- what holds of each element holds of each in another order
+-- what holds of each element holds of each element of a permutation
 pub each_permutation : {X : Type 0} (P : X → Type 0) (xs ys : List X) → IsPermutation xs ys → AllByRecursion P xs → AllByRecursion P ys
 each_permutation P xs ys moved all = recursion_from_All P ys (All-permutation P xs ys moved (All-from_recursion P xs all))

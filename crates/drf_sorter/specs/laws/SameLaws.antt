@@ -1,4 +1,4 @@
--- What is said of a content is said of each that is the same but for the order of its clients, and each change keeps them the same.
+-- Contents that are the same except for the order of their clients have the same properties, and stay the same after each change.
 use Rattle.std.specs.Prelude.{◌≡◌, ℕ, true, not, IsTrue, List, [], ◌∷◌, filter, sum_by, if◌then◌else◌}
 use Rattle.std.specs.List.{list_any}
 use Rattle.std.specs.List.Sorted.{IsPermutation}
@@ -42,7 +42,7 @@ IsSame-trans a b c first second = record {
 pub IsSame-from : (a b : Content) → a ≡ b → IsSame a b
 IsSame-from a b is = subst (IsSame a) is (IsSame-refl a)
 
--- equal contents may stand on either side
+-- the contents can be replaced by equal ones
 pub IsSame-between : (a b c d : Content) → a ≡ b → IsSame b c → c ≡ d → IsSame a d
 IsSame-between a b c d first same last = subst (IsSame a) last (subst (λ (k : Content). IsSame k c) (sym first) same)
 
@@ -80,7 +80,7 @@ module _ (a b : Content) (same : IsSame a b) where
   pub IsSame-with_total : (total : List Entry) → IsSame (record a { total = total }) (record b { total = total })
   IsSame-with_total total = record { clients = same.clients; total = refl; weights = same.weights }
 
-  -- ---- who is there
+  -- ---- which clients there are
 
   pub has_client-same : (path : Path) → has_client a path ≡ has_client b path
   has_client-same path = list_any-IsPermutation (λ (c : Ranked). same_path c.path path) a.clients b.clients same.clients

@@ -1,4 +1,4 @@
--- Paths that are put into serving order one by one: none is lost, and each stands before all later ones.
+-- Sorting paths into serving order, one by one: no path is lost, and each comes before all later ones.
 use Rattle.std.specs.Prelude.{◌≡◌, Bool, true, false, not, cond, List, [], ◌∷◌}
 use Rattle.std.specs.List.{AllByRecursion, IsDistinct, list_all}
 use Rattle.std.specs.List.Sorted.{IsPermutation}
@@ -13,7 +13,7 @@ use Rattle.drf_bundle.specs.ListLaws.{each_from_both}
 use Rattle.drf_sorter.specs.laws.OrderLaws.{stands_before-total, stands_before-transitive}
 use Rattle.drf_sorter.specs.Served.{Weighs}
 
--- a path is put before the first that it stands before
+-- a path is inserted before the first path that it comes before
 abbrev placed : Standing → Path → List Path → List Path
 placed s p [] = p ∷ []
 placed s p (q ∷ qs) = cond (stands_before s p q) (p ∷ q ∷ qs) (q ∷ placed s p qs)
@@ -22,7 +22,7 @@ abbrev pub sorted : Standing → List Path → List Path
 sorted s [] = []
 sorted s (p ∷ ps) = placed s p (sorted s ps)
 
--- ---- no path is lost, and none comes twice
+-- ---- no path is lost or doubled
 
 each_placed : (P : Path → Type 0) (s : Standing) (p : Path) (ps : List Path)
     → P p → AllByRecursion P ps → AllByRecursion P (placed s p ps)
@@ -51,7 +51,7 @@ moved_sorted s (p ∷ ps) =
     IsPermutation-trans (p ∷ ps) (p ∷ sorted s ps) (placed s p (sorted s ps))
     (IsPermutation-cons p ps (sorted s ps) (moved_sorted s ps)) (moved_placed s p (sorted s ps))
 
--- ---- each stands before all later ones
+-- ---- each path comes before all later ones
 
 -- neither path begins with the other
 abbrev Apart : Path → Path → Type 0
@@ -67,7 +67,7 @@ all_placed t s p (q ∷ qs) here all =
     (λ after. and_from (t q) (list_all t (placed s p qs)) parts.0 (all_placed t s p qs here parts.1))
 
 module _ (s : Standing) (weighs : Weighs s) where
-  -- who stands before a path stands before all that it stands before
+  -- a path that comes before another comes before all that the other comes before
   all_beyond : (p q : Path) (ps : List Path) → stands_before s p q ≡ true
       → list_all (stands_before s q) ps ≡ true → list_all (stands_before s p) ps ≡ true
   all_beyond p q [] before all = refl

@@ -1,4 +1,4 @@
--- What calls spend, one after another.
+-- The work of several calls, one after another.
 use Rattle.std.specs.Prelude.{◌≡◌, ◌≤◌, ◌+◌, ℕ, Bool, Result}
 use Rattle.std.proofs.Common.{Ok, Err, ap, arith}
 use Rattle.drf_sorter.specs.Work.{Work, Defers, DefersOnOk, OwesAtMost, Spends, SpendsOnOk, debt}
@@ -36,11 +36,11 @@ module _ {counted : Bool} {old new : Work} {most : ℕ} where
   pub defers-within : {more : ℕ} → Defers counted old new most → most ≤ more → Defers counted old new more
   defers-within so less = record { made = so.made; work = λ is. omega (arith, so.work is, less) }
 
--- where no more than that is owed after it
+-- if at most `most` keys are stale after the call
 pub defers-stale : {counted : Bool} {old new : Work} (most : ℕ) → new.made ≡ old.made → OwesAtMost counted new most → Defers counted old new most
 defers-stale most made stale = record { made = made; work = λ is. omega (arith, made, stale is) }
 
--- what holds however a call ends
+-- what holds in any case holds if the call succeeds
 module _ {T E : Type 0} {counted : Bool} {old new : Work} {most : ℕ} where
   pub spends-on_ok : (result : Result T E) → Spends counted old new most → SpendsOnOk counted result old new most
   spends-on_ok (Ok done) so = record { made = so.made; work = so.work }
@@ -50,6 +50,6 @@ module _ {T E : Type 0} {counted : Bool} {old new : Work} {most : ℕ} where
   defers-on_ok (Ok done) so = record { made = so.made; work = so.work }
   defers-on_ok (Err error) so = record { made = so.made; work = tt }
 
-  -- and what holds at Ok
+  -- what holds if the call succeeds
   pub spends-at_ok : {done : T} → SpendsOnOk {T = T} {E = E} counted (Ok done) old new most → Spends counted old new most
   spends-at_ok so = record { made = so.made; work = so.work }

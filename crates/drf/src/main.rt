@@ -1,4 +1,4 @@
-//! The program `drf`: its command line, files and the three standard streams.
+//! The program `drf`: passes its arguments, the files and the three standard streams to the command line.
 #![tactic(auto)]
 
 use drf_app::{command, no_words};
@@ -8,7 +8,7 @@ use std::env::Env;
 use std::process::ExitCode;
 use std::{env, io};
 
-/// Returns the arguments of the program. The first is `drf`, which messages call it, whatever its file is called.
+/// Returns the arguments of the program. The first is always `drf`, which messages use as the program's name.
 fn words<R: Env + AllocGlobal>(rt: &R) -> io::Result<Vec<String>> {
     let mut words = env::args(rt)?.collect::<Vec<String>>(rt.alloc())?;
     if let Some(name) = words.first_mut() {

@@ -1,4 +1,4 @@
--- What the words of a command line were found to be.
+-- Lemmas about the arguments that `clap` has read.
 use Rattle.std.specs.Prelude.{◌≡◌, ◌&&◌, not, Bool, true, false, List, [], ◌∷◌, Option, Some, None, Box, find, option_map, option_and_then, Result, Ok, Err, IsErrAnd, MatchResult}
 use Rattle.std.specs.Box.{box_value}
 use Rattle.std.proofs.Common.{refl, sym, ap, subst, inl, inr}
@@ -38,7 +38,7 @@ entered_among : (shapes : List Shape) (p : Text × List Row) (stop : Option (Tex
 entered_among shapes p None e = cc
 entered_among shapes p (Some q) e = found_among (λ s. answers_to q.0 (label_of s)) q.1 p shapes e
 
--- it is one of those of the form
+-- it is one of the commands of the form
 pub entered_is_named : (a : App) (words : List Text) (p : Text × List Row) → subcommand_of a words ≡ Some p → IsNameOf (built a).subs p.0
 entered_is_named a words p e =
     entered_among (built a).subs p (stop_after (built a).top.rules (names_of (built a)) (argument_words a words)) e
@@ -47,7 +47,7 @@ module _ {Z : Type 0} where
   abbrev name_in : Option (Box SubCommand Z) → Option Text
   name_in o = option_map (λ b. (out-SubCommand (box_value b)).name.now) o
 
-  -- a command of that name, with those rows, was entered
+  -- a command with this name and these arguments was entered
   pub entered : (o : Option (Box SubCommand Z)) (name : Text) (rows : List Row) → Some name ≡ name_in o
       → Some rows ≡ option_map (λ p. p.1) (subcommand_rows o) → subcommand_rows o ≡ Some (name, rows)
   entered None name rows named with_rows = cc
@@ -64,13 +64,13 @@ no_globals false b true rest plain = absurd (false≢true plain)
 no_globals true true true rest plain = absurd (false≢true plain)
 no_globals true false true rest plain = absurd (false≢true plain)
 
--- a plain command has no argument for all its commands
+-- a plain command has no argument that applies to all its subcommands
 pub local : (command : Command) → (app_of command).top.is_plain ≡ true → (out-Command command).has_globals ≡ false
 local command plain =
     let fields = out-Command command in
     no_globals (is_empty fields.groups.items) fields.allow_external_subcommands fields.has_globals _ plain
 
--- so is one that `clap` reads exactly
+-- a command that `clap` reads exactly is plain
 pub is_plain_form : (a : App) → is_simple_and_free a ≡ true → a.top.is_plain ≡ true
 is_plain_form a exact =
     let simple = (and_parts (is_simple a) (is_free_app (built a)) exact).0 in
@@ -78,15 +78,15 @@ is_plain_form a exact =
     let rules = (and_parts (has_simple_rules a.top) (list_all is_simple_leaf a.subs) buildable).0 in
     (and_parts a.top.is_plain (list_all (λ r. r.is_simple) a.top.rules) rules).0
 
--- ---- words that are refused
+-- ---- arguments that are refused
 
 module _ {T : Type 0} (Asked : T → Type 0) (kinds : Kinds) where
-  -- where memory ran out
+  -- after running out of memory
   pub out_of_memory : (r : Result T Error) → IsErrAnd r (λ e. kind_of e ≡ OutOfMemory) → MatchResult r Asked (HasKind kinds)
   out_of_memory (Ok task) memory = absurd memory
   out_of_memory (Err error) memory = inl memory
 
-  -- they stay so
+  -- an error that is passed on is one of the same kinds
   pub refused_as : (r : Result T Error) (error : Error) → IsErrAnd r (λ e. e ≡ error) → HasKind kinds error
       → MatchResult r Asked (HasKind kinds)
   refused_as (Ok task) error same refused = absurd same

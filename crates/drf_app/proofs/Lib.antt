@@ -1,3 +1,4 @@
+-- Lemmas about the command line.
 mod Entered
 mod Flushed
 mod Started

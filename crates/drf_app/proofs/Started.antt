@@ -1,4 +1,4 @@
--- An allocator that has just begun, as callers see it.
+-- Lemmas about the allocator that a task starts from, as callers see it.
 use Rattle.std.specs.Prelude.{◌≡◌, ℕ, List, Ok}
 use Rattle.drf_core.specs.Machine.{Engine, IsOpened, live, opened}
 use Rattle.drf_files.specs.Files.{Known, MayHave}
@@ -12,7 +12,7 @@ pub is_open : (engine : Engine) → IsOpened ceilings engine → live engine ≡
 unfolding live
 is_open engine is = λ i. record { limits = is.limits i; rows = is.rows i }
 
--- one that was read of a file
+-- the allocator that was read from a file
 pub is_in_file : (known : Known) (name bytes : List ℕ) (engine : Engine) → MayHave (known name) bytes → IsReadState ceilings bytes engine
     → IsInFile known name (live engine)
 unfolding live

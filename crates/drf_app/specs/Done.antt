@@ -1,4 +1,4 @@
--- What a command has read, written and told, and its status.
+-- What each command reads, writes and reports, and its exit status.
 use Rattle.std.specs.Prelude.{◌≡◌, ℕ, Bool, true, false, ◌⊎◌, List, [], ◌∷◌, ◌++◌, Option, Result, OnOk, option_map, codes}
 use Rattle.std.specs.Io.KnownBytes.{IsAtEnd}
 use Rattle.clap.specs.Words.{kind_of}
@@ -33,13 +33,13 @@ use Rattle.drf_app.specs.declared.request.Scope.TheVariants.{Short, Each, Summar
 use Rattle.drf_app.specs.declared.request.Task.{Task}
 use Rattle.drf_app.specs.declared.request.Task.TheVariants.{Run, Check, Audit, Explain, Save, Show, Lint}
 
--- the lines of a reader were answered, or its questions too
+-- the lines of the input were replied to; with `ask`, its questions too
 abbrev pub HasAnsweredAs : (ask : Bool) → Machine → Bool → (unread_before unread_after written_before written_after : Option (List ℕ))
     → Result ℕ RunFault → Type 0
 HasAnsweredAs false = HasAnswered
 HasAnsweredAs true = HasAsked
 
--- a run of an allocator
+-- `drf run`, from this state
 pub record HasRun (machine : Machine) (echo ask : Bool) (old new : Streams) (answer : ℕ) : Type 0 where
   pub ended : Result ℕ RunFault
   pub run : HasAnsweredAs ask machine echo old.input.bytes new.input.bytes old.output.bytes new.output.bytes ended
@@ -48,7 +48,7 @@ pub record HasRun (machine : Machine) (echo ask : Bool) (old new : Streams) (ans
   pub status : answer ≡ status_of ended
   pub told : IsToldOf ended old.errors.bytes new.errors.bytes new.errors.failed
 
--- a check of a journal that begins with an allocator
+-- `drf check`, from this state
 pub record HasChecked (machine : Machine) (old new : Streams) (answer : ℕ) : Type 0 where
   pub ended : Result Verdict RunFault
   pub judged : IsJudged machine old.input.bytes ended old.output.bytes new.output.bytes
@@ -56,7 +56,7 @@ pub record HasChecked (machine : Machine) (old new : Streams) (answer : ℕ) : T
   pub status : answer ≡ check_status ended
   pub told : IsToldOf ended old.errors.bytes new.errors.bytes new.errors.failed
 
--- an audit
+-- `drf audit`, from this state
 pub record HasAudit (machine : Machine) (old new : Streams) (answer : ℕ) : Type 0 where
   pub ended : Result (Unit {0}) RunFault
   pub audited : HasAudited machine old.input.bytes new.input.bytes old.output.bytes new.output.bytes ended
@@ -64,7 +64,7 @@ pub record HasAudit (machine : Machine) (old new : Streams) (answer : ℕ) : Typ
   pub status : answer ≡ status_of ended
   pub told : IsToldOf ended old.errors.bytes new.errors.bytes new.errors.failed
 
--- a text that tells of the cycle at a moment, where `tell` is that of rows
+-- a text about the cycle at a timestamp was written; `tell` gives this text for rows
 pub record HasToldCycle (tell : Rows → List ℕ) (machine : Machine) (old new : Streams) (answer : ℕ) : Type 0 where
   pub ended : Result (Unit {0}) RunFault
   pub rows : HasToldOfRows tell machine old.input.bytes new.input.bytes old.output.bytes new.output.bytes ended
@@ -72,24 +72,25 @@ pub record HasToldCycle (tell : Rows → List ℕ) (machine : Machine) (old new 
   pub status : answer ≡ status_of ended
   pub told : IsToldOf ended old.errors.bytes new.errors.bytes new.errors.failed
 
+-- the message if the arguments ask for several explanations
 abbrev pub several_line : List ℕ
 several_line = codes "drf: explain takes one of --client, --agent and --summary at a time" ++ 10 ∷ []
 
--- nothing was read or written, as the words ask for several texts
+-- nothing was read or written, because the arguments ask for several explanations
 pub record HasAskedSeveral (old new : Streams) (answer : ℕ) : Type 0 where
   pub input : new.input ≡ old.input
   pub output : new.output ≡ old.output
   pub status : answer ≡ 2
   pub told : IsTold several_line old.errors.bytes new.errors.bytes new.errors.failed
 
--- what is asked for was told of the cycle at a moment
+-- `drf explain`: the explanation of the cycle at a timestamp was written
 abbrev pub HasExplained : Machine → ℕ → Scope → Streams → Streams → ℕ → Type 0
 HasExplained machine at Short old new answer = HasToldCycle (cycle_text at) machine old new answer
 HasExplained machine at (Each whom) old new answer = HasToldCycle (asked_text whom at) machine old new answer
 HasExplained machine at Summary old new answer = HasToldCycle (summed_text at) machine old new answer
 HasExplained machine at Several old new answer = HasAskedSeveral old new answer
 
--- the state was saved, as it is or with an epoch
+-- `drf save`: the state was saved, with `epoch` without offers and with counts restarted
 pub record HasSaved (machine : Machine) (epoch : Bool) (old new : Streams) (answer : ℕ) : Type 0 where
   pub ended : Result (Unit {0}) RunFault
   pub saved : HasSavedState machine epoch old.input.bytes new.input.bytes old.output.bytes new.output.bytes ended
@@ -101,7 +102,7 @@ abbrev pub form_of : Bool → Form
 form_of true = Json
 form_of false = Aligned
 
--- the state was shown, as tables or as lines
+-- `drf show`: the state was shown, as tables or as lines
 pub record HasShown (machine : Machine) (json : Bool) (old new : Streams) (answer : ℕ) : Type 0 where
   pub ended : Result (Unit {0}) RunFault
   pub shown : HasShownRows (form_of json) machine old.input.bytes new.input.bytes old.output.bytes new.output.bytes ended
@@ -109,7 +110,7 @@ pub record HasShown (machine : Machine) (json : Bool) (old new : Streams) (answe
   pub status : answer ≡ status_of ended
   pub told : IsToldOf ended old.errors.bytes new.errors.bytes new.errors.failed
 
--- a drive of the files of these names, which begins with an allocator
+-- `drf drive` for the files with these names, from this state
 pub record HasDriven (start : Machine) (known : Known) (names : List (List ℕ)) (old new : Streams) (answer : ℕ) : Type 0 where
   pub ended : Result (Unit {0}) ScriptFault
   pub input : new.input ≡ old.input
@@ -117,7 +118,7 @@ pub record HasDriven (start : Machine) (known : Known) (names : List (List ℕ))
   pub cause : new.output.failed ≡ is_write_fault ended
   pub told : HasToldDrive names ended answer old.errors.bytes new.errors.bytes new.errors.failed
 
--- what is done for a task that begins with an allocator
+-- what a task does from this state
 abbrev pub HasDoneFrom : Machine → Task → Streams → Streams → ℕ → Type 0
 HasDoneFrom machine (Run echo ask) old new answer = HasRun machine echo ask old new answer
 HasDoneFrom machine Check old new answer = HasChecked machine old new answer
@@ -127,19 +128,19 @@ HasDoneFrom machine (Save epoch) old new answer = HasSaved machine epoch old new
 HasDoneFrom machine (Show json) old new answer = HasShown machine json old new answer
 HasDoneFrom machine (Lint write) old new answer = IsLinted write old new answer
 
--- what is done for a request, where so much is known of files: its task has not begun, or was done from what it begins with
+-- what a request does, given what is known of files: it could not start, or its task was done from the state that it starts from
 abbrev pub HasDone : Known → Request → Streams → Streams → ℕ → Type 0
 HasDone known request old new answer =
     HasNotStarted known (option_map (λ name. name.now) request.from) old new answer
     ⊎ ((start : Machine) × IsStart known (option_map (λ name. name.now) request.from) start × HasDoneFrom start request.task old new answer)
 
--- and for a drive
+-- the same for a drive
 abbrev pub HasDoneDrive : Known → Drive → Streams → Streams → ℕ → Type 0
 HasDoneDrive known drive old new answer =
     HasNotStarted known drive.from old new answer
     ⊎ ((start : Machine) × IsStart known drive.from start × HasDriven start known drive.files old new answer)
 
--- what the words ask for was done, or they were refused
+-- what the arguments ask for was done, or they were refused
 pub data HasObeyed (known : Known) (words : List (List ℕ)) (old new : Streams) (answer : ℕ) : Type 0 where
   done : (request : Request) → Asks words request → HasDone known request old new answer → HasObeyed known words old new answer
   driven : (asks : AsksDrive words) → HasDoneDrive known (drive_of asks.rows) old new answer → HasObeyed known words old new answer
@@ -149,7 +150,7 @@ pub data HasObeyed (known : Known) (words : List (List ℕ)) (old new : Streams)
 abbrev pub AreSame : Streams → Streams → Type 0
 AreSame old new = new ≡ old
 
--- the words ask for a drive, and nothing was done as yet
+-- the arguments ask for a drive, and nothing was done yet
 pub record IsLeft (words : List (List ℕ)) (old new : Streams) : Type 0 where
   pub asks : AsksDrive words
   pub same : AreSame old new

@@ -1,3 +1,4 @@
+-- What the command line does, as its contracts describe it.
 pub mod Arguments
 pub mod FileNames
 pub mod Told

@@ -1,4 +1,4 @@
--- The form of the command line, and what its words ask for.
+-- The form of the command line, and what its arguments ask for.
 use Rattle.std.specs.Prelude.{◌≡◌, ◌≤◌, ⊤, ℕ, Bool, true, false, List, [], ◌∷◌, Option, Some, None, codes, option_map, take, unwrap_or, if◌then◌else◌}
 use Rattle.std.specs.Str.Parse.{IsNumeral, digits_value, without_leading_plus}
 use Rattle.clap.specs.Words.{App, Row, Rule, Text, HasKind, all_of, fault_of, first_of, new_app, new_rule, one_of, subcommand_of, with_rule, with_subcommand}
@@ -17,7 +17,7 @@ use Rattle.drf_app.specs.declared.request.Task.TheVariants.{Run, Check, Audit, E
 
 -- ---- the form
 
--- `--from STATE`, which each command has but `lint`
+-- `--from STATE`, which each command but `lint` has
 abbrev pub from_option : Rule
 from_option = record (new_rule (codes "from")) { long = Some (codes "from"); value_names = 1; action = Some Set }
 
@@ -36,9 +36,11 @@ check_line = with_rule (new_app (codes "check")) from_option
 abbrev pub audit_line : App
 audit_line = with_rule (new_app (codes "audit")) from_option
 
+-- `--client FRAMEWORK ROLE`
 abbrev pub client_option : Rule
 client_option = record (new_rule (codes "client")) { long = Some (codes "client"); value_names = 2; action = Some Set }
 
+-- `--agent NAME`
 abbrev pub agent_option : Rule
 agent_option = record (new_rule (codes "agent")) { long = Some (codes "agent"); value_names = 1; action = Some Set }
 
@@ -72,22 +74,22 @@ file_words = record (new_rule (codes "FILE")) {
 abbrev pub drive_line : App
 drive_line = with_rule (with_rule (new_app (codes "drive")) from_option) file_words
 
+-- the command line of `drf`
 abbrev pub drf_line : App
 drf_line =
     with_subcommand (with_subcommand (with_subcommand (with_subcommand (with_subcommand (with_subcommand (with_subcommand (with_subcommand top_line
     run_line.top) check_line.top) audit_line.top) show_line.top) explain_line.top) save_line.top) lint_line.top) drive_line.top
 
--- ---- what the words of a command say
+-- ---- what the arguments of a command say
 
--- a moment is what they say of it: nothing, so that it is 0, or a number in digits, which is no later than the latest
--- moment where the words are right
+-- the timestamp of `--at`: 0 without it; otherwise the number in its digits, if it is at most the latest timestamp, as it is for right arguments
 pub record SaysMoment (rows : List Row) (at : ℕ) : Type 0 where
   pub unsaid : one_of (codes "at") rows ≡ None → at ≡ 0
   pub said : (text : Text) → one_of (codes "at") rows ≡ Some text → IsNumeral 10 (without_leading_plus text)
       → digits_value 10 (without_leading_plus text) ≤ LATEST_MOMENT → at ≡ digits_value 10 (without_leading_plus text)
   pub early : at ≤ LATEST_MOMENT
 
--- what is asked for, by its texts
+-- what `explain` is asked for
 pub data Asked : Type 0 where
   short : Asked
   all : Asked
@@ -113,7 +115,7 @@ asked_of_client (framework ∷ []) = several
 asked_of_client (framework ∷ role ∷ []) = client framework role
 asked_of_client (framework ∷ role ∷ more ∷ others) = several
 
--- by what is said of `--each`, `--summary`, `--agent` and `--client`, of which one may be said beside the first
+-- what `--each`, `--summary`, `--agent` and `--client` ask for; only one of the last three may be given
 abbrev pub asked_by : Bool → Bool → Option Text → Option (List Text) → Asked
 asked_by each false None None = if each then all else short
 asked_by each true None None = sums
@@ -123,7 +125,7 @@ asked_by each false None (Some texts) = asked_of_client texts
 asked_by each true None (Some texts) = several
 asked_by each summary (Some name) (Some texts) = several
 
--- what they say of whom to tell
+-- the scope that the arguments of `explain` ask for
 pub record SaysScope (rows : List Row) (scope : Scope) : Type 0 where
   pub each : Bool
   pub summary : Bool
@@ -131,7 +133,7 @@ pub record SaysScope (rows : List Row) (scope : Scope) : Type 0 where
   pub is_summary : HasFlag rows (codes "summary") summary
   pub asked : asked_for scope ≡ asked_by each summary (first_of (codes "agent") rows) (all_of (codes "client") rows)
 
--- the name of the command that does a task
+-- the name of the command for a task
 abbrev pub name_of : Task → Text
 name_of (Run echo ask) = codes "run"
 name_of Check = codes "check"
@@ -141,11 +143,11 @@ name_of (Save epoch) = codes "save"
 name_of (Show json) = codes "show"
 name_of (Lint write) = codes "lint"
 
--- a command has that name
+-- there is a command with this name
 abbrev pub IsCommand : Text → Type 0
 IsCommand name = IsNameOf drf_line.subs name
 
--- what they say of its flags is the task's
+-- the arguments of a command say what the task has
 abbrev pub SaysTask : List Row → Task → Type 0
 SaysTask rows (Run echo ask) = HasFlag rows (codes "echo") echo × HasFlag rows (codes "ask") ask
 SaysTask rows Check = ⊤
@@ -155,12 +157,12 @@ SaysTask rows (Save epoch) = HasFlag rows (codes "epoch") epoch
 SaysTask rows (Show json) = HasFlag rows (codes "json") json
 SaysTask rows (Lint write) = HasFlag rows (codes "write") write
 
--- and so is the file with the state that it begins with, if it begins with one
+-- so they do for the request, with the file of `--from`, if there is one
 pub record SaysRequest (rows : List Row) (request : Request) : Type 0 where
   pub task : SaysTask rows request.task
   pub from : option_map (λ name. name.now) request.from ≡ first_of (codes "from") rows
 
--- the moment of a task, if it has one, is no later than the latest
+-- the timestamp of a task, if it has one, is at most the latest timestamp
 abbrev pub IsWithinBounds : Task → Type 0
 IsWithinBounds (Run echo ask) = ⊤
 IsWithinBounds Check = ⊤
@@ -170,8 +172,7 @@ IsWithinBounds (Save epoch) = ⊤
 IsWithinBounds (Show json) = ⊤
 IsWithinBounds (Lint write) = ⊤
 
--- what the words of a drive say: the first 64 of the files that they name (right words name no more), and the file with the state that it begins with, if
--- it begins with one
+-- the arguments of a drive: the first 64 of its files (right arguments have no more), and the file of `--from`, if there is one
 pub record Drive : Type 0 where
   pub files : List Text
   pub from : Option Text
@@ -179,14 +180,14 @@ pub record Drive : Type 0 where
 abbrev pub drive_of : List Row → Drive
 drive_of rows = record { files = take 64 (unwrap_or (all_of (codes "FILE") rows) []); from = first_of (codes "from") rows }
 
--- ---- what the words ask for
+-- ---- what the arguments ask for
 
--- the words, of which the first is the program's name, name that command, and nothing is wrong with them
+-- the arguments, of which the first is the program's name, name this command, and nothing is wrong with them
 pub record Names (words : List Text) (name : Text) (rows : List Row) : Type 0 where
   pub right : fault_of drf_line words ≡ []
   pub entered : subcommand_of drf_line words ≡ Some (name, rows)
 
--- they ask for the task of a request
+-- they ask for this request
 pub record Asks (words : List Text) (request : Request) : Type 0 where
   pub rows : List Row
   pub names : Names words (name_of request.task) rows
@@ -197,6 +198,6 @@ pub record AsksDrive (words : List Text) : Type 0 where
   pub rows : List Row
   pub names : Names words (codes "drive") rows
 
--- the words are refused for what is wrong with them or for what they show, or memory ran out before they were read
+-- the arguments are refused because they are wrong or ask for help or the version, or memory ran out before they were read
 abbrev pub IsRefused : List Text → Error → Type 0
 IsRefused words error = HasKind (fault_of drf_line words) error

@@ -1,4 +1,4 @@
--- What comes of a look at event lines.
+-- What `drf lint` does, and its exit status.
 use Rattle.std.specs.Prelude.{◌≡◌, ℕ, zero, suc, Bool, true, false, ◌||◌, List, Option, Result, Ok, Err}
 use Rattle.std.specs.Io.KnownBytes.{Keeps}
 use Rattle.drf_journal.specs.Ended.{HasCause}
@@ -7,30 +7,30 @@ use Rattle.drf_lint.specs.Linted.{HasLinted}
 use Rattle.drf_app.specs.Streams.{Stream, Streams}
 use Rattle.drf_app.specs.Told.{IsTold, fault_line}
 
--- 0 where all lines are events, 3 where some are not
+-- 0 if all lines are events, 3 if some are not, 1 after an error
 abbrev pub lint_status : Result ℕ RunFault → ℕ
 lint_status (Ok zero) = 0
 lint_status (Ok (suc faults)) = 3
 lint_status (Err fault) = 1
 
--- what was told of how it ended: a fault, unless standard error itself had failed
+-- the message about an error, which is not written if standard error itself has failed
 abbrev pub IsLintEnd : Result ℕ RunFault → (failed_before : Bool) → Option (List ℕ) → Option (List ℕ) → Bool → Type 0
 IsLintEnd (Ok faults) before old new failed = (new ≡ old) × (failed ≡ before)
 IsLintEnd (Err fault) false old new failed = IsTold (fault_line fault) old new failed
 IsLintEnd (Err fault) true old new failed = (new ≡ old) × (failed ≡ true)
 
--- lines were looked at, and their events and what is told of the others were given to two streams
+-- the lines were read; the events were written to one stream, and the reports about other lines to another
 pub record IsLookedAt (write : Bool) (read_before read_after written_before written_after told_before told_after : Stream)
     (ended : Result ℕ RunFault) : Type 0 where
   pub linted : HasLinted write read_before.bytes read_after.bytes written_before.bytes written_after.bytes told_before.bytes told_after.bytes ended
   pub cause : HasCause ended read_after.failed read_after.calls (written_after.failed || told_after.failed)
 
--- Lines are told of on standard output, or, with `write`, on standard error, and the events written on standard output.
+-- reports go to standard output; with `write`, they go to standard error, and the events to standard output
 abbrev pub IsLooked : Bool → Streams → Streams → Result ℕ RunFault → Type 0
 IsLooked true old new ended = IsLookedAt true old.input new.input old.output new.output old.errors new.errors ended
 IsLooked false old new ended = IsLookedAt false old.input new.input old.errors new.errors old.output new.output ended
 
--- all lines were looked at, or a fault ended that and was told
+-- all lines were read, or an error stopped the command and was reported
 pub record IsLinted (write : Bool) (old new : Streams) (answer : ℕ) : Type 0 where
   pub looked : Streams
   pub ended : Result ℕ RunFault

@@ -1,4 +1,4 @@
--- What a command does whose words ask for nothing that there is.
+-- What happens if the arguments name no task.
 use Rattle.std.specs.Prelude.{◌≡◌, ℕ, ◌⊎◌, List, Result, IfErr, is_err}
 use Rattle.clap.specs.declared.error.kind.ErrorKind.{ErrorKind}
 use Rattle.clap.specs.declared.error.kind.ErrorKind.TheVariants.{OutOfMemory, DisplayHelp, DisplayVersion}
@@ -25,7 +25,7 @@ pub record HasShown (old new : Streams) (answer : ℕ) : Type 0 where
   pub status : answer ≡ status_of ended
   pub told : IsToldOf ended old.errors.bytes new.errors.bytes new.errors.failed
 
--- what is wrong with the words was told
+-- the message about wrong arguments was written
 pub record HasExplained (old new : Streams) (answer : ℕ) : Type 0 where
   pub text : List ℕ
   pub input : new.input ≡ old.input
@@ -33,7 +33,7 @@ pub record HasExplained (old new : Streams) (answer : ℕ) : Type 0 where
   pub status : answer ≡ 2
   pub told : IsTold text old.errors.bytes new.errors.bytes new.errors.failed
 
--- what is done where words ask for no task
+-- what is written for each kind of refusal
 abbrev pub HasRefused : ErrorKind → Streams → Streams → ℕ → Type 0
 HasRefused OutOfMemory old new answer = HasNoMemory old new answer
 HasRefused DisplayHelp old new answer = HasShown old new answer ⊎ HasNoMemory old new answer

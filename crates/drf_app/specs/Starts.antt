@@ -1,4 +1,4 @@
--- The allocator that a task begins with, and why there is none.
+-- The state that a task starts from, and why it could not start.
 use Rattle.std.specs.Prelude.{◌≡◌, ℕ, Bool, List, [], Option, Some, None, Ok, Err, unwrap_or}
 use Rattle.drf_core.specs.Machine.{Machine, opened}
 use Rattle.drf_files.specs.Files.{Known, IsFileFault, MayHave}
@@ -14,43 +14,43 @@ use Rattle.drf_app.specs.Told.{HasToldFile, HasToldLine, refused_line}
 use Rattle.drf_app.specs.declared.start.StartFault.{StartFault}
 use Rattle.drf_app.specs.declared.start.StartFault.TheVariants.{Run, Line}
 
--- an allocator with the rows that the file of that name says
+-- an allocator with the rows in the file with this name
 pub record IsInFile (known : Known) (name : List ℕ) (machine : Machine) : Type 0 where
   pub bytes : List ℕ
   pub had : MayHave (known name) bytes
   pub said : state_in ceilings bytes ≡ Ok machine.rows
   pub limits : machine.limits ≡ ceilings
 
--- what a task begins with within the full limits, if so much is known of files: the opening, or what the file of a name says
+-- what a task starts from, with full limits, given what is known of files: an empty cluster, or the state in the file with this name
 abbrev pub IsStart : Known → Option (List ℕ) → Machine → Type 0
 IsStart known None machine = machine ≡ opened ceilings
 IsStart known (Some name) machine = IsInFile known name machine
 
--- the text of the file of that name is no state: its first fault is that of that line
+-- the file with this name is not a state: its first wrong line, with the first error of that line
 pub record HasBadLine (known : Known) (name : List ℕ) (line : ℕ) (fault : StateFault) : Type 0 where
   pub bytes : List ℕ
   pub had : MayHave (known name) bytes
   pub said : state_in ceilings bytes ≡ Err (line, fault)
 
--- why there is none: memory ran out, the file cannot be read, or its text is no state
+-- why a task could not start: memory ran out, the file cannot be read, or it is not a state
 abbrev pub IsStartFault : Known → Option (List ℕ) → StartFault → Type 0
 IsStartFault known None (Run fault) = fault ≡ Memory
 IsStartFault known None (Line line fault) = ⊥
 IsStartFault known (Some name) (Run fault) = IsFileFault (known name) fault
 IsStartFault known (Some name) (Line line fault) = HasBadLine known name line fault
 
--- by why its text is no state
+-- the error for a text that is not a state
 abbrev pub start_fault_of : StateError → StartFault
 start_fault_of (error.Line line fault) = Line line fault
 start_fault_of error.Memory = Run Memory
 
--- what is told of it, and the status
+-- the message for it, and the exit status
 abbrev pub HasToldStart : List ℕ → StartFault → ℕ → Option (List ℕ) → Option (List ℕ) → Bool → Type 0
 HasToldStart name (Run fault) answer old new failed = HasToldFile name fault answer old new failed
 HasToldStart name (Line line fault) answer old new failed =
     HasToldLine (refused_line name line (state_fault_number fault) (state_fault_name fault)) answer old new failed
 
--- a task has not begun: nothing was read of the input, and nothing was written
+-- a task could not start: no input was read, and no output was written
 pub record HasNotStarted (known : Known) (from : Option (List ℕ)) (old new : Streams) (answer : ℕ) : Type 0 where
   pub fault : StartFault
   pub why : IsStartFault known from fault

@@ -2,7 +2,7 @@
 use Rattle.std.specs.Prelude.{ℕ, Bool, List, Option}
 use Rattle.drf_journal.specs.declared.device.Device.{Device}
 
--- a stream: what is still to be read or what was written, where that is known, how often it was called, and whether it failed
+-- a stream: what is left to read or was written, if that is known; the number of calls; and whether it failed
 pub record Stream : Type 0 where
   pub bytes : Option (List ℕ)
   pub calls : ℕ
@@ -11,6 +11,7 @@ pub record Stream : Type 0 where
 abbrev pub stream_of : {T : Type 0} → (T → Option (List ℕ)) → Device T → Stream
 stream_of bytes device = record { bytes = bytes device.inner; calls = device.calls; failed = device.failed }
 
+-- the three standard streams
 pub record Streams : Type 0 where
   pub input : Stream
   pub output : Stream

@@ -1,4 +1,4 @@
--- What is said of a journal, and the status.
+-- What `drf check` writes, and its exit status.
 use Rattle.std.specs.Prelude.{◌≡◌, ℕ, Bool, true, false, List, [], ◌∷◌, ◌++◌, Option, Result, Ok, Err, IfSome, codes, decimal}
 use Rattle.std.specs.Io.KnownBytes.{Appends}
 use Rattle.drf_core.specs.Machine.{Machine}
@@ -9,10 +9,12 @@ use Rattle.drf_journal.specs.declared.fault.RunFault.TheVariants.{Read, Write, M
 use Rattle.drf_journal.specs.declared.journal.Verdict.{Verdict}
 use Rattle.drf_journal.specs.declared.journal.Verdict.TheVariants.{Good, Bad}
 
+-- the line with a verdict
 abbrev pub verdict_line : Verdict → List ℕ
 verdict_line (Good events) = codes "good " ++ decimal events ++ 10 ∷ []
 verdict_line (Bad line) = codes "bad line " ++ decimal line ++ 10 ∷ []
 
+-- the exit status for a verdict
 abbrev pub verdict_status : Verdict → ℕ
 verdict_status (Good events) = 0
 verdict_status (Bad line) = 3
@@ -24,18 +26,18 @@ IsSaid verdict (Err Read) old new failed = ⊥
 IsSaid verdict (Err Write) old new failed = AppendsFrontOf old new (verdict_line verdict) × (failed ≡ true)
 IsSaid verdict (Err Memory) old new failed = (new ≡ old) × (failed ≡ false)
 
--- it is that of the journal, which begins with an allocator
+-- it is the verdict on the journal, from this state
 abbrev pub IsOf : Machine → Option (List ℕ) → Verdict → Type 0
 IsOf machine unread verdict = IfSome unread (λ journal. IsVerdict machine journal verdict)
 
--- and what was written of it: nothing where reading failed or memory ran out
+-- what was written of it: nothing if reading failed or memory ran out
 abbrev pub IsJudged : Machine → Option (List ℕ) → Result Verdict RunFault → Option (List ℕ) → Option (List ℕ) → Type 0
 IsJudged machine unread (Ok verdict) old new = IsOf machine unread verdict × Appends old new (verdict_line verdict)
 IsJudged machine unread (Err Read) old new = new ≡ old
 IsJudged machine unread (Err Write) old new = (verdict : Verdict) × IsOf machine unread verdict × AppendsFrontOf old new (verdict_line verdict)
 IsJudged machine unread (Err Memory) old new = new ≡ old
 
--- the status of a check
+-- the exit status of a check
 abbrev pub check_status : Result Verdict RunFault → ℕ
 check_status (Ok verdict) = verdict_status verdict
 check_status (Err fault) = 1

@@ -9,6 +9,7 @@ use clap::{Arg, ArgAction, ArgMatches, Command, Error};
 use std::alloc::{AllocError, Global};
 use std::convert::AsStr;
 
+/// The version that `drf --version` prints.
 const VERSION: &str = "0.1.0";
 
 /// Returns `drf` without any command.

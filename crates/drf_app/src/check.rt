@@ -11,6 +11,7 @@ use itoa::Buffer;
 use std::alloc::{AllocError, Global};
 use std::io::{Read, Write};
 
+/// Returns the line for a verdict.
 fn verdict_line(alloc: Global, verdict: Verdict) -> Result<String, AllocError>
     ensures { IfOk result (λ line. string_bytes line ≡ verdict_line verdict) }
 {

@@ -28,6 +28,7 @@ use std::io::Write;
 use std::sync::Wait;
 use std::thread::Threads;
 
+/// Returns the name of the file at an index.
 fn name_at<'a>(names: &[&'a str], file: usize) -> &'a str
     ensures { result.now ≡ name_at (map (λ name. name.now) names.now) file }
 {

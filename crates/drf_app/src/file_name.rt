@@ -5,7 +5,7 @@ ghost use Rattle.drf_app.specs.FileNames.{told_byte, told_name};
 
 use std::alloc::AllocError;
 
-// Adds a byte of a name.
+// Appends a byte of a name, escaped if it is ASCII.
 fn push_byte(text: &mut Vec<u8>, byte: u8) -> Result<(), AllocError>
     ensures { OnOk result (text.new.items ≡ text.old.items ++ told_byte byte) }
 {
@@ -19,6 +19,7 @@ fn push_byte(text: &mut Vec<u8>, byte: u8) -> Result<(), AllocError>
     Ok(())
 }
 
+/// Appends the bytes of a name, escaped if they are ASCII.
 fn push_bytes(text: &mut Vec<u8>, bytes: &[u8]) -> Result<(), AllocError>
     ensures { OnOk result (text.new.items ≡ text.old.items ++ flat_map told_byte bytes.now) }
 {

@@ -27,6 +27,7 @@ fn from_option<'a>(alloc: Global) -> Arg<'a>
         .action(ArgAction::Set)
 }
 
+/// Returns the command `run`.
 fn run_line<'a>(alloc: Global) -> Result<Command<'a>, AllocError>
     ensures { IfOk result (λ line. app_of line ≡ run_line) }
 {
@@ -46,6 +47,7 @@ fn run_line<'a>(alloc: Global) -> Result<Command<'a>, AllocError>
     with_argument(with_argument(line, ask), from_option(alloc))
 }
 
+/// Returns the command `check`.
 fn check_line<'a>(alloc: Global) -> Result<Command<'a>, AllocError>
     ensures { IfOk result (λ line. app_of line ≡ check_line) }
 {
@@ -55,6 +57,7 @@ fn check_line<'a>(alloc: Global) -> Result<Command<'a>, AllocError>
         .arg(from_option(alloc))
 }
 
+/// Returns the command `audit`.
 fn audit_line<'a>(alloc: Global) -> Result<Command<'a>, AllocError>
     ensures { IfOk result (λ line. app_of line ≡ audit_line) }
 {
@@ -66,6 +69,7 @@ fn audit_line<'a>(alloc: Global) -> Result<Command<'a>, AllocError>
         .arg(from_option(alloc))
 }
 
+/// Returns the command `show`.
 fn show_line<'a>(alloc: Global) -> Result<Command<'a>, AllocError>
     ensures { IfOk result (λ line. app_of line ≡ show_line) }
 {
@@ -82,6 +86,7 @@ fn show_line<'a>(alloc: Global) -> Result<Command<'a>, AllocError>
     with_argument(line, from_option(alloc))
 }
 
+/// Returns the option `--at MOMENT`.
 fn moment_option<'a>(alloc: Global) -> Arg<'a>
     ensures rule { rule_of result ≡ moment_option }
     ensures local { result.global ≡ false }
@@ -95,6 +100,7 @@ fn moment_option<'a>(alloc: Global) -> Arg<'a>
         .action(ArgAction::Set)
 }
 
+/// Returns the option `--client FRAMEWORK ROLE`.
 fn client_option<'a>(alloc: Global) -> Arg<'a>
     ensures rule { rule_of result ≡ client_option }
     ensures local { result.global ≡ false }
@@ -108,6 +114,7 @@ fn client_option<'a>(alloc: Global) -> Arg<'a>
         .action(ArgAction::Set)
 }
 
+/// Returns the option `--agent NAME`.
 fn agent_option<'a>(alloc: Global) -> Arg<'a>
     ensures rule { rule_of result ≡ agent_option }
     ensures local { result.global ≡ false }
@@ -119,6 +126,7 @@ fn agent_option<'a>(alloc: Global) -> Arg<'a>
         .action(ArgAction::Set)
 }
 
+/// Returns the command `explain`.
 fn explain_line<'a>(alloc: Global) -> Result<Command<'a>, AllocError>
     ensures { IfOk result (λ line. app_of line ≡ explain_line) }
 {
@@ -147,6 +155,7 @@ fn explain_line<'a>(alloc: Global) -> Result<Command<'a>, AllocError>
     with_argument(line, from_option(alloc))
 }
 
+/// Returns the command `save`.
 fn save_line<'a>(alloc: Global) -> Result<Command<'a>, AllocError>
     ensures { IfOk result (λ line. app_of line ≡ save_line) }
 {
@@ -163,6 +172,7 @@ fn save_line<'a>(alloc: Global) -> Result<Command<'a>, AllocError>
     with_argument(line, from_option(alloc))
 }
 
+/// Returns the command `lint`.
 fn lint_line<'a>(alloc: Global) -> Result<Command<'a>, AllocError>
     ensures { IfOk result (λ line. app_of line ≡ lint_line) }
 {
@@ -178,6 +188,7 @@ fn lint_line<'a>(alloc: Global) -> Result<Command<'a>, AllocError>
         ))
 }
 
+/// Returns the arguments `FILE..` of `drive`.
 fn file_words<'a>(alloc: Global) -> Arg<'a>
     ensures rule { rule_of result ≡ file_words }
     ensures local { result.global ≡ false }
@@ -189,6 +200,7 @@ fn file_words<'a>(alloc: Global) -> Arg<'a>
         .action(ArgAction::Append)
 }
 
+/// Returns the command `drive`.
 fn drive_line<'a>(alloc: Global) -> Result<Command<'a>, AllocError>
     ensures { IfOk result (λ line. app_of line ≡ drive_line) }
 {

@@ -8,6 +8,7 @@ use drf_journal::{Device, RunFault, write_whole};
 use std::io;
 use std::io::{ErrorKind, Write};
 
+/// Returns the message about an error.
 fn fault_line(fault: RunFault) -> &'static str
     ensures { result.now ≡ fault_line fault }
 {

@@ -21,7 +21,7 @@ pub(crate) struct RefusedLine<'a> {
     pub name: &'a str,
 }
 
-// Adds a word and a number.
+// Appends a text and a number.
 fn push_number(text: &mut Vec<u8>, word: &str, number: u64) -> Result<(), AllocError>
     ensures { OnOk result (text.new.items ≡ text.old.items ++ (word.now ++ decimal number)) }
 {
@@ -29,7 +29,7 @@ fn push_number(text: &mut Vec<u8>, word: &str, number: u64) -> Result<(), AllocE
     text.extend_from_slice(Buffer::new().format(number).as_bytes())
 }
 
-// Adds the number and the name of a fault, and a line feed.
+// Appends the number and the name of an error, and a line feed.
 fn push_fault(text: &mut Vec<u8>, number: u64, name: &str) -> Result<(), AllocError>
     ensures { OnOk result (text.new.items ≡ text.old.items ++ ((codes " refused " ++ decimal number) ++ (32 ∷ name.now ++ 10 ∷ []))) }
 {
@@ -40,6 +40,7 @@ fn push_fault(text: &mut Vec<u8>, number: u64, name: &str) -> Result<(), AllocEr
     Ok(())
 }
 
+/// Returns the message about a wrong line.
 fn refused_line(alloc: Global, line: RefusedLine<'_>) -> Result<Vec<u8>, AllocError>
     ensures { IfOk result (λ text. text.items ≡ refused_line line.entry.file.now line.entry.line line.entry.fault line.entry.name.now) }
 {

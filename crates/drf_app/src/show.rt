@@ -15,6 +15,7 @@ use std::alloc::Global;
 use std::io::{Read, Write};
 use std::thread::Threads;
 
+/// Returns the form of the output.
 fn form_of(json: bool) -> Form
     ensures { result ≡ form_of json }
 {

@@ -8,6 +8,7 @@ use drf_journal::{Device, RunFault};
 use std::alloc::{AllocError, Global};
 use std::io::Write;
 
+/// Returns the message about a file that cannot be read.
 fn unread_line(alloc: Global, file: &str) -> Result<Vec<u8>, AllocError>
     ensures { IfOk result (λ line. line.items ≡ unread_line file.now) }
 {

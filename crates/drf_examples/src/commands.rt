@@ -1,6 +1,6 @@
-//! Commands on words: each line of `commands` has the stream that fails, if one does, the status, the words, the input's file,
-//! and the first lines that are written and that are told, or `@` and a file with the whole text, with `|` between them. A journal
-//! whose lines may stand in several orders is told by what `check`, from the same state, says of it, behind `?`.
+//! Tests of command lines. Each line of `commands` has six fields, separated by `|`: the stream that fails (or nothing), the exit status, the
+//! arguments, the input's file, and what is expected on standard output and standard error. The expected text is its first line, or `@FILE` for the
+//! whole text. `?VERDICT` is for a journal whose lines can be in different orders: `check`, from the same state, must give this verdict.
 use crate::streams::{Bounds, Full, NO_BOUNDS, Slow};
 use drf_app::command;
 use drf_files::{FileBytes, SystemFiles};
@@ -12,7 +12,7 @@ use std::sync::Wait;
 use std::thread::Threads;
 use std::{fs, io};
 
-/// What is wanted of a command.
+/// What is expected of a command.
 #[derive(Clone, Copy, Drop)]
 struct Wanted<'a> {
     failing: &'a str,
@@ -23,6 +23,7 @@ struct Wanted<'a> {
     told: &'a str,
 }
 
+/// Returns the expectation that a line of `commands` states, or `None` if it has another form.
 fn wanted_of(row: &str) -> Option<Wanted<'_>> {
     let (failing, rest) = row.split_once('|')?;
     let (status, rest) = rest.split_once('|')?;
@@ -39,6 +40,7 @@ fn wanted_of(row: &str) -> Option<Wanted<'_>> {
     })
 }
 
+/// Returns the arguments, after `drf`.
 fn words_of<'a>(alloc: Global, words: &'a str) -> Result<Vec<&'a str>, AllocError> {
     let mut list = Vec::new(alloc);
     list.push("drf")?;
@@ -48,6 +50,7 @@ fn words_of<'a>(alloc: Global, words: &'a str) -> Result<Vec<&'a str>, AllocErro
     Ok(list)
 }
 
+/// Returns the bounds for the stream that fails.
 fn bounds_of(failing: &str) -> Bounds {
     let (mut reads, mut writes) = (usize::MAX, usize::MAX);
     if failing == "input" {
@@ -63,13 +66,13 @@ fn bounds_of(failing: &str) -> Bounds {
     }
 }
 
-/// Whether a text begins with that line.
+/// Returns whether a text begins with this line.
 fn begins_with(text: &[u8], line: &str) -> bool {
     let first = text.split(|byte| *byte == b'\n').next().unwrap_or(&[]);
     first == line.as_bytes()
 }
 
-/// The words that check a journal, from the state with which the words begin that wrote it.
+/// Returns the arguments that check a journal, with the `--from` of the arguments that wrote it.
 fn check_words<'a>(alloc: Global, words: &[&'a str]) -> Result<Vec<&'a str>, AllocError> {
     let mut list = Vec::new(alloc);
     list.push("drf")?;
@@ -85,8 +88,7 @@ fn check_words<'a>(alloc: Global, words: &[&'a str]) -> Result<Vec<&'a str>, All
     Ok(list)
 }
 
-/// Whether a text is that of the file behind `@`, or a journal of which `check` says what stands behind `?`, or else begins with
-/// that line.
+/// Returns whether a text is as expected: equal to the file after `@`, a journal with the verdict after `?`, or else beginning with this line.
 fn is_text<R: Files + Threads + Wait + Sync + AllocGlobal>(
     rt: &R,
     words: &[&str],
@@ -105,7 +107,7 @@ fn is_text<R: Files + Threads + Wait + Sync + AllocGlobal>(
     Ok(text == whole.as_slice())
 }
 
-/// The files of the system, and under the name `STATE` what was saved.
+/// The files of the system, and a saved state under the name `STATE`.
 #[derive(Drop)]
 struct WithState<'a, R> {
     rt: &'a R,
@@ -127,7 +129,7 @@ impl<R: Files + AllocGlobal> FileBytes for WithState<'_, R> {
     }
 }
 
-/// What a command did.
+/// The exit status, standard output and standard error of a command.
 #[derive(Drop)]
 pub struct Done {
     pub status: u8,
@@ -135,7 +137,7 @@ pub struct Done {
     pub told: Vec<u8>,
 }
 
-/// Does what words ask for, with a state under the name `STATE`.
+/// Runs a command with these arguments, with a state under the name `STATE`.
 pub fn done_from<R: Files + Threads + Wait + Sync + AllocGlobal>(
     rt: &R,
     words: &[&str],
@@ -164,6 +166,7 @@ pub fn done_from<R: Files + Threads + Wait + Sync + AllocGlobal>(
     }
 }
 
+/// Runs a command without a state.
 fn done_by<R: Files + Threads + Wait + Sync + AllocGlobal>(
     rt: &R,
     words: &[&str],
@@ -173,6 +176,7 @@ fn done_by<R: Files + Threads + Wait + Sync + AllocGlobal>(
     done_from(rt, words, &[], input, bounds)
 }
 
+/// Returns whether a command did what is expected.
 fn is_done<R: Files + Threads + Wait + Sync + AllocGlobal>(
     rt: &R,
     words: &[&str],
@@ -184,6 +188,7 @@ fn is_done<R: Files + Threads + Wait + Sync + AllocGlobal>(
     Ok(done.status == wanted.status && is_written && is_told)
 }
 
+/// Returns whether the command of a line of `commands` does what is expected.
 fn is_exact<R: Files + Threads + Wait + Sync + AllocGlobal>(rt: &R, row: &str) -> io::Result<bool> {
     let Some(wanted) = wanted_of(row) else {
         return Ok(false);
@@ -194,6 +199,7 @@ fn is_exact<R: Files + Threads + Wait + Sync + AllocGlobal>(rt: &R, row: &str) -
     is_done(rt, &words, &done, wanted)
 }
 
+/// Runs all commands and prints those that do something else.
 pub fn run_all<R: Runtime + Threads + Wait + Sync + AllocGlobal>(rt: &R) -> io::Result<()> {
     let list = fs::read_to_string(rt, "commands")?;
     let (mut commands, mut others) = (0u64, 0u64);

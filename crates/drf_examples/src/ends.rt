@@ -1,7 +1,6 @@
-//! Runs to the ends of the tables: a line of `ends` without a blank names a run, which begins a new core of the greatest limits,
-//! and every other line is `COUNT WANT EVENT`. The event is taken COUNT times, each `#` in it the number of the repetition, from 0
-//! on, or from N on where COUNT is `COUNT@N`. WANT is what each of the replies must be: `ok`, the name of a refusal, or how many
-//! offers a cycle makes.
+//! Tests of the capacities. A line of `ends` without a space is the name of a run, which starts with a new core with full limits. Every other line is
+//! `COUNT EXPECTED EVENT`. The event is taken COUNT times, with each `#` in it replaced by the number of the repetition, from 0, or from N if COUNT
+//! is `COUNT@N`. EXPECTED is the expected reply to each: `ok`, the name of a refusal, or the number of offers that a cycle makes.
 use drf_core::Core;
 use drf_lines::read_event;
 use drf_rows::{Limits, Reply};
@@ -11,7 +10,7 @@ use std::alloc::Global;
 use std::rt::Runtime;
 use std::{fs, io};
 
-/// An event that is taken several times, with a number of its own each time, and what is wanted of the replies.
+/// An event that is taken several times, each time with another number, and the expected reply.
 #[derive(Clone, Copy, Drop)]
 struct Row<'a> {
     first: u64,
@@ -20,6 +19,7 @@ struct Row<'a> {
     event: &'a str,
 }
 
+/// Returns the row that a line states, or `None` if it has another form.
 fn row_of(line: &str) -> Option<Row<'_>> {
     let (times, rest) = line.split_once(' ')?;
     let (wanted, event) = rest.split_once(' ')?;
@@ -32,6 +32,7 @@ fn row_of(line: &str) -> Option<Row<'_>> {
     })
 }
 
+/// Returns whether a reply is as expected.
 fn is_wanted(reply: &Reply, wanted: &str) -> bool {
     match reply {
         Reply::Done => wanted == "ok",
@@ -41,7 +42,7 @@ fn is_wanted(reply: &Reply, wanted: &str) -> bool {
     }
 }
 
-/// Whether a line is an event, and its reply is as wanted.
+/// Returns whether a line is an event, and its reply is as expected.
 fn is_answered<S: Sorter>(
     alloc: Global,
     core: &mut Core<S>,
@@ -55,7 +56,7 @@ fn is_answered<S: Sorter>(
     Ok(is_wanted(&reply, wanted))
 }
 
-/// The same of a row's event with that number.
+/// Returns whether the reply to a row's event with this number is as expected.
 fn is_row_answered<S: Sorter>(
     alloc: Global,
     core: &mut Core<S>,
@@ -67,7 +68,7 @@ fn is_row_answered<S: Sorter>(
     is_answered(alloc, core, line.as_str(), row.wanted)
 }
 
-/// How many of a row's events are answered otherwise.
+/// Returns how many events of a row have an unexpected reply.
 fn others_in<S: Sorter>(alloc: Global, core: &mut Core<S>, row: Row) -> io::Result<u64> {
     let mut others = 0u64;
     for number in row.first..row.first.saturating_add(row.count) {
@@ -78,7 +79,7 @@ fn others_in<S: Sorter>(alloc: Global, core: &mut Core<S>, row: Row) -> io::Resu
     Ok(others)
 }
 
-/// How many events a line has, and how many of them are answered otherwise. A line of another form has one, which is.
+/// Returns how many events a line has, and how many of them have an unexpected reply. A line of another form counts as one such event.
 fn counts_of<S: Sorter>(alloc: Global, core: &mut Core<S>, line: &str) -> io::Result<(u64, u64)> {
     match row_of(line) {
         Some(row) => Ok((row.count, others_in(alloc, core, row)?)),
@@ -86,7 +87,7 @@ fn counts_of<S: Sorter>(alloc: Global, core: &mut Core<S>, line: &str) -> io::Re
     }
 }
 
-/// The same, and the line is told where one is.
+/// Does what `counts_of` does, and prints the line if a reply is unexpected.
 fn take_line<S: Sorter, R: Runtime + AllocGlobal>(
     rt: &R,
     core: &mut Core<S>,
@@ -99,11 +100,12 @@ fn take_line<S: Sorter, R: Runtime + AllocGlobal>(
     Ok((events, others))
 }
 
+/// Returns whether a line is the name of a run.
 fn is_name(line: &str) -> bool {
     !line.contains(' ')
 }
 
-/// Takes the lines behind a run's name, up to the next one.
+/// Takes the lines of the run with this name, and prints the result.
 fn tell_run<S: Sorter, R: Runtime + AllocGlobal>(
     rt: &R,
     core: &mut Core<S>,
@@ -124,6 +126,7 @@ fn tell_run<S: Sorter, R: Runtime + AllocGlobal>(
     println!(rt; "ends {name}: {events} events, of which {others} are answered otherwise")
 }
 
+/// Takes the lines of a run with a new core.
 fn tell_new_run<S: Sorter, R: Runtime + AllocGlobal>(
     rt: &R,
     list: &str,
@@ -133,6 +136,7 @@ fn tell_new_run<S: Sorter, R: Runtime + AllocGlobal>(
     tell_run(rt, &mut core, list, name)
 }
 
+/// Runs all runs of `ends`.
 pub fn run_all<R: Runtime + AllocGlobal>(rt: &R) -> io::Result<()> {
     let list = fs::read_to_string(rt, "ends")?;
     for line in list.as_str().lines() {

@@ -1,4 +1,4 @@
-//! The events of a day in one call of the core, and what its rows and its report then tell.
+//! Takes the events of a day in one call of the core, and prints facts about its rows and its report.
 use crate::streams::tell;
 use drf_core::Core;
 use drf_lines::{LineError, read_event, write_reply};
@@ -8,11 +8,12 @@ use std::alloc::{AllocError, Global};
 use std::rt::{Files, Runtime};
 use std::{fs, io};
 
+/// Appends the event of a line.
 fn add_event(alloc: Global, events: &mut Vec<Event>, line: &str) -> Result<(), LineError> {
     Ok(events.push(read_event(alloc, line.as_bytes())?)?)
 }
 
-/// The events of some lines, each of which is one.
+/// Returns the events of lines, or the error of the first line that is not an event.
 pub fn events_of(alloc: Global, lines: &str) -> Result<Vec<Event>, LineError> {
     let mut events = Vec::new(alloc);
     for line in lines.lines() {
@@ -21,11 +22,13 @@ pub fn events_of(alloc: Global, lines: &str) -> Result<Vec<Event>, LineError> {
     Ok(events)
 }
 
+/// Appends the line of a reply.
 fn add_reply(alloc: Global, text: &mut Vec<u8>, reply: &Reply) -> Result<(), AllocError> {
     let line = write_reply(alloc, reply)?;
     text.extend_from_slice(line.as_slice())
 }
 
+/// Appends the lines of replies.
 fn add_replies(alloc: Global, text: &mut Vec<u8>, replies: &[Reply]) -> Result<(), AllocError> {
     for reply in replies {
         add_reply(alloc, text, reply)?;
@@ -33,7 +36,7 @@ fn add_replies(alloc: Global, text: &mut Vec<u8>, replies: &[Reply]) -> Result<(
     Ok(())
 }
 
-/// Adds the lines of the replies to events, of which the core takes all in one call.
+/// Appends the lines of the replies to events, all of which the core takes in one call.
 fn add_answers<S: Sorter>(
     alloc: Global,
     core: &mut Core<S>,
@@ -45,6 +48,7 @@ fn add_answers<S: Sorter>(
     add_replies(alloc, text, &replies)
 }
 
+/// Returns whether the replies to the events are these bytes.
 fn is_answered<S: Sorter>(
     alloc: Global,
     core: &mut Core<S>,
@@ -56,7 +60,7 @@ fn is_answered<S: Sorter>(
     is_done && told.as_slice() == output
 }
 
-/// Whether the core answers the lines, each of which is an event, by those bytes.
+/// Returns whether the replies to these lines, each of which must be an event, are these bytes.
 fn answers<S: Sorter>(alloc: Global, core: &mut Core<S>, lines: &str, output: &[u8]) -> bool {
     match events_of(alloc, lines) {
         Ok(events) => is_answered(alloc, core, &events, output),
@@ -64,12 +68,13 @@ fn answers<S: Sorter>(alloc: Global, core: &mut Core<S>, lines: &str, output: &[
     }
 }
 
+/// Returns whether the replies to the day's events are as expected.
 fn is_exact<S: Sorter, R: Files + AllocGlobal>(rt: &R, core: &mut Core<S>) -> io::Result<bool> {
     let (lines, output) = (fs::read_to_string(rt, "day.in")?, fs::read(rt, "day.out")?);
     Ok(answers(rt.alloc(), core, lines.as_str(), &output))
 }
 
-/// How many rows of each kind there are, the clock, and how many events were taken.
+/// Prints the number of rows of each kind, the clock, and the number of accepted events.
 fn tell_rows(rt: &impl Print, rows: &Rows) -> io::Result<()> {
     let (agents, frameworks) = (rows.agents.len(), rows.frameworks.len());
     let (offers, tasks, filters) = (rows.offers.len(), rows.tasks.len(), rows.filters.len());
@@ -79,19 +84,20 @@ fn tell_rows(rt: &impl Print, rows: &Rows) -> io::Result<()> {
     )
 }
 
-/// Told of a copy of the rows.
+/// Prints the same of a copy of the rows.
 fn tell_copied_rows<S: Sorter, R: Runtime + AllocGlobal>(rt: &R, core: &Core<S>) -> io::Result<()> {
     let rows = core.rows()?.copy()?;
     tell_rows(rt, &rows)
 }
 
-/// How many nodes a report and its copy have, and how many offers the first of them was made.
+/// Prints the numbers of nodes of a report and of its copy, and the count of the first node.
 fn tell_report(rt: &impl Print, report: &Report, copy: &Report) -> io::Result<()> {
     let offers = copy.nodes.as_slice().first().map_or(0, |node| node.count);
     let (nodes, copied) = (report.nodes.len(), copy.nodes.len());
     println!(rt; "report: {nodes} nodes, {copied} in a copy, {offers} offers to the first")
 }
 
+/// Prints the facts about the report and its copy.
 fn tell_copied_report<S: Sorter, R: Runtime + AllocGlobal>(
     rt: &R,
     core: &Core<S>,
@@ -101,6 +107,7 @@ fn tell_copied_report<S: Sorter, R: Runtime + AllocGlobal>(
     tell_report(rt, &report, &copy)
 }
 
+/// Takes the events of the day, and prints the facts.
 fn tell_all<S: Sorter, R: Runtime + AllocGlobal>(rt: &R, core: &mut Core<S>) -> io::Result<()> {
     let is_exact = is_exact(rt, core)?;
     tell(rt, "a day at once", is_exact)?;
@@ -108,6 +115,7 @@ fn tell_all<S: Sorter, R: Runtime + AllocGlobal>(rt: &R, core: &mut Core<S>) -> 
     tell_copied_report(rt, core)
 }
 
+/// Runs the test.
 pub fn run_all<R: Runtime + AllocGlobal>(rt: &R) -> io::Result<()> {
     let mut core = Core::<PlainSorter>::open(rt.alloc(), Limits::full())?;
     tell_all(rt, &mut core)

@@ -1,7 +1,7 @@
-//! Keys that the sorter of a core makes: each line of `keys` names an example, and behind it how many of its events come next
-//! and how many keys they make, as `2:7`. A client has a node for each beginning of its path, as `a`, `a/.` and `a/./f1`. A node that
-//! comes makes a key, and at an agent's turn so does each node that stands and is marked: after the total changed those whose
-//! clients hold something, else those on the way to clients that were offered something, gave it back or left.
+//! Tests how many sort keys a sorter computes. Each line of `keys` names an example, followed by parts such as `2:7`: the next 2 events compute 7
+//! keys. A client has a node for each prefix of its path: `a`, `a/.` and `a/./f1`. A key is computed for each node that is added, and at an agent's
+//! turn for each dirty node. If the total changed, the dirty nodes are those whose clients hold something; otherwise they are those on the paths to
+//! clients that were offered something, returned something or left.
 use crate::events::events_of;
 use drf_core::Core;
 use drf_rows::{Event, Limits};
@@ -11,13 +11,13 @@ use std::alloc::{AllocError, Global};
 use std::rt::{Files, Runtime};
 use std::{fs, io};
 
-/// The lines of an example.
+/// Returns the lines of an example.
 fn lines_of<R: Files + AllocGlobal>(rt: &R, name: &str) -> io::Result<String> {
     let path = format!(in rt.alloc(); "{name}.in")?;
     fs::read_to_string(rt, path.as_str())
 }
 
-/// How many keys are made while the core takes the events.
+/// Returns how many keys are computed while the core takes these events.
 fn keys_for<S: Sorter>(
     alloc: Global,
     core: &mut Core<S>,
@@ -26,10 +26,11 @@ fn keys_for<S: Sorter>(
     let before = core.sorter().keys_made();
     let mut replies = Vec::new(alloc);
     core.run(events, &mut replies)?;
-    // A count that fell would be far too large.
+    // If the count decreased, the result would be very large.
     Ok(core.sorter().keys_made().wrapping_sub(before))
 }
 
+/// Takes events, and prints whether they compute the expected number of keys.
 fn tell_keys<S: Sorter, R: Runtime + AllocGlobal>(
     rt: &R,
     core: &mut Core<S>,
@@ -41,13 +42,14 @@ fn tell_keys<S: Sorter, R: Runtime + AllocGlobal>(
     println!(rt; "events {}, keys {made}: {verdict}", events.len())
 }
 
-/// The events that come next, how many keys they make, and the events after them.
+/// Returns the events of a part, the expected number of keys, and the events after the part.
 fn part_of<'a>(events: &'a [Event], part: &str) -> Option<(&'a [Event], u64, &'a [Event])> {
     let (count, keys) = part.split_once(':')?;
     let (next, later) = events.split_at_checked(count.parse::<usize>().ok()?)?;
     Some((next, keys.parse::<u64>().ok()?, later))
 }
 
+/// Does so for each part.
 fn tell_parts<S: Sorter, R: Runtime + AllocGlobal>(
     rt: &R,
     core: &mut Core<S>,
@@ -65,6 +67,7 @@ fn tell_parts<S: Sorter, R: Runtime + AllocGlobal>(
     Ok(())
 }
 
+/// Does so with a new core.
 fn tell_events<S: Sorter, R: Runtime + AllocGlobal>(
     rt: &R,
     events: &[Event],
@@ -74,6 +77,7 @@ fn tell_events<S: Sorter, R: Runtime + AllocGlobal>(
     tell_parts(rt, &mut core, events, parts)
 }
 
+/// Does so for the example of a line of `keys`.
 fn tell_example<S: Sorter, R: Runtime + AllocGlobal>(rt: &R, row: &str) -> io::Result<()> {
     let (name, parts) = row.split_once(' ').unwrap_or((row, ""));
     let lines = lines_of(rt, name)?;
@@ -83,6 +87,7 @@ fn tell_example<S: Sorter, R: Runtime + AllocGlobal>(rt: &R, row: &str) -> io::R
     }
 }
 
+/// Runs the test for each line of `keys`.
 pub fn run_all<R: Runtime + AllocGlobal>(rt: &R) -> io::Result<()> {
     let list = fs::read_to_string(rt, "keys")?;
     for row in list.as_str().lines() {

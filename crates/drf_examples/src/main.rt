@@ -1,5 +1,4 @@
-//! Runs the worked examples of `data/`, and one of them over streams that are slow or fail, and tells of each whether
-//! what was written is, byte for byte, what it must be.
+//! Runs the worked examples of `data/`, and one of them on streams that are slow or fail, and prints whether the output is exactly the expected one.
 #![tactic(auto)]
 
 mod commands;

@@ -1,6 +1,6 @@
-//! Runs that go on from a saved state. `resumes` names examples: behind each of its lines an example is cut, the state that is saved there
-//! must let a run of the rest write the end of what the whole run writes, and what is saved of the rest must be what is saved of the whole.
-//! Each line of `state_faults` has what must be told of a text that is no state, and behind `|` this text, a blank for each line feed.
+//! Tests runs that resume from a saved state. Each example named in `resumes` is cut after every line and saved there. A run of the rest from this
+//! state must write the rest of the replies, and must end in the same state as the whole run. Each line of `state_faults` has the expected message
+//! about a text that is not a state and, after `|`, this text, with a space for each line feed.
 use crate::commands::{Done, done_from};
 use crate::rows::bytes;
 use crate::streams::{NO_BOUNDS, first_lines, tell};
@@ -10,13 +10,15 @@ use std::sync::Wait;
 use std::thread::Threads;
 use std::{fs, io};
 
-/// The example whose state is damaged byte by byte.
+/// The example of which each byte of the state is changed in turn.
 const DAMAGED: &str = "first";
 
+/// Saves the state after these lines.
 fn save<R: Files + Threads + Wait + Sync + AllocGlobal>(rt: &R, lines: &[u8]) -> Done {
     done_from(rt, &["drf", "save"], &[], lines, NO_BOUNDS)
 }
 
+/// Saves the state after these lines, from a state.
 fn save_from<R: Files + Threads + Wait + Sync + AllocGlobal>(
     rt: &R,
     state: &[u8],
@@ -26,6 +28,7 @@ fn save_from<R: Files + Threads + Wait + Sync + AllocGlobal>(
     done_from(rt, &words, state, lines, NO_BOUNDS)
 }
 
+/// Replies to these lines, from a state.
 fn run_from<R: Files + Threads + Wait + Sync + AllocGlobal>(
     rt: &R,
     state: &[u8],
@@ -35,7 +38,7 @@ fn run_from<R: Files + Threads + Wait + Sync + AllocGlobal>(
     done_from(rt, &words, state, lines, NO_BOUNDS)
 }
 
-/// The first lines of a text, and the lines behind them.
+/// Splits a text after this number of lines.
 fn cut_behind(text: &[u8], lines: usize) -> (&[u8], &[u8]) {
     let front = first_lines(text, lines);
     text.split_at_checked(front.len()).unwrap_or((text, &[]))
@@ -49,7 +52,7 @@ struct Example<'a> {
     state: &'a [u8],
 }
 
-/// Whether an example that is cut behind so many lines goes on as if it were not.
+/// Returns whether an example that is cut after this number of lines continues as if it were not cut.
 fn is_resumed<R: Files + Threads + Wait + Sync + AllocGlobal>(
     rt: &R,
     example: Example<'_>,
@@ -66,6 +69,7 @@ fn is_resumed<R: Files + Threads + Wait + Sync + AllocGlobal>(
         && saved.written.as_slice() == example.state
 }
 
+/// Returns whether this holds for each cut of the example.
 fn is_resumed_everywhere<R: Files + Threads + Wait + Sync + AllocGlobal>(
     rt: &R,
     name: &str,
@@ -81,7 +85,7 @@ fn is_resumed_everywhere<R: Files + Threads + Wait + Sync + AllocGlobal>(
     Ok((0..=lines).all(|cut| is_resumed(rt, example, cut)))
 }
 
-/// A text that stands on one line, a blank for each line feed.
+/// Returns a text, with a line feed for each space of the line.
 fn text_of(alloc: Global, line: &str) -> Result<Vec<u8>, AllocError> {
     let mut text = Vec::new(alloc);
     for byte in line.as_bytes() {
@@ -90,7 +94,7 @@ fn text_of(alloc: Global, line: &str) -> Result<Vec<u8>, AllocError> {
     Ok(text)
 }
 
-/// Whether of a text nothing is done, and that is told.
+/// Returns whether a text is refused with this message, and nothing is written.
 fn is_told<R: Files + Threads + Wait + Sync + AllocGlobal>(
     rt: &R,
     state: &[u8],
@@ -101,6 +105,7 @@ fn is_told<R: Files + Threads + Wait + Sync + AllocGlobal>(
     Ok(done.status == 3 && done.written.is_empty() && done.told.as_slice() == line.as_bytes())
 }
 
+/// Returns whether this holds for a line of `state_faults`.
 fn is_row_told<R: Files + Threads + Wait + Sync + AllocGlobal>(
     rt: &R,
     row: &str,
@@ -112,7 +117,7 @@ fn is_row_told<R: Files + Threads + Wait + Sync + AllocGlobal>(
     is_told(rt, &state, fault)
 }
 
-/// Whether a state with another byte at a place is none.
+/// Returns whether a state is refused if the byte at this place is changed.
 fn is_refused<R: Files + Threads + Wait + Sync + AllocGlobal>(
     rt: &R,
     state: &mut [u8],
@@ -129,6 +134,7 @@ fn is_refused<R: Files + Threads + Wait + Sync + AllocGlobal>(
     done.status == 3 && done.written.is_empty()
 }
 
+/// Returns whether this holds for each byte of the state.
 fn is_refused_everywhere<R: Files + Threads + Wait + Sync + AllocGlobal>(
     rt: &R,
     state: &mut [u8],
@@ -141,12 +147,14 @@ fn is_refused_everywhere<R: Files + Threads + Wait + Sync + AllocGlobal>(
     true
 }
 
+/// Tests the state with each of its bytes changed.
 fn tell_damage<R: Runtime + Threads + Wait + Sync + AllocGlobal>(rt: &R) -> io::Result<()> {
     let mut state = bytes(rt, DAMAGED, "state")?;
     let is_exact = is_refused_everywhere(rt, state.as_mut_slice());
     tell(rt, "a state with another byte", is_exact)
 }
 
+/// Tests each line of `state_faults`.
 fn tell_faults<R: Runtime + Threads + Wait + Sync + AllocGlobal>(rt: &R) -> io::Result<()> {
     let list = fs::read_to_string(rt, "state_faults")?;
     let (mut faults, mut others) = (0u64, 0u64);
@@ -160,6 +168,7 @@ fn tell_faults<R: Runtime + Threads + Wait + Sync + AllocGlobal>(rt: &R) -> io::
     println!(rt; "{faults} texts that are no states, of which {others} are told otherwise")
 }
 
+/// Tests each example of `resumes`.
 fn tell_cuts<R: Runtime + Threads + Wait + Sync + AllocGlobal>(rt: &R) -> io::Result<()> {
     let list = fs::read_to_string(rt, "resumes")?;
     let (mut examples, mut others) = (0u64, 0u64);
@@ -173,6 +182,7 @@ fn tell_cuts<R: Runtime + Threads + Wait + Sync + AllocGlobal>(rt: &R) -> io::Re
     println!(rt; "{examples} examples cut behind each line, of which {others} go on otherwise")
 }
 
+/// Runs the three tests.
 pub fn run_all<R: Runtime + Threads + Wait + Sync + AllocGlobal>(rt: &R) -> io::Result<()> {
     tell_cuts(rt)?;
     tell_faults(rt)?;

@@ -1,5 +1,5 @@
-//! The worked examples: `rows` names each, behind it the word `echo`, or a limit that is not the greatest: `agents`,
-//! `filters`, `limits`, `scalar_names` or `events`, and its number. The lines of `NAME.in` are answered by those of `NAME.out`.
+//! The worked examples. `rows` names each, followed by `echo`, or by a capacity that is not the full one and its number: `agents`, `clients`,
+//! `filters`, `limits`, `scalar_names` or `events`. The replies to the lines of `NAME.in` must be those of `NAME.out`.
 use crate::streams::tell;
 use drf_core::Core;
 use drf_journal::{Device, run};
@@ -8,7 +8,7 @@ use std::alloc::Global;
 use std::rt::{Files, Runtime};
 use std::{fs, io};
 
-/// The bytes of an example's file.
+/// Returns the bytes of an example's file.
 pub fn bytes<R: Files + AllocGlobal>(rt: &R, name: &str, ending: &str) -> io::Result<Vec<u8>> {
     let path = format!(in rt.alloc(); "{name}.{ending}")?;
     fs::read(rt, path.as_str())
@@ -21,7 +21,7 @@ struct Settings {
     echo: bool,
 }
 
-/// The greatest limits, but for one of them.
+/// Returns the full limits, but with this number for one capacity. `None` if it is not allowed.
 fn limits_of(limit: &str, number: u64) -> Option<Limits> {
     let full = Limits::full();
     let most = |name: &str, ceiling: u64| if name == limit { number } else { ceiling };
@@ -38,6 +38,7 @@ fn limits_of(limit: &str, number: u64) -> Option<Limits> {
     )
 }
 
+/// Returns the settings that the words after an example's name state.
 fn settings_of(words: &str) -> Option<Settings> {
     let echo = words == "echo";
     let limits = match words.split_once(' ') {
@@ -47,7 +48,7 @@ fn settings_of(words: &str) -> Option<Settings> {
     Some(Settings { limits, echo })
 }
 
-/// Whether the lines of an example are answered by those bytes.
+/// Returns whether the replies to the lines of an example are these bytes.
 fn is_answered(alloc: Global, settings: Settings, input: &[u8], output: &[u8]) -> bool {
     let Settings { limits, echo } = settings;
     let Ok(core) = Core::open(alloc, limits) else {
@@ -60,6 +61,7 @@ fn is_answered(alloc: Global, settings: Settings, input: &[u8], output: &[u8]) -
     is_done && told.as_slice() == output
 }
 
+/// Returns whether the example of a line of `rows` has the expected replies.
 fn is_exact<R: Files + AllocGlobal>(rt: &R, row: &str) -> io::Result<bool> {
     let (name, words) = row.split_once(' ').unwrap_or((row, ""));
     let Some(settings) = settings_of(words) else {
@@ -69,6 +71,7 @@ fn is_exact<R: Files + AllocGlobal>(rt: &R, row: &str) -> io::Result<bool> {
     Ok(is_answered(rt.alloc(), settings, &input, &output))
 }
 
+/// Runs all examples, and prints how many have other replies.
 pub fn run_all<R: Runtime + AllocGlobal>(rt: &R) -> io::Result<()> {
     let list = fs::read_to_string(rt, "rows")?;
     let mut others = 0u64;

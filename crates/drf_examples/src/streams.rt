@@ -1,4 +1,4 @@
-//! Streams that are slow or fail: what was written when a run ends, and that a reply does not wait for more input.
+//! Tests of streams that are slow or fail: what has been written when a run ends, and that a reply does not wait for more input.
 use crate::rows::bytes;
 use drf_core::Core;
 use drf_journal::{Device, RunFault, run};
@@ -9,11 +9,11 @@ use std::io;
 use std::io::{ErrorKind, Read, Write};
 use std::rt::Runtime;
 
-/// The example that is run: each of its lines has one reply.
+/// The example that is run. Each of its lines has one reply.
 const EXAMPLE: &str = "three_agents";
 
-/// Gives at most some bytes a call and never more than a line. Once its calls are used up it is interrupted, and would go on
-/// if it were asked again.
+/// A reader that gives at most `most` bytes in a call, and never more than a line. After `calls` calls, one call fails as interrupted; after that it
+/// would continue.
 #[derive(Drop)]
 pub struct Slow<'a> {
     rest: &'a [u8],
@@ -22,6 +22,7 @@ pub struct Slow<'a> {
 }
 
 impl<'a> Slow<'a> {
+    /// Returns a reader of these bytes.
     pub fn new(rest: &'a [u8], bounds: Bounds) -> Slow<'a> {
         Slow {
             rest,
@@ -47,8 +48,7 @@ impl Read for Slow<'_> {
     }
 }
 
-/// Keeps what is written. Once its calls are used up, be they writes or flushes, it is interrupted, and would go on if it were
-/// asked again.
+/// A writer that keeps what is written. After `calls` writes and flushes, one call fails as interrupted; after that it would continue.
 #[derive(Drop)]
 pub struct Full {
     taken: Vec<u8>,
@@ -56,6 +56,7 @@ pub struct Full {
 }
 
 impl Full {
+    /// Returns a writer to which nothing was written.
     pub fn new(alloc: Global, bounds: Bounds) -> Full {
         Full {
             taken: Vec::new(alloc),
@@ -63,12 +64,13 @@ impl Full {
         }
     }
 
-    /// What was written.
+    /// Returns what was written.
     pub fn into_taken(self) -> Vec<u8> {
         let Full { taken, calls: _ } = self;
         taken
     }
 
+    /// Counts a call, and fails if it is the one after the last.
     fn call(&mut self) -> io::Result<()> {
         if self.calls == 0 {
             self.calls = usize::MAX;
@@ -91,7 +93,7 @@ impl Write for Full {
     }
 }
 
-/// How many bytes a read gives at most, and how many reads and how many writes and flushes come before one fails.
+/// The most bytes that a read gives, and how many reads, and how many writes and flushes, succeed before one fails.
 #[derive(Clone, Copy, Drop)]
 pub struct Bounds {
     pub bytes: usize,
@@ -99,13 +101,14 @@ pub struct Bounds {
     pub writes: usize,
 }
 
+/// The bounds of streams that never fail.
 pub const NO_BOUNDS: Bounds = Bounds {
     bytes: usize::MAX,
     reads: usize::MAX,
     writes: usize::MAX,
 };
 
-/// Whether a run within those bounds ends so, and has written that.
+/// Returns whether a run with these bounds ends with this error, and has written this output.
 fn is_run(
     alloc: Global,
     input: &[u8],
@@ -123,7 +126,7 @@ fn is_run(
     ended == fault && taken.as_slice() == output
 }
 
-/// The first lines of a text, `count` of them.
+/// Returns the first `count` lines of a text.
 pub fn first_lines(text: &[u8], count: usize) -> &[u8] {
     let mut left = count;
     let mut end = 0;
@@ -139,7 +142,7 @@ pub fn first_lines(text: &[u8], count: usize) -> &[u8] {
     &text[..end.min(text.len())]
 }
 
-/// Pieces of any length are answered by the same bytes.
+/// Returns whether the output does not depend on the sizes of the chunks that are read.
 fn pieces_are_exact(alloc: Global, input: &[u8], output: &[u8]) -> bool {
     [1, 2, 7, 64].iter().all(|bytes| {
         let bounds = Bounds {
@@ -150,7 +153,7 @@ fn pieces_are_exact(alloc: Global, input: &[u8], output: &[u8]) -> bool {
     })
 }
 
-/// Where a read fails, the lines that earlier reads gave are answered, and no other.
+/// Returns whether a run whose read fails replies to the lines that were read before, and to no other.
 fn failing_reads_are_exact(alloc: Global, input: &[u8], output: &[u8]) -> bool {
     let lines = input.iter().filter(|byte| **byte == b'\n').count();
     (0..=lines).all(|reads| {
@@ -160,7 +163,7 @@ fn failing_reads_are_exact(alloc: Global, input: &[u8], output: &[u8]) -> bool {
     })
 }
 
-/// Where a write or a flush fails, what earlier writes took is whole replies: each line has a write, then a flush.
+/// Returns whether a run whose write or flush fails has written only whole replies. For each line there is one write and one flush.
 fn failing_writes_are_exact(alloc: Global, input: &[u8], output: &[u8]) -> bool {
     let lines = input.iter().filter(|byte| **byte == b'\n').count();
     (0..lines.saturating_mul(2)).all(|writes| {
@@ -173,7 +176,7 @@ fn failing_writes_are_exact(alloc: Global, input: &[u8], output: &[u8]) -> bool 
     })
 }
 
-/// Gives a line a call, and notes a call that comes before all earlier lines were answered.
+/// A reader that gives one line in a call, and records whether a call came before all earlier lines were replied to.
 #[derive(Drop)]
 struct Asking<'a> {
     slow: Slow<'a>,
@@ -193,7 +196,7 @@ impl Read for Asking<'_> {
     }
 }
 
-/// Counts the lines that were written, and tells their number at each flush.
+/// A writer that counts the lines, and publishes their number at each flush.
 #[derive(Drop)]
 struct Counting<'a> {
     written: usize,
@@ -213,7 +216,7 @@ impl Write for Counting<'_> {
     }
 }
 
-/// Whether each line is answered, and the answer flushed, before the next one is asked for.
+/// Returns whether each line is replied to, and the reply flushed, before the next line is read.
 fn answers_at_once(alloc: Global, input: &[u8]) -> bool {
     let Ok(core) = Core::open(alloc, Limits::full()) else {
         return false;
@@ -233,12 +236,13 @@ fn answers_at_once(alloc: Global, input: &[u8]) -> bool {
     is_done && !reader.into_inner().is_late
 }
 
-/// Tells whether something is exact.
+/// Prints whether something is as expected.
 pub fn tell(rt: &impl Print, what: &str, is_exact: bool) -> io::Result<()> {
     let verdict = if is_exact { "exact" } else { "OTHER" };
     println!(rt; "{what}: {verdict}")
 }
 
+/// Runs all tests on an example.
 fn tell_all<R: Runtime + AllocGlobal>(rt: &R, input: &[u8], output: &[u8]) -> io::Result<()> {
     let alloc = rt.alloc();
     tell(
@@ -263,6 +267,7 @@ fn tell_all<R: Runtime + AllocGlobal>(rt: &R, input: &[u8], output: &[u8]) -> io
     )
 }
 
+/// Runs the tests.
 pub fn run_all<R: Runtime + AllocGlobal>(rt: &R) -> io::Result<()> {
     let (input, output) = (bytes(rt, EXAMPLE, "in")?, bytes(rt, EXAMPLE, "out")?);
     tell_all(rt, &input, &output)

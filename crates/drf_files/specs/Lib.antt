@@ -1,1 +1,2 @@
+-- What is known of files.
 pub mod Files

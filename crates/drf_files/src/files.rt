@@ -1,4 +1,4 @@
-//! Where files are found by name.
+//! Files that are read by name.
 
 use drf_hash::HashKey;
 use drf_journal::RunFault;
@@ -7,27 +7,27 @@ use std::io::ErrorKind;
 use std::random::RandomSource;
 use std::rt::Files;
 
-/// Where files are found by name.
+/// A source of files that are read by name.
 pub trait FileBytes {
     ghost use Rattle.std.specs.Prelude.{◌≡◌, ℕ, List, IfOk, IfErr};
     ghost use Rattle.drf_files.specs.Files.{Content, IsFileFault, MayHave, unknown};
 
-    /// What is known of the file of a name.
+    /// What is known of the file with this name.
     ghost known: { Self → List ℕ → Content } = { λ _ _. unknown };
 
-    /// All bytes of a file. The fault is `Read`, or `Memory`.
+    /// Returns all bytes of a file. Errors: `Read` if it cannot be read, `Memory` if memory ran out.
     fn bytes(&mut self, name: &str) -> Result<Vec<u8>, RunFault>
         ensures whole { IfOk result (λ bytes. MayHave (known self.old name.now) bytes.items) }
         ensures fault { IfErr result (IsFileFault (known self.old name.now)) }
         ensures same { known self.new ≡ known self.old };
 
-    /// With what the hashes of names begin in a program that reads these files. No clause says anything of it.
+    /// Returns the key with which the hashes of names begin in a program that reads these files. The contracts do not mention it.
     fn hash_key(&self) -> HashKey {
         HashKey::known()
     }
 }
 
-/// A key that is another in each run, or the known one if the system gives no random bytes. No clause says anything of it.
+/// Returns a random key, or the fixed key if the system gives no random bytes. The contracts do not mention it.
 pub fn random_key<R: RandomSource>(rt: &R) -> HashKey {
     let mut bytes = [0; 16];
     match rt.fill_bytes(&mut bytes) {
@@ -36,7 +36,7 @@ pub fn random_key<R: RandomSource>(rt: &R) -> HashKey {
     }
 }
 
-/// The files of the system, of which no clause knows anything.
+/// The files of the operating system. Contracts know nothing of their contents.
 #[derive(Drop)]
 pub struct SystemFiles<'a, R> {
     pub rt: &'a R,

@@ -1,4 +1,4 @@
-//! Files by name.
+//! A trait for files that are read by name.
 #![tactic(auto)]
 
 mod files;

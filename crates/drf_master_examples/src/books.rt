@@ -1,4 +1,5 @@
-//! A book that one caller has to itself, without a master. What owns it makes one call and takes its entries: its drop is long.
+//! Examples of books without a master. A function that owns a book makes one call and then takes the book's entries, so that the long proof of
+//! dropping the book is needed for few exits.
 use crate::closing::keep_passes;
 use crate::lines::{
     AGENT, CYCLE, FRAMEWORK, LIMIT, NO_LIMIT, OTHER_AGENT, append_entries, append_placed,
@@ -13,13 +14,14 @@ use std::fmt::Write;
 use std::sync::Wait;
 use std::thread::Threads;
 
-/// How a book takes events: ten in all ways, or the events of lines, each in one step.
+/// How a book takes events: ten in different ways, or those of lines, each in one step.
 #[derive(Clone, Copy)]
 enum Taking<'a> {
     AllWays,
     OneStep(&'a [&'a str]),
 }
 
+// Takes an event in one step.
 fn take(
     alloc: Global,
     told: &mut String,
@@ -31,7 +33,7 @@ fn take(
     append_placed(alloc, told, place, &reply)
 }
 
-// Prepares an event, and settles it.
+// Prepares an event and settles it.
 fn settle(
     alloc: Global,
     told: &mut String,
@@ -44,12 +46,13 @@ fn settle(
     append_last(alloc, told, place, book.entries())
 }
 
+// Appends the last reply and its place.
 fn append_last(alloc: Global, told: &mut String, place: u64, entries: &[Entry]) -> Result<()> {
     let last = entries.last().context("no entry")?;
     append_placed(alloc, told, place, &last.reply)
 }
 
-// Prepares an event, and gives it up: the journal stays as it is.
+// Prepares an event and drops it, so the journal is unchanged.
 fn give_up(
     alloc: Global,
     told: &mut String,
@@ -62,6 +65,7 @@ fn give_up(
     Ok(write!(told, " one given up, {} entries;", book.len())?)
 }
 
+// Takes the events of lines, each in one step.
 fn take_each(
     alloc: Global,
     told: &mut String,
@@ -74,7 +78,7 @@ fn take_each(
     Ok(())
 }
 
-// Each way of taking an event after each other one.
+// Takes events in each way, after each other way.
 fn take_all(alloc: Global, told: &mut String, book: &mut Book<Brand, MasterSorter>) -> Result<()> {
     settle(alloc, told, book, AGENT)?;
     take(alloc, told, book, FRAMEWORK)?;
@@ -83,7 +87,7 @@ fn take_all(alloc: Global, told: &mut String, book: &mut Book<Brand, MasterSorte
     settle(alloc, told, book, OTHER_AGENT)
 }
 
-// A limit that is set, taken away and set again. After an event that is given up the second core is a copy, which shares the limits.
+// Sets a limit, removes it and sets it again. After a prepared event is dropped, the second core is a copy that shares the limits with the first.
 fn limit_all(alloc: Global, told: &mut String, book: &mut Book<Brand, MasterSorter>) -> Result<()> {
     settle(alloc, told, book, LIMIT)?;
     give_up(alloc, told, book, CYCLE)?;
@@ -95,6 +99,7 @@ fn limit_all(alloc: Global, told: &mut String, book: &mut Book<Brand, MasterSort
     settle(alloc, told, book, CYCLE)
 }
 
+// Takes events as `taking` says.
 fn fill(
     alloc: Global,
     told: &mut String,
@@ -110,6 +115,7 @@ fn fill(
     }
 }
 
+// Appends the result of matching the book with passes.
 fn append_match(
     told: &mut String,
     name: &str,
@@ -120,7 +126,7 @@ fn append_match(
     Ok(write!(told, " {name}: {matched:?};")?)
 }
 
-// Compares before the first call and after the last, and then with the receipts of other callers.
+// Matches the book with no passes, before the first event and after the last, and then with passes of the same calls and of others.
 fn use_book(
     alloc: Global,
     told: &mut String,
@@ -136,7 +142,7 @@ fn use_book(
     append_match(told, "passes of others", book, others)
 }
 
-/// Tells what entries are left, if all went without a fault.
+/// Appends the entries of a book, or returns the error of its use.
 pub fn append_left(
     alloc: Global,
     told: &mut String,
@@ -147,6 +153,7 @@ pub fn append_left(
     append_entries(alloc, told, entries)
 }
 
+// Uses a book, and appends its entries.
 fn use_and_end(
     alloc: Global,
     told: &mut String,
@@ -160,6 +167,7 @@ fn use_and_end(
     append_left(alloc, told, used, &entries)
 }
 
+// Opens a book, uses it, and appends its entries.
 fn open_and_use(
     alloc: Global,
     told: &mut String,
@@ -171,7 +179,7 @@ fn open_and_use(
     use_and_end(alloc, told, taking, same, others, book)
 }
 
-// A book is compared with the passes of a master that was called with the same events, and with those of one where two came in turned order.
+// Matches a book with the passes of a master that took the same events, and of one that took two of them in the other order.
 fn append_compared<W: Threads + Wait + Sync>(
     rt: &W,
     alloc: Global,
@@ -188,6 +196,7 @@ fn append_compared<W: Threads + Wait + Sync>(
     Ok(told.push('\n')?)
 }
 
+// Does so with passes of two new masters.
 fn append_book<W: Threads + Wait + Sync>(
     rt: &W,
     alloc: Global,
@@ -210,7 +219,7 @@ fn append_book<W: Threads + Wait + Sync>(
     )
 }
 
-// Some are taken in one step and some are prepared and settled, and three more are prepared and given up.
+// Takes two events in one step each, and prepares and settles eight; three more prepared events are dropped.
 fn append_ten<W: Threads + Wait + Sync>(rt: &W, alloc: Global, told: &mut String) -> Result<()> {
     told.push_str("a book alone:")?;
     let lines = [
@@ -240,7 +249,7 @@ fn append_ten<W: Threads + Wait + Sync>(rt: &W, alloc: Global, told: &mut String
     append_book(rt, alloc, told, Taking::AllWays, &lines, &turned)
 }
 
-/// A book takes ten events in all ways, and one takes three in one step each.
+/// Appends the example of a book that takes ten events in different ways, and of one that takes three in one step each.
 pub fn append_alone<W: Threads + Wait + Sync>(
     rt: &W,
     alloc: Global,

@@ -1,4 +1,4 @@
-//! How the rows use a master: two threads call, each by a pass of its own.
+//! How the examples use a master: two threads call it, each with its own pass.
 use crate::lines::call_all;
 use crate::server::call;
 use crate::visiting::append_visit;
@@ -12,19 +12,19 @@ use std::mem::swap;
 use std::sync::Wait;
 use std::thread::{Threads, join};
 
-/// A master of the key with two passes and a viewer.
+/// An example: a master with this key, two passes and a viewer.
 #[derive(Clone, Copy)]
 pub struct Row {
     pub key: u64,
-    /// Whether a pass of a master of another key, which is there beside it, calls it too.
+    /// Whether a pass of another master, with another key, calls this master too.
     pub is_visited: bool,
-    /// How many of its own passes close it.
+    /// The number of its own passes that close it.
     pub own: usize,
-    /// Whether these are its last.
+    /// Whether these are its last passes.
     pub is_turned: bool,
 }
 
-// The viewer learns what the answer tells, and reads. How many events its sheet is of depends on the other thread.
+// The viewer learns the list that the call returned, and reads. The number of events of its sheet depends on the other thread.
 fn append_read<K: Naming>(
     alloc: Global,
     told: &mut String,
@@ -38,6 +38,7 @@ fn append_read<K: Naming>(
     Ok(write!(told, " the viewer reads ({total});")?)
 }
 
+// Makes a call, and reads.
 fn call_and_read<K: Naming, R: Wait + Drop, W: Wait>(
     rt: &W,
     alloc: Global,
@@ -51,6 +52,7 @@ fn call_and_read<K: Naming, R: Wait + Drop, W: Wait>(
     append_read(alloc, told, viewers, &answer)
 }
 
+// Makes a call for each line, and reads after each.
 fn call_and_read_all<K: Naming, R: Wait + Drop, W: Wait>(
     rt: &W,
     alloc: Global,
@@ -66,7 +68,7 @@ fn call_and_read_all<K: Naming, R: Wait + Drop, W: Wait>(
     Ok(())
 }
 
-// Each of two passes calls on a thread of its own. The first thread has the viewer.
+// Two threads make calls, each with its own pass. The first thread has the viewer.
 fn call_side_by_side<K: Naming + Send + Sync, W: Threads + Wait + Sync>(
     rt: &W,
     alloc: Global,
@@ -88,6 +90,7 @@ fn call_side_by_side<K: Naming + Send + Sync, W: Threads + Wait + Sync>(
     read
 }
 
+// Adds the places of a pass's receipts.
 fn add_places(places: &mut Vec<u64>, pass: &Pass) -> Result<()> {
     for receipt in pass.receipts() {
         places.push(receipt.place)?;
@@ -95,6 +98,7 @@ fn add_places(places: &mut Vec<u64>, pass: &Pass) -> Result<()> {
     Ok(())
 }
 
+// Appends the places of all receipts, in order.
 fn append_places(alloc: Global, told: &mut String, passes: &[Pass]) -> Result<()> {
     let mut places = Vec::new(alloc);
     for pass in passes {
@@ -104,7 +108,7 @@ fn append_places(alloc: Global, told: &mut String, passes: &[Pass]) -> Result<()
     Ok(write!(told, " receipts at {places:?};")?)
 }
 
-// Leaves the passes that are to close, puts what was kept behind them, and keeps the rest.
+// Leaves in `passes` the passes that will close the master, and the other passes in `kept`.
 fn choose(row: Row, passes: &mut Vec<Pass>, kept: &mut Vec<Pass>) -> Result<()> {
     if row.is_turned {
         passes.reverse();
@@ -114,8 +118,8 @@ fn choose(row: Row, passes: &mut Vec<Pass>, kept: &mut Vec<Pass>) -> Result<()> 
     Ok(passes.append(&mut rest)?)
 }
 
-/// The first pass calls the lines in front, and the viewer reads after each; the second calls those behind. Leaves the passes that are to
-/// close the master.
+/// Makes calls on two threads: the first pass calls the lines `front`, and the viewer reads after each; the second pass calls the lines `back`.
+/// Leaves in `passes` those that will close the master.
 pub fn use_master<K: Naming + Send + Sync, W: Threads + Wait + Sync>(
     rt: &W,
     alloc: Global,

@@ -1,4 +1,4 @@
-//! Masters that two threads call, and that are then closed: with both passes, with one, or with those of others.
+//! Examples of closing a master that two threads have called: with both passes, with one of them, or with passes of other masters.
 use crate::calls::Row;
 use crate::lines::{AGENT, FRAMEWORK, OTHER_AGENT, SMALL_AGENT};
 use crate::masters::run;
@@ -8,7 +8,7 @@ use std::alloc::Global;
 use std::sync::Wait;
 use std::thread::Threads;
 
-/// Both of its passes close a master, which one of another key called too.
+/// Both passes close the master, which a pass with another key called too.
 const BOTH: Row = Row {
     key: 1,
     is_visited: true,
@@ -16,6 +16,7 @@ const BOTH: Row = Row {
     is_turned: false,
 };
 
+/// The first pass closes the master.
 const FIRST: Row = Row {
     key: 1,
     is_visited: false,
@@ -23,6 +24,7 @@ const FIRST: Row = Row {
     is_turned: false,
 };
 
+/// The second pass closes the master.
 const SECOND: Row = Row {
     key: 1,
     is_visited: false,
@@ -30,6 +32,7 @@ const SECOND: Row = Row {
     is_turned: true,
 };
 
+/// No pass of the master closes it.
 const NONE: Row = Row {
     key: 1,
     is_visited: false,
@@ -37,7 +40,7 @@ const NONE: Row = Row {
     is_turned: false,
 };
 
-/// Keeps the passes of a master of the key, the first of which made the calls. That master is gone.
+/// Keeps the passes of a new master with this key; the first pass made these calls. The master is gone.
 pub fn keep_passes<W: Threads + Wait + Sync>(
     rt: &W,
     alloc: Global,
@@ -50,7 +53,7 @@ pub fn keep_passes<W: Threads + Wait + Sync>(
     run(rt, alloc, &mut told, row, lines, &[], kept)
 }
 
-// Of its own passes alone some close.
+// Closes a master with some of its own passes.
 fn append_own<W: Threads + Wait + Sync>(
     rt: &W,
     alloc: Global,
@@ -65,7 +68,7 @@ fn append_own<W: Threads + Wait + Sync>(
     run(rt, alloc, told, row, front, back, &mut kept)
 }
 
-// A pass of another master of the key is kept, which made one call there.
+// Closes a master with a pass of another master with the given key, which made one call there.
 fn append_other<W: Threads + Wait + Sync>(
     rt: &W,
     alloc: Global,
@@ -83,7 +86,7 @@ fn append_other<W: Threads + Wait + Sync>(
     run(rt, alloc, told, row, front, back, &mut kept)
 }
 
-/// Both passes close, or either alone, or a pass of another master with the first or in its place.
+/// Appends all examples: a master is closed with both passes, with one of them, or with a pass of another master.
 pub fn append_all<W: Threads + Wait + Sync>(
     rt: &W,
     alloc: Global,

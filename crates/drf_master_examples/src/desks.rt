@@ -1,4 +1,4 @@
-//! A desk with no lock round it. It answers, shows what comes of each call, and is a book again in the end.
+//! An example of a desk without a lock: it answers events, publishes each, and becomes a book again at the end.
 ghost use Rattle.std.specs.Prelude.{◌≡◌};
 ghost use Rattle.drf_rows.specs.LimitNumbers.{ceilings};
 ghost use Rattle.drf_rows.specs.Step.{opening};
@@ -14,7 +14,7 @@ use drf_rows::Limits;
 use std::alloc::Global;
 use std::sync::Wait;
 
-// Answers. The viewer learns what the answer tells.
+// Answers an event. The viewer learns the list that the answer has.
 fn answer<K: Naming, R: Wait + Drop>(
     alloc: Global,
     told: &mut String,
@@ -28,7 +28,7 @@ fn answer<K: Naming, R: Wait + Drop>(
     append_placed(alloc, told, answer.place, &answer.reply)
 }
 
-// Answers three events. Then the viewer, which has learnt what the last answer told, reads.
+// Answers three events. Then the viewer, which has learnt the last list, reads.
 fn answer_all<K: Naming, R: Wait + Drop>(
     alloc: Global,
     told: &mut String,
@@ -41,6 +41,7 @@ fn answer_all<K: Naming, R: Wait + Drop>(
     append_sheets(alloc, told, viewers)
 }
 
+// Uses a desk, and appends the entries of its book.
 fn use_and_end<K: Naming, R: Wait + Drop>(
     alloc: Global,
     told: &mut String,
@@ -53,6 +54,7 @@ fn use_and_end<K: Naming, R: Wait + Drop>(
     append_left(alloc, told, used, &entries)
 }
 
+// Opens a desk and uses it.
 fn open_and_use<K: Naming, W: Wait>(
     rt: &W,
     alloc: Global,
@@ -69,7 +71,7 @@ fn open_and_use<K: Naming, W: Wait>(
     use_and_end(alloc, told, Desk::new(book, board), viewers)
 }
 
-/// A desk with one viewer answers three events.
+/// Appends the example of a desk with one viewer that answers three events.
 pub fn append_alone<W: Wait>(rt: &W, alloc: Global, told: &mut String) -> Result<()> {
     told.push_str("a desk alone:")?;
     let slate = Slate::open(1, Limits::full())?;

@@ -1,4 +1,4 @@
-//! Scripts of events that run side by side, each on a thread and a pass of its own.
+//! Examples of drives: scripts that run concurrently, each on its own thread with its own pass.
 ghost use Rattle.std.specs.Prelude.{◌≡◌, ◌≤◌, length};
 ghost use Rattle.drf_rows.specs.LimitNumbers.{ceilings};
 ghost use Rattle.drf_rows.specs.Step.{opening};
@@ -19,18 +19,18 @@ use std::sync::atomic::{AtomicU64, Ordering};
 use std::thread;
 use std::thread::Threads;
 
-/// How often a worker looks whether the others have come. On a busy machine the last of many threads begins late.
+/// How often a worker checks whether the others have arrived. On a busy machine the last of many threads starts late.
 const TURNS: u64 = 1_000_000;
 
-/// Gives way to other threads, so long that some of them get on.
+/// Yields to other threads for long enough that some of them make progress.
 fn give_way() {
     for _ in 0..100 {
         thread::yield_now();
     }
 }
 
-/// Holds the first call of each worker until so many have come to theirs: only threads that run side by side pass it. After so many turns
-/// it stops the worker.
+/// A gate that holds the first call of each worker until `all` workers have reached theirs, so that only concurrent threads pass it. After `turns`
+/// checks it stops the worker.
 #[derive(Drop)]
 struct Meeting {
     all: u64,
@@ -62,21 +62,21 @@ impl Gate for Meeting {
     fn after(&self, _worker: u64, _call: u64) {}
 }
 
-/// What is kept of a drive.
+/// The journal and the replies of a drive.
 #[derive(Drop)]
 struct Outcome {
     entries: Vec<Entry>,
     replies: Vec<Vec<Reply>>,
 }
 
-/// What is told of a drive: the replies, or where the workers' frameworks stand in the journal.
+/// What is printed about a drive: the replies, or the places in the journal at which the workers' frameworks were added.
 #[derive(Clone, Copy)]
 enum Telling {
     Replies,
     Places,
 }
 
-// Whether an entry adds the framework of a worker.
+// Returns whether an entry adds this framework.
 fn is_of(entry: &Entry, framework: &str) -> bool {
     match &entry.event {
         Event::AddFramework {
@@ -87,6 +87,7 @@ fn is_of(entry: &Entry, framework: &str) -> bool {
     }
 }
 
+// Returns the place of the entry that adds a worker's framework.
 fn place_of(alloc: Global, entries: &[Entry], worker: usize) -> Result<usize> {
     let name = format!(in alloc; "f{worker}")?;
     entries
@@ -95,6 +96,7 @@ fn place_of(alloc: Global, entries: &[Entry], worker: usize) -> Result<usize> {
         .context("not in the journal")
 }
 
+// Appends the places of the workers' frameworks, in order.
 fn append_places(alloc: Global, told: &mut String, entries: &[Entry], count: usize) -> Result<()> {
     let mut places = Vec::new(alloc);
     for worker in 0..count {
@@ -105,6 +107,7 @@ fn append_places(alloc: Global, told: &mut String, entries: &[Entry], count: usi
     Ok(write!(told, " {all} entries, at {places:?}")?)
 }
 
+// Appends the lines of replies.
 fn append_replies(alloc: Global, told: &mut String, replies: &[Reply]) -> Result<()> {
     for reply in replies {
         append_reply(alloc, told, reply)?;
@@ -112,6 +115,7 @@ fn append_replies(alloc: Global, told: &mut String, replies: &[Reply]) -> Result
     Ok(())
 }
 
+// Appends the lines of the replies to all scripts.
 fn append_all_replies(alloc: Global, told: &mut String, replies: &[Vec<Reply>]) -> Result<()> {
     for one in replies {
         append_replies(alloc, told, one)?;
@@ -119,6 +123,7 @@ fn append_all_replies(alloc: Global, told: &mut String, replies: &[Vec<Reply>]) 
     Ok(())
 }
 
+// Appends what `telling` says about a drive, or its error.
 fn append_driven(
     alloc: Global,
     told: &mut String,
@@ -134,7 +139,7 @@ fn append_driven(
     }
 }
 
-// Puts the passes of others in the place of these, if they are as many.
+// Exchanges the passes for others, if there are as many.
 fn exchange(passes: &mut Vec<Pass>, others: &mut Vec<Pass>)
     ensures { length passes.new.items ≡ length passes.old.items }
 {
@@ -143,7 +148,7 @@ fn exchange(passes: &mut Vec<Pass>, others: &mut Vec<Pass>)
     }
 }
 
-// The journal and the replies. The core goes at once.
+// Returns the journal and the replies. The core is dropped.
 fn outcome_of<K: Naming>(driven: Driven<K>) -> Outcome {
     let Driven { book, replies } = driven;
     Outcome {
@@ -152,6 +157,7 @@ fn outcome_of<K: Naming>(driven: Driven<K>) -> Outcome {
     }
 }
 
+// Runs scripts on a master, and closes it.
 fn drive_and_close<K: Naming + Send + Sync, W: Threads + Wait + Sync>(
     rt: &W,
     alloc: Global,
@@ -168,6 +174,7 @@ fn drive_and_close<K: Naming + Send + Sync, W: Threads + Wait + Sync>(
     }
 }
 
+// Runs scripts on a master, closes it, and appends the result.
 fn drive_and_append<K: Naming + Send + Sync, W: Threads + Wait + Sync>(
     rt: &W,
     alloc: Global,
@@ -184,6 +191,7 @@ fn drive_and_append<K: Naming + Send + Sync, W: Threads + Wait + Sync>(
     append_driven(alloc, told, telling, &driven)
 }
 
+// Opens a master, runs scripts on it, closes it, and appends the result.
 fn drive_named<K: Naming + Send + Sync, W: Threads + Wait + Sync>(
     rt: &W,
     alloc: Global,
@@ -212,7 +220,7 @@ fn drive_named<K: Naming + Send + Sync, W: Threads + Wait + Sync>(
     drive_and_append(rt, alloc, told, meeting, telling, master, passes, scripts)
 }
 
-// Runs scripts on a master of key 1, by the passes of others where these are as many. Their first calls meet.
+// Runs scripts on a master with key 1, with other passes if there are as many. The first calls wait for each other.
 fn drive_scripts<W: Threads + Wait + Sync>(
     rt: &W,
     alloc: Global,
@@ -229,6 +237,7 @@ fn drive_scripts<W: Threads + Wait + Sync>(
     drive_named::<Brand, W>(rt, alloc, told, meeting, telling, others, scripts, slate)
 }
 
+// Returns a gate at which `all` workers wait for each other.
 fn meeting_of(all: u64, turns: u64) -> Meeting {
     Meeting {
         all,
@@ -237,7 +246,7 @@ fn meeting_of(all: u64, turns: u64) -> Meeting {
     }
 }
 
-// Adds a script: the events of lines.
+// Adds a script with the events of these lines.
 fn add_script(alloc: Global, scripts: &mut Vec<Vec<Event>>, lines: &[&str]) -> Result<()> {
     let mut script = Vec::with_capacity(alloc, lines.len())?;
     for line in lines {
@@ -246,6 +255,7 @@ fn add_script(alloc: Global, scripts: &mut Vec<Vec<Event>>, lines: &[&str]) -> R
     Ok(scripts.push(script)?)
 }
 
+// Adds a script that adds a worker's framework.
 fn add_framework(alloc: Global, scripts: &mut Vec<Vec<Event>>, worker: usize) -> Result<()> {
     let line = format!(in alloc;
         r#"{{"event":"add_framework","framework":"f{worker}","roles":["a"]}}"#
@@ -253,6 +263,7 @@ fn add_framework(alloc: Global, scripts: &mut Vec<Vec<Event>>, worker: usize) ->
     add_script(alloc, scripts, &[line.as_str()])
 }
 
+// Adds such a script for each worker.
 fn add_frameworks(alloc: Global, scripts: &mut Vec<Vec<Event>>, count: usize) -> Result<()> {
     for worker in 0..count {
         add_framework(alloc, scripts, worker)?;
@@ -260,7 +271,7 @@ fn add_frameworks(alloc: Global, scripts: &mut Vec<Vec<Event>>, count: usize) ->
     Ok(())
 }
 
-// So many scripts that meet, each of which adds a framework, and where their calls stand in the journal.
+// Runs `count` scripts that wait for each other; each adds a framework. Appends the places of these entries in the journal.
 fn append_meeting<W: Threads + Wait + Sync>(
     rt: &W,
     alloc: Global,
@@ -276,7 +287,7 @@ fn append_meeting<W: Threads + Wait + Sync>(
     Ok(told.push('\n')?)
 }
 
-// One script that is to meet so many, and its replies.
+// Runs one script, which waits until `all` workers have arrived, and appends its replies.
 fn append_script<W: Threads + Wait + Sync>(
     rt: &W,
     alloc: Global,
@@ -294,7 +305,7 @@ fn append_script<W: Threads + Wait + Sync>(
     Ok(told.push('\n')?)
 }
 
-// One script on a pass of another master of the key, which made a call there.
+// Runs one script with a pass of another master with the same key, which made a call there.
 fn append_misfit<W: Threads + Wait + Sync>(
     rt: &W,
     alloc: Global,
@@ -310,8 +321,8 @@ fn append_misfit<W: Threads + Wait + Sync>(
     Ok(())
 }
 
-// One script that waits for another in vain, the same on a pass of another key, which is told before, and one whose pass does not fit. Then
-// one of three events, and scripts that meet.
+// Runs one script that waits for another in vain; the same with a pass with another key, which is reported first; one whose pass does not fit; one
+// with three events; and scripts that wait for each other.
 fn append_each<W: Threads + Wait + Sync>(
     rt: &W,
     alloc: Global,
@@ -339,7 +350,7 @@ fn append_each<W: Threads + Wait + Sync>(
     append_meeting(rt, alloc, told, 64, others)
 }
 
-/// Scripts that run alone, and scripts that meet.
+/// Appends the examples of single scripts, and of scripts that wait for each other.
 pub fn append_all<W: Threads + Wait + Sync>(
     rt: &W,
     alloc: Global,

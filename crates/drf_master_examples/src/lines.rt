@@ -1,4 +1,4 @@
-//! Calls by the lines of their events, and journals as text.
+//! Makes calls from event lines, and writes journals as text.
 use crate::server::{append_reply, call_once};
 use anyhow::{Context, Result};
 use drf_board::{Entry, Naming};
@@ -24,7 +24,7 @@ pub const LIMIT: &str = r#"{"event":"set_limit","role":"a","limit":"cpus:1"}"#;
 
 pub const NO_LIMIT: &str = r#"{"event":"set_limit","role":"a","limit":""}"#;
 
-/// Makes calls in order.
+/// Makes a call for each line, in order.
 pub fn call_all<K: Naming, R: Wait + Drop, W: Wait>(
     rt: &W,
     alloc: Global,
@@ -38,14 +38,14 @@ pub fn call_all<K: Naming, R: Wait + Drop, W: Wait>(
     Ok(())
 }
 
-/// Adds the place of a call and the line of its reply.
+/// Appends the place of a call and the line of its reply.
 pub fn append_placed(alloc: Global, told: &mut String, place: u64, reply: &Reply) -> Result<()> {
     write!(told, " {place}")?;
     append_reply(alloc, told, reply)?;
     Ok(told.push(';')?)
 }
 
-// Adds the lines of an event and of its reply.
+// Appends the lines of an event and of its reply.
 fn append_entry(alloc: Global, told: &mut String, entry: &Entry) -> Result<()> {
     let line = write_event(alloc, &entry.event)?;
     let text = str::from_utf8(&line).ok().context("no text")?;
@@ -53,7 +53,7 @@ fn append_entry(alloc: Global, told: &mut String, entry: &Entry) -> Result<()> {
     append_reply(alloc, told, &entry.reply)
 }
 
-/// Adds a journal.
+/// Appends the lines of a journal.
 pub fn append_entries(alloc: Global, told: &mut String, entries: &[Entry]) -> Result<()> {
     told.push_str(" entries:")?;
     for entry in entries {

@@ -1,6 +1,5 @@
-//! Worked examples of the master: `server`, a server in short, and then threads that call one, each by a pass of its own; passes that
-//! do not fit; a book and a desk without a master; scripts that run side by side. Each line of the output tells how one went, whichever
-//! thread was first.
+//! Worked examples of the master: a short server; masters that two threads call and that are then closed, also with passes that do not fit; a book
+//! and a desk without a master; and drives. Each line of the output says how one example went, and does not depend on which thread was first.
 #![tactic(auto)]
 
 mod books;
@@ -19,6 +18,7 @@ use std::io;
 use std::sync::Wait;
 use std::thread::Threads;
 
+// Appends the lines of all examples.
 fn run<W: Threads + Wait + Sync>(rt: &W, alloc: Global, told: &mut String) -> Result<()> {
     told.push_str("two viewers, an agent twice:")?;
     server::serve(rt, alloc, told)?;

@@ -1,4 +1,5 @@
-//! A master from its opening to its close. What owns one does nothing else: its drop is long, and each branch beside it would prove it again.
+//! Opens, uses and closes a master. A function that owns a master does nothing else, so that the long proof of dropping the master is needed for few
+//! exits.
 ghost use Rattle.std.specs.Prelude.{◌≡◌};
 ghost use Rattle.drf_rows.specs.LimitNumbers.{ceilings};
 ghost use Rattle.drf_rows.specs.Step.{opening};
@@ -13,13 +14,14 @@ use std::fmt::Write;
 use std::sync::Wait;
 use std::thread::Threads;
 
-/// Why a master was not closed, and whether all of its own passes match the book that is handed back: those that closed and those that were kept.
+/// Why a master was not closed, and whether all of its own passes match the returned book.
 #[derive(Clone, Copy)]
 pub struct Misfit {
     fault: CloseFault,
     is_own: bool,
 }
 
+// Returns whether all of a master's own passes match its book: those that closed it and those that were kept.
 fn do_own_match<K: Naming>(
     refused: &mut CloseRefused<K>,
     own: usize,
@@ -30,6 +32,7 @@ fn do_own_match<K: Naming>(
     is_whole && refused.book.matches(kept).is_ok()
 }
 
+// Returns the error of a master that was not closed.
 fn misfit_of<K: Naming>(mut refused: CloseRefused<K>, own: usize, kept: &mut Vec<Pass>) -> Misfit {
     let is_own = do_own_match(&mut refused, own, kept);
     let fault = refused.fault;
@@ -37,7 +40,7 @@ fn misfit_of<K: Naming>(mut refused: CloseRefused<K>, own: usize, kept: &mut Vec
     Misfit { fault, is_own }
 }
 
-/// Closes a master with passes of which so many are its own; those that were kept are too.
+/// Closes a master. The first `own` of the passes are its own, and so are the passes in `kept`.
 pub fn close<K: Naming, R: Wait + Drop>(
     master: Master<K, R>,
     passes: Vec<Pass>,
@@ -50,6 +53,7 @@ pub fn close<K: Naming, R: Wait + Drop>(
     }
 }
 
+// Appends how a master was closed.
 fn append_closed(told: &mut String, closed: &Result<Vec<Entry>, Misfit>) -> Result<()> {
     match closed {
         Ok(entries) => Ok(write!(told, " closed, {} entries", entries.len())?),
@@ -60,7 +64,7 @@ fn append_closed(told: &mut String, closed: &Result<Vec<Entry>, Misfit>) -> Resu
     }
 }
 
-/// Tells how a master was closed, if it was used without a fault.
+/// Appends how a master was closed, or returns the error of its use.
 pub fn append_used(
     told: &mut String,
     used: Result<()>,
@@ -70,6 +74,7 @@ pub fn append_used(
     append_closed(told, &closed)
 }
 
+// Uses a master, closes it, and appends the result.
 fn use_and_close<K: Naming + Send + Sync, W: Threads + Wait + Sync>(
     rt: &W,
     alloc: Global,
@@ -99,6 +104,7 @@ fn use_and_close<K: Naming + Send + Sync, W: Threads + Wait + Sync>(
     append_used(told, used, closed)
 }
 
+// Opens a master, uses it, closes it, and appends the result.
 fn run_named<K: Naming + Send + Sync, W: Threads + Wait + Sync>(
     rt: &W,
     alloc: Global,
@@ -126,8 +132,8 @@ fn run_named<K: Naming + Send + Sync, W: Threads + Wait + Sync>(
     )
 }
 
-/// Opens a master with two passes and a viewer, uses and closes it, and ends a line that tells how that went. What was kept before closes it too. What
-/// is kept afterwards are its own passes that did not close it, or all of its own where none did.
+/// Opens a master with two passes and a viewer, uses it, closes it, and appends a line about this. The passes in `kept` close it too. Afterwards
+/// `kept` has those of its own passes that did not close it, or all of them if it was not closed.
 pub fn run<W: Threads + Wait + Sync>(
     rt: &W,
     alloc: Global,

@@ -1,5 +1,5 @@
-//! A server in short. `serve` opens a master, `call` and `append_sheets` are what its threads do, two of them side by side, and `close`
-//! compares its journal with the receipts. What owns a master or its book does nothing else: its drop is long, and each branch beside it would prove it again.
+//! A short server. `serve` opens a master; its threads, two of them concurrently, use `call` and `append_sheets`; and `close` compares the journal
+//! with the receipts. A function that owns a master or its book does nothing else, so that the long proof of dropping it is needed for few exits.
 ghost use Rattle.std.specs.Prelude.{◌≡◌};
 ghost use Rattle.drf_rows.specs.LimitNumbers.{ceilings};
 ghost use Rattle.drf_rows.specs.Step.{opening};
@@ -22,8 +22,7 @@ const OTHER_AGENT: &str = r#"{"event":"add_agent","agent":"n2","total":"cpus:2"}
 
 const FRAMEWORK: &str = r#"{"event":"add_framework","framework":"f1","roles":["eng"]}"#;
 
-/// Calls by a pass: the event of the line is taken as one step, and the pass keeps a receipt for it. Threads share the master; each has a
-/// pass of its own.
+/// Makes a call for the event of a line; the first pass gets a receipt. Threads share the master, but each has its own pass.
 pub fn call<K: Naming, R: Wait + Drop, W: Wait>(
     rt: &W,
     alloc: Global,
@@ -36,20 +35,21 @@ pub fn call<K: Naming, R: Wait + Drop, W: Wait>(
     master.call(rt, pass, event).ok().context("not called")
 }
 
-/// Adds the line of a reply, without its line feed.
+/// Appends the line of a reply, without its line feed.
 pub fn append_reply(alloc: Global, told: &mut String, reply: &Reply) -> Result<()> {
     let line = write_reply(alloc, reply)?;
     let text = str::from_utf8(&line).ok().context("no text")?;
     Ok(write!(told, " {}", text.trim_end())?)
 }
 
+// Appends the number of events of a sheet, the cluster's total, and the number of nodes.
 fn append_sheet(alloc: Global, told: &mut String, sheet: &Sheet) -> Result<()> {
     let total = write_quantities(alloc, &sheet.report.total)?;
     let nodes = sheet.report.nodes.len();
     Ok(write!(told, " {} events ({total}), {nodes} nodes;", sheet.events)?)
 }
 
-/// Adds what each viewer is shown. A viewer waits for nobody.
+/// Appends the sheet that each viewer reads. Viewers do not wait.
 pub fn append_sheets<K: Naming>(
     alloc: Global,
     told: &mut String,
@@ -62,14 +62,14 @@ pub fn append_sheets<K: Naming>(
     Ok(())
 }
 
-/// What a viewer has learnt is on each sheet that it reads from then on.
+/// The first viewer learns a list that a call returned; each sheet that it reads later includes this list.
 pub fn learn<K: Naming>(viewers: &mut [Viewer<K>], told: &Told<K>) {
     if let Some(first) = viewers.first_mut() {
         first.learn(told);
     }
 }
 
-// Adds the reply, and what each viewer is shown after the first has learnt what the answer tells.
+// Appends a reply. Then the first viewer learns the list that the call returned, and the sheet of each viewer is appended.
 fn append_answer<K: Naming>(
     alloc: Global,
     told: &mut String,
@@ -81,7 +81,7 @@ fn append_answer<K: Naming>(
     append_sheets(alloc, told, viewers)
 }
 
-// Calls twice, and reads before and after.
+// Makes two calls, and reads before the first and after the second.
 fn call_and_read<K: Naming, R: Wait + Drop, W: Wait>(
     rt: &W,
     alloc: Global,
@@ -92,12 +92,12 @@ fn call_and_read<K: Naming, R: Wait + Drop, W: Wait>(
 ) -> Result<()> {
     append_sheets(alloc, told, viewers)?;
     call_once(rt, alloc, master, passes, AGENT)?;
-    // Now the agent is there. That it comes again is refused, which is an answer like any other.
+    // Adding the agent again is refused. A refusal is a reply like any other.
     let answer = call(rt, alloc, master, passes, AGENT)?;
     append_answer(alloc, told, viewers, &answer)
 }
 
-/// Calls, and forgets the answer.
+/// Makes a call and drops its result.
 pub fn call_once<K: Naming, R: Wait + Drop, W: Wait>(
     rt: &W,
     alloc: Global,
@@ -109,7 +109,7 @@ pub fn call_once<K: Naming, R: Wait + Drop, W: Wait>(
     Ok(())
 }
 
-// Two threads call, each by a pass of its own. Either may be first.
+// Two threads make calls, each with its own pass. Either call may be first.
 fn call_side_by_side<K: Naming + Send + Sync, W: Threads + Wait + Sync>(
     rt: &W,
     alloc: Global,
@@ -127,6 +127,7 @@ fn call_side_by_side<K: Naming + Send + Sync, W: Threads + Wait + Sync>(
     other
 }
 
+// Makes the calls of the example.
 fn use_master<K: Naming + Send + Sync, W: Threads + Wait + Sync>(
     rt: &W,
     alloc: Global,
@@ -141,14 +142,15 @@ fn use_master<K: Naming + Send + Sync, W: Threads + Wait + Sync>(
     append_sheets(alloc, told, viewers)
 }
 
-// The book and the passes go.
+// Returns the error. The book and the passes are dropped.
 fn fault_of<K: Naming>(refused: CloseRefused<K>) -> CloseFault {
     let fault = refused.fault;
     drop(refused);
     fault
 }
 
-// The journal, where it is a shuffle of the receipts of all passes. Else the book and the passes would come with the fault.
+// Closes a master and returns its journal. If the journal is not a shuffle of the receipts of all passes, returns the error alone; `Master::close`
+// also returns the book and the passes.
 fn close<K: Naming, R: Wait + Drop>(
     master: Master<K, R>,
     passes: Vec<Pass>,
@@ -159,6 +161,7 @@ fn close<K: Naming, R: Wait + Drop>(
     }
 }
 
+// Appends the number of entries.
 fn append_closed(told: &mut String, closed: &Result<Vec<Entry>, CloseFault>) -> Result<()> {
     match closed {
         Ok(entries) => Ok(writeln!(told, " closed, {} entries", entries.len())?),
@@ -166,6 +169,7 @@ fn append_closed(told: &mut String, closed: &Result<Vec<Entry>, CloseFault>) -> 
     }
 }
 
+// Appends the number of entries, or returns the error of a use.
 fn append_used(
     told: &mut String,
     used: Result<()>,
@@ -175,7 +179,7 @@ fn append_used(
     append_closed(told, &closed)
 }
 
-// No branch stands between what is owned here: the borrow checker would prove the drops in each anew.
+// There is no branch between values that are owned here, because each branch would need a proof of dropping them.
 fn use_and_close<K: Naming + Send + Sync, W: Threads + Wait + Sync>(
     rt: &W,
     alloc: Global,
@@ -190,8 +194,8 @@ fn use_and_close<K: Naming + Send + Sync, W: Threads + Wait + Sync>(
     append_used(told, used, closed)
 }
 
-// Opens a master of key 1 with two passes. A slate is for one master and its viewers, and what opens the master is generic in the slate's
-// name, so that what one master tells is never taken for what another tells.
+// Opens a master with key 1 and two passes. A slate is for one master and its viewers. This function is generic in the slate's name, so that the
+// lists of one master cannot be mistaken for those of another.
 fn serve_named<K: Naming + Send + Sync, W: Threads + Wait + Sync>(
     rt: &W,
     alloc: Global,
@@ -206,7 +210,7 @@ fn serve_named<K: Naming + Send + Sync, W: Threads + Wait + Sync>(
     use_and_close(rt, alloc, told, master, passes, viewers)
 }
 
-/// Makes the slate, for two viewers, and calls what opens its master with `Brand`. A line is told.
+/// Creates a slate for two viewers, opens its master with the name `Brand`, and appends a line about its use.
 pub fn serve<W: Threads + Wait + Sync>(rt: &W, alloc: Global, told: &mut String) -> Result<()> {
     let slate = Slate::open(2, Limits::full())?;
     serve_named::<Brand, W>(rt, alloc, told, slate)

@@ -1,4 +1,4 @@
-//! A second master beside the first, its host, which one of its passes calls too, in vain.
+//! An example of two masters: a pass of the second calls the first, the host, which refuses the call.
 ghost use Rattle.std.specs.Prelude.{◌≡◌};
 ghost use Rattle.drf_rows.specs.LimitNumbers.{ceilings};
 ghost use Rattle.drf_rows.specs.Step.{opening};
@@ -14,6 +14,7 @@ use std::alloc::Global;
 use std::fmt::Write;
 use std::sync::Wait;
 
+// Appends the error of a call on the host.
 fn append_stranger<L: Naming, R: Wait + Drop, W: Wait>(
     rt: &W,
     alloc: Global,
@@ -30,6 +31,7 @@ fn append_stranger<L: Naming, R: Wait + Drop, W: Wait>(
     Ok(write!(told, " a pass of key 2 is told {fault:?} (its own master:")?)
 }
 
+// Makes a call on the own master, and one on the host.
 fn call_both<K: Naming, L: Naming, R: Wait + Drop, Q: Wait + Drop, W: Wait>(
     rt: &W,
     alloc: Global,
@@ -42,6 +44,7 @@ fn call_both<K: Naming, L: Naming, R: Wait + Drop, Q: Wait + Drop, W: Wait>(
     append_stranger(rt, alloc, told, host, passes)
 }
 
+// Makes both calls, and closes the own master.
 fn call_and_close<K: Naming, L: Naming, R: Wait + Drop, Q: Wait + Drop, W: Wait>(
     rt: &W,
     alloc: Global,
@@ -56,6 +59,7 @@ fn call_and_close<K: Naming, L: Naming, R: Wait + Drop, Q: Wait + Drop, W: Wait>
     append_used(told, called, closed)
 }
 
+// Opens a master with key 2, makes both calls, and closes it.
 fn visit_named<K: Naming, L: Naming, Q: Wait + Drop, W: Wait>(
     rt: &W,
     alloc: Global,
@@ -72,7 +76,7 @@ fn visit_named<K: Naming, L: Naming, Q: Wait + Drop, W: Wait>(
     call_and_close(rt, alloc, told, host, &mut kept, master, passes)
 }
 
-/// A pass of a master of key 2 calls that, and then the host in vain. Then its own master is closed.
+/// Appends the example: a pass of a master with key 2 calls its own master, and then the host, which returns an error. Then its own master is closed.
 pub fn append_visit<L: Naming, Q: Wait + Drop, W: Wait>(
     rt: &W,
     alloc: Global,

@@ -1,4 +1,4 @@
-//! Amounts as texts, `none` being the empty one, and what two of them have to do with one another.
+//! Questions about amounts. `none` is the text of the empty amount. Two amounts are compared and combined.
 use crate::answer::Answer;
 use crate::subject::{Subject, asked, read_all, read_both};
 use drf_amount::{Algebra, Scalar};
@@ -6,10 +6,12 @@ use drf_kinds::{Items, Ranges};
 use drf_role::Label;
 use std::fmt::Display;
 
+/// The text of the empty amount.
 const NONE: &str = "none";
 
+/// An amount that a question can be about.
 pub trait Amount: Subject + Algebra {
-    /// Tells an amount that is not empty.
+    /// Appends an amount that is not empty.
     fn tell(&self, answer: &mut Answer);
 }
 
@@ -29,6 +31,7 @@ impl Amount for Scalar {
     }
 }
 
+/// Reads pairs of numbers such as `1-3,5-7`.
 fn read_pairs(answer: &mut Answer, pairs: &mut Vec<(u32, u32)>, text: &str) -> Option<()> {
     for text in text.split(',') {
         let pair = read_both::<u32, u32>(answer, text, '-')?;
@@ -83,6 +86,7 @@ impl Amount for Items {
     }
 }
 
+/// Appends an amount.
 pub fn tell<A: Amount>(answer: &mut Answer, amount: &A) {
     if amount.is_empty() {
         answer.say(NONE);
@@ -91,13 +95,14 @@ pub fn tell<A: Amount>(answer: &mut Answer, amount: &A) {
     }
 }
 
-/// Tells an amount that was found, or its fault.
+/// Appends an amount, or the error.
 pub fn told<A: Amount, F: Display + Drop>(answer: &mut Answer, sought: Result<A, F>) {
     if let Some(amount) = answer.found(sought) {
         tell(answer, &amount);
     }
 }
 
+/// Appends the join, the difference and the relation of two amounts.
 fn compared<A: Amount>(answer: &mut Answer, amounts: &(A, A)) {
     let (one, other) = amounts;
     answer.say("join ");
@@ -110,14 +115,14 @@ fn compared<A: Amount>(answer: &mut Answer, amounts: &(A, A)) {
     answer.show(&one.disjoint(other));
 }
 
-/// A copy of an amount, and how much it is.
+/// Appends a copy of an amount, and how much it is.
 fn copied<A: Amount>(answer: &mut Answer, amount: &A) {
     told(answer, amount.copy());
     answer.say("; amount ");
     answer.show(&amount.amount());
 }
 
-/// A copy of one amount, or two amounts compared.
+/// Answers a question about one amount, or about two.
 pub fn answers<A: Amount>(answer: &mut Answer, text: &str) {
     if text.contains(' ') {
         asked::<(A, A), _>(answer, text, compared::<A>);
@@ -126,10 +131,12 @@ pub fn answers<A: Amount>(answer: &mut Answer, text: &str) {
     }
 }
 
+/// Answers whether ranges contain a number.
 pub fn has_number(answer: &mut Answer, of: &(Ranges, u32)) {
     answer.show(&of.0.contains(of.1));
 }
 
+/// Answers whether a set contains a name.
 pub fn has_name(answer: &mut Answer, of: &(Items, Label)) {
     answer.show(&of.0.contains(of.1.text()));
 }

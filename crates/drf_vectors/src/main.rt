@@ -1,4 +1,5 @@
-//! Answers questions about names, roles, paths, sets, amounts, pools, shares and texts, one a line: the vectors of the libraries.
+//! Answers questions about names, roles, paths, sets, amounts, pools, shares and texts, one in each line. Its input and output are the test vectors
+//! of the libraries.
 #![tactic(auto)]
 
 mod amounts;
@@ -19,6 +20,7 @@ use drf_role::{Label, Name, NodePath, Role};
 use std::io;
 use std::rt::Runtime;
 
+/// Answers a question about names, roles and nodes.
 fn answer_of_words(answer: &mut Answer, kind: &str, text: &str) {
     match kind {
         "name" => asked(answer, text, words::copied::<Name>),
@@ -37,6 +39,7 @@ fn answer_of_words(answer: &mut Answer, kind: &str, text: &str) {
     }
 }
 
+/// Answers a question about texts.
 fn answer_of_texts(answer: &mut Answer, kind: &str, text: &str) {
     match kind {
         "bundle" => asked(answer, text, amounts::tell::<Bundle>),
@@ -51,6 +54,7 @@ fn answer_of_texts(answer: &mut Answer, kind: &str, text: &str) {
     }
 }
 
+/// Answers a question.
 fn answer_to(answer: &mut Answer, kind: &str, text: &str) {
     match kind {
         "scalars" => amounts::answers::<Scalar>(answer, text),
@@ -68,6 +72,7 @@ fn answer_to(answer: &mut Answer, kind: &str, text: &str) {
     }
 }
 
+/// Prints a question with its answer.
 fn ask<R: Runtime + AllocGlobal>(rt: &R, question: &str) -> io::Result<()> {
     let (kind, text) = question.split_once(' ').unwrap_or((question, ""));
     let mut answer = Answer::new(rt.alloc());

@@ -1,22 +1,24 @@
-//! A pool of one kind of amounts: its total, then calls, each after `; `.
+//! Questions about a pool of one kind of amounts: its total, and then calls, each after `; `.
 use crate::amounts::{Amount, tell, told};
 use crate::answer::Answer;
 use crate::subject::{Subject, read_all};
 use drf_amount::{Pool, PoolFault};
 
-/// What is free of the total.
+/// Appends what is free, and the total.
 fn state<A: Amount>(answer: &mut Answer, pool: &Pool<A>) {
     tell(answer, pool.free());
     answer.say(" of ");
     tell(answer, pool.total());
 }
 
+/// Appends that a call succeeded, or its error.
 fn done(answer: &mut Answer, called: Result<(), PoolFault>) {
     if answer.found(called).is_some() {
         answer.say("done");
     }
 }
 
+/// Appends the number of the part that was taken, or the error.
 fn taken(answer: &mut Answer, called: Result<u64, PoolFault>) {
     if let Some(number) = answer.found(called) {
         answer.say("part ");
@@ -24,6 +26,7 @@ fn taken(answer: &mut Answer, called: Result<u64, PoolFault>) {
     }
 }
 
+/// Appends the numbers of parts, or the error.
 fn split(answer: &mut Answer, called: Result<Vec<u64>, PoolFault>) {
     if let Some(numbers) = answer.found(called) {
         answer.say("parts ");
@@ -31,6 +34,7 @@ fn split(answer: &mut Answer, called: Result<Vec<u64>, PoolFault>) {
     }
 }
 
+/// Appends a part.
 fn part<A: Amount>(answer: &mut Answer, pool: &Pool<A>, number: u64) {
     match pool.part(number) {
         Some(part) => tell(answer, part),
@@ -38,7 +42,7 @@ fn part<A: Amount>(answer: &mut Answer, pool: &Pool<A>, number: u64) {
     }
 }
 
-/// A part of a copy, and what is free beside it there.
+/// Appends a part of a copy of the pool, and what is free in the copy.
 fn copied<A: Amount>(answer: &mut Answer, pool: &Pool<A>, number: u64) {
     if let Some(copy) = answer.found(pool.copy()) {
         part(answer, &copy, number);
@@ -49,6 +53,7 @@ fn copied<A: Amount>(answer: &mut Answer, pool: &Pool<A>, number: u64) {
     }
 }
 
+/// Makes a call, and appends its result.
 fn call<A: Amount>(
     answer: &mut Answer,
     pool: &mut Pool<A>,
@@ -68,7 +73,7 @@ fn call<A: Amount>(
     }
 }
 
-/// The number of a part, and amounts behind it.
+/// Reads the number of a part, and the amounts after it.
 fn read_part<A: Amount>(answer: &mut Answer, amounts: &mut Vec<A>, text: &str) -> Option<u64> {
     if let Some((number, text)) = text.split_once(' ') {
         read_all(answer, amounts, text, ' ')?;
@@ -77,7 +82,7 @@ fn read_part<A: Amount>(answer: &mut Answer, amounts: &mut Vec<A>, text: &str) -
     u64::from_text(answer, text)
 }
 
-/// What a call speaks of: amounts, and most calls of a part too.
+/// Reads the arguments of a call: amounts and, for most calls, the number of a part.
 fn read_call<A: Amount>(
     answer: &mut Answer,
     amounts: &mut Vec<A>,
@@ -90,6 +95,7 @@ fn read_call<A: Amount>(
     }
 }
 
+/// Reads a call and makes it.
 fn read_and_call<A: Amount>(answer: &mut Answer, pool: &mut Pool<A>, text: &str) {
     let mut amounts = Vec::new(answer.alloc());
     let (name, text) = text.split_once(' ').unwrap_or((text, ""));
@@ -98,6 +104,7 @@ fn read_and_call<A: Amount>(answer: &mut Answer, pool: &mut Pool<A>, text: &str)
     }
 }
 
+/// Makes the calls, and appends what is free after each.
 fn calls<A: Amount>(answer: &mut Answer, pool: &mut Pool<A>, texts: &str) {
     state(answer, pool);
     for text in texts.split("; ") {
@@ -108,12 +115,13 @@ fn calls<A: Amount>(answer: &mut Answer, pool: &mut Pool<A>, texts: &str) {
     }
 }
 
+/// Returns a pool with this total, or appends the error.
 fn open<A: Amount>(answer: &mut Answer, total: &str) -> Option<Pool<A>> {
     let total = A::from_text(answer, total)?;
     answer.found(Pool::new(answer.alloc(), total))
 }
 
-/// What is free of the total, then what each call answers and what is free after it.
+/// Appends what is free and the total, and then the result of each call with what is free after it.
 pub fn answers<A: Amount>(answer: &mut Answer, text: &str) {
     let (total, texts) = text.split_once("; ").unwrap_or((text, ""));
     if let Some(mut pool) = open::<A>(answer, total) {

@@ -1,4 +1,4 @@
-//! Shares, each written `part/whole/weight`.
+//! Questions about shares, each of which is written `part/whole/weight`.
 use crate::answer::Answer;
 use crate::subject::{Subject, read_both};
 use drf_sorter::Share;
@@ -21,6 +21,7 @@ impl Subject for Share {
     }
 }
 
+/// Appends how two shares compare.
 pub fn compared(answer: &mut Answer, shares: &(Share, Share)) {
     let (one, other) = shares;
     answer.say(match one.cmp(other) {

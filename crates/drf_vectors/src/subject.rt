@@ -1,13 +1,15 @@
-//! What questions are about. One function owns it, for all questions: others are lent it, since who owns a value proves how it is dropped.
+//! The values that questions are about. One function owns the value of every question and passes references to the others, because each function that
+//! owns a value needs a proof of dropping it.
 use crate::answer::Answer;
 use drf_role::{ClientPath, Label, Name, NodePath, Role};
 
+/// A value that a question can be about.
 pub trait Subject: Sized + Drop {
-    /// What the text says. Why it says nothing is told.
+    /// Returns the value of a text, or appends the error and returns `None`.
     fn from_text(answer: &mut Answer, text: &str) -> Option<Self>;
 }
 
-/// Asks of what the text says.
+/// Asks a question about the value of a text.
 pub fn asked<S: Subject, F: FnOnce(&mut Answer, &S)>(answer: &mut Answer, text: &str, ask: F)
     requires { F.IsAlwaysCallable ask }
 {
@@ -16,14 +18,14 @@ pub fn asked<S: Subject, F: FnOnce(&mut Answer, &S)>(answer: &mut Answer, text: 
     }
 }
 
-/// What both texts say.
+/// Returns the values of both texts.
 fn both<A: Subject, B: Subject>(answer: &mut Answer, one: &str, other: &str) -> Option<(A, B)> {
     let one = A::from_text(answer, one)?;
     let other = B::from_text(answer, other)?;
     Some((one, other))
 }
 
-/// What the texts before and after the first `mark` say.
+/// Returns the values of the texts before and after the first `mark`.
 pub fn read_both<A: Subject, B: Subject>(
     answer: &mut Answer,
     text: &str,
@@ -36,7 +38,7 @@ pub fn read_both<A: Subject, B: Subject>(
     both(answer, one, other)
 }
 
-/// What each of the texts between marks says.
+/// Adds the value of each text between marks.
 pub fn read_all<S: Subject>(
     answer: &mut Answer,
     all: &mut Vec<S>,
@@ -93,7 +95,7 @@ impl Subject for ClientPath {
     }
 }
 
-/// The node of a client, or of a role, which any client of it has.
+/// The text of a node is a client `ROLE:FRAMEWORK`, or a role, which means the node of the role.
 impl Subject for NodePath {
     fn from_text(answer: &mut Answer, text: &str) -> Option<NodePath> {
         let (role, framework) = text.split_once(':').unwrap_or((text, "."));

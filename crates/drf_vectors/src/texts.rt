@@ -1,4 +1,4 @@
-//! Bundles, quantities and weights as texts, and what is made of a bundle.
+//! Questions about bundles, quantities and weights, which are written as texts.
 use crate::amounts::{Amount, told};
 use crate::answer::Answer;
 use crate::subject::Subject;
@@ -31,36 +31,36 @@ impl Subject for Quantities {
     }
 }
 
-/// The written form of quantities.
+/// Appends quantities in normal form.
 pub fn quantities(answer: &mut Answer, quantities: &Quantities) {
     if let Some(text) = answer.found(write_quantities(answer.alloc(), quantities)) {
         answer.say(text.as_str());
     }
 }
 
-/// A weight in thousandths.
+/// Appends a weight in thousandths.
 pub fn weight(answer: &mut Answer, text: &str) {
     if let Some(weight) = answer.found(read_weight(text)) {
         answer.show(&weight);
     }
 }
 
-/// What a role may use of a bundle.
+/// Appends the part of a bundle that a role can use.
 pub fn part(answer: &mut Answer, of: &(Role, Bundle)) {
     told(answer, of.1.part_for(&of.0));
 }
 
-/// A bundle cut to limits.
+/// Appends a bundle that is cut to limits.
 pub fn clipped(answer: &mut Answer, of: &(Quantities, Bundle)) {
     told(answer, of.1.clip(&of.0));
 }
 
-/// What is left of a bundle without another.
+/// Appends what is left of a bundle without another.
 pub fn rest(answer: &mut Answer, of: &(Bundle, Bundle)) {
     told(answer, of.0.rest(&of.1));
 }
 
-/// A bundle moved to a role.
+/// Appends an unreserved bundle after it is reserved for a role.
 pub fn moved(answer: &mut Answer, of: &(Role, Bundle)) {
     let (role, bundle) = of;
     if bundle.is_unreserved() {
@@ -70,12 +70,12 @@ pub fn moved(answer: &mut Answer, of: &(Role, Bundle)) {
     }
 }
 
-/// What a bundle has under a name and a role, as a bundle of its own.
+/// Returns a bundle of one value only.
 fn one_of(alloc: Global, label: &Label, role: &Role, value: &Value) -> Result<Bundle, AllocError> {
     Bundle::one(alloc, label, role, value.copy()?)
 }
 
-/// What a bundle has under a name and a role, and the sums of its scalars.
+/// Appends what a bundle has under a name and a role, and the sums of its scalars.
 pub fn found(answer: &mut Answer, of: &(Label, (Role, Bundle))) {
     let (label, (role, bundle)) = of;
     match bundle.get(label, role) {

@@ -1,12 +1,15 @@
-//! Names, labels, roles and nodes: copied, and put in order.
+//! Questions about names, labels, roles and nodes, which are copied and sorted.
 use crate::answer::Answer;
 use crate::subject::{Subject, read_all};
 use drf_role::{Label, Name, NodePath, Role};
 use std::alloc::AllocError;
 
+/// A value that can be copied and written.
 pub trait Word: Subject {
+    /// Returns a copy.
     fn copy(&self) -> Result<Self, AllocError>;
 
+    /// Returns the text.
     fn text(&self) -> &str;
 }
 
@@ -50,12 +53,14 @@ impl Word for NodePath {
     }
 }
 
+/// Appends a copy.
 pub fn copied<W: Word>(answer: &mut Answer, word: &W) {
     if let Some(copy) = answer.found(word.copy()) {
         answer.say(copy.text());
     }
 }
 
+/// Appends the values, with spaces between them.
 fn tell_all<W: Word>(answer: &mut Answer, words: &[W]) {
     for word in words {
         answer.say(word.text());
@@ -64,6 +69,7 @@ fn tell_all<W: Word>(answer: &mut Answer, words: &[W]) {
     answer.end();
 }
 
+/// Sorts the values and appends them.
 fn tell_sorted<W: Word + Ord>(answer: &mut Answer, words: &mut Vec<W>) {
     let sorted = words.sort();
     if answer.found(sorted).is_some() {
@@ -71,6 +77,7 @@ fn tell_sorted<W: Word + Ord>(answer: &mut Answer, words: &mut Vec<W>) {
     }
 }
 
+/// Appends the values of texts, sorted.
 pub fn sorted<W: Word + Ord>(answer: &mut Answer, texts: &str) {
     let mut words = Vec::<W>::new(answer.alloc());
     if read_all(answer, &mut words, texts, ' ').is_some() {

@@ -1,3 +1,4 @@
+-- Lemmas that the proofs of this crate use.
 pub mod Answers
 pub mod Written
 pub mod Kept

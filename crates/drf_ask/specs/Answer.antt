@@ -1,4 +1,5 @@
--- What questions are answered: one line of compact JSON, the keys in order of bytes (RFC 8259), of the rows as they stand.
+-- The answers to questions: one line of compact JSON with its keys in byte order (RFC 8259), computed from the current
+-- rows.
 use Rattle.std.specs.Prelude.{ℕ, ◌==◌, Bool, ◌||◌, List, [], ◌∷◌, ◌++◌, length, map, filter, Option, Some, None, nat_lt, codes, if◌then◌else◌}
 use Rattle.json.specs.Print.{quoted}
 use Rattle.serde_json.specs.Data.{Data, number, unsigned, string, array, object, member, no_members}
@@ -27,15 +28,15 @@ use Rattle.drf_ask.specs.declared.question.Kind.TheVariants.{Report, Explain, Of
 
 -- ---- the two forms of an answer
 
--- what was asked for
+-- an answer
 abbrev pub told : Text → Data → Data
 told word value = object (member (codes "asked") (string word) (member word value no_members))
 
--- what stands before it
+-- the beginning of an answer, up to its value
 abbrev pub opening : Text → List ℕ
 opening word = 123 ∷ (quoted (codes "asked") ++ 58 ∷ (quoted word ++ 44 ∷ (quoted word ++ 58 ∷ [])))
 
--- why it is not told
+-- the object that reports an error
 abbrev pub not_told : Text → Text → Data
 not_told word fault =
     object (member (codes "asked") (string word) (member (codes "fault") (string fault) no_members))
@@ -45,11 +46,11 @@ not_told word fault =
 abbrev pub list_value : {A : Type 0} → (A → Data) → List A → Data
 list_value value items = array (items_of (map value items))
 
--- it is of the framework, or none is named
+-- the row is of the framework, or none is named
 abbrev pub is_listed : {A : Type 0} → (Text → A → Bool) → Text → A → Bool
 is_listed is_of framework row = (length framework == 0) || is_of framework row
 
--- those of a framework, or all where none is named
+-- the rows of the framework, or all if none is named
 abbrev pub listed : {A : Type 0} → (Text → A → Bool) → Text → List A → List A
 listed is_of framework rows = filter (is_listed is_of framework) rows
 
@@ -59,7 +60,7 @@ is_offer_of framework offer = same_text offer.framework framework
 abbrev pub is_task_of : Text → TaskRow → Bool
 is_task_of framework task = same_text task.framework framework
 
--- a framework that is named is registered
+-- the framework is registered, or none is named
 abbrev pub is_known : Rows → Text → Bool
 is_known rows framework = (length framework == 0) || has_framework rows framework
 
@@ -75,7 +76,7 @@ if_known rows framework word answer =
 
 -- ---- how full the tables are
 
--- how many rows a table has, and how many it may have
+-- the number of rows of a table, and its capacity
 abbrev pub table_value : ℕ → ℕ → Data
 table_value rows limit = object (
     member (codes "limit") (number (unsigned limit))
@@ -100,7 +101,7 @@ abbrev pub explained_told : Rows → Option ℕ → Data
 explained_told rows None = not_told (word_of Explain) (fault_name BadArgument)
 explained_told rows (Some at) = told (word_of Explain) (list_value finding_value (explained rows at))
 
--- what is told of each kind, to whom an argument is given or none
+-- the answer to a question of each kind; the argument is empty if there is none
 abbrev pub answer_of_kind : Machine → Kind → Text → Data
 answer_of_kind machine Report argument = told (word_of Report) (report_value (report_of machine.rows))
 answer_of_kind machine Explain argument = explained_told machine.rows (moment_of argument)
@@ -120,7 +121,7 @@ answer_value machine line =
     if nat_lt longest_line (length line) then not_told (word_at None) (fault_name LineTooLong)
     else answer_of_words machine (question_of line) (kind_of (question_of line).word)
 
--- what an answer begins with: where lines are told too `?`, as no event line does
+-- the beginning of an answer: `?` if lines are echoed, because no event line begins with it
 abbrev pub mark_of : Bool → List ℕ
 mark_of echo = if echo then 63 ∷ [] else []
 

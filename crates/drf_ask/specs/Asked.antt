@@ -1,4 +1,5 @@
--- What a run writes that is asked: for each line of its input, in order, the text for an event line or the answer to a question.
+-- The output of a run with questions: for each line of the input, in order, the text for an event line or the answer to
+-- a question.
 use Rattle.std.specs.Prelude.{◌≡◌, ℕ, Bool, true, false, not, All, List, [], ◌∷◌, ◌++◌, take, map, filter, codes, if◌then◌else◌}
 use Rattle.std.specs.List.{flat_map}
 use Rattle.drf_core.specs.Machine.{Machine}
@@ -10,7 +11,7 @@ use Rattle.drf_journal.specs.State.{machine_after, machine_after_lines, answer_t
 use Rattle.drf_ask.specs.Answer.{answer_line}
 use Rattle.drf_ask.specs.Question.{is_question}
 
--- the text for a line: the answer to a question, or what a run writes that is asked nothing
+-- the text for a line: the answer to a question, or else what a run without questions writes
 abbrev pub text_for : Bool → Machine → List ℕ → List ℕ
 text_for echo machine line =
     if is_question line then answer_line echo machine line else answer_to echo machine line
@@ -28,18 +29,18 @@ abbrev pub asked_of : Machine → Bool → List (List ℕ) → List ℕ
 asked_of machine echo [] = []
 asked_of machine echo (line ∷ lines) = text_for echo machine line ++ asked_of (after_asked machine line) echo lines
 
--- the lines that are no questions
+-- the lines that are not questions
 abbrev pub event_lines_of : List (List ℕ) → List (List ℕ)
 event_lines_of lines = filter (λ line. not (is_question line)) lines
 
--- ---- which of the lines that are written are answers
+-- ---- which output lines are answers
 
 -- a line with its line feed, and whether it is an answer
 pub record Written : Type 0 where
   pub is_answer : Bool
   pub text : List ℕ
 
--- an event line itself, where lines are told too, and its reply
+-- the event line itself, if lines are echoed, and its reply
 abbrev pub event_written : Bool → Machine → List ℕ → List Written
 event_written true machine line =
     record { is_answer = false; text = kept_of line ++ 10 ∷ [] }
@@ -60,47 +61,47 @@ written_of machine echo (line ∷ lines) = line_written echo machine line ++ wri
 abbrev pub text_of_all : List Written → List ℕ
 text_of_all written = flat_map (λ line. line.text) written
 
--- the lines that are no answers
+-- the lines that are not answers
 abbrev pub without_answers : List Written → List Written
 without_answers written = filter (λ line. not line.is_answer) written
 
--- a line that begins as an answer does: with `?` where lines are told too, and else with `{"asked":`
+-- a line begins like an answer: with `?` if lines are echoed, and else with `{"asked":`
 abbrev pub begins_as_answer : Bool → List ℕ → Bool
 begins_as_answer true text = same_text (take 1 text) (codes "?")
 begins_as_answer false text = same_text (take 9 text) (codes "{\"asked\":")
 
--- ---- laws
+-- ---- theorems
 
--- these lines are what is written
+-- these lines are the output
 abbrev pub IsWrittenInLines : Type 0
 IsWrittenInLines =
     (machine : Machine) (echo : Bool) (lines : List (List ℕ))
     → text_of_all (written_of machine echo lines) ≡ asked_of machine echo lines
 
--- one line: a line feed stands at its end, and nowhere else
+-- the text is one line, with a line feed only at its end
 abbrev pub IsLine : List ℕ → Type 0
 IsLine text = (line : List ℕ) × (IsWithinLine line × (text ≡ line ++ 10 ∷ []))
 
--- each of them is one line, as no line of an input has a line feed in it
+-- each output line is one line if no input line contains a line feed
 abbrev pub EachIsLine : Type 0
 EachIsLine =
     (machine : Machine) (echo : Bool) (lines : List (List ℕ)) → All IsWithinLine lines
     → All (λ (written : Written). IsLine written.text) (written_of machine echo lines)
 
--- a reader of the stream knows the answers by how they begin
+-- answers can be recognized by how they begin
 abbrev pub AnswersAreMarked : Type 0
 AnswersAreMarked =
     (machine : Machine) (echo : Bool) (lines : List (List ℕ))
     → map (λ line. begins_as_answer echo line.text) (written_of machine echo lines)
     ≡ map (λ line. line.is_answer) (written_of machine echo lines)
 
--- and with the answers taken out, what is left is, byte for byte, what is written for the event lines alone
+-- without the answers, the output is byte for byte the output for the event lines alone
 abbrev pub AnswersStandBeside : Type 0
 AnswersStandBeside =
     (machine : Machine) (echo : Bool) (lines : List (List ℕ))
     → text_of_all (without_answers (written_of machine echo lines)) ≡ output_of machine echo (event_lines_of lines)
 
--- and the allocator after all lines is that after the event lines
+-- the allocator after all lines is the one after the event lines
 abbrev pub QuestionsChangeNothing : Type 0
 QuestionsChangeNothing =
     (machine : Machine) (lines : List (List ℕ))

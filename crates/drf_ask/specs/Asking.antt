@@ -1,4 +1,4 @@
--- A run that is asked, between two reads.
+-- The state of a run with questions between two reads.
 use Rattle.std.specs.Prelude.{refl, ◌≡◌, ℕ, ◌+◌, Bool, List, [], ◌++◌, length, take, Option, if◌then◌else◌}
 use Rattle.std.specs.Coded.{Coded, code_by, coded×, coded_ℕ, coded_bool, coded_list}
 use Rattle.std.specs.Io.{StartsWith}
@@ -12,14 +12,14 @@ use Rattle.drf_journal.specs.Output.{kept_of}
 use Rattle.drf_ask.specs.Asked.{after_asked, after_all_asked, asked_of, event_lines_of}
 use Rattle.drf_ask.specs.Question.{is_question}
 
--- the allocator, whether lines are told too, what is kept of the line at hand, and how many event lines were answered
+-- the allocator, whether lines are echoed, the kept bytes of the current line, and the number of answered event lines
 pub record Asking : Type 0 where
   pub machine : Machine
   pub echo : Bool
   pub pending : List ℕ
   pub events : ℕ
 
--- by it a proof tells two of them apart
+-- an encoding by which proofs tell two of them apart
 abbrev pub asking_code : Coded Asking
 asking_code = code_by (Machine × (Bool × (List ℕ × ℕ)))
     (coded× machine_code (coded× coded_bool (coded× (coded_list coded_ℕ) coded_ℕ)))
@@ -30,11 +30,11 @@ asking_code = code_by (Machine × (Bool × (List ℕ × ℕ)))
 abbrev pub not_asked : Machine → Bool → Asking
 not_asked machine echo = record { machine = machine; echo = echo; pending = []; events = 0 }
 
--- a line is one event line more, or none
+-- the number of event lines that a line counts for
 abbrev pub count_of : List ℕ → ℕ
 count_of line = if is_question line then 0 else 1
 
--- the line at hand is at its end, and is answered
+-- the current line has ended and is answered
 abbrev pub after_line : Asking → List ℕ → Asking
 after_line asking line = record {
   machine = after_asked asking.machine line;
@@ -43,7 +43,7 @@ after_line asking line = record {
   events = asking.events + count_of line;
 }
 
--- All lines that ended in what was read have been answered and written.
+-- All lines that had ended in the bytes read have been answered and written.
 pub record IsAskedTo (start : Machine) (echo : Bool) (read : List ℕ) (first now : Option (List ℕ)) (asking : Asking) : Type 0 where
   pub written : Appends first now (asked_of start echo (ended_lines_of read))
   pub machine : asking.machine ≡ after_all_asked start (ended_lines_of read)
@@ -51,26 +51,26 @@ pub record IsAskedTo (start : Machine) (echo : Bool) (read : List ℕ) (first no
   pub pending : asking.pending ≡ kept_of (open_line_of read)
   pub events : asking.events ≡ length (event_lines_of (ended_lines_of read))
 
--- a run went over the next bytes, and stands behind them
+-- a run processed the next bytes
 abbrev pub HasGone : List ℕ → (old new : Asking) → (written_old written_new : Option (List ℕ)) → Type 0
 HasGone piece old new written_old written_new =
     (start : Machine) (echo : Bool) (read : List ℕ) (first : Option (List ℕ))
     → IsAskedTo start echo read first written_old old → IsAskedTo start echo (read ++ piece) first written_new new
 
--- of the text for a line nothing was written where memory ran out, and a front where a write failed
+-- what was written of the text for a line: nothing if memory ran out, and a prefix if a write failed
 unfoldable pub HasPart : RunFault → (written_old written_new : Option (List ℕ)) → List ℕ → Type 0
 HasPart Read written_old written_new text = ⊥
 HasPart Write written_old written_new text = AppendsFrontOf written_old written_new text
 HasPart Memory written_old written_new text = Appends written_old written_new []
 
--- What was written of the text for some lines: all of it where memory ran out, and a front where a write failed.
+-- What was written of the text for some lines: all of it if memory ran out, and a prefix if a write failed.
 abbrev pub IsFrontFor : RunFault → List ℕ → List ℕ → Type 0
 IsFrontFor Read text written = ⊥
 IsFrontFor Write text written = (count : ℕ) × (written ≡ take count text)
 IsFrontFor Memory text written = written ≡ text
 
--- A run has stopped: of all these lines the text for the first was written, or a front of it, with the text for the lines before
--- the last piece of the input whole.
+-- A run stopped: the text for the first of all these lines was written, or a prefix of it. The text for the lines
+-- before the last chunk was written as a whole.
 pub record HasStoppedIn (fault : RunFault) (start : Machine) (echo : Bool) (before all : List (List ℕ)) (first now : Option (List ℕ))
     : Type 0 where
   pub answered : List (List ℕ)
@@ -81,20 +81,20 @@ pub record HasStoppedIn (fault : RunFault) (start : Machine) (echo : Bool) (befo
   pub front : IsFrontFor fault (asked_of start echo answered) written
   pub prompt : StartsWith written (asked_of start echo before)
 
--- a run has stopped within the next bytes
+-- a run stopped within the next bytes
 abbrev pub HasStopped : RunFault → List ℕ → Asking → (written_old written_new : Option (List ℕ)) → Type 0
 HasStopped fault piece old written_old written_new =
     (start : Machine) (echo : Bool) (read : List ℕ) (first : Option (List ℕ))
     → IsAskedTo start echo read first written_old old
     → HasStoppedIn fault start echo (ended_lines_of read) (ended_lines_of (read ++ piece)) first written_new
 
--- of an input that is at its end, the lines that a run may have stopped at: where memory ran out it was at the last at most
+-- the lines at which a run can stop at the end of the input; if memory ran out, only lines that had ended were answered
 abbrev pub lines_reached : RunFault → List ℕ → List (List ℕ)
 lines_reached Read read = ended_lines_of read
 lines_reached Write read = lines_of read
 lines_reached Memory read = ended_lines_of read
 
--- all lines of the input were answered, the last of which its end may have ended
+-- all lines of the input were answered, including a last line without a line feed
 pub record HasClosed (start : Machine) (echo : Bool) (read : List ℕ) (first now : Option (List ℕ)) (asking : Asking) : Type 0 where
   pub written : Appends first now (asked_of start echo (lines_of read))
   pub events : asking.events ≡ length (event_lines_of (lines_of read))

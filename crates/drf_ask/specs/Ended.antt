@@ -1,4 +1,4 @@
--- How a run ends that is asked: what it read and wrote.
+-- How a run with questions ends: what it read and wrote.
 use Rattle.std.specs.Prelude.{◌≡◌, ℕ, ◌-◌, ◌≤◌, Bool, List, length, take, Option, Result, Ok, Err}
 use Rattle.std.specs.Io.{StartsWith}
 use Rattle.std.specs.Io.KnownBytes.{Appends, Consumes}
@@ -9,7 +9,7 @@ use Rattle.drf_journal.specs.Ended.{HaveEnded}
 use Rattle.drf_journal.specs.Lines.{lines_of, ended_lines_of}
 use Rattle.drf_ask.specs.Asked.{asked_of, event_lines_of}
 
--- at `Ok`: all lines were answered, and how many of them are no questions is told
+-- at `Ok`: all lines were answered, and the number of those that are not questions is returned
 pub record AskedAll (machine : Machine) (echo : Bool) (told answered : ℕ) (read written : List ℕ) : Type 0 where
   pub output : written ≡ asked_of machine echo (lines_of read)
   pub all_lines : answered ≡ length (lines_of read)
@@ -20,25 +20,25 @@ pub record AskedEnded (machine : Machine) (echo : Bool) (answered : ℕ) (read w
   pub output : written ≡ asked_of machine echo (ended_lines_of read)
   pub all_ended : answered ≡ length (ended_lines_of read)
 
--- after a failed write: of the text for the lines up to the one at hand a front was written
+-- after a failed write: a prefix of the text for the lines up to the current one was written
 pub record AskedFront (machine : Machine) (echo : Bool) (answered : ℕ) (read written : List ℕ) : Type 0 where
   pub count : ℕ
   pub output : written ≡ take count (asked_of machine echo (take answered (lines_of read)))
 
--- where memory ran out: the lines before the one at hand were answered, all of which had ended
+-- out of memory: the lines before the current one were answered, and all of them had ended
 pub record AskedFirst (machine : Machine) (echo : Bool) (answered : ℕ) (read written : List ℕ) : Type 0 where
   pub output : written ≡ asked_of machine echo (take answered (ended_lines_of read))
   pub had_ended : answered ≤ length (ended_lines_of read)
 
--- what was written for what was read, where the first `answered` lines were answered
+-- what was written for the bytes read, when the first `answered` lines were answered
 abbrev pub IsAsked : Machine → Bool → Result ℕ RunFault → ℕ → List ℕ → List ℕ → Type 0
 IsAsked machine echo (Ok told) answered read written = AskedAll machine echo told answered read written
 IsAsked machine echo (Err Read) answered read written = AskedEnded machine echo answered read written
 IsAsked machine echo (Err Write) answered read written = AskedFront machine echo answered read written
 IsAsked machine echo (Err Memory) answered read written = AskedFirst machine echo answered read written
 
--- a run of an allocator took bytes from a reader and gave bytes to a writer. Of the lines that had ended
--- before the last 65,536 bytes the whole text was written, however the run ended.
+-- a run of an allocator read bytes from a reader and wrote bytes to a writer. However it ended, the whole text was
+-- written for the lines that had ended before the last 65,536 bytes.
 pub record HasAsked (machine : Machine) (echo : Bool)
     (unread_before unread_after written_before written_after : Option (List ℕ))
     (result : Result ℕ RunFault) : Type 0 where

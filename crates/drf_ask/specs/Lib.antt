@@ -1,3 +1,4 @@
+-- The definitions of questions, of their answers, and of runs with questions.
 pub mod Question
 pub mod Answer
 pub mod Asked

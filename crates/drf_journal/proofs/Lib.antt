@@ -1,3 +1,4 @@
+-- Lemmas that the proofs of this crate use.
 pub mod Cuts
 pub mod Kept
 pub mod Pieces

@@ -1,4 +1,4 @@
--- An audit of the agents, as they stand after the events of an input, and an explanation of the next cycle.
+-- Audits of the agents, and explanations of the next cycle, after the events of an input.
 use Rattle.std.specs.Prelude.{◌≡◌, ℕ, ◌<◌, List, [], ◌∷◌, length, take, Option, Result, Ok, Err, OnOk}
 use Rattle.std.specs.List.{flat_map}
 use Rattle.std.specs.Io.KnownBytes.{Appends, Consumes, IsAtEnd}
@@ -16,26 +16,26 @@ use Rattle.drf_journal.specs.Lines.{lines_of}
 use Rattle.drf_journal.specs.Output.{rows_after_line}
 use Rattle.drf_journal.specs.State.{machine_after_lines}
 
--- the rows after some lines, the events among which are taken one after the other
+-- the rows after taking the events among some lines
 abbrev pub rows_after_lines : LimitNumbers → Rows → List (List ℕ) → Rows
 rows_after_lines limits rows [] = rows
 rows_after_lines limits rows (line ∷ lines) =
     rows_after_lines limits (rows_after_line limits rows (meaning_of line)) lines
 
--- ---- a text that tells of the rows after an input
+-- ---- a text computed from the rows after an input
 
--- the text that is due to the lines of an input, from an allocator that stands so, where `tell` is that of rows
+-- the text for the lines of an input from this allocator, where `tell` computes it from rows
 unfoldable pub told_of_lines : (Rows → List ℕ) → Machine → List (List ℕ) → List ℕ
 told_of_lines tell machine lines = tell (rows_after_lines machine.limits machine.rows lines)
 
--- What was written for what was read: at `Ok` the whole text, and else a front of it.
+-- The bytes written for the bytes read: the whole text at `Ok`, and otherwise a prefix of it.
 abbrev pub IsToldOfRows : (Rows → List ℕ) → Machine → Result (Unit {0}) RunFault → List ℕ → List ℕ → Type 0
 IsToldOfRows tell machine (Ok done) read written = written ≡ told_of_lines tell machine (lines_of read)
 IsToldOfRows tell machine (Err Read) read written = written ≡ []
 IsToldOfRows tell machine (Err Write) read written = (count : ℕ) × (written ≡ take count (told_of_lines tell machine (lines_of read)))
 IsToldOfRows tell machine (Err Memory) read written = (count : ℕ) × (written ≡ take count (told_of_lines tell machine (lines_of read)))
 
--- bytes were taken from a reader and given to a writer, nothing before the input was at its end
+-- bytes were read and written, and nothing was written before the end of the input was reached
 pub record HasToldOfRows (tell : Rows → List ℕ) (machine : Machine)
     (unread_before unread_after written_before written_after : Option (List ℕ))
     (result : Result (Unit {0}) RunFault) : Type 0 where
@@ -49,20 +49,20 @@ pub record HasToldOfRows (tell : Rows → List ℕ) (machine : Machine)
 
 -- ---- audits and explanations
 
--- the text that tells of the agents: a line for each, in order of registration
+-- the audit: a line for each agent, in order of registration
 abbrev pub agents_text : Rows → List ℕ
 agents_text rows = flat_map (λ agent. audit_text (line_of rows agent)) rows.agents
 
--- the text that tells of the cycle at a moment
+-- the explanation of a cycle at the timestamp `at`
 abbrev pub cycle_text : ℕ → Rows → List ℕ
 cycle_text at rows = explained_text (explained rows at)
 
--- an audit took bytes from a reader and gave bytes to a writer
+-- an audit read bytes from a reader and wrote bytes to a writer
 abbrev pub HasAudited : Machine → (unread_before unread_after written_before written_after : Option (List ℕ))
     → Result (Unit {0}) RunFault → Type 0
 HasAudited = HasToldOfRows agents_text
 
--- and so did an explanation of the cycle at a moment
+-- an explanation of the cycle at the timestamp `at` did so
 abbrev pub HasExplained : ℕ → Machine → (unread_before unread_after written_before written_after : Option (List ℕ))
     → Result (Unit {0}) RunFault → Type 0
 HasExplained at = HasToldOfRows (cycle_text at)

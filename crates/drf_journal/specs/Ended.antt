@@ -1,4 +1,4 @@
--- How a run ends: what it read and wrote, how its session stands, and which device failed.
+-- How a run ends: what it read and wrote, what its session has taken, and which device failed.
 use Rattle.std.specs.Prelude.{◌≡◌, ℕ, ◌+◌, ◌-◌, ◌^◌, ◌≤◌, Bool, true, false, List, length, take, Option, Result, Ok, Err, ◌⊎◌, [], ⊤}
 use Rattle.std.specs.Io.{StartsWith}
 use Rattle.std.specs.Io.KnownBytes.{Appends, Consumes, IsAtEnd}
@@ -10,7 +10,7 @@ use Rattle.drf_journal.specs.Lines.{lines_of, ended_lines_of}
 use Rattle.drf_journal.specs.Output.{output_of}
 use Rattle.drf_journal.specs.State.{State, machine_after_lines, AnswersFrontOf}
 
--- at `Ok`: all lines were answered, and their number is told
+-- at `Ok`: all lines were answered, and their number is returned
 pub record AnsweredAll (machine : Machine) (echo : Bool) (lines answered : ℕ) (read written : List ℕ) : Type 0 where
   pub output : written ≡ output_of machine echo (lines_of read)
   pub all_lines : answered ≡ length (lines_of read)
@@ -21,29 +21,29 @@ pub record AnsweredEnded (machine : Machine) (echo : Bool) (answered : ℕ) (rea
   pub output : written ≡ output_of machine echo (ended_lines_of read)
   pub all_ended : answered ≡ length (ended_lines_of read)
 
--- after a failed write: of the text for the lines that were answered a front was written
+-- after a failed write: a prefix of the text for the answered lines was written
 pub record WroteFront (machine : Machine) (echo : Bool) (answered : ℕ) (read written : List ℕ) : Type 0 where
   pub count : ℕ
   pub output : written ≡ take count (output_of machine echo (take answered (lines_of read)))
 
--- where memory ran out: the lines before the one at hand were answered, all of which had ended
+-- out of memory: the lines before the current one were answered, and all of them had ended
 pub record AnsweredFirst (machine : Machine) (echo : Bool) (answered : ℕ) (read written : List ℕ) : Type 0 where
   pub output : written ≡ output_of machine echo (take answered (ended_lines_of read))
   pub had_ended : answered ≤ length (ended_lines_of read)
 
--- what was written for what was read, where the first `answered` lines were answered
+-- what was written for the bytes read, when the first `answered` lines were answered
 abbrev pub IsAnswered : Machine → Bool → Result ℕ RunFault → ℕ → List ℕ → List ℕ → Type 0
 IsAnswered machine echo (Ok lines) answered read written = AnsweredAll machine echo lines answered read written
 IsAnswered machine echo (Err Read) answered read written = AnsweredEnded machine echo answered read written
 IsAnswered machine echo (Err Write) answered read written = WroteFront machine echo answered read written
 IsAnswered machine echo (Err Memory) answered read written = AnsweredFirst machine echo answered read written
 
--- a number of lines had ended, each by a line feed or the last by the end of the input
+-- this number of lines had ended, each by a line feed or the last by the end of the input
 abbrev pub HaveEnded : ℕ → List ℕ → Option (List ℕ) → Type 0
 HaveEnded number read unread_after = (number ≤ length (ended_lines_of read)) ⊎ IsAtEnd unread_after
 
--- a run of an allocator took bytes from a reader and gave bytes to a writer. Of the lines that had ended
--- before the last 65,536 bytes the whole text was written, however the run ended.
+-- a run of an allocator read bytes from a reader and wrote bytes to a writer. However it ended, the whole text was
+-- written for the lines that had ended before the last 65,536 bytes.
 pub record HasAnswered (machine : Machine) (echo : Bool)
     (unread_before unread_after written_before written_after : Option (List ℕ))
     (result : Result ℕ RunFault) : Type 0 where
@@ -56,20 +56,20 @@ pub record HasAnswered (machine : Machine) (echo : Bool)
   pub ended : HaveEnded lines read unread_after
   pub prompt : StartsWith written (output_of machine echo (ended_lines_of (take (length read - 65536) read)))
 
--- after a failed write: `text` is what all that was answered of the piece came to, and a front of it was written
+-- after a failed write: `text` is the text for all answered lines of the chunk, and a prefix of it was written
 pub record StoppedWriting (old : State) (piece : List ℕ) (new : State) (written_before written_after : Option (List ℕ)) : Type 0 where
   pub text : List ℕ
   pub answers : AnswersFrontOf old piece (record new { unsent = text })
   pub front_sent : AppendsFrontOf written_before written_after text
 
--- where memory ran out: all of that text was written
+-- out of memory: all of that text was written
 pub record RanOutOfMemory (old : State) (piece : List ℕ) (new : State) (written_before written_after : Option (List ℕ)) : Type 0 where
   pub text : List ℕ
   pub answers : AnswersFrontOf old piece (record new { unsent = text })
   pub nothing_unsent : new.unsent ≡ []
   pub sent : Appends written_before written_after text
 
--- within a piece of the input a session has stopped
+-- a session stopped within a chunk of the input
 unfoldable pub HasStopped : RunFault → State → List ℕ → State → Option (List ℕ) → Option (List ℕ) → Type 0
 HasStopped Read old piece new written_before written_after = ⊥
 HasStopped Write old piece new written_before written_after = StoppedWriting old piece new written_before written_after
@@ -82,7 +82,7 @@ pub record HasTaken (old new : Machine) (answered : ℕ) (read : List ℕ) (unre
   pub ahead : (taken ≡ answered) ⊎ (taken ≡ answered + 1)
   pub ended : HaveEnded taken read unread_after
 
--- a session has run so, and counts the lines that were answered
+-- a session has run in this way, and counts the lines that were answered
 pub record HasServed (old : State)
     (unread_before unread_after written_before written_after : Option (List ℕ))
     (new : State) (result : Result ℕ RunFault) : Type 0 where
@@ -90,15 +90,15 @@ pub record HasServed (old : State)
   pub counted : new.lines ≡ run.lines
   pub taken : HasTaken old.machine new.machine run.lines run.read unread_after
 
--- whatever was written has been flushed, unless the writer failed
+-- everything that was written has been flushed, unless the writer failed
 abbrev pub HasFlushed : {T : Type 0} → Result T RunFault → Bool → Type 0
 HasFlushed (Ok told) flushed = flushed ≡ true
 HasFlushed (Err Read) flushed = flushed ≡ true
 HasFlushed (Err Write) flushed = ⊤
 HasFlushed (Err Memory) flushed = flushed ≡ true
 
--- a read fault comes where the reader failed, or was asked 2^40 times; a write fault where the writer failed; and
--- otherwise neither has
+-- `Read` is returned only if the reader failed or was called 2^40 times, and `Write` only if the writer failed;
+-- otherwise neither failed
 abbrev pub HasCause : {T : Type 0} → Result T RunFault → Bool → ℕ → Bool → Type 0
 HasCause (Ok told) reader_failed reads writer_failed = (reader_failed ≡ false) × (writer_failed ≡ false)
 HasCause (Err Read) reader_failed reads writer_failed =

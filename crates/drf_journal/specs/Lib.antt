@@ -1,3 +1,4 @@
+-- The definitions of runs over lines, of journals and their checks, and the theorems about them.
 pub mod Device
 pub mod Lines
 pub mod Output

@@ -1,4 +1,4 @@
--- A run between two reads, and what a byte of the input does to it.
+-- The state of a run between two reads, and how a byte of the input changes it.
 use Rattle.std.specs.Prelude.{refl, ◌≡◌, ℕ, ◌+◌, ◌<◌, Bool, ◌==◌, List, [], ◌∷◌, ◌++◌, length, take, fold, Result, Ok, Err, ◌⊎◌, if◌then◌else◌}
 use Rattle.std.specs.Coded.{Coded, code_by, coded×, coded_ℕ, coded_bool, coded_list}
 use Rattle.drf_core.specs.Machine.{Machine, machine_code, after}
@@ -8,8 +8,8 @@ use Rattle.drf_lines.specs.Meaning.{meaning_of}
 use Rattle.drf_journal.specs.Lines.{is_line_feed}
 use Rattle.drf_journal.specs.Output.{kept_of, echo_of, reply_line_after}
 
--- the allocator, whether lines are told too, what is kept of the line at hand, the text that is not written yet, and how
--- many lines were answered
+-- the allocator, whether lines are echoed, the kept bytes of the current line, the text that has not been written yet,
+-- and the number of answered lines
 pub record State : Type 0 where
   pub machine : Machine
   pub echo : Bool
@@ -17,14 +17,14 @@ pub record State : Type 0 where
   pub unsent : List ℕ
   pub lines : ℕ
 
--- by it a proof tells two of them apart
+-- an encoding by which proofs tell two of them apart
 abbrev pub state_code : Coded State
 state_code = code_by (Machine × (Bool × (List ℕ × (List ℕ × ℕ))))
     (coded× machine_code (coded× coded_bool (coded× (coded_list coded_ℕ) (coded× (coded_list coded_ℕ) coded_ℕ))))
     (λ s. (s.machine, (s.echo, (s.pending, (s.unsent, s.lines)))))
     (λ p. record { machine = p.0; echo = p.1.0; pending = p.1.1.0; unsent = p.1.1.1.0; lines = p.1.1.1.1 }) (λ _. refl)
 
--- a run of an allocator that has read nothing
+-- a run of this allocator that has read nothing
 abbrev pub begun : Machine → Bool → State
 begun machine echo = record { machine = machine; echo = echo; pending = []; unsent = []; lines = 0 }
 
@@ -46,7 +46,7 @@ machine_after_lines machine (line ∷ lines) = machine_after_lines (machine_afte
 abbrev pub answer_to : Bool → Machine → List ℕ → List ℕ
 answer_to echo machine line = echo_of echo line ++ reply_line_after machine.limits machine.rows (meaning_of line)
 
--- the line at hand is at its end, and is answered
+-- the current line has ended and is answered
 unfoldable pub after_line : State → State
 after_line state = record {
   machine = machine_after state.machine (meaning_of state.pending);
@@ -60,7 +60,7 @@ abbrev pub after_byte : State → ℕ → State
 after_byte state b =
     if is_line_feed b then after_line state else record state { pending = kept_of (state.pending ++ b ∷ []) }
 
--- the run after a piece of the input
+-- the run after a chunk of the input
 unfoldable pub after_piece : State → List ℕ → State
 after_piece state piece = fold after_byte state piece
 
@@ -68,15 +68,15 @@ after_piece state piece = fold after_byte state piece
 unfoldable pub at_end : State → State
 at_end state = if length state.pending == 0 then state else after_line state
 
--- the allocator as it was, or after that line
+-- the allocator did not change, or has taken that line
 abbrev pub HasTakenAtMost : Machine → List ℕ → Machine → Type 0
 HasTakenAtMost old line new = (new ≡ old) ⊎ (new ≡ machine_after old (meaning_of line))
 
--- before each of the first `count` bytes of a piece less than `most` bytes of text wait
+-- before each of the first `count` bytes of a chunk, fewer than `most` bytes wait to be written
 abbrev pub WaitsBelow : ℕ → State → List ℕ → ℕ → Type 0
 WaitsBelow most old piece count = (k : ℕ) → k < count → length (after_piece old (take k piece)).unsent < most
 
--- of a piece the lines up to some byte were answered, and the allocator has taken these lines, or one more
+-- the lines of a chunk up to some byte were answered, and the allocator has taken these lines or one more
 pub record AnswersFrontOf (old : State) (piece : List ℕ) (new : State) : Type 0 where
   pub answered_bytes : ℕ
   pub unsent : new.unsent ≡ (after_piece old (take answered_bytes piece)).unsent

@@ -1,3 +1,4 @@
+-- Lemmas that the proofs of this crate use.
 pub mod Exits
 pub mod KnownWords
 pub mod RoleLists

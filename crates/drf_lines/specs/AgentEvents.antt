@@ -1,5 +1,5 @@
--- The events of agents. Each is read by steps: how many keys there are with `event`, what stands under them, and then the
--- texts. It is written with its keys in order of bytes.
+-- The events of agents. They are read in steps: the number of keys, the values under the keys, and then the texts. They
+-- are written with their keys in byte order.
 use Rattle.std.specs.Prelude.{ℕ, List, Result, Ok, codes}
 use Rattle.serde_json.specs.Data.{Data, string, object, member, no_members}
 use Rattle.drf_bundle.specs.declared.resource.Resource.{Resource}
@@ -10,7 +10,7 @@ use Rattle.drf_lines.specs.Object.{keys, text_at}
 use Rattle.drf_lines.specs.Words.{name_in}
 use Rattle.drf_lines.specs.Resources.{bundle_in}
 
--- the agent and the total of an event that has no other keys
+-- the agent and the total of an event that has no other keys but `event`
 unfoldable pub its_total : Data → Result (List ℕ × List Resource) LineFault
 its_total value =
     keys 3 value >>= λ _. text_at (codes "agent") value >>= λ agent. text_at (codes "total") value >>= λ total.
@@ -23,7 +23,7 @@ of_total event agent total = object (
     (member (codes "total") (string (bundle_text total))
     no_members)))
 
--- the agent of an event that has no other key
+-- the agent of an event that has no other key but `event`
 unfoldable pub agent_of : Data → Result (List ℕ) LineFault
 agent_of value = keys 2 value >>= λ _. text_at (codes "agent") value >>= λ agent. name_in agent
 

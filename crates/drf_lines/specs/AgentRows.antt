@@ -1,5 +1,5 @@
--- The rows of agents as lines of a state. They are read by steps as events are, with `row` in place of `event`, and written with
--- their keys in order of bytes.
+-- The rows of agents in a saved state. They are read in the same steps as events, with `row` instead of `event`, and
+-- written with their keys in byte order.
 use Rattle.std.specs.Prelude.{Result, Ok, codes}
 use Rattle.serde_json.specs.Data.{Data, boolean, string, object, member, no_members}
 use Rattle.drf_rows.specs.declared.rows.AgentRow.{AgentRow}

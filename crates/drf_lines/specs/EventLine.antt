@@ -1,4 +1,4 @@
--- The line of an event, without its line feed: compact JSON, the keys in order of bytes (RFC 8259).
+-- The line of an event, without its line feed: compact JSON with its keys in byte order (RFC 8259).
 use Rattle.std.specs.Prelude.{ℕ, List, codes}
 use Rattle.serde_json.specs.Data.{Data, number, unsigned, string, object, member, no_members}
 use Rattle.serde_json.specs.Written.{compact_text}
@@ -41,6 +41,6 @@ event_value (SetLimit role limit) = limit_value role limit
 event_value (Cycle at) = cycle_value at
 event_value Report = report_request
 
--- the line that spells an event
+-- the line of an event
 unfoldable pub event_line : Event → List ℕ
 event_line event = compact_text (event_value event)

@@ -1,4 +1,4 @@
--- The events of frameworks and their clients, read and written as those of agents.
+-- The events of frameworks and of their clients, read and written like those of agents.
 use Rattle.std.specs.Prelude.{ℕ, List, map, Result, Ok, codes}
 use Rattle.serde_json.specs.Data.{Data, string, array, object, member, no_members}
 use Rattle.serde_json.specs.View.{items_of}
@@ -8,7 +8,7 @@ use Rattle.drf_lines.specs.Fault.{◌>>=◌}
 use Rattle.drf_lines.specs.Object.{keys, text_at, texts_at}
 use Rattle.drf_lines.specs.Words.{name_in, role_in, roles_in}
 
--- the framework and the roles of an event that has no other keys
+-- the framework and the roles of an event that has no other keys but `event`
 unfoldable pub its_roles : Data → Result (List ℕ × List (List (List ℕ))) LineFault
 its_roles value =
     keys 3 value >>= λ _. text_at (codes "framework") value >>= λ framework. texts_at (codes "roles") value >>= λ roles.
@@ -18,7 +18,7 @@ its_roles value =
 abbrev pub role_value : List (List ℕ) → Data
 role_value role = string (text_of role)
 
--- each role as often as it stands
+-- the roles in their order, with duplicates
 abbrev pub of_roles : List ℕ → List ℕ → List (List (List ℕ)) → Data
 of_roles event framework roles = object (
     member (codes "event") (string event)
@@ -26,7 +26,7 @@ of_roles event framework roles = object (
     (member (codes "roles") (array (items_of (map role_value roles)))
     no_members)))
 
--- the framework of an event that has no other key
+-- the framework of an event that has no other key but `event`
 unfoldable pub framework_of : Data → Result (List ℕ) LineFault
 framework_of value = keys 2 value >>= λ _. text_at (codes "framework") value >>= λ framework. name_in framework
 
@@ -34,7 +34,7 @@ abbrev pub of_framework : List ℕ → List ℕ → Data
 of_framework event framework =
     object (member (codes "event") (string event) (member (codes "framework") (string framework) no_members))
 
--- the framework and the role of an event that has no other keys
+-- the framework and the role of an event that has no other keys but `event`
 unfoldable pub its_client : Data → Result (List ℕ × List (List ℕ)) LineFault
 its_client value =
     keys 3 value >>= λ _. text_at (codes "framework") value >>= λ framework. text_at (codes "role") value >>= λ role.

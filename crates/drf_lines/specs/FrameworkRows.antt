@@ -1,4 +1,4 @@
--- The rows of frameworks, each with its clients, read and written as those of agents.
+-- The rows of frameworks with their clients, read and written like those of agents.
 use Rattle.std.specs.Prelude.{◌≡◌, ℕ, ◌<◌, ◌^◌, Bool, List, map, Result, Ok, codes}
 use Rattle.serde_json.specs.Data.{Data, boolean, number, unsigned, string, array, object, member, no_members}
 use Rattle.serde_json.specs.View.{items_of}
@@ -16,15 +16,15 @@ use Rattle.drf_lines.specs.Written.{IsText}
 abbrev pub ClientText : Type 0
 ClientText = List ℕ × ℕ × Bool
 
--- ---- what stands in the line
+-- ---- the texts in the line
 
--- an object of the three keys alone
+-- a client from an object that has only the three keys
 unfoldable pub client_text : Data → Result ClientText LineFault
 client_text value =
     keys 3 value >>= λ _. number_at (codes "count") value >>= λ count. text_at (codes "role") value >>= λ role.
     boolean_at (codes "suppressed") value >>= λ suppressed. Ok (role, count, suppressed)
 
--- ---- what it says
+-- ---- the meaning of the texts
 
 unfoldable pub client_in : ClientText → Result ClientRow LineFault
 client_in text = role_in text.0 >>= λ role. Ok (record { role = role; count = text.1; suppressed = text.2 })
@@ -36,7 +36,7 @@ framework_row value =
     name_in framework >>= λ framework. each_in client_in clients >>= λ clients.
     Ok (record { name = framework; clients = clients })
 
--- ---- as it is written
+-- ---- the written form
 
 abbrev pub client_value : ClientRow → Data
 client_value c = object (
@@ -52,7 +52,7 @@ framework_row_value f = object (
     (member (codes "row") (string (codes "framework"))
     no_members)))
 
--- what is written of a client is read: its role, a text, as this role, and its count, a number of 64 bits, as this number
+-- the written form of a client can be read: its role gives the same role, is UTF-8, and its count is below 2^64
 pub record IsClientRead (c : ClientRow) : Type 0 where
   pub role : role_in (text_of c.role) ≡ Ok c.role
   pub text : IsText (text_of c.role)

@@ -1,4 +1,4 @@
--- The rows of what a client has on an agent: offers, tasks and filters, read and written as those of agents.
+-- The rows of what a client has on an agent: offers, tasks and filters. They are read and written like those of agents.
 use Rattle.std.specs.Prelude.{ℕ, List, Result, Ok, codes}
 use Rattle.serde_json.specs.Data.{Data, number, unsigned, string, object, member, no_members}
 use Rattle.drf_role.specs.Parts.{text_of}
@@ -14,7 +14,7 @@ use Rattle.drf_lines.specs.Object.{keys, text_at, number_at}
 use Rattle.drf_lines.specs.Words.{name_in, role_in}
 use Rattle.drf_lines.specs.Resources.{bundle_in}
 
--- ---- whose a row is: the agent, the framework and the role
+-- ---- the owner of a row: agent, framework and role
 
 abbrev pub OwnerText : Type 0
 OwnerText = List ℕ × List ℕ × List ℕ

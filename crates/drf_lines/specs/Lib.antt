@@ -1,3 +1,4 @@
+-- The definitions of what lines mean, and of how events, replies, errors and rows are written as lines.
 pub mod Fault
 pub mod Words
 pub mod Resources

@@ -1,4 +1,4 @@
--- The event of limits, read and written as those of agents.
+-- The event `set_limit`, read and written like those of agents.
 use Rattle.std.specs.Prelude.{List, Result, Ok, codes}
 use Rattle.serde_json.specs.Data.{Data, string, object, member, no_members}
 use Rattle.drf_role.specs.Parts.{text_of}
@@ -11,7 +11,7 @@ use Rattle.drf_lines.specs.Object.{keys, text_at}
 use Rattle.drf_lines.specs.Words.{role_in}
 use Rattle.drf_lines.specs.Resources.{quantities_in}
 
--- the role and the limit of an event, or of a row, that has no other keys
+-- the role and the limit of an event, or of a row, that has no other keys but `event` or `row`
 unfoldable pub its_limit : Data → Result (Path × List Entry) LineFault
 its_limit value =
     keys 3 value >>= λ _. text_at (codes "role") value >>= λ role. text_at (codes "limit") value >>= λ limit.

@@ -1,5 +1,5 @@
--- The data that the JSON value of a line stands for, whose texts are borrowed from the line. Of equal keys the last counts, as in
--- serde_json's data; a number out of the range of a double, which no value of a line has, stands for no whole number.
+-- The data that the JSON value of a line represents. Texts are borrowed from the line. Of equal keys the last one
+-- counts, as in serde_json. A number out of the range of a double, which no value of a line has, is treated as -1.
 use Rattle.std.specs.Prelude.{◌≡◌, ℕ, negsuc, List, [], ◌∷◌, Bool, true, false, ◌&&◌, ◌||◌, Option, map, is_some, unwrap_or}
 use Rattle.std.specs.Str.{bytes_eq}
 use Rattle.json.specs.Json as json
@@ -12,11 +12,11 @@ use Rattle.drf_lines.specs.declared.fault.LineFault.TheVariants.{NotJson}
 use Rattle.drf_lines.specs.declared.fault.LineError.{LineError}
 use Rattle.drf_lines.specs.declared.fault.LineError.TheVariants.{Fault, Memory}
 
--- the number, where it is in range
+-- the number if it is in range, and else -1
 abbrev pub known_number : Option Num → Num
 known_number read = unwrap_or read (negative (negsuc 0))
 
--- the number that a text is
+-- the number that a text represents
 abbrev pub number_in : List ℕ → Num
 number_in text = known_number (number_of text)
 
@@ -33,7 +33,7 @@ abbrev mutual
   items_of json.no_items = no_items
   items_of (json.item j js) = item (data_of j) (items_of js)
 
-  -- the members go in one after another
+  -- the members are added one after another
   pub members_of : json.Members → Members → Members
   members_of json.no_members found = found
   members_of (json.member key j ms) found = members_of ms (put key (data_of j) found)
@@ -62,12 +62,12 @@ abbrev mutual
   members_in_range json.no_members = true
   members_in_range (json.member key j ms) = is_in_range j && members_in_range ms
 
--- a reader told that there is no JSON, or that memory ran out
+-- a reader reported that the text is not JSON, or memory ran out
 abbrev pub IsRefused : LineError → Type 0 → Type 0
 IsRefused (Fault fault) none = (fault ≡ NotJson) × none
 IsRefused Memory none = Unit {0}
 
--- a key is one of some
+-- a key is one of the names
 abbrev pub is_among : List (List ℕ) → List ℕ → Bool
 is_among [] key = false
 is_among (name ∷ names) key = bytes_eq name key || is_among names key

@@ -1,6 +1,6 @@
--- What a line means: an event, or the fault for which it is none. It is read step by step: its JSON value, the text under
--- `event`, the keys of that event with what stands there, and then the texts. The first step that finds nothing tells its
--- fault.
+-- The meaning of a line: an event, or the error for which it is not an event. A line is read in steps: its JSON value,
+-- the text under `event`, the keys of that event with their values, and then the texts. The first step that fails
+-- decides the error.
 use Rattle.std.specs.Prelude.{ℕ, List, [], ◌∷◌, length, nat_lt, Result, Ok, Err, if◌then◌else◌, codes}
 use Rattle.std.specs.Option.{ok_or}
 use Rattle.std.specs.Str.{is_utf8}
@@ -20,27 +20,27 @@ use Rattle.drf_lines.specs.ReservationEvents.{its_reservation}
 use Rattle.drf_lines.specs.WeightEvents.{its_weight}
 use Rattle.drf_lines.specs.LimitEvents.{its_limit}
 
--- how many bytes a line has at most, without its line feed
+-- the greatest length of a line, in bytes and without its line feed
 abbrev pub longest_line : ℕ
 longest_line = 65536
 
--- the JSON value of a line, if it is UTF-8 and one
+-- the JSON value of a line, if the line is UTF-8 and valid JSON
 unfoldable pub value_in : List ℕ → Result Data LineFault
 value_in line = if is_utf8 line then ok_or (read line) NotJson else Err NotJson
 
--- what is free is offered
+-- a cycle event
 unfoldable pub cycle_event : Data → Result Event LineFault
 cycle_event value = keys 2 value >>= λ _. number_at (codes "at") value >>= λ at. Ok (Cycle at)
 
--- what there is is told
+-- a report event
 unfoldable pub report_event : Data → Result Event LineFault
 report_event value = keys 1 value >>= λ _. Ok Report
 
--- what is made of what was read
+-- an event made from the parts that were read
 abbrev pub made : {A B : Type 0} → (A → B) → (Data → Result A LineFault) → Data → Result B LineFault
 made make read value = read value >>= λ found. Ok (make found)
 
--- the events by name
+-- the events by their names
 abbrev pub events : List (List ℕ × (Data → Result Event LineFault))
 events =
     (codes "add_agent", made (λ a. AddAgent a.0 a.1) its_total)
@@ -65,7 +65,7 @@ events =
     ∷ (codes "report", report_event)
     ∷ []
 
--- what a value means that is of the kind of that name
+-- the meaning of a value whose kind has this name
 abbrev pub meant_among : {A : Type 0} → List (List ℕ × (Data → Result A LineFault)) → List ℕ → Data → Result A LineFault
 meant_among [] name value = Err BadShape
 meant_among (kind ∷ kinds) name value = if same_text name kind.0 then kind.1 value else meant_among kinds name value
@@ -73,6 +73,6 @@ meant_among (kind ∷ kinds) name value = if same_text name kind.0 then kind.1 v
 unfoldable pub event_in : Data → Result Event LineFault
 event_in value = text_at (codes "event") value >>= λ name. meant_among events name value
 
--- what a line means
+-- the meaning of a line
 unfoldable pub meaning_of : List ℕ → Result Event LineFault
 meaning_of line = if nat_lt longest_line (length line) then Err LineTooLong else (value_in line >>= event_in)

@@ -1,4 +1,4 @@
--- The events of offers and of the tasks that come of them, read and written as those of agents.
+-- The events `accept`, `decline`, `rescind` and `finish`, read and written like those of agents.
 use Rattle.std.specs.Prelude.{ℕ, ◌==◌, List, Result, Ok, if◌then◌else◌, codes}
 use Rattle.serde_json.specs.Data.{Data, number, unsigned, string, object, Members, member, no_members}
 use Rattle.drf_rows.specs.declared.event.Accept as accepting
@@ -11,20 +11,20 @@ use Rattle.drf_lines.specs.Object.{keys, keys_besides, text_at, number_at, numbe
 use Rattle.drf_lines.specs.Words.{name_in}
 use Rattle.drf_lines.specs.TaskTexts.{task_texts, starts_in, tasks_members}
 
--- the milliseconds for which an offer is refused where a line does not say
+-- the default of `refuse_ms`, in milliseconds
 abbrev pub usual_refusal : ℕ
 usual_refusal = 5000
 
--- the time of a refusal is left out where it is the usual one
+-- `refuse_ms` is left out if it is the default
 abbrev pub refusal_member : ℕ → Members → Members
 refusal_member refuse_ms members =
     if refuse_ms == usual_refusal then members else member (codes "refuse_ms") (number (unsigned refuse_ms)) members
 
--- which offer is answered, and for how long it is refused
+-- the number of the offer, and `refuse_ms`
 abbrev pub offer_members : ℕ → ℕ → Members → Members
 offer_members offer refuse_ms more = member (codes "offer") (number (unsigned offer)) (refusal_member refuse_ms more)
 
--- what accept and decline have in common, before the keys that come after it
+-- the members that accept and decline have in common, followed by further members
 abbrev pub answer_members : List ℕ → List ℕ → ℕ → ℕ → ℕ → Members → Members
 answer_members event framework offer at refuse_ms more =
     member (codes "at") (number (unsigned at))
@@ -32,7 +32,7 @@ answer_members event framework offer at refuse_ms more =
     (member (codes "framework") (string framework)
     (offer_members offer refuse_ms more)))
 
--- a framework starts tasks
+-- an accept event
 unfoldable pub accept_event : Data → Result Event LineFault
 accept_event value =
     task_texts value >>= λ tasks.
@@ -45,7 +45,7 @@ abbrev pub accept_value : accepting.Accept → Data
 accept_value a =
     object (answer_members (codes "accept") a.framework a.offer a.at a.refuse_ms (tasks_members a.tasks))
 
--- a framework declines an offer
+-- a decline event
 unfoldable pub decline_event : Data → Result Event LineFault
 decline_event value =
     keys_besides (codes "refuse_ms") 4 value >>= λ _.
@@ -57,7 +57,7 @@ decline_event value =
 abbrev pub decline_value : declining.Decline → Data
 decline_value d = object (answer_members (codes "decline") d.framework d.offer d.at d.refuse_ms no_members)
 
--- an offer is taken back
+-- a rescind event
 unfoldable pub rescind_event : Data → Result Event LineFault
 rescind_event value = keys 2 value >>= λ _. number_at (codes "offer") value >>= λ offer. Ok (Rescind offer)
 
@@ -65,7 +65,7 @@ abbrev pub rescind_value : ℕ → Data
 rescind_value offer =
     object (member (codes "event") (string (codes "rescind")) (member (codes "offer") (number (unsigned offer)) no_members))
 
--- a task ends
+-- a finish event
 unfoldable pub finish_event : Data → Result Event LineFault
 finish_event value =
     keys 3 value >>= λ _. text_at (codes "framework") value >>= λ framework. text_at (codes "task") value >>= λ task.

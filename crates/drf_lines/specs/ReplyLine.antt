@@ -1,4 +1,4 @@
--- The line of a reply: compact JSON, the keys in order of bytes, and a line feed (RFC 8259).
+-- The line of a reply: compact JSON with its keys in byte order, and a line feed (RFC 8259).
 use Rattle.std.specs.Prelude.{ℕ, true, List, [], ◌∷◌, ◌++◌, map, codes}
 use Rattle.serde_json.specs.Data.{Data, boolean, number, unsigned, string, array, object, member, no_members}
 use Rattle.serde_json.specs.View.{items_of}
@@ -25,7 +25,7 @@ offer_value offer = object (
 abbrev pub offers_value : List OfferLine → Data
 offers_value offers = object (member (codes "offers") (array (items_of (map offer_value offers))) no_members)
 
--- why something was refused
+-- the object that reports a refusal or an error
 abbrev pub refused_value : List ℕ → ℕ → Data
 refused_value name reason =
     object (member (codes "name") (string name) (member (codes "refused") (number (unsigned reason)) no_members))
@@ -37,14 +37,14 @@ reply_value (Offers offers) = offers_value offers
 reply_value (Report report) = report_value report
 reply_value (Refused refusal) = refused_value (refusal_name refusal) (refusal_number refusal)
 
--- a value's line
+-- a JSON value with a line feed
 abbrev pub line_of : Data → List ℕ
 line_of value = compact_text value ++ 10 ∷ []
 
--- the line that tells a reply
+-- the line of a reply
 unfoldable pub reply_line : Reply → List ℕ
 reply_line reply = line_of (reply_value reply)
 
--- the line that tells why a line is no event
+-- the line that reports why a line is not an event
 unfoldable pub fault_line : LineFault → List ℕ
 fault_line fault = line_of (refused_value (fault_name fault) (fault_number fault))

@@ -1,4 +1,4 @@
--- A report as JSON, the keys in order of bytes.
+-- A report as JSON, with its keys in byte order.
 use Rattle.std.specs.Prelude.{ℕ, List, ◌∷◌, ◌++◌, map, codes, decimal}
 use Rattle.serde_json.specs.Data.{Data, number, unsigned, string, array, object, member, no_members}
 use Rattle.serde_json.specs.View.{items_of}
@@ -10,7 +10,7 @@ use Rattle.drf_rows.specs.declared.report.NodeLine.{NodeLine}
 use Rattle.drf_rows.specs.declared.report.Report.{Report}
 use Rattle.drf_text.specs.Written.{quantities_text}
 
--- the two numbers of a fraction, with `/` between them
+-- the two numbers of a fraction, joined by `/`
 abbrev pub fraction_text : ℕ × ℕ → Text
 fraction_text fraction = decimal fraction.0 ++ 47 ∷ decimal fraction.1
 

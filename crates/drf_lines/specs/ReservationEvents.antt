@@ -1,4 +1,4 @@
--- The events of reservations, read and written as those of agents.
+-- The events `reserve` and `unreserve`, read and written like those of agents.
 use Rattle.std.specs.Prelude.{ℕ, List, Result, Ok, codes}
 use Rattle.serde_json.specs.Data.{Data, string, object, member, no_members}
 use Rattle.drf_role.specs.Parts.{text_of}
@@ -11,7 +11,7 @@ use Rattle.drf_lines.specs.Object.{keys, text_at}
 use Rattle.drf_lines.specs.Words.{name_in, role_in}
 use Rattle.drf_lines.specs.Resources.{bundle_in}
 
--- the agent, the role and the resources of an event that has no other keys
+-- the agent, the role and the resources of an event that has no other keys but `event`
 unfoldable pub its_reservation : Data → Result (List ℕ × Path × List Resource) LineFault
 its_reservation value =
     keys 4 value >>= λ _. text_at (codes "agent") value >>= λ agent. text_at (codes "role") value >>= λ role.

@@ -1,4 +1,4 @@
--- The rows of weights and of limits, read and written as those of agents.
+-- The rows of weights and limits, read and written like those of agents.
 use Rattle.std.specs.Prelude.{codes}
 use Rattle.serde_json.specs.Data.{Data, string, object, member, no_members}
 use Rattle.drf_role.specs.Parts.{text_of}

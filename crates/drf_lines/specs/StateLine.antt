@@ -1,4 +1,4 @@
--- The lines of a state, without their line feeds: compact JSON, the keys in order of bytes (RFC 8259).
+-- The lines of a state, without their line feeds: compact JSON with keys in byte order (RFC 8259).
 use Rattle.std.specs.Prelude.{ℕ, List, codes}
 use Rattle.serde_json.specs.Data.{Data, number, unsigned, string, object, member, no_members}
 use Rattle.serde_json.specs.Written.{compact_text}
@@ -28,7 +28,7 @@ row_value (Offer o) = offer_row_value o
 row_value (Task t) = task_row_value t
 row_value (Filter f) = filter_row_value f
 
--- the number of lines before it, and the digest of their bytes
+-- the end: the number of lines before it, and the digest of their bytes
 abbrev pub end_value : ℕ → List ℕ → Data
 end_value rows digest = object (
     member (codes "row") (string (codes "end"))

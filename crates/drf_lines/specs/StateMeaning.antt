@@ -1,5 +1,5 @@
--- What a line of a state means: its numbers, a row, or its end, or the fault for which it is none of these. It is read as an event's
--- line is, by the text under `row`, and has no limit of length.
+-- The meaning of a line of a state: the head, a row or the end, or the error for which it is none of these. It is read
+-- like the line of an event, by the text under `row`, and can have any length.
 use Rattle.std.specs.Prelude.{ℕ, List, [], ◌∷◌, Result, Ok, codes}
 use Rattle.serde_json.specs.Data.{Data}
 use Rattle.drf_saved.specs.declared.saved.Head.{Head}
@@ -16,19 +16,19 @@ use Rattle.drf_lines.specs.HeldRows.{offer_row, task_row, filter_row}
 use Rattle.drf_lines.specs.LimitEvents.{its_limit}
 use Rattle.drf_lines.specs.WeightEvents.{its_weight}
 
--- the numbers with which a state begins
+-- the head of a state
 unfoldable pub head_in : Data → Result Head LineFault
 head_in value =
     keys 4 value >>= λ _. number_at (codes "clock") value >>= λ clock. number_at (codes "events") value >>= λ events.
     number_at (codes "next_offer") value >>= λ next_offer.
     Ok (record { clock = clock; next_offer = next_offer; events = events })
 
--- the end, with the number of lines before it and a digest, of which nothing is kept
+-- the end of a state; its number of lines and its digest must be there, but are ignored
 unfoldable pub end_in : Data → Result StateLine LineFault
 end_in value =
     keys 3 value >>= λ _. number_at (codes "rows") value >>= λ _. text_at (codes "sha256") value >>= λ _. Ok line.End
 
--- the lines by name
+-- the kinds of lines by their names
 abbrev pub state_lines : List (List ℕ × (Data → Result StateLine LineFault))
 state_lines =
     (codes "state", made line.Head head_in)
@@ -45,6 +45,6 @@ state_lines =
 unfoldable pub state_line_in : Data → Result StateLine LineFault
 state_line_in value = text_at (codes "row") value >>= λ name. meant_among state_lines name value
 
--- what a line means
+-- the meaning of a line
 unfoldable pub state_line_meaning : List ℕ → Result StateLine LineFault
 state_line_meaning line = value_in line >>= state_line_in

@@ -13,18 +13,18 @@ use Rattle.drf_lines.specs.Object.{keys, keys_besides, text_at}
 use Rattle.drf_lines.specs.Words.{name_in}
 use Rattle.drf_lines.specs.Resources.{bundle_in}
 
--- what a step finds in each, one after another
+-- the results of a step on each element, which fails if one of them fails
 abbrev pub each_in : {X Y : Type 0} → (X → Result Y LineFault) → List X → Result (List Y) LineFault
 each_in step [] = Ok []
 each_in step (x ∷ xs) = step x >>= λ y. each_in step xs >>= λ ys. Ok (y ∷ ys)
 
--- the texts of a task: its name, and what it uses
+-- the texts of a task: its name, and the resources that it uses
 abbrev pub TaskText : Type 0
 TaskText = List ℕ × List ℕ
 
--- ---- what stands in the line
+-- ---- the texts in the line
 
--- an object of the two keys alone
+-- a task from an object that has only the two keys
 unfoldable pub task_text : Data → Result TaskText LineFault
 task_text value =
     keys 2 value >>= λ _. text_at (codes "task") value >>= λ task. text_at (codes "use") value >>= λ used. Ok (task, used)
@@ -36,14 +36,14 @@ values_in (item value items) = value ∷ values_in items
 unfoldable pub values_at : List ℕ → Data → Result (List Data) LineFault
 values_at key value = ok_or (option_map values_in (option_and_then as_array (get key value))) BadShape
 
--- an accept starts 1 to 16 tasks
+-- an accept has 1 to 16 tasks
 abbrev pub is_few : ℕ → Bool
 is_few count = nat_le 1 count && nat_le count 16
 
 unfoldable pub if_few : {X : Type 0} → List X → Result (List X) LineFault
 if_few xs = if is_few (length xs) then Ok xs else Err BadShape
 
--- the keys of an accept of one task, and those of one of several
+-- the texts of the tasks, and the keys of an accept of one task or of several
 unfoldable pub one_text : Data → Result (List TaskText) LineFault
 one_text value =
     keys_besides (codes "refuse_ms") 6 value >>= λ _. text_at (codes "task") value >>= λ task.
@@ -57,7 +57,7 @@ several_texts value =
 unfoldable pub task_texts : Data → Result (List TaskText) LineFault
 task_texts value = if is_some (get (codes "tasks") value) then several_texts value else one_text value
 
--- ---- what the texts say
+-- ---- the meaning of the texts
 
 unfoldable pub start_in : TaskText → Result Start LineFault
 start_in text = name_in text.0 >>= λ name. bundle_in text.1 >>= λ used. Ok (name, used)
@@ -65,7 +65,7 @@ start_in text = name_in text.0 >>= λ name. bundle_in text.1 >>= λ used. Ok (na
 unfoldable pub starts_in : List TaskText → Result (List Start) LineFault
 starts_in texts = each_in start_in texts >>= if_few
 
--- ---- as it is written
+-- ---- the written form
 
 abbrev pub start_text : Start → TaskText
 start_text start = (start.0, bundle_text start.1)
@@ -80,7 +80,7 @@ task_value start = object (task_members start)
 abbrev pub several_members : List Start → Members
 several_members starts = member (codes "tasks") (array (items_of (map task_value starts))) no_members
 
--- one task has the keys of its own
+-- a single task has its own keys instead of an array
 abbrev pub tasks_members : List Start → Members
 tasks_members [] = several_members []
 tasks_members (start ∷ []) = task_members start

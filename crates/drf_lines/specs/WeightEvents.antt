@@ -1,4 +1,4 @@
--- The event of weights, read and written as those of agents.
+-- The event `set_weight`, read and written like those of agents.
 use Rattle.std.specs.Prelude.{ℕ, Result, Ok, codes}
 use Rattle.serde_json.specs.Data.{Data, string, object, member, no_members}
 use Rattle.drf_role.specs.Parts.{text_of}
@@ -10,7 +10,7 @@ use Rattle.drf_lines.specs.Object.{keys, text_at}
 use Rattle.drf_lines.specs.Words.{role_in}
 use Rattle.drf_lines.specs.Resources.{weight_in}
 
--- the role and the weight of an event, or of a row, that has no other keys
+-- the role and the weight of an event, or of a row, that has no other keys but `event` or `row`
 unfoldable pub its_weight : Data → Result (Path × ℕ) LineFault
 its_weight value =
     keys 3 value >>= λ _. text_at (codes "role") value >>= λ role. text_at (codes "weight") value >>= λ weight.

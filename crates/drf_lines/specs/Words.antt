@@ -1,4 +1,4 @@
--- The names and roles that the texts of a line say.
+-- The names and roles that the texts of a line mean.
 use Rattle.std.specs.Prelude.{ℕ, List, [], ◌∷◌, Result, Ok, Err, if◌then◌else◌}
 use Rattle.drf_role.specs.Parts.{parts_of}
 use Rattle.drf_role.specs.Tests.{is_name, is_role}
@@ -10,11 +10,11 @@ use Rattle.drf_lines.specs.Fault.{◌>>=◌}
 unfoldable pub name_in : List ℕ → Result (List ℕ) LineFault
 name_in text = if is_name text then Ok text else Err BadText
 
--- a role, as its components
+-- a role, as a list of its components
 unfoldable pub role_in : List ℕ → Result (List (List ℕ)) LineFault
 role_in text = if is_role text then Ok (parts_of text) else Err BadText
 
--- a list of roles, each as often as it stands
+-- a list of roles, with duplicates
 unfoldable pub roles_in : List (List ℕ) → Result (List (List (List ℕ))) LineFault
 roles_in [] = Ok []
 roles_in (text ∷ texts) = role_in text >>= λ role. roles_in texts >>= λ roles. Ok (role ∷ roles)

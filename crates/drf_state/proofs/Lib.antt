@@ -1,3 +1,4 @@
+-- Lemmas that the proofs of this crate use.
 pub mod Placed
 pub mod Ends
 pub mod Spoken

@@ -1,4 +1,4 @@
--- The numbers and the names that faults of a state's lines are told by.
+-- The numbers and names with which errors of a state's lines are reported.
 use Rattle.std.specs.Prelude.{ℕ, codes}
 use Rattle.drf_role.specs.Text.{Text}
 use Rattle.drf_lines.specs.Fault.{fault_number, fault_name}
@@ -26,17 +26,17 @@ state_fault_name NotWritten = codes "NotWritten"
 state_fault_name (Row fault) = row_fault_name fault
 state_fault_name BadEnd = codes "BadEnd"
 
--- why a line was not taken, by why it was not read
+-- why a line was not taken, given why it was not read
 abbrev pub stop_of_line : LineError → LineStop
 stop_of_line (line_error.Fault fault) = stop.Fault (Line fault)
 stop_of_line line_error.Memory = stop.Memory
 
--- and by why its row was not put behind others
+-- why a line was not taken, given why its row was not added
 abbrev pub stop_of_row : RestoreError → LineStop
 stop_of_row (restore_error.Fault fault) = stop.Fault (Row fault)
 stop_of_row restore_error.Memory = stop.Memory
 
--- the fault of a text whose line of that number was not taken
+-- the error of reading, given why the line with this number was not taken
 abbrev pub stopped_at : ℕ → LineStop → StateError
 stopped_at number (stop.Fault fault) = error.Line number fault
 stopped_at number stop.Memory = error.Memory

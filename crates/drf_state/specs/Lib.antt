@@ -1,3 +1,4 @@
+-- The definitions of the text of a state and of reading it, and the theorems about it.
 pub mod Fault
 pub mod State
 pub mod Read

@@ -1,4 +1,4 @@
--- Rows that are put back one by one into tables and a sorter.
+-- Adding rows one by one to tables and a sorter.
 use Rattle.std.specs.Prelude.{◌≡◌, ℕ, ◌^◌, ◌<◌, ◌≤◌, false, true, length, nat_lt}
 use Rattle.drf_rows.specs.Consistent.{IsConsistent}
 use Rattle.drf_rows.specs.Held.{clients_of}
@@ -13,7 +13,7 @@ use Rattle.drf_saved.specs.declared.saved.SavedRow.TheVariants.{Agent, Framework
 use Rattle.drf_state.specs.Restored.{PartsAgree}
 use Rattle.drf_tables.specs.Stored.{Stored}
 
--- the row's name or role is not there yet, or its filter has not run out
+-- the name or role of the row is new, or its filter has not expired
 abbrev pub IsApart : Rows → SavedRow → Type 0
 IsApart rows (Agent a) = has_agent rows a.name ≡ false
 IsApart rows (Framework f) = has_framework rows f.name ≡ false
@@ -22,7 +22,7 @@ IsApart rows (Limit l) = has_limit rows l.role ≡ false
 IsApart rows (Filter f) = nat_lt rows.clock f.until ≡ true
 IsApart rows row = Unit {0}
 
--- consistent rows behind which a row may stand: they stay so, and all numbers fit
+-- consistent rows after which a row is allowed: they stay consistent, and all numbers are in range
 pub record FitsBehind (rows : Rows) (row : SavedRow) : Type 0 where
   pub consistent : IsConsistent rows
   pub together : IsConsistent (with_row rows row)
@@ -31,7 +31,7 @@ pub record FitsBehind (rows : Rows) (row : SavedRow) : Type 0 where
   pub next_offer : rows.next_offer < 2 ^ 64
   pub apart : IsApart rows row
 
--- the row stands behind the others, and the parts agree
+-- the row was added after the others, and the parts agree
 pub record IsPlaced (old : Rows) (row : SavedRow) (tables : Stored) (content : Content) (counted : ℕ) : Type 0 where
   pub rows : tables.rows ≡ with_row old row
   pub agree : PartsAgree tables content counted

@@ -1,4 +1,4 @@
--- What a reader of a state answers.
+-- How the results of the reader of a state relate to the meaning of its text.
 use Rattle.std.specs.Prelude.{◌≡◌, ℕ, Bool, true, false, List, Some, None, Result, Ok, Err}
 use Rattle.drf_rows.specs.LimitNumbers.{LimitNumbers}
 use Rattle.drf_rows.specs.Step.{live_rows}
@@ -11,7 +11,7 @@ use Rattle.drf_state.specs.declared.fault.StateFault.{StateFault}
 use Rattle.drf_state.specs.declared.fault.LineStop.{LineStop}
 use Rattle.drf_state.specs.declared.fault.LineStop.TheVariants as stop
 
--- an allocator with just the rows that a text says, which can be saved, and whose text it is
+-- an allocator with exactly the rows that a text means; they can be saved, and the text is theirs
 pub record IsReadState (most : LimitNumbers) (bytes : List ℕ) (core : Engine) : Type 0 where
   pub said : state_in most bytes ≡ Ok core.rows
   pub text : bytes ≡ state_text core.rows
@@ -19,17 +19,17 @@ pub record IsReadState (most : LimitNumbers) (bytes : List ℕ) (core : Engine) 
   pub live : live_rows core.rows ≡ core.rows
   pub limits : core.limits ≡ most
 
--- the first fault of a text, or memory ran out
+-- the first error of a text, or out of memory
 abbrev pub IsFaultOf : Said → StateError → Type 0
 IsFaultOf said (error.Line number fault) = said ≡ Err (number, fault)
 IsFaultOf said error.Memory = Unit {0}
 
--- the fault of a line, or memory ran out
+-- the error of a line, or out of memory
 abbrev pub IsStop : {A : Type 0} → Result A StateFault → LineStop → Type 0
 IsStop said (stop.Fault fault) = said ≡ Err fault
 IsStop said stop.Memory = Unit {0}
 
--- a line made more rows, or ended the text
+-- a line added to the rows, or ended the text
 pub record HasTakenLine (old : Engine) (text : List ℕ) (lines : ℕ) (line : List ℕ) (new : Engine) (last : Bool) : Type 0 where
   pub limits : new.limits ≡ old.limits
   pub more : last ≡ false → rows_behind old.limits text lines old.rows line (said_by line) ≡ Ok (Some new.rows)

@@ -1,4 +1,4 @@
--- What holds of an allocator that is put together row by row.
+-- Properties of an allocator that is being restored row by row.
 use Rattle.std.specs.Prelude.{◌≡◌, ℕ, ◌≤◌, false, true, Option, None, Some}
 use Rattle.drf_rows.specs.Consistent.{offers_counted}
 use Rattle.drf_rows.specs.LimitNumbers.{LimitNumbers, IsWithinCeilings}
@@ -17,8 +17,8 @@ use Rattle.drf_tables.specs.Stored.{Stored}
 use Rattle.drf_state.specs.declared.fault.RestoreError.{RestoreError}
 use Rattle.drf_state.specs.declared.fault.RestoreError.TheVariants.{Fault, Memory}
 
--- Tables none of whose filters has run out, with what is free known and nothing consumed counted yet; what a sorter holds of them; and how
--- many offers were made to their clients.
+-- Tables without expired filters, in which free resources are known and consumption is not counted yet; the content of
+-- the sorter; and the sum of the counts of the clients.
 pub record PartsAgree (tables : Stored) (content : Content) (counted : ℕ) : Type 0 where
   pub live : live_rows tables.rows ≡ tables.rows
   pub settled : tables.settled ≡ true
@@ -26,32 +26,32 @@ pub record PartsAgree (tables : Stored) (content : Content) (counted : ℕ) : Ty
   pub sorted : content ≡ content_of tables.rows
   pub counts : counted ≡ offers_counted tables.rows.frameworks
 
--- parts that agree, of rows that can be saved within the limits
+-- parts that agree, for rows that can be saved within the capacities
 pub record IsRestored (limits : LimitNumbers) (tables : Stored) (content : Content) (counted : ℕ) : Type 0 where
   pub ceilings : IsWithinCeilings limits
   pub saveable : IsSaveable limits tables.rows
   pub agree : PartsAgree tables content counted
 
--- the sorter made keys for the clients of a framework alone
+-- the sorter computed keys only for the clients of a framework
 abbrev pub HasWorked : SavedRow → Work → Work → Type 0
 HasWorked (Framework f) old new = old.made ≤ new.made
 HasWorked row old new = new.made ≡ old.made
 
--- numbers that may stand at the head, with no rows yet, and no key made
+-- an allowed head, with no rows and no key computed yet
 pub record IsBegunWith (given : LimitNumbers) (head : Head) (new : Engine) : Type 0 where
   pub fits : head_fault given head ≡ None
   pub limits : new.limits ≡ given
   pub rows : new.rows ≡ begun head
   pub work : new.work ≡ record { made = 0; marked = 0 }
 
--- a row that may stand behind the others, behind them
+-- an allowed row, added after the others
 pub record IsPut (old : Engine) (row : SavedRow) (new : Engine) : Type 0 where
   pub fits : row_fault old.limits old.rows row ≡ None
   pub limits : new.limits ≡ old.limits
   pub rows : new.rows ≡ with_row old.rows row
   pub worked : HasWorked row old.work new.work
 
--- why numbers were not put at the head, or a row not behind others: the first case that holds, or memory ran out
+-- why a head was not accepted or a row not added: the first case that holds, or out of memory
 abbrev pub IsTold : Option RowFault → RestoreError → Type 0
 IsTold first (Fault fault) = first ≡ Some fault
 IsTold first Memory = Unit {0}

@@ -1,4 +1,5 @@
--- The text of a state: its lines, and a last one with their number and digest (SHA-256, FIPS 180-4). And what a text says.
+-- The text of a state, with a last line that has the number and the digest of the lines before it (SHA-256, FIPS
+-- 180-4), and the meaning of such a text.
 use Rattle.std.specs.Prelude.{ℕ, ◌+◌, ◌==◌, Bool, true, false, List, [], ◌∷◌, ◌++◌, length, Option, Some, None, Result, Ok, Err, if◌then◌else◌}
 use Rattle.std.specs.List.{flat_map, slice_split}
 use Rattle.std.specs.Option.{option_map_or}
@@ -19,17 +20,17 @@ use Rattle.drf_lines.specs.declared.fault.LineFault.{LineFault}
 use Rattle.drf_state.specs.declared.fault.StateFault.{StateFault}
 use Rattle.drf_state.specs.declared.fault.StateFault.TheVariants.{Line, NotWritten, Row, BadEnd}
 
--- ---- as it is written
+-- ---- the written form
 
 -- a line with its line feed
 abbrev pub ended : List ℕ → List ℕ
 ended line = line ++ 10 ∷ []
 
--- the last line behind a text of so many lines
+-- the last line after a text with this number of lines
 abbrev pub closing : List ℕ → ℕ → List ℕ
 closing text lines = end_line lines (encode_lower (sha256 text))
 
--- the lines of rows one by one
+-- the lines of rows, one after another
 abbrev pub rows_text : List SavedRow → List ℕ
 rows_text rows = flat_map (λ row. ended (row_line row)) rows
 
@@ -37,7 +38,7 @@ rows_text rows = flat_map (λ row. ended (row_line row)) rows
 abbrev pub body_text : Rows → List ℕ
 body_text rows = ended (head_line (head_of rows)) ++ rows_text (saved_rows rows)
 
--- how many these are
+-- the number of lines in the body
 abbrev pub lines_before : Rows → ℕ
 lines_before rows = 1 + length (saved_rows rows)
 
@@ -45,9 +46,9 @@ lines_before rows = 1 + length (saved_rows rows)
 unfoldable pub state_text : Rows → List ℕ
 state_text rows = body_text rows ++ ended (closing (body_text rows) (lines_before rows))
 
--- ---- what a text says
+-- ---- the meaning of a text
 
--- what a line says has just this line as its written form; the last line is known by another
+-- the line is in normal form: its content would be written as exactly this line; the last line is checked elsewhere
 abbrev pub is_written : List ℕ → StateLine → Bool
 is_written line (says.Head head) = same_text line (head_line head)
 is_written line (says.Row row) = same_text line (row_line row)
@@ -60,7 +61,7 @@ abbrev pub said_or : List ℕ → Result StateLine LineFault → Result StateLin
 said_or line (Ok said) = if_written line said
 said_or line (Err fault) = Err (Line fault)
 
--- what a line says that is in its written form
+-- the content of a line in normal form
 unfoldable pub said_by : List ℕ → Result StateLine StateFault
 said_by line = said_or line (state_line_meaning line)
 
@@ -68,14 +69,14 @@ abbrev pub rows_or : Option RowFault → Rows → Result Rows StateFault
 rows_or None rows = Ok rows
 rows_or (Some fault) rows = Err (Row fault)
 
--- the rows that the first line makes
+-- the rows after the first line
 abbrev pub rows_begun : LimitNumbers → Result StateLine StateFault → Result Rows StateFault
 rows_begun limits (Ok (says.Head head)) = rows_or (head_fault limits head) (begun head)
 rows_begun limits (Ok (says.Row row)) = Err (Row OutOfOrder)
 rows_begun limits (Ok says.End) = Err (Row OutOfOrder)
 rows_begun limits (Err fault) = Err fault
 
--- the rows that a later line makes behind others, or none where it is the last line; `text` is what stands before it, of so many lines
+-- the rows after a later line, or none if it is the last line; `text` is everything before it, and has `lines` lines
 abbrev pub rows_behind : LimitNumbers → List ℕ → ℕ → Rows → List ℕ → Result StateLine StateFault → Result (Option Rows) StateFault
 rows_behind limits text lines rows line (Ok (says.Head head)) = Err (Row OutOfOrder)
 rows_behind limits text lines rows line (Ok (says.Row row)) =
@@ -83,12 +84,13 @@ rows_behind limits text lines rows line (Ok (says.Row row)) =
 rows_behind limits text lines rows line (Ok says.End) = if same_text line (closing text lines) then Ok None else Err BadEnd
 rows_behind limits text lines rows line (Err fault) = Err fault
 
--- nothing stands behind the last line feed of a text, of which these are the parts that line feeds part
+-- nothing comes after the last line feed; the parts are those between line feeds
 abbrev pub is_at_end : List (List ℕ) → Bool
 is_at_end ([] ∷ []) = true
 is_at_end parts = false
 
--- the rows of a state, or the number of the first line that has a fault, and its fault; of the line that lacks where the last one does
+-- the rows of a state, or the number and first error of the first wrong line; if the last line is missing, that of the
+-- missing line
 abbrev pub Said : Type 0
 Said = Result Rows (ℕ × StateFault)
 
@@ -96,13 +98,13 @@ abbrev pub whole_if : Bool → ℕ → Rows → Said
 whole_if true lines rows = Ok rows
 whole_if false lines rows = Err (lines + 1, Row OutOfOrder)
 
--- what a text says whose next line, of that number, makes more rows, ends it or has a fault
+-- the meaning of a text whose next line, with this number, adds a row, ends the text or is wrong
 abbrev pub says_behind : ℕ → Rows → Bool → (Rows → Said) → Result (Option Rows) StateFault → Said
 says_behind line rows is_last more (Ok (Some new)) = more new
 says_behind line rows is_last more (Ok None) = whole_if is_last line rows
 says_behind line rows is_last more (Err fault) = Err (line, fault)
 
--- what the rest of a text says, behind so many lines that make these rows
+-- the meaning of the rest of a text after this number of lines, which gave these rows
 abbrev pub rest_says : LimitNumbers → List ℕ → ℕ → Rows → List (List ℕ) → Said
 rest_says limits text lines rows [] = Err (lines + 1, Row OutOfOrder)
 rest_says limits text lines rows (part ∷ []) = Err (lines + 1, Row OutOfOrder)
@@ -111,7 +113,7 @@ rest_says limits text lines rows (line ∷ next ∷ parts) =
     (λ new. rest_says limits (text ++ ended line) (lines + 1) new (next ∷ parts))
     (rows_behind limits text lines rows line (said_by line))
 
--- what a text says whose first line makes rows or has a fault
+-- the meaning of a text whose first line gives rows or is wrong
 abbrev pub says_first : (Rows → Said) → Result Rows StateFault → Said
 says_first more (Ok rows) = more rows
 says_first more (Err fault) = Err (1, fault)
@@ -122,6 +124,6 @@ parts_say limits (part ∷ []) = Err (1, Row OutOfOrder)
 parts_say limits (line ∷ next ∷ parts) =
     says_first (λ rows. rest_says limits (ended line) 1 rows (next ∷ parts)) (rows_begun limits (said_by line))
 
--- what a text says, within limits: the rows of a state, or its first fault
+-- the meaning of a text under these capacities: the rows of a state, or the first error
 unfoldable pub state_in : LimitNumbers → List ℕ → Said
 state_in limits text = parts_say limits (slice_split (λ b. b == 10) text)

@@ -1,3 +1,4 @@
+-- Lemmas that the proofs of this crate use.
 pub mod AmountText
 pub mod BlankLemmas
 pub mod BundleText

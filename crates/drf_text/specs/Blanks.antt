@@ -1,4 +1,4 @@
--- Texts without the spaces and tabs at their ends.
+-- Removing spaces and tabs at the ends of a text.
 use Rattle.std.specs.Prelude.{◌≡◌, ℕ, Bool, ◌==◌, ◌||◌, ◌⊎◌, [], ◌∷◌, ◌++◌, IsTrue, if◌then◌else◌}
 use Rattle.std.specs.List.{list_all}
 use Rattle.drf_role.specs.Text.{Text}
@@ -15,14 +15,14 @@ abbrev pub without_last_blanks : Text → Text
 without_last_blanks [] = []
 without_last_blanks (b ∷ bs) = if list_all is_blank (b ∷ bs) then [] else b ∷ without_last_blanks bs
 
--- the text without those at both ends
+-- the text without spaces and tabs at both ends
 abbrev pub trimmed : Text → Text
 trimmed text = without_last_blanks (without_first_blanks text)
 
--- the rest is the text without a blank at its front, or all of it where there is none
+-- the rest is the text without its first byte if this is a space or a tab, and else the whole text
 abbrev pub IsOneFirstLess : Text → Text → Type 0
 IsOneFirstLess text rest = ((b : ℕ) × IsTrue (is_blank b) × (text ≡ b ∷ rest)) ⊎ ((rest ≡ text) × (without_first_blanks text ≡ text))
 
--- the same at its end
+-- the same for its last byte
 abbrev pub IsOneLastLess : Text → Text → Type 0
 IsOneLastLess text rest = ((b : ℕ) × IsTrue (is_blank b) × (text ≡ rest ++ b ∷ [])) ⊎ ((rest ≡ text) × (without_last_blanks text ≡ text))

@@ -1,4 +1,4 @@
--- Which bytes names and amounts have, as they are written.
+-- Theorems about which bytes occur in names and written amounts.
 use Rattle.std.proofs.Common.{◌≡◌, ℕ, ◌/◌, ◌%◌, ◌^◌, ◌<◌, zero, suc, Bool, true, false, eqb, ◌&&◌, length, decimal, All, refl, sym, ap, subst, ◌∙◌, arith}
 use Rattle.std.proofs.lemmas.Bool.{true≢false, and_parts, ne_eqb}
 use Rattle.std.proofs.lemmas.List.Elements.{All-append, All-cons, All-nil, All-weaker}
@@ -18,7 +18,7 @@ use Rattle.drf_text.specs.Written.{decimals_text, amount_text}
 abbrev pub HasNone : (ℕ → Bool) → Text → Type 0
 HasNone p text = All (λ b. p b ≡ false) text
 
--- what is of a class is no byte that is not
+-- a byte of a class differs from a byte that is not of the class
 pub not_that : (class : ℕ → Bool) (c : ℕ) → class c ≡ false → (b : ℕ) → class b ≡ true → eqb b c ≡ false
 not_that class c out b inside = ne_eqb b c (λ e. true≢false (sym inside ∙ ap class e ∙ out))
 

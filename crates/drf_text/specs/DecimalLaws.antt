@@ -1,4 +1,4 @@
--- The digits of a number and the decimals of an amount, as they are written.
+-- Theorems about the digits of written numbers and the decimals of written amounts.
 use Rattle.std.proofs.Common.{◌≡◌, ◌≢◌, ℕ, ◌+◌, ◌/◌, ◌%◌, ◌^◌, ◌<◌, zero, suc, Bool, true, false, cond, eqb, ◌&&◌, List, [], ◌∷◌, decimal, refl, arith, rules}
 use Rattle.std.proofs.lemmas.Bool.{and_from, eq-eqb, ne_eqb, le-leb}
 use Rattle.std.proofs.lemmas.Fmt.{digits_decimal}
@@ -24,7 +24,7 @@ digit_is d small = and_from _ _ (le-leb 48 (48 + d) (omega arith)) (le-leb (48 +
 
 -- ---- decimals
 
--- three digits without the zeros at their end, by which of them are zeros
+-- three digits without trailing zeros, given which of them are zeros
 trimmed : Bool → Bool → Bool → ℕ → ℕ → ℕ → List ℕ
 trimmed p q r a b d = cond (p && (q && (r && true))) [] (a ∷ cond (q && (r && true)) [] (b ∷ cond (r && true) [] (d ∷ [])))
 
@@ -73,7 +73,7 @@ decimals_three n some =
     let third : eqb (48 + n % 10) 48 ≡ false = ne_eqb _ _ (λ h. some (omega arith)) in
     rw (ne_eqb n 0 (λ h. some (omega arith)), by_tests, third, three)
 
--- digits that say so many thousandths stand behind the point
+-- the text is a point followed by digits that mean n thousandths
 pub record AreDecimals (n : ℕ) (text : Text) : Type 0 where
   pub digits : Text
   pub written : text ≡ 46 ∷ digits

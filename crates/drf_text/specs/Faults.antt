@@ -1,4 +1,4 @@
--- What a reader answers, and the faults of texts for those of their parts.
+-- How the results of the reader relate to the meaning of a text, and how errors of its parts become errors of a text.
 use Rattle.std.specs.Prelude.{◌≡◌, ◌≢◌, Result, Ok, Err}
 use Rattle.drf_role.specs.declared.name.NameFault.{NameFault}
 use Rattle.drf_role.specs.declared.name.NameFault.TheVariants as name
@@ -9,11 +9,11 @@ use Rattle.drf_kinds.specs.declared.ranges.RangesFault.TheVariants as ranges
 use Rattle.drf_text.specs.declared.fault.TextFault.{TextFault}
 use Rattle.drf_text.specs.declared.fault.TextFault.TheVariants.{Syntax, BadName, BadRole, BadNumber, Memory}
 
--- a reader tells the fault for which nothing is meant; where memory ends it says nothing
+-- a reader returned the error that the text has; if memory ran out, nothing is claimed
 abbrev pub IsTold : {A : Type 0} → Result A TextFault → TextFault → Type 0
 IsTold meaning fault = fault ≢ Memory → meaning ≡ Err fault
 
--- what is meant, seen by `view`, or a fault
+-- a reader returned the meaning of a text, seen by `view`, or an error
 abbrev pub IsReadAs : {A B : Type 0} → (A → B) → Result A TextFault → Result B TextFault → Type 0
 IsReadAs view (Ok x) meaning = meaning ≡ Ok (view x)
 IsReadAs view (Err fault) meaning = IsTold meaning fault
@@ -21,7 +21,7 @@ IsReadAs view (Err fault) meaning = IsTold meaning fault
 abbrev pub IsMeaning : {A : Type 0} → Result A TextFault → Result A TextFault → Type 0
 IsMeaning = IsReadAs (λ x. x)
 
--- a text was cut as is meant, seen by `view`, or cannot be; cutting asks for no memory
+-- a text was cut as the definition says, seen by `view`, or cannot be cut; cutting allocates nothing
 abbrev pub IsCutAs : {A B : Type 0} → (A → B) → Result A TextFault → Result B TextFault → Type 0
 IsCutAs view (Ok x) meaning = meaning ≡ Ok (view x)
 IsCutAs view (Err fault) meaning = (fault ≡ Syntax) × (meaning ≡ Err Syntax)

@@ -1,3 +1,4 @@
+-- The definitions of what texts of bundles, quantities and weights mean, and of how they are written.
 pub mod Blanks
 pub mod ByteLaws
 pub mod DecimalLaws

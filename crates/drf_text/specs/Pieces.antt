@@ -1,5 +1,5 @@
--- The pieces of the text of a bundle or of quantities: how the text is cut, what faults a piece has by itself, and what it
--- says without one.
+-- The pieces of a text of a bundle or of quantities: how the text is cut, which errors a piece has by itself, and what
+-- a piece without errors means.
 use Rattle.std.specs.Prelude.{ℕ, ◌+◌, ◌-◌, ◌^◌, Bool, true, not, ◌&&◌, ◌==◌, List, [], length, map, filter, take, drop, Option, Some, None, if◌then◌else◌, nat_lt, nat_le, slice_index_or}
 use Rattle.std.specs.List.{list_all, list_any, slice_split, before_first, after_first, count_by, flat_map, range_with_len}
 use Rattle.std.specs.Str.Parse.{digits_value}
@@ -19,31 +19,31 @@ use Rattle.drf_text.specs.declared.fault.TextFault.TheVariants.{Syntax, BadName,
 
 -- ---- cutting
 
--- the text begins, or ends, with that byte
+-- the text begins, or ends, with this byte
 abbrev pub begins : ℕ → Text → Bool
 begins c text = slice_index_or text 0 0 == c
 
 abbrev pub ends : ℕ → Text → Bool
 ends c text = nat_lt 0 (length text) && slice_index_or text (length text - 1) 0 == c
 
--- without the first and the last byte
+-- the text without its first and its last byte
 abbrev pub inside : Text → Text
 inside text = take (length text - 2) (drop 1 text)
 
--- the parts of what stands between two brackets: none where it is nothing but blanks
+-- the parts between commas, trimmed; a blank text has none
 abbrev pub parts_between : Text → List Text
 parts_between text = if list_all is_blank text then [] else map trimmed (slice_split (λ b. b == 44) text)
 
 abbrev pub parts_inside : Text → List Text
 parts_inside text = parts_between (inside text)
 
--- the pieces of a text: what `;` separates, without those that are empty
+-- the pieces of a text: the nonblank parts between `;`, trimmed
 abbrev pub pieces_of : Text → List Text
 pieces_of text = filter (λ piece. nat_lt 0 (length piece)) (map trimmed (slice_split (λ b. b == 59) text))
 
 -- ---- the parts of a piece
 
--- what stands before the first `:`, and after it
+-- the trimmed parts before and after the first `:`
 abbrev pub head_of : Text → Text
 head_of piece = trimmed (before_first (λ b. b == 58) piece)
 
@@ -56,7 +56,7 @@ is_reserved head = list_any (λ b. b == 40) head
 abbrev pub name_of : Text → Text
 name_of head = trimmed (before_first (λ b. b == 40) head)
 
--- what stands between the first `(` and the last byte
+-- the part between the first `(` and the last byte
 abbrev pub role_text_of : Text → Text
 role_text_of head = let rest = after_first (λ b. b == 40) head in trimmed (take (length rest - 1) rest)
 
@@ -67,7 +67,7 @@ low_of part = trimmed (before_first (λ b. b == 45) part)
 abbrev pub high_of : Text → Text
 high_of part = trimmed (after_first (λ b. b == 45) part)
 
--- ---- the faults of a piece by itself
+-- ---- the errors of a piece by itself
 
 abbrev pub is_head : Text → Bool
 is_head head = if is_reserved head then ends 41 head else not (list_any (λ b. b == 41) head)
@@ -87,29 +87,29 @@ is_end text = are_digits text && nat_lt (digits_value 10 text) (2 ^ 32)
 abbrev pub is_range : Text → Bool
 is_range part = is_end (low_of part) && is_end (high_of part) && nat_le (digits_value 10 (low_of part)) (digits_value 10 (high_of part))
 
--- there is a `:`, and brackets and dashes stand where they belong
+-- there is a `:`, and brackets and dashes are only where they are allowed
 abbrev pub has_form : Text → Bool
 has_form piece = list_any (λ b. b == 58) piece && is_head (head_of piece) && is_body (body_of piece)
 
--- the members of a set are names; another value has none
+-- the members of a set are names; other kinds of values have none
 abbrev pub members_are_labels : Text → Bool
 members_are_labels body = if begins 123 body then list_all is_label (parts_inside body) else true
 
 abbrev pub has_labels : Text → Bool
 has_labels piece = is_label (name_of (head_of piece)) && members_are_labels (body_of piece)
 
--- what stands in parentheses is no role
+-- the text in parentheses is not a role
 abbrev pub has_bad_role : Text → Bool
 has_bad_role head = is_reserved head && not (is_role (role_text_of head))
 
--- ranges have two ends, and a scalar is a number; a set has no numbers
+-- ranges have two valid ends in order, and a scalar is a number; a set has no numbers
 abbrev pub has_numbers : Text → Bool
 has_numbers body =
     if begins 91 body then list_all is_range (parts_inside body)
     else if begins 123 body then true
     else is_number body
 
--- the first fault of a piece, if it has one
+-- the first error of a piece, if it has one
 abbrev pub first_fault : Text → Bool → Option TextFault
 first_fault piece bad_role =
     if not (has_form piece) then Some Syntax
@@ -118,20 +118,20 @@ first_fault piece bad_role =
     else if not (has_numbers (body_of piece)) then Some BadNumber
     else None
 
--- that of a piece of a bundle
+-- the first error of a piece of a bundle
 abbrev pub fault_of : Text → Option TextFault
 fault_of piece = first_fault piece (has_bad_role (head_of piece))
 
--- that of a piece of quantities, where nothing may stand in parentheses
+-- the first error of a piece of quantities, which must have no parentheses
 abbrev pub quantity_fault_of : Text → Option TextFault
 quantity_fault_of piece = first_fault piece (is_reserved (head_of piece))
 
--- ---- what a piece without a fault says
+-- ---- the meaning of a piece without errors
 
 abbrev pub numbers_of : Text → List ℕ
 numbers_of part = range_with_len (digits_value 10 (low_of part)) (digits_value 10 (high_of part) + 1 - digits_value 10 (low_of part))
 
--- a scalar has here no bound
+-- here a scalar has no upper bound
 abbrev pub value_of : Text → Value
 value_of body =
     if begins 91 body then Ranges (set.from_list (flat_map numbers_of (parts_inside body)))

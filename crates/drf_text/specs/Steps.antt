@@ -1,5 +1,5 @@
--- A piece read step by step, in the order of its faults: what the functions of the reader answer. That the steps together
--- are the meaning of a piece is proved.
+-- The steps in which the reader reads a piece, in the order of their errors. It is proved that the steps together give
+-- the meaning of a piece.
 use Rattle.std.specs.Prelude.{ℕ, ◌+◌, ◌-◌, ◌^◌, ◌&&◌, ◌==◌, List, [], ◌∷◌, length, Option, Some, None, Result, Ok, Err, if◌then◌else◌, nat_lt, nat_le, IsOk}
 use Rattle.std.specs.List.{list_any, flat_map, range_with_len}
 use Rattle.std.specs.Option.{option_copied, ok_or}
@@ -35,19 +35,19 @@ use Rattle.drf_text.specs.declared.said.Counted.{Counted}
 -- ---- steps
 
 infixr 10 ◌>>=◌
--- a step, and the next one with what it found
+-- a step, and then the next step with its result; the first error is the result
 abbrev pub ◌>>=◌ : {A B : Type 0} → Result A TextFault → (A → Result B TextFault) → Result B TextFault
 ◌>>=◌ (Ok x) next = next x
 ◌>>=◌ (Err fault) next = Err fault
 
--- a step on each of some, which is refused where one is
+-- a step on each element of a list, which fails if one of them fails
 abbrev pub each_of : {A B : Type 0} → (A → Result B TextFault) → List A → Result (List B) TextFault
 each_of step [] = Ok []
 each_of step (x ∷ xs) = step x >>= λ y. each_of step xs >>= λ ys. Ok (y ∷ ys)
 
 -- ---- cutting
 
--- the head and the body of a piece
+-- the trimmed parts before and after the first `:`
 unfoldable pub cut_in : Text → Result (Text × Text) TextFault
 cut_in piece = if list_any (λ b. b == 58) piece then Ok (head_of piece, body_of piece) else Err Syntax
 
@@ -58,7 +58,7 @@ view_head head = (head.name.now, option_copied head.role)
 unfoldable pub plain_head_in : Text → Result (Text × Option Text) TextFault
 plain_head_in head = if list_any (λ b. b == 41) head then Err Syntax else Ok (trimmed head, None)
 
--- the name, and the text of the role where there is one
+-- the name, and the text of the role if there is one
 unfoldable pub head_in : Text → Result (Text × Option Text) TextFault
 head_in head =
     if is_head head then Ok (name_of head, if is_reserved head then Some (role_text_of head) else None) else Err Syntax
@@ -74,7 +74,7 @@ content_of kind.Scalar body = body
 content_of kind.Ranges body = inside body
 content_of kind.Items body = inside body
 
--- the kind of a value, and what stands between its brackets if it has any
+-- the kind of a value, and the text in its brackets if it has any
 unfoldable pub body_in : Text → Result (Kind × Text) TextFault
 body_in body = if is_body body then Ok (kind_of body, content_of (kind_of body) body) else Err Syntax
 
@@ -83,7 +83,7 @@ body_in body = if is_body body then Ok (kind_of body, content_of (kind_of body) 
 unfoldable pub label_in : Text → Result Text TextFault
 label_in text = if is_label text then Ok text else Err BadName
 
--- the members of a set; another value has none
+-- the members of a set; other kinds of values have none
 unfoldable pub members_in : Kind × Text → Result (List Text) TextFault
 members_in body = members body.0 body.1
   where
@@ -96,11 +96,11 @@ unfoldable pub role_in : Option Text → Result Path TextFault
 role_in None = Ok default_role
 role_in (Some text) = if is_role text then Ok (parts_of text) else Err BadRole
 
--- the name of a piece whose form is right; memory is first asked for when it is read
+-- the name of a piece with a valid form; only after this step memory can run out
 unfoldable pub named_in : Text → Result Text TextFault
 named_in piece = cut_in piece >>= λ parts. head_in parts.0 >>= λ head. body_in parts.1 >>= λ body. label_in head.0
 
--- the first of some pieces, if there is one, has the right form and a name
+-- the first piece, if there is one, has a valid form and a valid name
 abbrev pub IsFirstNamed : List Text → Type 0
 IsFirstNamed [] = Unit {0}
 IsFirstNamed (piece ∷ pieces) = IsOk (named_in piece)
@@ -110,7 +110,7 @@ IsFirstNamed (piece ∷ pieces) = IsOk (named_in piece)
 abbrev pub end_in : Text → Option ℕ
 end_in text = if is_end text then Some (digits_value 10 text) else None
 
--- the two ends of a range, if the first is not the greater
+-- the two ends of a range, if the first is not greater than the last
 abbrev pub ends_in : Text → Text → Option (ℕ × ℕ)
 ends_in low high =
     if is_end low && is_end high && nat_le (digits_value 10 low) (digits_value 10 high)
@@ -122,7 +122,7 @@ pair_in part = ok_or (ends_in (low_of part) (high_of part)) BadNumber
 abbrev pub numbers_between : ℕ × ℕ → List ℕ
 numbers_between pair = range_with_len pair.0 (pair.1 + 1 - pair.0)
 
--- a scalar that fits
+-- the value, or nothing if a scalar is 2^64 thousandths or more
 abbrev pub fitting : Value → Option Value
 fitting (Scalar thousandths) = if nat_lt thousandths (2 ^ 64) then Some (Scalar thousandths) else None
 fitting (Ranges numbers) = Some (Ranges numbers)
@@ -134,7 +134,7 @@ scalar_in text = if is_number text then Ok (fitting (Scalar (thousandths_of text
 unfoldable pub ranges_in : Text → Result (set.FinSet nat_cmp) TextFault
 ranges_in text = each_of pair_in (parts_between text) >>= λ pairs. Ok (set.from_list (flat_map numbers_between pairs))
 
--- the value, whose members were read before; none where a scalar is too large
+-- the value, whose members were read before; nothing if a scalar is too large
 unfoldable pub value_in : Kind × Text → List Text → Result (Option Value) TextFault
 value_in body members = value body.0 body.1
   where
@@ -145,7 +145,7 @@ value_in body members = value body.0 body.1
 
 -- ---- pieces
 
--- a piece of which the role, and the value but for its members, are still to be read
+-- a piece that is partly read: its role, and its value apart from the members of a set, are still to be read
 pub record DraftOf : Type 0 where
   pub label : Text
   pub role : Option Text
@@ -165,18 +165,18 @@ draft_in piece =
     cut_in piece >>= λ parts. head_in parts.0 >>= λ head. body_in parts.1 >>= λ body. label_in head.0 >>= λ label.
     members_in body >>= λ members. Ok (record { label = label; role = head.1; body = body; members = members })
 
--- what a piece of a bundle says
+-- the resource that a piece of a bundle describes
 unfoldable pub said_in : Text → Result Said TextFault
 said_in piece =
     draft_in piece >>= λ draft. role_in draft.role >>= λ role. value_in draft.body draft.members >>= λ value.
     Ok (record { label = draft.label; role = role; value = value })
 
--- nothing may stand in parentheses
+-- fails if there are parentheses
 abbrev pub no_role : Option Text → Result (Unit {0}) TextFault
 no_role None = Ok tt
 no_role (Some text) = Err BadRole
 
--- what a piece of quantities says
+-- the entry that a piece of quantities describes
 unfoldable pub counted_in : Text → Result Counted TextFault
 counted_in piece =
     draft_in piece >>= λ draft. no_role draft.role >>= λ _. value_in draft.body draft.members >>= λ value.
@@ -184,7 +184,7 @@ counted_in piece =
 
 -- ---- pieces put together
 
--- what a piece says, put to what earlier ones said; a name of two kinds is told before a scalar that is too large
+-- a piece added to the resources of earlier pieces; `Kind` comes before `TooLarge`
 abbrev pub put_said : List Resource → Said → Result (List Resource) TextFault
 put_said earlier said = put_value said.value
   where
@@ -200,7 +200,7 @@ put_counted earlier said = put_value said.value
     put_value None = Err TooLarge
     put_value (Some v) = counted earlier said.label v
 
--- what stands between two `;`, put to what there is; nothing but blanks changes nothing
+-- the resources after the text between two `;`; a blank text changes nothing
 unfoldable pub bundle_step : Text → List Resource → Result (List Resource) TextFault
 bundle_step text earlier =
     if nat_lt 0 (length (trimmed text)) then (said_in (trimmed text) >>= put_said earlier) else Ok earlier

@@ -1,4 +1,4 @@
--- The written forms of amounts, quantities and bundles.
+-- The normal form in which amounts, quantities and bundles are written.
 use Rattle.std.specs.Prelude.{ℕ, ◌+◌, ◌/◌, ◌%◌, ◌==◌, List, [], ◌∷◌, ◌++◌, map, if◌then◌else◌, decimal}
 use Rattle.std.specs.List.{list_all, join_with_byte}
 use Rattle.std.specs.FinSet as set
@@ -16,21 +16,21 @@ use Rattle.drf_bundle.specs.declared.value.Value.TheVariants.{Scalar, Ranges, It
 
 -- ---- amounts
 
--- digits without the zeros at their end
+-- digits without trailing zeros
 abbrev pub without_last_zeros : List ℕ → List ℕ
 without_last_zeros [] = []
 without_last_zeros (digit ∷ digits) =
     if list_all (λ d. d == 48) (digit ∷ digits) then [] else digit ∷ without_last_zeros digits
 
--- a number below 1000 in three digits
+-- a number below 1000 as three digits
 abbrev pub three_digits : ℕ → List ℕ
 three_digits n = (48 + n / 100) ∷ (48 + n / 10 % 10) ∷ (48 + n % 10) ∷ []
 
--- what is written behind the whole part of an amount: a point and the decimals that are needed, or nothing
+-- the decimals of an amount: a point and the digits without trailing zeros, or nothing
 unfoldable pub decimals_text : ℕ → List ℕ
 decimals_text thousandths = if thousandths == 0 then [] else 46 ∷ without_last_zeros (three_digits thousandths)
 
--- the whole part, and the decimals that are needed
+-- the whole part, followed by the decimals
 abbrev pub amount_text : ℕ → List ℕ
 amount_text amount = decimal (amount / 1000) ++ decimals_text (amount % 1000)
 
@@ -46,11 +46,11 @@ quantities_text entries = join_with_byte 59 (map quantity_text entries)
 
 -- ---- bundles
 
--- the ends of an interval, with `-` between them
+-- the two ends of an interval, joined by `-`
 abbrev pub interval_text : Interval → Text
 interval_text i = decimal i.first ++ 45 ∷ decimal i.last
 
--- what stands between `[` and `]`
+-- the text between `[` and `]`
 abbrev pub intervals_text : List Interval → Text
 intervals_text intervals = join_with_byte 44 (map interval_text intervals)
 
@@ -58,7 +58,7 @@ intervals_text intervals = join_with_byte 44 (map interval_text intervals)
 abbrev pub ranges_text : set.FinSet nat_cmp → Text
 ranges_text numbers = 91 ∷ intervals_text (intervals_of numbers) ++ 93 ∷ []
 
--- the members of the set, in order of bytes
+-- the members of the set, in byte order
 abbrev pub items_text : set.FinSet text_cmp → Text
 items_text labels = 123 ∷ join_with_byte 44 (listed labels) ++ 125 ∷ []
 

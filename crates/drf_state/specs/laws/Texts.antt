@@ -1,4 +1,4 @@
--- A text that says rows is their text, and the text of rows says them.
+-- Theorem: a text that means rows is the text of these rows, and the text of rows means them.
 use Rattle.std.specs.Prelude.{◌≡◌, ℕ, ◌+◌, ◌<◌, Bool, true, false, List, [], ◌∷◌, ◌++◌, length, Option, Some, None, is_some, Result, Ok, Err, if◌then◌else◌}
 use Rattle.std.specs.List.{join_with_byte, AllByRecursion}
 use Rattle.std.specs.Option.{option_map_or}
@@ -45,7 +45,7 @@ written_or : (line : List ℕ) (said : StateLine) (meaning : Result StateLine Li
 written_or line said (Ok found) is = written_if line found said (is_written line found) refl is
 written_or line said (Err fault) is = let none : ⊥ = cc in absurd none
 
--- what a line says that is in its written form
+-- a line whose content is known is in normal form
 written : (line : List ℕ) (said : StateLine) → said_by line ≡ Ok said → is_written line said ≡ true
 unfolding said_by
 written line said is = written_or line said (state_line_meaning line) is
@@ -59,12 +59,12 @@ meaning_or : (line : List ℕ) (said : StateLine) (meaning : Result StateLine Li
 meaning_or line said (Ok found) is = ap Ok (meaning_if line found said (is_written line found) refl is)
 meaning_or line said (Err fault) is = let none : ⊥ = cc in absurd none
 
--- which it means
+-- its meaning is this content
 meant : (line : List ℕ) (said : StateLine) → said_by line ≡ Ok said → state_line_meaning line ≡ Ok said
 unfolding said_by
 meant line said is = meaning_or line said (state_line_meaning line) is
 
--- a line that says a row, which may stand behind others
+-- a line that means an allowed row
 record HasMade (limits : LimitNumbers) (rows : Rows) (line : List ℕ) (new : Rows) : Type 0 where
   row : SavedRow
   spelled : line ≡ row_line row
@@ -113,7 +113,7 @@ module _ (limits : LimitNumbers) (text : List ℕ) (lines : ℕ) (rows : Rows) (
   has_ended (Ok says.End) is = closes (same_text line (closing text lines)) refl is
   has_ended (Err fault) is = let none : ⊥ = cc in absurd none
 
--- ---- a text that says rows
+-- ---- a text that means rows
 
 -- the rest of such a text
 record SaysRest (limits : LimitNumbers) (text : List ℕ) (lines : ℕ) (rows : Rows) (parts : List (List ℕ)) (made : Rows) : Type 0 where
@@ -230,7 +230,7 @@ what_is_said_is_the_text limits text rows is =
     ∙ (λ i. (ended (head_line (sym listed.1 i)) ++ rows_text (sym listed.0 i))
     ++ ended (closing (ended (head_line (sym listed.1 i)) ++ rows_text (sym listed.0 i)) (1 + length (sym listed.0 i))))
 
--- ---- it can be saved
+-- ---- the rows can be saved
 
 typed_row : (row : SavedRow) → IsValidRow row → IsTyped row
 typed_row (Agent a) valid = valid
@@ -266,18 +266,18 @@ pub parts_say-more : (limits : LimitNumbers) (line : List ℕ) (more : List (Lis
 parts_say-more limits line [] some = absurd (omega arith)
 parts_say-more limits line (next ∷ parts) some = refl
 
--- a line that is read, and is the written form of what it says
+-- a line that is read and is in normal form has this content
 said_so : (line : List ℕ) (said : StateLine) → state_line_meaning line ≡ Ok said → is_written line said ≡ true → said_by line ≡ Ok said
 unfolding said_by
 said_so line said meaning test = ap (said_or line) meaning ∙ ap (λ b. if b then Ok said else Err NotWritten) test
 
--- each line stands on one line
+-- each line has no line feed
 pub record AreOneLine : Type 0 where
   pub head : (head : Head) → IsOneLine (head_line head)
   pub row : (row : SavedRow) → IsOneLine (row_line row)
   pub end : (lines : ℕ) (digest : List ℕ) → IsOneLine (end_line lines digest)
 
--- rows behind others, and then the last line
+-- rows after others, and then the last line
 rest_said : (one : AreOneLine) (limits : LimitNumbers) (text : List ℕ) (lines : ℕ) (rows made : Rows) (saved : List SavedRow)
     → restored_from limits rows saved ≡ Some made
     → AreRead saved

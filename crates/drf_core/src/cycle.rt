@@ -40,8 +40,8 @@ use drf_tables::{Left, Tables};
 use std::alloc::{AllocError, Global};
 use std::mem;
 
-/// The offers of a running cycle, what the finished turns left free, and what roles consume with the offers. `consumption` is
-/// `None` only if no role has a limit.
+/// The offers of a running cycle, the free resources that remain after the turns so far, and what roles consume with the offers.
+/// `consumption` is `None` only if no role has a limit.
 #[derive(Drop)]
 pub(crate) struct Drafts {
     pub(crate) offers: Vec<OfferRow>,
@@ -49,7 +49,7 @@ pub(crate) struct Drafts {
     pub(crate) consumption: Option<Consumption>,
 }
 
-/// Returns whether the agent at a place (by registration) is active, and what is free there is enough for an offer.
+/// Returns whether the agent at a place (by registration) is active, and its free resources are enough for an offer.
 fn is_open(tables: &Tables, place: usize) -> bool
     requires place { place < length tables.now.rows.agents }
     requires settled { tables.now.settled ≡ true }
@@ -129,7 +129,7 @@ fn count_offer(consumption: &mut Option<Consumption>, offer: &OfferRow) -> Resul
     }
 }
 
-/// Begins the turn of the agent at a place: puts all active clients in order, and returns what is free on the agent.
+/// Begins the turn of the agent at a place: puts all active clients in order, and returns the free resources of the agent.
 pub(crate) fn begin_turn<S: Sorter>(
     tables: &Tables,
     sorter: &mut S,
@@ -187,7 +187,7 @@ pub(crate) fn try_first<S: Sorter>(
     Ok(())
 }
 
-/// Returns whether the turn continues: a client remains in the queue, and what is free is enough for an offer.
+/// Returns whether the turn continues: a client remains in the queue, and the free resources are enough for an offer.
 pub(crate) fn goes_on<S: Sorter>(sorter: &S, free: &Free) -> bool
     requires { free.now.is_worth ≡ is_allocatable free.now.bundle }
     ensures { result ≡ (is_some (slice_get (S.queue sorter.now) 0) && is_allocatable free.now.bundle) }
@@ -207,7 +207,7 @@ fn pass_tried<S: Sorter>(sorter: &mut S, free: &Free)
     }
 }
 
-/// Ends the turn of the agent at a place, and records what is left free there.
+/// Ends the turn of the agent at a place, and records the free resources that remain there.
 pub(crate) fn end_turn(place: usize, free: Free, drafts: &mut Drafts) -> Result<(), AllocError>
     ensures cycle { OnOk result ((content : Content) (tables : Stored) (queue : List Path)
         → IsTurn content tables drafts.old place free queue → IsCycleAt content tables drafts.new (place + 1)) }

@@ -1,4 +1,4 @@
-//! Agents and frameworks that take part or not, and that leave.
+//! Changes of agents and frameworks: they are made active or inactive, suppressed or revived, or removed.
 #![tactic(auto, unfolding(crate::specs::Inside::rows_of))]
 
 ghost use Rattle.std.specs.Prelude.{◌≡◌, true, false, find, filter, not, Some, IfOk};
@@ -18,7 +18,7 @@ use drf_rows::ClientRow;
 use std::alloc::AllocError;
 
 impl Tables {
-    /// The clients of a framework.
+    /// Returns the clients of a framework.
     pub fn clients(&self, framework: &Name) -> &[ClientRow]
         requires { has_framework self.now.rows framework.now ≡ true }
         ensures { (f : FrameworkRow) → find (λ f. same_text f.name framework.now) self.now.rows.frameworks ≡ Some f → result.now ≡ f.clients }
@@ -26,7 +26,7 @@ impl Tables {
         self.frameworks.get(framework).unwrap().as_slice()
     }
 
-    /// Whether the framework is registered in the role.
+    /// Returns whether the framework is registered in the role.
     pub fn is_in_role(&self, framework: &Name, role: &Role) -> bool
         ensures { result ≡ is_in_role self.now.rows framework.now role.now }
     {
@@ -52,7 +52,7 @@ impl Tables {
         suppress(&mut self.frameworks, framework, role, true);
     }
 
-    /// A client is served again, and refuses nothing any more.
+    /// Revives a client, and removes its filters.
     pub fn revive(&mut self, framework: &Name, role: &Role)
         ensures { self.new.rows ≡ revived self.old.rows (record { role = role.now; framework = framework.now }) }
     {
@@ -60,7 +60,7 @@ impl Tables {
         self.filters.revive(role, framework);
     }
 
-    /// What the agents but one have together.
+    /// Returns the sum of the totals of all agents but one.
     pub fn total_without(&self, agent: &Name) -> Result<Quantities, AllocError>
         ensures { IfOk result (λ total. total ≡ cluster_total (filter (λ a. not (same_text a.name agent.now)) self.now.rows.agents)) }
     {
@@ -73,7 +73,7 @@ impl Tables {
         Ok(total)
     }
 
-    /// Takes an agent out on which nothing is held, with the filters on it. The total is that of the others.
+    /// Removes an agent on which nothing is held, and the filters on it. `total` is the sum of the totals of the others.
     pub fn remove_agent(&mut self, agent: &Name, total: Quantities)
         requires nothing { without_ended self.old.rows (all_on agent.now) ≡ self.old.rows }
         requires total { total ≡ cluster_total (filter (λ a. not (same_text a.name agent.now)) self.old.rows.agents) }
@@ -86,7 +86,7 @@ impl Tables {
         self.total = total;
     }
 
-    /// Takes a framework out that holds nothing, with its filters.
+    /// Removes a framework that holds nothing, and its filters.
     pub fn remove_framework(&mut self, framework: &Name)
         requires nothing { without_ended self.old.rows (all_of framework.now) ≡ self.old.rows }
         ensures { self.new.rows ≡ framework_removed self.old.rows framework.now }

@@ -1,4 +1,4 @@
-//! What the offers of a cycle change: the counts of their clients, and what is free on the agents.
+//! The changes that the offers of a cycle make: the counts of their clients, and the free resources of the agents.
 ghost use Rattle.std.specs.Prelude.{◌≡◌, ◌<◌, Some, map, length, All};
 ghost use Rattle.std.specs.Global.{Vec};
 ghost use Rattle.std.specs.Option.{option_map};
@@ -17,7 +17,7 @@ use drf_holdings::InOrder;
 use drf_role::Name;
 use drf_rows::{ClientRow, OfferRow};
 
-/// Counts an offer at the client, of those of its framework, that has its role.
+/// Adds one to the count of the offer's client, among the clients of its framework.
 fn count_at(clients: &mut [ClientRow], offer: &OfferRow)
     requires { CanCount 1 clients.old }
     ensures { clients.new ≡ map (counted (of_offer offer.now).client) clients.old }
@@ -29,7 +29,7 @@ fn count_at(clients: &mut [ClientRow], offer: &OfferRow)
     }
 }
 
-/// Counts an offer at its client, of those of a framework, if there is one.
+/// Adds one to the count of the offer's client, if the slot has its framework.
 fn count_in(slot: &mut Option<(Name, Vec<ClientRow>)>, offer: &OfferRow)
     requires { (e : Text × Vec ClientRow) → slot.old ≡ Some e → CanCount 1 e.1.items }
     ensures { slot.new ≡ option_map (λ e. (e.0, with_each (counted (of_offer offer.now).client) e.1)) slot.old }
@@ -39,7 +39,7 @@ fn count_in(slot: &mut Option<(Name, Vec<ClientRow>)>, offer: &OfferRow)
     }
 }
 
-/// Counts an offer at its client.
+/// Adds one to the count of the offer's client.
 fn count_offer(frameworks: &mut Registry<Vec<ClientRow>>, offer: &OfferRow)
     requires { CanCountAll 1 (framework_rows frameworks.old.entries) }
     ensures { framework_rows frameworks.new.entries ≡ counting (framework_rows frameworks.old.entries) offer.now }
@@ -49,7 +49,7 @@ fn count_offer(frameworks: &mut Registry<Vec<ClientRow>>, offer: &OfferRow)
     }
 }
 
-/// The number of the first offer, or else the next one.
+/// Returns the number of the first offer, or `next` if there is none.
 pub(crate) fn first_number(offers: &[OfferRow], next: u64) -> u64
     ensures { result ≡ first_number offers.now next }
 {
@@ -59,7 +59,7 @@ pub(crate) fn first_number(offers: &[OfferRow], next: u64) -> u64
     }
 }
 
-/// Counts each offer at its client.
+/// Adds one to the count of the client of each offer.
 pub(crate) fn count_offers(frameworks: &mut Registry<Vec<ClientRow>>, offers: InOrder<'_, OfferRow>)
     requires { CanCountAll (length offers) (framework_rows frameworks.old.entries) }
     ensures { framework_rows frameworks.new.entries ≡ counting_all (framework_rows frameworks.old.entries) offers.entry }
@@ -69,7 +69,7 @@ pub(crate) fn count_offers(frameworks: &mut Registry<Vec<ClientRow>>, offers: In
     }
 }
 
-/// Puts what is left on agents in the place of what was free there.
+/// Sets the free resources of agents to those that remained after their turns.
 pub(crate) fn put_lefts(agents: &mut Registry<Agent>, lefts: Vec<Left>)
     requires { All (λ left. left.agent < length agents.old.entries) lefts.items }
     ensures rows { map agent_row agents.new.entries ≡ map agent_row agents.old.entries }

@@ -1,4 +1,4 @@
-//! The filters of declined offers, and of what is left of accepted ones.
+//! The filters that declines and accepts set.
 #![tactic(auto, unfolding(crate::specs::Inside::rows_of))]
 
 ghost use Rattle.std.specs.Prelude.{◌≡◌, ◌≤◌, ◌&&◌, ◌++◌, ◌∷◌, [], true, not, nat_le, nat_lt, length, Some, IfOk, OnOk, OnErr};
@@ -21,8 +21,8 @@ use drf_role::{Name, Role};
 use drf_rows::{Decline, FilterRow, LONGEST_FILTER, OfferRow};
 use std::alloc::AllocError;
 
-/// The filter that keeps a bundle on an offer's agent from its client. It ends so long after the moment, both in
-/// milliseconds, but not later than after 365 days.
+/// Returns a filter of a bundle for the client of an offer on its agent. It expires `refuse_ms` milliseconds after the timestamp,
+/// but at most 365 days after it.
 fn filter_row(
     offer: &OfferRow,
     bundle: &Bundle,
@@ -41,7 +41,7 @@ fn filter_row(
     })
 }
 
-/// The filter of what is left of an offer, if anything is, and if it is refused for any time.
+/// Returns the filter of the rest of an accepted offer, or `None` if the rest is empty or `refuse_ms` is 0.
 pub(crate) fn filter_rest(
     offer: &OfferRow,
     rest: &Bundle,
@@ -60,7 +60,7 @@ pub(crate) fn filter_rest(
     Ok(Some(filter_row(offer, rest, moment, refuse_ms)?))
 }
 
-/// A filter for the whole of an offer, if for any time.
+/// Adds a filter of all resources of an offer, unless `refuse_ms` is 0. If memory runs out, no row changes.
 fn filter_offer(
     tables: &mut Tables,
     number: u64,
@@ -83,14 +83,15 @@ fn filter_offer(
 }
 
 impl Tables {
-    /// Whether at least so many filters are in force at a moment, in milliseconds. They are looked at only where so many stand.
+    /// Returns whether at least `number` filters are in force at a timestamp, in milliseconds. Filters are read only if there are
+    /// so many.
     pub fn are_in_force(&self, number: u64, moment: u64) -> bool
         ensures { result ≡ nat_le number (number_in_force moment self.now.rows.filters) }
     {
         number <= self.filters.len() as u64 && number <= self.filters.in_force(moment)
     }
 
-    /// Whether a filter in force holds the bundle back from the client on the agent.
+    /// Returns whether a filter in force covers the bundle for the client on the agent.
     pub fn is_held_back(&self, role: &Role, framework: &Name, agent: &Name, bundle: &Bundle) -> bool
         ensures { result ≡ is_held_back self.now.rows.filters self.now.rows.clock (record { role = role.now; framework = framework.now }) agent.now bundle.now }
     {
@@ -98,7 +99,7 @@ impl Tables {
             .holds_back(role, framework, agent, bundle, self.clock)
     }
 
-    /// Puts a filter behind the others. An `Err` changes no row.
+    /// Adds a filter after the others. If memory runs out, no row changes.
     pub fn add_filter(&mut self, filter: FilterRow) -> Result<(), AllocError>
         requires { IsFilter self.old.rows.agents self.old.rows.frameworks filter }
         ensures ok { OnOk result (self.new.rows ≡ record self.old.rows { filters = self.old.rows.filters ++ filter ∷ [] }) }
@@ -109,7 +110,8 @@ impl Tables {
         self.filters.add(filter)
     }
 
-    /// A declined offer is filtered whole, if for any time, at a moment to which the clock goes on. An `Err` changes no row.
+    /// Sets the clock, and adds a filter of a declined offer, unless `refuse_ms` is 0. The offer itself stays. If memory runs
+    /// out, no row changes.
     pub fn filter_declined(&mut self, decline: &Decline) -> Result<(), AllocError>
         requires offer { has_offer self.old.rows decline.now.offer ≡ true }
         requires early { decline.now.at ≤ LATEST_MOMENT }
@@ -123,7 +125,7 @@ impl Tables {
         Ok(())
     }
 
-    /// Drops filters that have run out, when the filters have become many: where as many stand afterwards as may be in force, all are.
+    /// Removes expired filters if there are many filters. If 65,536 or more are left, all of them are in force.
     pub fn forget_spent(&mut self)
         ensures live { live_rows self.new.rows ≡ live_rows self.old.rows }
         ensures others { self.new.rows ≡ record self.old.rows { filters = self.new.rows.filters } }

@@ -1,5 +1,6 @@
-//! The rows of the allocator as tables, with what is derived of them: an index of names, the free part of each agent,
-//! and the total of the cluster. Contracts see the rows, what room is reserved, and whether what is free is known.
+//! The rows of the allocator as tables, with what is derived from them: the free resources of each agent, the cluster's
+//! total, and what roles consume. Contracts see the rows, the reserved room, and whether free resources and consumption
+//! are known.
 #![tactic(auto)]
 
 mod agents;

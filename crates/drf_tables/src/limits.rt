@@ -1,4 +1,4 @@
-//! Limits of roles, what roles consume, and agents whose totals change.
+//! Quota limits, what roles consume, and changes of agents' totals.
 #![tactic(auto, unfolding(crate::specs::Inside::rows_of))]
 
 ghost use Rattle.std.specs.Prelude.{◌≡◌, ◌≢◌, ◌↔◌, ◌≤◌, [], IsTrue, true, false, length, filter, not, is_some, option_copied, OnOk, OnErr};
@@ -26,28 +26,29 @@ use drf_role::{Name, Role};
 use std::alloc::AllocError;
 
 impl Tables {
-    /// Whether any role has a limit.
+    /// Returns whether any role has a limit.
     pub fn has_limits(&self) -> bool
         ensures { IsTrue result ↔ (self.now.rows.limits ≢ []) }
     {
         !self.limits.is_empty()
     }
 
-    /// Whether the role has a limit.
+    /// Returns whether the role has a limit.
     pub fn has_limit(&self, role: &Role) -> bool
         ensures { result ≡ has_limit self.now.rows role.now }
     {
         self.limits.get(role).is_some()
     }
 
-    /// How many roles have a limit.
+    /// Returns the number of roles that have a limit.
     pub fn limit_count(&self) -> usize
         ensures { result ≡ length self.now.rows.limits }
     {
         self.limits.len()
     }
 
-    /// The limits beside what roles consume, if that is counted: here, or by whom it was lent to.
+    /// Returns the limits together with what roles consume, if that is known. `consumption` can be the tables' own or one that
+    /// was borrowed.
     pub fn quota_under<'a>(&'a self, consumption: Option<&'a Consumption>) -> Option<Quota<'a>>
         ensures { result ≡ quota_under self.now.rows.limits (option_copied consumption.entry) }
     {
@@ -57,7 +58,7 @@ impl Tables {
         }
     }
 
-    /// Whether a role may consume so much more: neither its limit nor that of a role above it would be exceeded.
+    /// Returns whether a role can consume this much more without exceeding its limit or that of a role above it.
     pub fn admits(&self, role: &Role, amounts: &Quantities) -> bool
         requires { self.now.rows.limits ≢ [] → self.now.counted ≡ true }
         ensures { result ≡ admits self.now.rows role.now amounts.now }
@@ -68,8 +69,7 @@ impl Tables {
         }
     }
 
-    /// Gives a role a limit in the place of the one that it has, if any. A limit that names nothing takes the role's limit away. An
-    /// `Err` changes no row.
+    /// Sets the limit of a role, or removes it if `limit` is empty. If memory runs out, no row changes.
     pub fn set_limit(&mut self, role: Role, limit: Quantities) -> Result<(), AllocError>
         requires { is_default role ≡ false }
         ensures ok { OnOk result (self.new.rows ≡ record self.old.rows { limits = limits_with self.old.rows.limits role limit }) }
@@ -83,7 +83,7 @@ impl Tables {
         Ok(())
     }
 
-    /// Counts what roles consume, if any role has a limit. An `Err` changes nothing.
+    /// Computes what roles consume, if any role has a limit and it is not known. If memory runs out, nothing changes.
     pub fn count_consumption(&mut self) -> Result<(), AllocError>
         requires { length self.old.rows.agents ≤ 4096 }
         ensures counted { OnOk result (self.new.rows.limits ≢ [] → self.new.counted ≡ true) }
@@ -101,8 +101,8 @@ impl Tables {
         Ok(())
     }
 
-    /// Lends what roles consume to a cycle, which counts in it what it offers. It is not copied: if it does not come back with the
-    /// offers, it is counted anew.
+    /// Moves what roles consume, if that is known, to a cycle, which adds its offers. It is not copied: if it does not return
+    /// with the offers, it is computed again.
     pub fn lend_consumption(&mut self) -> Option<Consumption>
         ensures value { CountsAll self.old.rows result }
         ensures counted { is_some result ≡ self.old.counted }
@@ -112,7 +112,7 @@ impl Tables {
         self.consumption.take()
     }
 
-    /// Exchanges a part that is free on an agent for another. An `Err` changes no row.
+    /// Replaces a free part of an agent's total by another part. If memory runs out, no row changes.
     pub fn exchange(&mut self, agent: &Name, old: &Bundle, new: &Bundle) -> Result<(), AllocError>
         requires { CanExchangeOn self.old.rows agent.now old.now new.now }
         ensures ok { OnOk result (self.new.rows ≡ record self.old.rows { agents = with_total self.old.rows agent.now (exchanged old.now new.now) }) }
@@ -132,8 +132,8 @@ impl Tables {
         }
     }
 
-    /// Gives an agent another total, which with those of the others is the sum. It needs no memory; where it finds none, what roles
-    /// consume is counted no longer, or what is free there is not known.
+    /// Replaces the total of an agent. `sum` is the cluster's total with it. It cannot fail: if memory runs out, consumption or
+    /// the free resources of the agent become unknown.
     pub fn set_total(&mut self, agent: &Name, total: Bundle, sum: Quantities)
         requires right { CanHaveTotal self.old.rows agent.now total }
         requires sum { sum ≡ plus (cluster_total (filter (λ a. not (same_text a.name agent.now)) self.old.rows.agents)) (quantities_of total) }

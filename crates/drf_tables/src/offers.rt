@@ -1,4 +1,4 @@
-//! What is held ends, and an offer that is accepted becomes tasks.
+//! Ends offers and tasks, and turns accepted offers into tasks.
 #![tactic(auto, unfolding(crate::specs::Inside::rows_of))]
 
 ghost use Rattle.std.specs.Prelude.{◌≡◌, ◌≤◌, ◌++◌, ◌∷◌, [], true, Some, IfOk, OnOk, OnErr, IfSome, IfNone, option_copied};
@@ -27,7 +27,7 @@ use drf_role::Name;
 use drf_rows::{Accept, Ending, FilterRow, OfferRow, TaskList};
 use std::alloc::AllocError;
 
-/// Adds a filter, if there is one. An `Err` changes nothing.
+/// Adds a filter, if there is one. If memory runs out, nothing changes.
 fn add_if(filters: &mut FilterTable, filter: Option<FilterRow>) -> Result<(), AllocError>
     ensures ok { OnOk result (filters.new ≡ filters.old ++ option_map_or (λ f. f ∷ []) filter []) }
     ensures err { OnErr result (filters.new ≡ filters.old) }
@@ -39,21 +39,21 @@ fn add_if(filters: &mut FilterTable, filter: Option<FilterRow>) -> Result<(), Al
 }
 
 impl Tables {
-    /// The offer of a number.
+    /// Returns the offer of a number, if it exists.
     pub fn offer(&self, number: u64) -> Option<&OfferRow>
         ensures { option_copied result ≡ offer_at self.now.rows number }
     {
         self.holdings.offer(number)
     }
 
-    /// Whether the framework has a task of that name.
+    /// Returns whether the framework has a task of this name.
     pub fn has_task(&self, framework: &Name, name: &Name) -> bool
         ensures { result ≡ has_task self.now.rows framework.now name.now }
     {
         self.holdings.has_task(framework, name)
     }
 
-    /// Computes what is free where it is not known. An `Err` changes no row.
+    /// Computes the free resources of agents where they are not known. If memory runs out, no row changes.
     pub fn settle(&mut self) -> Result<(), AllocError>
         ensures settled { OnOk result (self.new.settled ≡ true) }
         ensures same { self.new.rows ≡ self.old.rows }
@@ -61,7 +61,8 @@ impl Tables {
         settle_all(&mut self.agents, &self.holdings)
     }
 
-    /// Takes one holding out that ends, if there is one. It needs no memory.
+    /// Removes one offer or task that `ending` selects, and returns what it held, or `None` if there is none. It cannot fail: if
+    /// memory runs out, the free resources of the agent become unknown.
     pub fn end(&mut self, ending: Ending) -> Option<Taken>
         ensures some { IfSome result (HasEnded self.old.rows self.new.rows (ending_of ending.entry)) }
         ensures none { IfNone result ((self.new.rows ≡ self.old.rows) × (without_ended self.old.rows (ending_of ending.entry) ≡ self.old.rows)) }
@@ -74,8 +75,8 @@ impl Tables {
         Some(taken)
     }
 
-    /// Tasks are started with parts of an offer at a moment. The rest is free, and held no longer, as is told, and a filter stands
-    /// last, if one is given. An `Err` changes no row.
+    /// Replaces an offer by tasks that use parts of it, sets the clock, and adds a filter, if there is one. Returns the rest of
+    /// the offer, which becomes free. If memory runs out, no row changes.
     fn start(
         &mut self,
         number: u64,
@@ -116,8 +117,8 @@ impl Tables {
         }
     }
 
-    /// A framework starts tasks with parts of an offer, at a moment to which the clock goes on. The rest is free, and held no longer,
-    /// as is told, and is refused for a time. An `Err` changes no row.
+    /// Replaces an offer by tasks that use parts of it, sets the clock, and filters the rest for `refuse_ms` milliseconds.
+    /// Returns the rest, which becomes free. If memory runs out, no row changes.
     pub fn accept(&mut self, accept: Accept) -> Result<Taken, AllocError>
         requires can { CanAccept self.old.rows accept.offer accept.tasks }
         requires early { accept.at ≤ LATEST_MOMENT }
@@ -128,7 +129,7 @@ impl Tables {
         ensures err { OnErr result (self.new.rows ≡ self.old.rows) }
         ensures counted { self.new.counted ≡ self.old.counted }
     {
-        // The proof learns that the tasks use bundles by this call alone.
+        // Only the contract of this call says that the tasks use bundles.
         let _ = accept.tasks.as_slice();
         let moment = self.clock.max(accept.at);
         let offer = self.offer(accept.offer).unwrap();

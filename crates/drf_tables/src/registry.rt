@@ -1,4 +1,5 @@
-//! Registered agents, or frameworks. Who leaves leaves a gap, so that nobody behind it has to move.
+//! A registry of agents or frameworks, in order of registration. Removing one leaves a free slot, so that no other has
+//! to move.
 ghost use Rattle.std.specs.Prelude.{◌≡◌, ◌*◌, ◌<◌, ◌≤◌, false, [], ◌∷◌, ◌++◌, is_some, length, slice_get, None, Some, OnOk};
 ghost use Rattle.std.specs.List.{IsDistinct};
 ghost use Rattle.std.specs.Map.{lookup, keys_of, remove_entry};
@@ -20,14 +21,14 @@ use indexmap::IndexMap;
 use std::alloc::{AllocError, Global};
 use std::marker::Model;
 
-/// What is registered, in order, found by name. Gaps are closed where one is added while half of all slots are gaps, or more, and among
-/// agents before a cycle goes through all.
+/// Agents or frameworks in order of registration, found by name. Free slots are closed when one is added and at least half of all
+/// slots are free, and those of agents also before a cycle goes through all agents.
 #[derive(Drop)]
 pub(crate) struct Registry<T> {
     pub(crate) slots: Vec<Option<(Name, T)>>,
-    // In which slot each name stands.
+    // The slot of each name.
     pub(crate) places: ByName<usize>,
-    // How many are no gaps.
+    // The number of slots in use.
     pub(crate) live: usize,
 }
 
@@ -48,7 +49,7 @@ impl<T> Model for Registry<T> {
 }
 
 impl<T: Drop> Registry<T> {
-    /// Nothing.
+    /// Returns an empty registry.
     pub(crate) fn new(alloc: Global, key: HashKey) -> Registry<T>
         ensures { result.entries ≡ [] }
     {
@@ -63,24 +64,26 @@ impl<T: Drop> Registry<T> {
         self.slots.allocator()
     }
 
-    /// With what the hashes of names begin.
+    /// Returns the key of the hashes of names.
     pub(crate) fn key(&self) -> HashKey {
         *self.places.hasher()
     }
 
+    /// Returns the number of entries.
     pub(crate) fn len(&self) -> usize
         ensures { result ≡ length self.now.entries }
     {
         self.live
     }
 
+    /// Returns whether the name is registered.
     pub(crate) fn has(&self, name: &Name) -> bool
         ensures { result ≡ is_some (lookup (same_text name.now) self.now.entries) }
     {
         self.places.contains_key(name)
     }
 
-    /// What has a name.
+    /// Returns the value of a name.
     pub(crate) fn get(&self, name: &Name) -> Option<&T>
         ensures value { option_copied result ≡ lookup (same_text name.now) self.now.entries }
     {
@@ -93,7 +96,7 @@ impl<T: Drop> Registry<T> {
         Some(&entry.1)
     }
 
-    /// What is at a place, by registration, with its name.
+    /// Returns the entry at a place, by registration.
     pub(crate) fn at(&self, place: usize) -> &(Name, T)
         requires { place < length self.now.entries }
         ensures { slice_get self.now.entries place ≡ Some result.now }
@@ -102,7 +105,7 @@ impl<T: Drop> Registry<T> {
         self.slots[slot].as_ref().unwrap()
     }
 
-    /// All in order, with gaps.
+    /// Returns all slots in order, including free ones.
     pub(crate) fn slots(&self) -> &[Option<(Name, T)>]
         ensures entries { filled result.now ≡ self.now.entries }
         ensures apart { IsDistinct same_text (keys_of self.now.entries) }
@@ -110,7 +113,7 @@ impl<T: Drop> Registry<T> {
         &self.slots
     }
 
-    /// Closes the gaps. An `Err` changes nothing of what stands.
+    /// Closes the free slots. If memory runs out, no entry changes.
     pub(crate) fn close(&mut self) -> Result<(), AllocError>
         ensures closed { OnOk result (self.new.slots ≡ length self.new.entries) }
         ensures same { self.new.entries ≡ self.old.entries }
@@ -121,7 +124,7 @@ impl<T: Drop> Registry<T> {
         Ok(())
     }
 
-    /// Makes room for one more, so that it can be added without memory. At most half of all slots are gaps then.
+    /// Reserves memory for one more entry, so that `add` cannot fail. Afterwards at most half of all slots are free.
     pub(crate) fn reserve(&mut self) -> Result<(), AllocError>
         ensures ok { OnOk result (1 ≤ self.new.room) }
         ensures few { OnOk result (self.new.slots ≤ 2 * length self.new.entries) }
@@ -134,7 +137,7 @@ impl<T: Drop> Registry<T> {
         self.places.reserve(1)
     }
 
-    /// Adds one behind the others. It needs no memory.
+    /// Adds an entry after the others. It needs no memory.
     pub(crate) fn add(&mut self, name: NewName, added: T)
         requires room { 1 ≤ self.old.room }
         requires new { is_some (lookup (same_text name) self.old.entries) ≡ false }
@@ -146,7 +149,7 @@ impl<T: Drop> Registry<T> {
         self.live += 1;
     }
 
-    /// Takes what has a name out, if there is something.
+    /// Removes the entry of a name, if there is one.
     pub(crate) fn remove(&mut self, name: &Name)
         ensures { self.new.entries ≡ remove_entry (same_text name.now) self.old.entries }
     {

@@ -1,4 +1,4 @@
-//! Agents whose totals change: a part is exchanged for another, or all of it.
+//! Changes of agents' totals: a free part is exchanged for another, or the total is replaced.
 ghost use Rattle.std.specs.Prelude.{◌≡◌, ◌⊎◌, List, map, true, false, None, Some, OnOk, OnErr, IfOk};
 ghost use Rattle.std.specs.List.{AllByRecursion};
 ghost use Rattle.std.specs.Option.{option_map};
@@ -16,7 +16,7 @@ use drf_bundle::Bundle;
 use drf_role::Name;
 use std::alloc::AllocError;
 
-/// The bundle with another part in the place of one that it has.
+/// Returns the bundle with one of its parts replaced by another part.
 fn exchanged(whole: &Bundle, old: &Bundle, new: &Bundle) -> Result<Bundle, AllocError>
     requires { CanExchange whole.now old.now new.now }
     ensures { IfOk result (λ both. both ≡ exchanged old.now new.now whole.now) }
@@ -25,7 +25,7 @@ fn exchanged(whole: &Bundle, old: &Bundle, new: &Bundle) -> Result<Bundle, Alloc
     Ok(both)
 }
 
-/// The same of a part of a whole whose exchange is known. Where the part is the whole, both share what they hold.
+/// Returns a part of a whole with the same replacement. If the part is the whole, the results share memory.
 fn exchanged_part(
     part: &Bundle,
     whole: &Bundle,
@@ -43,7 +43,7 @@ fn exchanged_part(
     exchanged(part, old, new)
 }
 
-/// The free part of a total whose exchange is known, with another part in the place of one that it has, where it is known.
+/// Returns the free resources of an agent with the same replacement, if they are known.
 fn exchanged_free(
     free: &Option<FreePart>,
     total: &Bundle,
@@ -64,7 +64,7 @@ fn exchanged_free(
     }
 }
 
-/// An agent of which a part is exchanged, in its total and in what is free there.
+/// Returns an agent with a part replaced, both in its total and in its free resources.
 fn exchanged_agent(agent: &Agent, old: &Bundle, new: &Bundle) -> Result<Agent, AllocError>
     requires { CanExchangeAt old.now new.now agent.now }
     ensures { IfOk result (λ after. after ≡ with_exchanged old.now new.now agent.now) }
@@ -78,7 +78,8 @@ fn exchanged_agent(agent: &Agent, old: &Bundle, new: &Bundle) -> Result<Agent, A
     })
 }
 
-/// What is left of another total, where as much is held of it as of the old one. Where nothing is, it shares what the total holds.
+/// Returns the free part of another total if the held resources stay the same. If nothing is held, the result shares memory with
+/// the total.
 fn left_of_other(total: &Bundle, old: &Bundle, free: &Bundle) -> Result<Bundle, AllocError>
     ensures { IfOk result (λ left. left ≡ rest total.now (rest old.now free.now)) }
 {
@@ -90,7 +91,7 @@ fn left_of_other(total: &Bundle, old: &Bundle, free: &Bundle) -> Result<Bundle, 
     total.rest(&held)
 }
 
-/// What is free of another total. Where memory ends, it is not known.
+/// Returns the free part of another total, or `None` if the old free part is not known or memory runs out.
 fn other_free(total: &Bundle, old: &Bundle, free: &Option<FreePart>) -> Option<FreePart>
     ensures { (result ≡ other_free total.now old.now free.now) ⊎ (result ≡ None) }
 {
@@ -100,7 +101,7 @@ fn other_free(total: &Bundle, old: &Bundle, free: &Option<FreePart>) -> Option<F
     }
 }
 
-/// An agent with another total. Where memory ends, what is free there is not known any more.
+/// Returns an agent with another total. If memory runs out, its free resources become unknown.
 fn other_agent(agent: &Agent, total: Bundle) -> Agent
     ensures { (result ≡ with_other true total agent.now) ⊎ (result ≡ with_other false total agent.now) }
 {
@@ -112,7 +113,7 @@ fn other_agent(agent: &Agent, total: Bundle) -> Agent
     }
 }
 
-/// Puts another agent in the stead of one, if there is one, under the same name.
+/// Replaces the agent in a slot, if there is one, and keeps its name.
 fn put(slot: &mut Option<(Name, Agent)>, agent: Agent)
     ensures { slot.new ≡ option_map (λ e. (e.0, agent)) slot.old }
 {
@@ -122,7 +123,7 @@ fn put(slot: &mut Option<(Name, Agent)>, agent: Agent)
 }
 
 impl Registry<Agent> {
-    /// Exchanges a part of an agent, in its total and in what is free there. An `Err` changes nothing.
+    /// Replaces a free part of an agent, both in its total and in its free resources. If memory runs out, nothing changes.
     pub(crate) fn exchange(
         &mut self,
         name: &Name,
@@ -145,7 +146,7 @@ impl Registry<Agent> {
         Ok(())
     }
 
-    /// Gives an agent another total. Where memory ends, what is free there is not known any more.
+    /// Replaces the total of an agent. If memory runs out, its free resources become unknown.
     pub(crate) fn set_total(&mut self, name: &Name, total: Bundle)
         ensures { HasOther name.now total self.old.entries self.new.entries }
     {

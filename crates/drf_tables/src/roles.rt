@@ -1,4 +1,4 @@
-//! The roles of a framework change while it runs.
+//! Changes of the roles of a framework.
 #![tactic(auto, unfolding(crate::specs::Inside::rows_of))]
 
 ghost use Rattle.std.specs.Prelude.{◌≡◌, ◌<◌, ◌^◌, true, false, find, length, map, Some};
@@ -18,7 +18,7 @@ use drf_holdings::{InOrder, Task};
 use drf_role::{Name, Role};
 use drf_rows::{ClientRow, OfferRow, Table, is_among};
 
-/// Returns whether a client is the framework's, in a role that is not among these.
+/// Returns whether a holder is a client of the framework in a role that is not among these.
 fn is_left(framework: &Name, roles: &[Role], holder: &Name, role: &Role) -> bool
     ensures { result ≡ is_left framework.now roles.now (record { role = role.now; framework = holder.now }) }
 {
@@ -49,7 +49,7 @@ fn is_task_left(tasks: InOrder<'_, Task>, framework: &Name, roles: &[Role]) -> b
     false
 }
 
-/// Tells the proof that roles are valid.
+/// Proves that roles are valid.
 fn recall_roles(roles: &[Role])
     ensures { AllByRecursion IsRole roles.now }
 {
@@ -67,8 +67,8 @@ impl Tables {
             || is_task_left(self.holdings.tasks(), framework, roles)
     }
 
-    /// Gives a framework just these roles, with these clients, and drops the filters of roles that it leaves, in which it holds nothing.
-    /// It never allocates.
+    /// Gives a framework exactly these roles, with these clients, and removes the filters of the roles that it loses, in which it
+    /// holds nothing. It never allocates.
     pub fn set_framework(&mut self, framework: &Name, roles: &[Role], clients: Table<ClientRow>)
         requires known { has_framework self.old.rows framework.now ≡ true }
         requires unused { is_role_in_use self.old.rows framework.now roles.now ≡ false }

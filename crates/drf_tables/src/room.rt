@@ -1,4 +1,4 @@
-//! Whether an agent is too much: for one agent, or with those that there are.
+//! Tests whether an agent would exceed a capacity.
 ghost use Rattle.std.specs.Prelude.{◌≡◌, [], ◌∷◌, ◌++◌};
 ghost use Rattle.drf_rows.specs.LimitNumbers.{LimitNumbers};
 ghost use Rattle.drf_rows.specs.Step.{is_too_large, too_many_agents};
@@ -8,7 +8,7 @@ use crate::tables::Tables;
 use drf_bundle::Bundle;
 use drf_rows::{LARGEST_AMOUNT, Limits};
 
-/// A scalar of the total is above the largest amount.
+/// Returns whether a scalar of a total is above the largest amount.
 pub fn is_too_large(total: &Bundle) -> bool
     ensures { result ≡ is_too_large total.now }
 {
@@ -20,7 +20,7 @@ pub fn is_too_large(total: &Bundle) -> bool
 }
 
 impl Tables {
-    /// With one more agent, of that total, the agents or the names of scalars over all of them would be too many.
+    /// Returns whether one more agent with this total would exceed the capacity of agents or of scalar names.
     pub fn too_many_agents(&self, limits: &Limits, total: &Bundle) -> bool
         ensures { (agent : AgentRow) → agent.total ≡ total.now → result ≡ too_many_agents limits.now (self.now.rows.agents ++ agent ∷ []) }
     {

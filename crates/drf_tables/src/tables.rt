@@ -1,3 +1,4 @@
+//! The tables of the allocator: all rows, found by name, and what is derived from them.
 #![tactic(auto, unfolding(crate::specs::Inside::rows_of))]
 
 ghost use Rattle.std.specs.Prelude.{◌≡◌, ◌+◌, ◌<◌, ◌≤◌, ◌^◌, [], ◌∷◌, ◌++◌, true, false, length, map, slice_get, Some, is_some, All, IfOk, OnOk, OnErr};
@@ -42,7 +43,7 @@ use indexmap::IndexMap;
 use std::alloc::{AllocError, Global};
 use std::marker::Model;
 
-/// A registered agent, and what is free of its total, where that is known.
+/// A registered agent, and its free resources, if they are known.
 #[derive(Drop)]
 pub(crate) struct Agent {
     pub(crate) total: Bundle,
@@ -50,7 +51,7 @@ pub(crate) struct Agent {
     pub(crate) free: Option<FreePart>,
 }
 
-/// What an agent's turn leaves of its free part.
+/// The free resources that remain on an agent after its turn.
 #[derive(Drop)]
 pub struct Left {
     /// The place of the agent, by registration.
@@ -58,7 +59,7 @@ pub struct Left {
     pub free: Bundle,
 }
 
-/// The rows of the allocator. Agents and frameworks are found by their names.
+/// The rows of the allocator. Agents and frameworks are found by name.
 pub struct Tables {
     pub(crate) agents: Registry<Agent>,
     pub(crate) frameworks: Registry<Vec<ClientRow>>,
@@ -68,17 +69,17 @@ pub struct Tables {
     pub(crate) clock: u64,
     pub(crate) next_offer: u64,
     pub(crate) events: u64,
-    // What the agents have together.
+    // The sum of the totals of all agents.
     pub(crate) total: Quantities,
-    // How many clients the frameworks have together.
+    // The number of clients of all frameworks.
     pub(crate) clients: usize,
     pub(crate) limits: QuotaLimits,
-    // What roles consume, where that is counted. Where it is not, that is done when it is asked for.
+    // What roles consume, if that is known. Otherwise it is computed when it is needed.
     pub(crate) consumption: Option<Consumption>,
     pub(crate) sweep: Sweep,
 }
 
-// Written out, so that the proof of whoever drops the tables sees one call, and not the drop of each field.
+// Written out, so that the proofs of callers that drop the tables see one call, and not the drop of each field.
 impl Drop for Tables {
     fn drop(self) {
         let Tables {
@@ -115,7 +116,7 @@ impl Model for Tables {
     ghost invariant = { IsWhole };
 }
 
-/// Tells the proof that clients have valid roles.
+/// Proves that the roles of clients are valid.
 fn recall_roles(clients: &[ClientRow])
     ensures { AllByRecursion IsRole (map (λ c. c.role) clients.now) }
 {
@@ -125,7 +126,7 @@ fn recall_roles(clients: &[ClientRow])
 }
 
 impl Tables {
-    /// Tables with no rows. What goes by names or roles is found by hashes that begin with a key, and so in copies.
+    /// Returns tables without rows. The hashes of names and roles, here and in copies, begin with `key`.
     pub fn new(alloc: Global, key: HashKey) -> Tables
         ensures rows { result.rows ≡ opening }
         ensures settled { result.settled ≡ true }
@@ -148,91 +149,96 @@ impl Tables {
         }
     }
 
-    /// Tells a proof that the rows are consistent. It does nothing.
+    /// Proves that the rows are consistent. It does nothing.
     pub fn recall(&self)
         ensures { IsConsistent self.now.rows }
     {
         let _ = &self.clock;
     }
 
-    /// With what the hashes of names begin, for tables of the same names. No clause says anything of it.
+    /// Returns the key of the hashes of names, for other tables of the same names. No contract mentions it.
     pub fn key(&self) -> HashKey {
         self.agents.key()
     }
 
-    /// The greatest moment of all accepted cycles, accepts and declines, in milliseconds.
+    /// Returns the greatest timestamp of the accepted events, in milliseconds.
     pub fn clock(&self) -> u64
         ensures { result ≡ self.now.rows.clock }
     {
         self.clock
     }
 
-    /// The number of the offer that is made next.
+    /// Returns the number of the next offer.
     pub fn next_offer(&self) -> u64
         ensures { result ≡ self.now.rows.next_offer }
     {
         self.next_offer
     }
 
-    /// How many events were accepted.
+    /// Returns the number of accepted events.
     pub fn events(&self) -> u64
         ensures { result ≡ self.now.rows.events }
     {
         self.events
     }
 
+    /// Returns the number of registered agents.
     pub fn agent_count(&self) -> usize
         ensures { result ≡ length self.now.rows.agents }
     {
         self.agents.len()
     }
 
+    /// Returns the number of registered frameworks.
     pub fn framework_count(&self) -> usize
         ensures { result ≡ length self.now.rows.frameworks }
     {
         self.frameworks.len()
     }
 
-    /// How many clients the frameworks have together.
+    /// Returns the number of clients of all frameworks.
     pub fn client_count(&self) -> usize
         ensures { result ≡ length (clients_of self.now.rows) }
     {
         self.clients
     }
 
+    /// Returns whether the agent is registered.
     pub fn has_agent(&self, name: &Name) -> bool
         ensures { result ≡ has_agent self.now.rows name.now }
     {
         self.agents.has(name)
     }
 
+    /// Returns whether the framework is registered.
     pub fn has_framework(&self, name: &Name) -> bool
         ensures { result ≡ has_framework self.now.rows name.now }
     {
         self.frameworks.has(name)
     }
 
-    /// How many roles have a weight.
+    /// Returns the number of roles that have a weight.
     pub fn weight_count(&self) -> usize
         ensures { result ≡ length self.now.rows.weights }
     {
         self.weights.len()
     }
 
+    /// Returns whether the role has been given a weight.
     pub fn has_weight(&self, role: &Role) -> bool
         ensures { result ≡ has_weight self.now.rows role.now }
     {
         self.weights.contains_key(role)
     }
 
-    /// What the agents have together, those that are not active among them.
+    /// Returns the cluster's total: the sum of the totals of all agents, active or not.
     pub fn total(&self) -> &Quantities
         ensures { result.now ≡ cluster_total self.now.rows.agents }
     {
         &self.total
     }
 
-    /// The name of the agent at a place, by registration.
+    /// Returns the name of the agent at a place, by registration.
     pub fn agent_name(&self, place: usize) -> &Name
         requires { place < length self.now.rows.agents }
         ensures { (a : AgentRow) → slice_get self.now.rows.agents place ≡ Some a → result.now ≡ a.name }
@@ -240,7 +246,7 @@ impl Tables {
         &self.agents.at(place).0
     }
 
-    /// Whether the agent at a place is active.
+    /// Returns whether the agent at a place is active.
     pub fn is_active(&self, place: usize) -> bool
         requires { place < length self.now.rows.agents }
         ensures { (a : AgentRow) → slice_get self.now.rows.agents place ≡ Some a → result ≡ a.active }
@@ -248,7 +254,7 @@ impl Tables {
         self.agents.at(place).1.active
     }
 
-    /// What is free on the agent at a place.
+    /// Returns the free resources of the agent at a place.
     pub fn free(&self, place: usize) -> &Bundle
         requires place { place < length self.now.rows.agents }
         requires settled { self.now.settled ≡ true }
@@ -257,7 +263,7 @@ impl Tables {
         self.agents.at(place).1.free.as_ref().unwrap().bundle()
     }
 
-    /// What is free on the agent of a name, if it is registered.
+    /// Returns the free resources of an agent, or `None` if it is not registered.
     pub fn free_on(&self, agent: &Name) -> Result<Option<Bundle>, AllocError>
         ensures { IfOk result (λ free. free ≡ option_map (free_of self.now.rows) (agent_at self.now.rows agent.now)) }
     {
@@ -267,7 +273,7 @@ impl Tables {
         }
     }
 
-    /// What is held on the agent of a name, offered or in tasks.
+    /// Returns the resources that are held on an agent: offered, or used by tasks.
     pub fn held_on(&self, agent: &Name) -> Result<Bundle, AllocError>
         requires { has_agent self.now.rows agent.now ≡ true }
         ensures { IfOk result (λ held. (a : AgentRow) → agent_at self.now.rows agent.now ≡ Some a → held ≡ rest a.total (free_of self.now.rows a)) }
@@ -278,7 +284,7 @@ impl Tables {
         Ok(held)
     }
 
-    /// Whether what is free on the agent at a place is worth an offer.
+    /// Returns whether the free resources of the agent at a place are enough for an offer.
     pub fn is_worth_an_offer(&self, place: usize) -> bool
         requires place { place < length self.now.rows.agents }
         requires settled { self.now.settled ≡ true }
@@ -287,6 +293,7 @@ impl Tables {
         self.agents.at(place).1.free.as_ref().unwrap().is_worth()
     }
 
+    /// Sets the clock, in milliseconds.
     pub fn set_clock(&mut self, clock: u64)
         requires { clock ≤ LATEST_MOMENT }
         ensures { self.new.rows ≡ record self.old.rows { clock = clock } }
@@ -294,7 +301,7 @@ impl Tables {
         self.clock = clock;
     }
 
-    /// Counts an accepted event.
+    /// Adds one to the number of accepted events.
     pub fn count_event(&mut self)
         requires { self.old.rows.events + 1 < 2 ^ 64 }
         ensures counted { self.new.rows ≡ record self.old.rows { events = self.old.rows.events + 1 } }
@@ -303,7 +310,7 @@ impl Tables {
         self.events += 1;
     }
 
-    /// Adds an agent that is active. An `Err` changes no row.
+    /// Adds an active agent. If memory runs out, no row changes.
     pub fn add_agent(&mut self, name: Name, total: Bundle) -> Result<(), AllocError>
         requires new { has_agent self.old.rows name ≡ false }
         requires small { (label : Text) → amount_of (quantities_of total) label ≤ LARGEST_AMOUNT }
@@ -328,7 +335,7 @@ impl Tables {
         Ok(())
     }
 
-    /// Makes room for a framework of that name, so that it can be added without memory.
+    /// Reserves memory for a framework of this name, so that `add_framework` cannot fail.
     pub fn reserve_framework(&mut self, name: Name) -> Result<NewName, AllocError>
         ensures ok { OnOk result (1 ≤ self.new.room) }
         ensures named { IfOk result (λ named. named ≡ name) }
@@ -341,7 +348,8 @@ impl Tables {
         Ok(named)
     }
 
-    /// Adds a framework with its clients, to which fewer offers were made than the next number, with those to all others. It needs no memory.
+    /// Adds a framework with its clients. The counts of all clients together have to be below the next offer number. It needs no
+    /// memory.
     pub fn add_framework(&mut self, name: NewName, clients: Table<ClientRow>)
         requires room { 1 ≤ self.old.room }
         requires new { has_framework self.old.rows name ≡ false }
@@ -358,7 +366,7 @@ impl Tables {
         self.frameworks.add(name, clients.into_vec());
     }
 
-    /// Makes room for the weight of one more role, so that it can be set without memory.
+    /// Reserves memory for the weight of one more role, so that `set_weight` cannot fail.
     pub fn reserve_weight(&mut self) -> Result<(), AllocError>
         ensures ok { OnOk result (1 ≤ self.new.weight_room) }
         ensures same { self.new.rows ≡ self.old.rows }
@@ -368,7 +376,7 @@ impl Tables {
         self.weights.reserve(1)
     }
 
-    /// Gives a role a weight, in thousandths. It needs no memory.
+    /// Sets the weight of a role, in thousandths. It needs no memory.
     pub fn set_weight(&mut self, role: Role, weight: u64)
         requires room { 1 ≤ self.old.weight_room }
         requires right { is_weight weight ≡ true }
@@ -380,9 +388,9 @@ impl Tables {
         let _ = self.weights.insert(role, weight).unwrap();
     }
 
-    /// Takes the offers of a whole cycle over: they stand last, each is counted at its client, and on the agents is free
-    /// what they left. What roles consume with them is taken over too; where it is not told, it is counted no longer. An `Err`
-    /// changes no row and no offer.
+    /// Adds the offers of a cycle after the others, counts each for its client, and sets the free resources that remain on the
+    /// agents. `consumption` is what roles consume with these offers; if it is `None`, consumption becomes unknown. If memory
+    /// runs out, no row and no offer changes.
     pub fn commit(
         &mut self,
         offers: &mut Vec<OfferRow>,
@@ -411,7 +419,7 @@ impl Tables {
         Ok(())
     }
 
-    /// The rows, with the filters in force alone.
+    /// Returns a copy of the rows, without expired filters.
     pub fn rows(&self) -> Result<Rows, AllocError>
         ensures { IfOk result (λ rows. rows ≡ live_rows self.now.rows) }
     {

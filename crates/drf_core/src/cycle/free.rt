@@ -36,15 +36,15 @@ pub struct ForEveryone {
 #[derive(Drop)]
 pub enum Known {
     Nothing,
-    /// Clients of the role can have this part of what is free, and it is enough for an offer.
+    /// Clients of the role can have this part of the free resources, and it is enough for an offer.
     Part { role: Role, part: Bundle },
     /// Clients of the role can have nothing that is enough for an offer, nor can any client whose path begins with the first `front` parts
     /// of their paths.
     Barred { role: Role, front: usize },
 }
 
-/// What is free on an agent in its turn, whether that is enough for an offer, and whether it is known that nothing of it is
-/// reserved.
+/// The free resources of an agent in its turn, whether they are enough for an offer, and whether it is known that none of them
+/// are reserved.
 #[derive(Drop)]
 pub struct Free {
     pub bundle: Bundle,
@@ -56,7 +56,7 @@ pub struct Free {
 }
 
 impl Free {
-    /// Returns what is free as a turn begins. `is_worth` says whether it is enough for an offer.
+    /// Returns the free resources as a turn begins. `is_worth` says whether they are enough for an offer.
     pub fn new(bundle: Bundle, is_worth: bool) -> Free
         requires { is_worth ≡ is_allocatable bundle }
         ensures bundle { result.bundle ≡ bundle }
@@ -307,8 +307,8 @@ fn take_part(known: &mut Known) -> Option<Bundle>
     }
 }
 
-/// Grants a client what its role can have, if that is enough for an offer and no filter covers it, and removes it from what is
-/// free. After a grant, what the role can have is unknown, because the grant also uses up headroom.
+/// Grants a client what its role can have, if that is enough for an offer and no filter covers it, and takes it from the free
+/// resources. After a grant, what the role can have is unknown, because the grant also uses up headroom.
 fn grant_part(
     tables: &Tables,
     agent: &Name,
@@ -349,7 +349,7 @@ fn is_unlimited(quota: Option<&Quota<'_>>) -> bool
     }
 }
 
-/// Returns whether it is known that each role can have all that is free, and that this is enough for an offer: nothing is
+/// Returns whether it is known that each role can have all free resources, and that they are enough for an offer: nothing is
 /// reserved, and no role has a limit.
 fn is_for_all(quota: Option<&Quota<'_>>, free: &Free) -> bool
     requires { IsKnown (option_copied quota) free.now }
@@ -362,7 +362,7 @@ fn is_for_all(quota: Option<&Quota<'_>>, free: &Free) -> bool
     false
 }
 
-/// Grants a client all that is free on an agent, unless a filter covers it.
+/// Grants a client all free resources of an agent, unless a filter covers them.
 fn take_all(
     alloc: Global,
     tables: &Tables,
@@ -386,8 +386,8 @@ fn take_all(
     Some(mem::replace(&mut free.bundle, Bundle::empty(alloc)))
 }
 
-/// Grants a client a part of what is free on an agent, if it can have enough for an offer and no filter covers it. The granted
-/// part is removed from what is free. On the fast path, every role can have all that is free.
+/// Grants a client the free resources of an agent that its role can have, if they are enough for an offer and no filter covers
+/// them. They are free no longer. On the fast path, every role can have all free resources.
 pub fn grant(
     alloc: Global,
     tables: &Tables,

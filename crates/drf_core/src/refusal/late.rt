@@ -62,7 +62,7 @@ fn refuse_unreserved(
     Ok(first_case(&[(lacks, Refusal::NotCovered)]))
 }
 
-/// Returns why a registered agent cannot have a total: it does not cover what is held there, or it is too large.
+/// Returns why a registered agent cannot have a total: it does not cover the held resources, or it is too large.
 fn refuse_total(
     tables: &Tables,
     agent: &Name,

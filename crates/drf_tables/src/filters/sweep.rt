@@ -1,13 +1,13 @@
-//! When filters that have run out are dropped.
+//! When expired filters are removed.
 #![tactic(auto)]
 
 ghost use Rattle.std.specs.Prelude.{◌≡◌, ◌<◌, ◌≤◌, false};
 
-// As many filters as may ever be in force. Where more stand, some have run out, and each event that asks how many are in force would
-// go over those.
+// The greatest number of filters that can be in force. If more are stored, some have expired, and each event that counts the filters
+// in force would go through those too.
 const MOST_IN_FORCE: usize = 65536;
 
-/// How many filters stand when those that have run out are dropped: never more than may be in force.
+/// The number of filters at which expired ones are removed. It is never more than can be in force.
 #[derive(Clone, Copy, Drop)]
 pub(crate) struct Sweep {
     at: usize,
@@ -15,18 +15,18 @@ pub(crate) struct Sweep {
 }
 
 impl Sweep {
-    /// The first one.
+    /// Returns the number for the first removal.
     pub(crate) fn first() -> Sweep {
         Sweep { at: 8 }
     }
 
-    /// The next one, where so many filters are left.
+    /// Returns the number for the next removal, if this one left `left` filters.
     pub(crate) fn behind(left: usize) -> Sweep {
         let at = left.saturating_mul(2).saturating_add(8).min(MOST_IN_FORCE);
         Sweep { at }
     }
 
-    /// Whether so many filters are enough.
+    /// Returns whether expired filters should be removed now that there are `filters` filters.
     pub(crate) fn is_due(&self, filters: usize) -> bool
         ensures { result ≡ false → filters < 65536 }
     {

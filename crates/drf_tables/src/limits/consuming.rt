@@ -1,4 +1,4 @@
-//! What roles consume, counted from the rows.
+//! Computes what roles consume from the rows.
 #![tactic(auto)]
 
 ghost use Rattle.std.specs.Prelude.{◌≡◌, ◌+◌, ◌<◌, ◌^◌, [], ◌∷◌, Bool, map, OnOk};
@@ -19,7 +19,7 @@ use drf_role::Name;
 use drf_rows::OfferRow;
 use std::alloc::AllocError;
 
-/// What clients consume by offers.
+/// Adds what roles consume by offers.
 pub(crate) fn consume_offers(
     consumption: &mut Consumption,
     offers: InOrder<'_, OfferRow>,
@@ -34,7 +34,7 @@ pub(crate) fn consume_offers(
     Ok(())
 }
 
-/// What clients consume by tasks.
+/// Adds what roles consume by tasks.
 pub(crate) fn consume_tasks(
     consumption: &mut Consumption,
     tasks: InOrder<'_, Task>,
@@ -49,7 +49,7 @@ pub(crate) fn consume_tasks(
     Ok(())
 }
 
-/// What is consumed by what an agent has reserved, if there is one.
+/// Adds what the agent in a slot has reserved for roles, if there is one.
 fn consume_slot(
     consumption: &mut Consumption,
     slot: &Option<(Name, Agent)>,
@@ -64,7 +64,7 @@ fn consume_slot(
     }
 }
 
-/// What is consumed by what agents have reserved.
+/// Adds what all agents have reserved for roles.
 pub(crate) fn consume_totals(
     consumption: &mut Consumption,
     agents: &Registry<Agent>,

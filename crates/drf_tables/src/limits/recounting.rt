@@ -1,5 +1,4 @@
-//! What roles consume, kept through changes of the rows: where it is counted, what goes is released without memory, and
-//! what comes is consumed.
+//! Updates what roles consume when the rows change, if it is known. Releasing needs no memory.
 #![tactic(auto)]
 
 ghost use Rattle.std.specs.Prelude.{◌≡◌, ◌+◌, ◌<◌, ◌≤◌, ◌^◌, Bool, IfSome, Some, is_some, map, OnOk, OnErr, if◌then◌else◌};
@@ -17,7 +16,7 @@ use drf_gates::{Consumption, QuotaLimits};
 use drf_role::{Name, Role};
 use std::alloc::AllocError;
 
-/// A role got a limit, or another one, or lost it. It needs no memory.
+/// Follows a change of the limit of a role. It needs no memory.
 pub(crate) fn follow_limit(consumption: &mut Option<Consumption>, limits: &QuotaLimits, role: &Role)
     ensures { consumption.new ≡ consumption.old }
 {
@@ -26,7 +25,7 @@ pub(crate) fn follow_limit(consumption: &mut Option<Consumption>, limits: &Quota
     }
 }
 
-/// A client of the role holds the bundle no longer. It needs no memory.
+/// Subtracts a bundle that a client of the role no longer holds. It needs no memory.
 pub(crate) fn release_held(consumption: &mut Option<Consumption>, role: &Role, bundle: &Bundle)
     requires { IfSome consumption.old (λ used. (label : Text) → unreserved_in label bundle.now ≤ used_by used role.now label) }
     ensures counted { is_some consumption.new ≡ is_some consumption.old }
@@ -37,7 +36,7 @@ pub(crate) fn release_held(consumption: &mut Option<Consumption>, role: &Role, b
     }
 }
 
-/// An agent has the bundle no longer. It needs no memory.
+/// Subtracts the reserved resources of a bundle that an agent no longer has. It needs no memory.
 pub(crate) fn release_total(consumption: &mut Option<Consumption>, total: &Bundle)
     requires { IfSome consumption.old (λ used. (role : Path) (label : Text) → reserved_in (same_path role) label total.now ≤ used_by used role label) }
     ensures counted { is_some consumption.new ≡ is_some consumption.old }
@@ -48,7 +47,7 @@ pub(crate) fn release_total(consumption: &mut Option<Consumption>, total: &Bundl
     }
 }
 
-/// The agent of a name no longer has what it had. It needs no memory.
+/// Subtracts the reserved resources of the total of an agent. It needs no memory.
 pub(crate) fn release_agent(
     consumption: &mut Option<Consumption>,
     agents: &Registry<Agent>,
@@ -65,7 +64,7 @@ pub(crate) fn release_agent(
     release_total(consumption, &agent.total);
 }
 
-/// An agent has the bundle. At an `Err` all consume what they did.
+/// Adds the reserved resources of a bundle that an agent gets. If memory runs out, what roles consume does not change.
 pub(crate) fn consume_total(
     consumption: &mut Option<Consumption>,
     total: &Bundle,
@@ -82,7 +81,7 @@ pub(crate) fn consume_total(
     }
 }
 
-/// An agent has the bundle. Where there is no memory to count that, what roles consume is counted no longer.
+/// Adds the reserved resources of a bundle that an agent gets. If memory runs out, what roles consume becomes unknown.
 pub(crate) fn recount_total(consumption: &mut Option<Consumption>, total: &Bundle)
     requires { IfSome consumption.old (λ used. (test : Path → Bool) (label : Text)
         → used_where test used label + reserved_in test label total.now < 2 ^ 64) }

@@ -1,4 +1,4 @@
-//! What is free on an agent.
+//! The free resources of an agent.
 ghost use Rattle.std.specs.Prelude.{◌≡◌, IfOk};
 ghost use Rattle.drf_rows.specs.Cycle.{is_allocatable};
 
@@ -8,13 +8,14 @@ use drf_rows::is_worth_an_offer;
 use std::alloc::AllocError;
 use std::marker::Model;
 
-/// What is free on an agent. Whether it is worth an offer is kept with it, since each cycle asks that of each agent.
+/// The free resources of an agent, and whether they are enough for an offer. The latter is stored because each cycle asks it of
+/// each agent.
 pub(crate) struct FreePart {
     bundle: Bundle,
     is_worth: bool,
 }
 
-// Written out, so that the proof of whoever drops a free part sees one call, and not the drop of each field.
+// Written out, so that the proofs of callers that drop a free part see one call, and not the drop of each field.
 impl Drop for FreePart {
     fn drop(self) {
         let FreePart {
@@ -57,7 +58,7 @@ impl FreePart {
         &self.bundle
     }
 
-    /// Whether it is worth an offer.
+    /// Returns whether they are enough for an offer.
     pub(crate) fn is_worth(&self) -> bool
         ensures { result ≡ is_allocatable self.now }
     {

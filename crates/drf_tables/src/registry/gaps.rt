@@ -1,11 +1,11 @@
-//! What stands under names in slots, some of which are gaps: which of it stands where.
+//! Finds the slot of an entry when some slots are free.
 ghost use Rattle.std.specs.Prelude.{◌≡◌, ◌<◌, length};
 ghost use Rattle.drf_hash.specs.Slots.{filled};
 ghost use Rattle.drf_tables.specs.registry.Registered.{IsRanked};
 
 use drf_role::Name;
 
-/// The slot of a place, by registration, where there may be gaps.
+/// Returns the slot of the entry at a place, by registration, by counting the slots in use.
 #[inline(never)]
 fn ranked_among_gaps<T>(slots: &[Option<(Name, T)>], number: usize) -> usize
     requires { number < length (filled slots.now) }
@@ -23,7 +23,7 @@ fn ranked_among_gaps<T>(slots: &[Option<(Name, T)>], number: usize) -> usize
     0
 }
 
-/// The slot of a place, by registration. The slots are looked at only where there are gaps.
+/// Returns the slot of the entry at a place, by registration. It goes through the slots only if some are free.
 #[inline(always)]
 pub(crate) fn ranked<T>(slots: &[Option<(Name, T)>], live: usize, number: usize) -> usize
     requires live { live ≡ length (filled slots.now) }

@@ -1,4 +1,4 @@
-//! Agents and frameworks that change, found by name.
+//! Changes of agents and frameworks that are found by name.
 ghost use Rattle.std.specs.Prelude.{◌≡◌, ◌+◌, ◌<◌, ◌⊎◌, None, Some, filter, length, map, not, true, if◌then◌else◌};
 ghost use Rattle.std.specs.Map.{lookup};
 ghost use Rattle.std.specs.Option.{option_map, option_map_or};
@@ -24,7 +24,7 @@ use drf_bundle::Bundle;
 use drf_role::{Name, Role};
 use drf_rows::ClientRow;
 
-/// Says what is free on an agent, if there is one.
+/// Sets the free resources of the agent in a slot, if there is one.
 fn put_free(slot: &mut Option<(Name, Agent)>, free: Option<FreePart>)
     ensures { slot.new ≡ option_map (λ e. (e.0, record e.1 { free = free })) slot.old }
 {
@@ -33,7 +33,7 @@ fn put_free(slot: &mut Option<(Name, Agent)>, free: Option<FreePart>)
     }
 }
 
-/// What was free with a part that comes back. Where memory ends, it is not known.
+/// Returns the free resources together with a released part, or `None` if they are not known or memory runs out.
 fn freed(free: &Option<FreePart>, part: &Bundle) -> Option<FreePart>
     requires { CanTakeBack part.now free.now }
     ensures { (result ≡ joined_free free.now part.now) ⊎ (result ≡ None) }
@@ -42,7 +42,7 @@ fn freed(free: &Option<FreePart>, part: &Bundle) -> Option<FreePart>
     Some(FreePart::new(both))
 }
 
-/// Makes an agent active or inactive, if there is one.
+/// Makes the agent in a slot active or inactive, if there is one.
 fn put_active(slot: &mut Option<(Name, Agent)>, active: bool)
     ensures { slot.new ≡ option_map (λ e. (e.0, with_active active e.1)) slot.old }
 {
@@ -52,7 +52,7 @@ fn put_active(slot: &mut Option<(Name, Agent)>, active: bool)
 }
 
 impl Registry<Agent> {
-    /// Says what is free on the agent at a place, by registration.
+    /// Sets the free resources of the agent at a place, by registration.
     pub(crate) fn set_free_at(&mut self, place: usize, free: FreePart)
         requires { place < length self.old.entries }
         ensures { self.new.entries ≡ with_free_at self.old.entries place free }
@@ -61,7 +61,7 @@ impl Registry<Agent> {
         put_free(&mut self.slots[slot], Some(free));
     }
 
-    /// Gives an agent a part back that is held there no longer. Where memory ends, what is free there is not known any more.
+    /// Adds a released part to the free resources of an agent. If memory runs out, they become unknown.
     pub(crate) fn give_back(&mut self, name: &Name, part: &Bundle)
         requires { CanGiveBack name.now part.now self.old.entries }
         ensures { HasFreed name.now part.now self.old.entries self.new.entries }
@@ -87,7 +87,7 @@ impl Registry<Agent> {
         put_active(&mut self.slots[*place], active);
     }
 
-    /// Says what is free on the agent of a name, which changes it as is told.
+    /// Sets the free resources of an agent, or makes them unknown.
     pub(crate) fn set_free(&mut self, name: &Name, free: Option<FreePart>)
         ensures { (change : Agent → Agent) (a : Agent) → lookup (same_text name.now) self.old.entries ≡ Some a → change a ≡ record a { free = free }
             → self.new.entries ≡ map (changed name.now change) self.old.entries }
@@ -99,7 +99,7 @@ impl Registry<Agent> {
     }
 }
 
-/// Suppresses the client that has a role, of those of its framework, or ends that.
+/// Suppresses or revives the client of a role among the clients of a framework.
 fn suppress_at(clients: &mut [ClientRow], role: &Role, suppressed: bool)
     ensures { clients.new ≡ map (λ (c : ClientRow). if same_path c.role role.now then record c { suppressed = suppressed } else c) clients.old }
 {
@@ -110,7 +110,7 @@ fn suppress_at(clients: &mut [ClientRow], role: &Role, suppressed: bool)
     }
 }
 
-/// Suppresses the client that has a role, of those of a framework, if there is one, or ends that.
+/// Suppresses or revives the client of a role in the framework of a slot, if there is one.
 fn suppress_in(slot: &mut Option<(Name, Vec<ClientRow>)>, role: &Role, suppressed: bool)
     ensures { (client : Client) → client.role ≡ role.now
         → slot.new ≡ option_map (λ e. (e.0, with_each (suppressed_at client suppressed) e.1)) slot.old }
@@ -120,7 +120,7 @@ fn suppress_in(slot: &mut Option<(Name, Vec<ClientRow>)>, role: &Role, suppresse
     }
 }
 
-/// Suppresses a client, or ends that.
+/// Suppresses or revives a client. Its filters do not change.
 pub(crate) fn suppress(
     frameworks: &mut Registry<Vec<ClientRow>>,
     framework: &Name,
@@ -135,7 +135,7 @@ pub(crate) fn suppress(
     }
 }
 
-/// Replaces the clients of a framework, if there is one.
+/// Replaces the clients of the framework in a slot, if there is one.
 fn put_clients_in(slot: &mut Option<(Name, Vec<ClientRow>)>, clients: Vec<ClientRow>)
     ensures { slot.new ≡ option_map (λ e. (e.0, clients)) slot.old }
 {
@@ -157,7 +157,7 @@ pub(crate) fn put_clients(
     }
 }
 
-/// Returns how many clients a framework has.
+/// Returns the number of clients of a framework, or 0 if it is not registered.
 pub(crate) fn count_clients(frameworks: &Registry<Vec<ClientRow>>, framework: &Name) -> usize
     ensures { result ≡ option_map_or (λ v. length v.items) (lookup (same_text framework.now) frameworks.now.entries) 0 }
 {
@@ -167,7 +167,7 @@ pub(crate) fn count_clients(frameworks: &Registry<Vec<ClientRow>>, framework: &N
     }
 }
 
-/// Takes a framework out. How many clients it had.
+/// Removes a framework, and returns how many clients it had.
 pub(crate) fn take_framework(frameworks: &mut Registry<Vec<ClientRow>>, framework: &Name) -> usize
     requires { are_distinct (map (λ f. f.name) (framework_rows frameworks.old.entries)) ≡ true }
     ensures rows { framework_rows frameworks.new.entries
@@ -182,7 +182,7 @@ pub(crate) fn take_framework(frameworks: &mut Registry<Vec<ClientRow>>, framewor
     count
 }
 
-/// Whether one of the clients has the role.
+/// Returns whether one of the clients has the role.
 pub(crate) fn has_role(clients: &[ClientRow], role: &Role) -> bool
     ensures { result ≡ list_any (λ c. same_path c.role role.now) clients.now }
 {

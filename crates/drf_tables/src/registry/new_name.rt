@@ -1,4 +1,4 @@
-//! A name that is to be registered.
+//! A name that is about to be registered.
 ghost use Rattle.std.specs.Prelude.{◌≡◌, IfOk};
 ghost use Rattle.drf_role.specs.Name.{IsName};
 
@@ -6,7 +6,7 @@ use drf_role::Name;
 use std::alloc::AllocError;
 use std::marker::Model;
 
-/// A name that is to be registered, twice: by one what has it will be found, and with the other it will stand.
+/// A name that is about to be registered. It is stored twice, as the key of a map and as the name in a slot.
 pub struct NewName {
     key: Name,
     name: Name,
@@ -24,7 +24,7 @@ impl Model for NewName {
     ghost invariant = { λ n. n.key ≡ n.name };
 }
 
-// Written out, so that the proof of whoever drops one sees one call.
+// Written out, so that the proofs of callers that drop one see one call.
 impl Drop for NewName {
     fn drop(self) {
         let NewName {
@@ -35,6 +35,7 @@ impl Drop for NewName {
 }
 
 impl NewName {
+    /// Returns a new name with a copy of it.
     pub(crate) fn of(name: Name) -> Result<NewName, AllocError>
         ensures { IfOk result (λ named. named ≡ name) }
     {
@@ -42,7 +43,7 @@ impl NewName {
         Ok(NewName { key, name })
     }
 
-    /// The one by which it will be found, and the one with which it will stand.
+    /// Returns the key of the map, and the name for the slot.
     pub(crate) fn into_two(self) -> (Name, Name)
         ensures key { result.0 ≡ self }
         ensures name { result.1 ≡ self }
@@ -51,7 +52,7 @@ impl NewName {
         (key, name)
     }
 
-    /// Tells a proof what every name is. It does nothing.
+    /// Proves that the name is valid. It does nothing.
     pub(crate) fn recall(&self)
         ensures { IsName self.now }
     {

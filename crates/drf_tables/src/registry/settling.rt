@@ -1,4 +1,4 @@
-//! What is free on agents, computed where it is not known.
+//! Computes the free resources of agents where they are not known.
 ghost use Rattle.std.specs.Prelude.{◌≡◌, ◌+◌, ◌<◌, map, length, true, IfOk, OnOk};
 ghost use Rattle.std.specs.List.{AllByRecursion};
 ghost use Rattle.drf_bundle.specs.Taken.{rest_of_all};
@@ -16,7 +16,7 @@ use drf_holdings::Holdings;
 use drf_role::Name;
 use std::alloc::AllocError;
 
-/// What is free on an agent: as it is known, else computed.
+/// Returns the free resources of an agent. If they are not known, they are computed from the offers and tasks there.
 pub(crate) fn free_left(
     name: &Name,
     agent: &Agent,
@@ -31,7 +31,7 @@ pub(crate) fn free_left(
     }
 }
 
-/// Computes what is free on the agent at a place, if it is not known.
+/// Computes the free resources of the agent at a place, if they are not known.
 fn settle_at(
     agents: &mut Registry<Agent>,
     place: usize,
@@ -54,7 +54,7 @@ fn settle_at(
     Ok(())
 }
 
-/// Computes what is free on each agent, where it is not known.
+/// Closes the free slots of agents, and computes the free resources of each agent where they are not known.
 pub(crate) fn settle_all(
     agents: &mut Registry<Agent>,
     holdings: &Holdings,

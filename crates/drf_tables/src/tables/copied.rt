@@ -27,7 +27,7 @@ use drf_rows::{ClientRow, copy_all};
 use indexmap::IndexMap;
 use std::alloc::AllocError;
 
-/// What is free on an agent, copied where it is known.
+/// Returns a copy of the free resources of an agent, if they are known.
 fn copy_free(free: &Option<FreePart>) -> Result<Option<FreePart>, AllocError>
     ensures { IfOk result (λ copy. copy ≡ free.now) }
 {
@@ -37,6 +37,7 @@ fn copy_free(free: &Option<FreePart>) -> Result<Option<FreePart>, AllocError>
     }
 }
 
+/// Returns a copy of an agent.
 fn copy_agent(agent: &Agent) -> Result<Agent, AllocError>
     ensures { IfOk result (λ copy. copy ≡ agent.now) }
 {
@@ -47,6 +48,7 @@ fn copy_agent(agent: &Agent) -> Result<Agent, AllocError>
     })
 }
 
+/// Sets the weight of a role, in thousandths.
 fn put_weight(weights: &mut ByRole<u64>, role: Role, weight: u64) -> Result<(), AllocError>
     ensures { OnOk result (weights.new.entries ≡ insert_entry same_path weights.old.entries role weight) }
 {
@@ -54,7 +56,7 @@ fn put_weight(weights: &mut ByRole<u64>, role: Role, weight: u64) -> Result<(), 
     Ok(())
 }
 
-/// Adds a copy of an agent, if there is one.
+/// Adds a copy of the agent in a slot, if there is one.
 fn copy_slot(copy: &mut Registry<Agent>, slot: &Option<(Name, Agent)>) -> Result<(), AllocError>
     requires { (e : Text × Agent) → slot.now ≡ Some e → is_some (lookup (same_text e.0) copy.old.entries) ≡ false }
     ensures { OnOk result (copy.new.entries ≡ copy.old.entries ++ filled (slot.now ∷ [])) }
@@ -69,7 +71,7 @@ fn copy_slot(copy: &mut Registry<Agent>, slot: &Option<(Name, Agent)>) -> Result
     Ok(())
 }
 
-/// The agents, copied in their order.
+/// Returns a copy of the agents, in their order.
 fn copy_agents(agents: &Registry<Agent>) -> Result<Registry<Agent>, AllocError>
     ensures { IfOk result (λ copy. copy.entries ≡ agents.now.entries) }
 {
@@ -80,7 +82,7 @@ fn copy_agents(agents: &Registry<Agent>) -> Result<Registry<Agent>, AllocError>
     Ok(copy)
 }
 
-/// Adds a copy of a framework, if there is one.
+/// Adds a copy of the framework in a slot, if there is one.
 fn copy_framework(
     copy: &mut Registry<Vec<ClientRow>>,
     slot: &Option<(Name, Vec<ClientRow>)>,
@@ -98,7 +100,7 @@ fn copy_framework(
     Ok(())
 }
 
-/// The frameworks with their clients, copied in their order.
+/// Returns a copy of the frameworks and their clients, in their order.
 fn copy_frameworks(
     frameworks: &Registry<Vec<ClientRow>>,
 ) -> Result<Registry<Vec<ClientRow>>, AllocError>
@@ -111,11 +113,11 @@ fn copy_frameworks(
     Ok(copy)
 }
 
-/// The weights of roles, copied in their order.
+/// Returns a copy of the weights, in their order.
 fn copy_weights(weights: &ByRole<u64>) -> Result<ByRole<u64>, AllocError>
     ensures { IfOk result (λ copy. copy.entries ≡ weights.now.entries) }
 {
-    // The proof learns that no role has two weights by this call alone.
+    // Only the contract of this call says that no role has two weights.
     let _ = weights.len();
     let mut copy = IndexMap::with_hasher(*weights.allocator(), *weights.hasher());
     for (role, weight) in weights {
@@ -125,8 +127,8 @@ fn copy_weights(weights: &ByRole<u64>) -> Result<ByRole<u64>, AllocError>
     Ok(copy)
 }
 
-// `Tables::copy` holds four values across its `?`s, each with a `Drop` of its own: what is generated for a body grows with the owned parts
-// that are alive at each exit.
+// `Tables::copy` keeps only four values alive across its `?`s, each with its own `Drop`: what is generated for a function body grows
+// with the number of owned values that are alive at each exit.
 
 /// Copies of the agents and the frameworks.
 struct CopiedMembers {
@@ -264,7 +266,7 @@ fn copy_amounts(weights: &ByRole<u64>, total: &Quantities) -> Result<CopiedAmoun
     Ok(CopiedAmounts { weights, total })
 }
 
-/// Copies what roles consume, where it is counted.
+/// Copies what roles consume, if that is known.
 fn copy_consumption(consumption: &Option<Consumption>) -> Result<Option<Consumption>, AllocError>
     ensures { IfOk result (λ copy. IsRaisedIf consumption.now copy (λ _ _. 0)) }
 {
@@ -274,7 +276,7 @@ fn copy_consumption(consumption: &Option<Consumption>) -> Result<Option<Consumpt
     }
 }
 
-/// Copies the quota limits, and what roles consume.
+/// Copies the quota limits, and what roles consume, if that is known.
 fn copy_quota(
     limits: &QuotaLimits,
     consumption: &Option<Consumption>,
@@ -291,7 +293,7 @@ fn copy_quota(
 }
 
 impl Tables {
-    /// Returns tables of their own with the same rows.
+    /// Returns separate tables with the same rows.
     pub fn copy(&self) -> Result<Tables, AllocError>
         ensures { IfOk result (λ copy. copy.rows ≡ self.now.rows) }
     {

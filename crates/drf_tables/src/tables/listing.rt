@@ -1,4 +1,4 @@
-//! The rows, as they are handed out.
+//! Copies of the tables as rows.
 #![tactic(auto)]
 
 ghost use Rattle.std.specs.Prelude.{◌≡◌, [], ◌∷◌, ◌++◌, map, IfOk, OnOk};
@@ -13,7 +13,7 @@ use drf_role::Name;
 use drf_rows::{AgentRow, ClientRow, FrameworkRow, Table, WeightRow, copy_all};
 use std::alloc::{AllocError, Global};
 
-/// Lists an agent behind others, if there is one.
+/// Appends the row of the agent in a slot, if there is one.
 fn push_row(rows: &mut Vec<AgentRow>, slot: &Option<(Name, Agent)>) -> Result<(), AllocError>
     ensures { OnOk result (rows.new.items ≡ rows.old.items ++ map agent_row (filled (slot.now ∷ []))) }
 {
@@ -28,6 +28,7 @@ fn push_row(rows: &mut Vec<AgentRow>, slot: &Option<(Name, Agent)>) -> Result<()
     Ok(())
 }
 
+/// Returns the rows of the agents.
 pub(crate) fn agent_rows(
     alloc: Global,
     agents: &Registry<Agent>,
@@ -41,7 +42,7 @@ pub(crate) fn agent_rows(
     Ok(Table::from_vec(rows))
 }
 
-/// Lists a framework with its clients behind others, if there is one.
+/// Appends the row of the framework in a slot, if there is one.
 fn push_framework(
     rows: &mut Vec<FrameworkRow>,
     slot: &Option<(Name, Vec<ClientRow>)>,
@@ -57,6 +58,7 @@ fn push_framework(
     Ok(())
 }
 
+/// Returns the rows of the frameworks, with their clients.
 pub(crate) fn framework_rows(
     alloc: Global,
     frameworks: &Registry<Vec<ClientRow>>,
@@ -70,6 +72,7 @@ pub(crate) fn framework_rows(
     Ok(Table::from_vec(rows))
 }
 
+/// Returns the rows of the weights.
 pub(crate) fn weight_rows(
     alloc: Global,
     weights: &ByRole<u64>,

@@ -1,4 +1,5 @@
-//! Rows that are put back: tables begin with the numbers of a state, and its rows come one by one, each table behind those that it rests on.
+//! Restoring a saved state: the tables begin with the numbers of the state, and then its rows are added one by one.
+//! Each table is added after those that it depends on.
 #![tactic(auto, unfolding(crate::specs::Inside::rows_of))]
 
 ghost use Rattle.std.specs.Prelude.{◌≡◌, ◌+◌, ◌^◌, ◌<◌, ◌≤◌, [], ◌∷◌, ◌++◌, true, false, length, sum_by, nat_lt, IfOk, IfNone, IfSome, OnOk, OnErr};
@@ -19,7 +20,7 @@ use drf_rows::{ClientRow, OfferRow, TaskRow};
 use drf_saved::Head;
 use std::alloc::{AllocError, Global};
 
-/// What is left of what is free where one more part is held, if that is known.
+/// Returns the free resources without one more part, if they are known.
 fn left_with(free: &Option<FreePart>, part: &Bundle) -> Result<Option<FreePart>, AllocError>
     ensures { IfOk result (λ left. left ≡ option_map (λ known. rest known part.now) free.now) }
 {
@@ -29,7 +30,7 @@ fn left_with(free: &Option<FreePart>, part: &Bundle) -> Result<Option<FreePart>,
     }
 }
 
-/// So many offers, with those that were made to clients, if a number holds them.
+/// Returns a number of offers plus the counts of clients, or `None` if the sum does not fit in 64 bits.
 pub fn offers_with(offers: u64, clients: &[ClientRow]) -> Option<u64>
     ensures some { IfSome result (λ sum. sum ≡ offers + sum_by (λ c. c.count) clients.now) }
     ensures none { IfNone result (2 ^ 64 ≤ offers + sum_by (λ c. c.count) clients.now) }
@@ -42,7 +43,7 @@ pub fn offers_with(offers: u64, clients: &[ClientRow]) -> Option<u64>
 }
 
 impl Tables {
-    /// Tables with the numbers of a state, and no rows.
+    /// Returns tables with the numbers of a saved state, and without rows.
     pub fn begin(alloc: Global, key: HashKey, head: Head) -> Tables
         requires early { head.clock ≤ LATEST_MOMENT }
         requires numbered { 1 ≤ head.next_offer }
@@ -57,8 +58,8 @@ impl Tables {
         tables
     }
 
-    /// Puts an offer back behind the others, on whose agent what is left stays free. What roles consume is not counted yet. An `Err` changes
-    /// no row.
+    /// Adds a saved offer after the others, and takes its resources from the free ones of its agent. Consumption must not be
+    /// known yet. If memory runs out, no row changes.
     pub fn put_offer(&mut self, offer: OfferRow) -> Result<(), AllocError>
         requires uncounted { self.old.counted ≡ false }
         requires consistent { IsConsistent (record self.old.rows { offers = self.old.rows.offers ++ offer ∷ [] }) }
@@ -77,8 +78,8 @@ impl Tables {
         Ok(())
     }
 
-    /// Puts a task back behind the others, on whose agent what is left stays free. What roles consume is not counted yet. An `Err` changes
-    /// no row.
+    /// Adds a saved task after the others, and takes its resources from the free ones of its agent. Consumption must not be known
+    /// yet. If memory runs out, no row changes.
     pub fn put_task(&mut self, task: TaskRow) -> Result<(), AllocError>
         requires uncounted { self.old.counted ≡ false }
         requires consistent { IsConsistent (record self.old.rows { tasks = self.old.rows.tasks ++ task ∷ [] }) }
@@ -95,7 +96,8 @@ impl Tables {
         Ok(())
     }
 
-    /// Whether what a role may use of what is free on an agent covers a bundle.
+    /// Returns whether the free resources of an agent that are unreserved or reserved for the role, or for a role above it, cover
+    /// a bundle.
     pub fn is_usable(&self, agent: &Name, role: &Role, bundle: &Bundle) -> Result<bool, AllocError>
         requires { self.now.settled ≡ true }
         ensures { IfOk result (λ usable. usable ≡ is_usable self.now.rows agent.now role.now bundle.now) }
@@ -108,56 +110,56 @@ impl Tables {
         Ok(part.covers(bundle))
     }
 
-    /// Whether all offers have numbers below one.
+    /// Returns whether the numbers of all offers are below `number`.
     pub fn are_offers_below(&self, number: u64) -> bool
         ensures { result ≡ list_all (λ o. nat_lt o.number number) self.now.rows.offers }
     {
         self.holdings.offers_from(number).next().is_none()
     }
 
-    /// How many filters stand, in force or not.
+    /// Returns the number of filters, including expired ones.
     pub fn filter_count(&self) -> usize
         ensures { result ≡ length self.now.rows.filters }
     {
         self.filters.len()
     }
 
-    /// Whether no filter stands.
+    /// Returns whether there are no filters.
     pub fn has_no_filters(&self) -> bool
         ensures { result ≡ no_filters self.now.rows }
     {
         self.filters.len() == 0
     }
 
-    /// Whether no task runs, and nothing stands in a later table.
+    /// Returns whether there are no tasks, and no rows in the tables that are restored later.
     pub fn has_no_tasks(&self) -> bool
         ensures { result ≡ no_tasks self.now.rows }
     {
         (self.holdings.task_count() == 0) & self.has_no_filters()
     }
 
-    /// Whether no offer stands, and nothing in a later table.
+    /// Returns whether there are no offers, and no rows in the tables that are restored later.
     pub fn has_no_offers(&self) -> bool
         ensures { result ≡ no_offers self.now.rows }
     {
         (self.holdings.offer_count() == 0) & self.has_no_tasks()
     }
 
-    /// Whether no role has a limit, and nothing stands in a later table.
+    /// Returns whether no role has a limit, and there are no rows in the tables that are restored later.
     pub fn has_no_limits(&self) -> bool
         ensures { result ≡ no_limits self.now.rows }
     {
         (self.limit_count() == 0) & self.has_no_offers()
     }
 
-    /// Whether no role has a weight, and nothing stands in a later table.
+    /// Returns whether no role has a weight, and there are no rows in the tables that are restored later.
     pub fn has_no_weights(&self) -> bool
         ensures { result ≡ no_weights self.now.rows }
     {
         (self.weight_count() == 0) & self.has_no_limits()
     }
 
-    /// Whether no framework is registered, and nothing stands in a later table.
+    /// Returns whether there are no frameworks, and no rows in the tables that are restored later.
     pub fn has_no_frameworks(&self) -> bool
         ensures { result ≡ no_frameworks self.now.rows }
     {

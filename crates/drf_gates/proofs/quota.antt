@@ -1,4 +1,4 @@
--- How much roles may have, and what they consume.
+-- Quota limits of roles, and what roles consume.
 pub mod Used
 pub mod Rows
 pub mod Gone

@@ -1,2 +1,3 @@
+-- The definitions that the contracts of this crate use.
 pub mod filters
 pub mod quota

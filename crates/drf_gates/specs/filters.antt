@@ -1,4 +1,4 @@
--- What is held back from whom.
+-- Filters: what is held back from which client.
 pub mod Chains
 pub mod Index
 pub mod Laws

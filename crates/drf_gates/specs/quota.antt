@@ -1,4 +1,4 @@
--- How much roles may have, and what they consume.
+-- Quota limits of roles, and what roles consume.
 pub mod Front
 pub mod FrontLaws
 pub mod Allowance

@@ -1,4 +1,4 @@
--- The totals of the fronts of a role, one front after another, when the role consumes something else.
+-- The totals of a role's prefixes are changed one after another, when the role's consumption changes.
 use Rattle.std.proofs.Common.{◌≡◌, ℕ, ◌+◌, ◌<◌, ◌≤◌, Bool, true, false, ◌&&◌, cond, nat_lt, List, [], ◌∷◌, length, take, None, Some, refl, sym, ap, subst, ◌∙◌, inl, inr, arith, length-take-le, true≢false}
 use Rattle.std.specs.Prelude.{IsTrue, All}
 use Rattle.std.specs.List.{AllByRecursion, IsDistinct}
@@ -23,9 +23,9 @@ use Rattle.drf_gates.proofs.quota.Leave.{front_few, front_there, front_within}
 use Rattle.drf_gates.proofs.quota.Gone.{no_role}
 use Rattle.drf_gates.proofs.quota.Swapped.{swapped}
 
--- ---- which roles are fronts
+-- ---- which roles are prefixes
 
--- the front of so many parts
+-- the prefix with `n` parts
 here_before : (role outer : Path) (n : ℕ) → n ≤ length role → same_path (take n role) outer ≡ true → is_front_before role n outer ≡ false
 here_before role outer n few here =
     let size : length outer ≡ n = sym (ap (λ (p : Path). length p) (same_path-true (take n role) outer here)) ∙ length-take-le n role few in
@@ -38,7 +38,7 @@ here_after role outer n few here =
     let below : nat_lt (length outer) (n + 1) ≡ true = grind (arith, nat_tests) in
     λ i. below i && front_within outer role n few here i
 
--- another role is one of the first so many just where it is one of the first of one more
+-- whether another role is one of the prefixes does not change when `n` grows by one
 and_none : (b : Bool) → (b && false) ≡ false
 and_none true = refl
 and_none false = refl
@@ -65,7 +65,7 @@ module _ (old new : List Usage) (role : Path) where
   one_past : (n : ℕ) (e : Path × Total) → same_path (take n role) e.0 ≡ false → At n e → At (n + 1) e
   one_past n e other = subst (λ (b : Bool). IsExact (cond b new old) e.0 e.1) (front_past role e.0 n other)
 
-  -- where no total is that of the front
+  -- there is no total of the prefix
   carried_past : (n : ℕ) (totals : List (Path × Total)) → AllByRecursion (λ y. same_path (take n role) y ≡ false) (keys_of totals)
       → All (At n) totals → All (At (n + 1)) totals
   carried_past n [] none all = All-nil (At (n + 1))
@@ -81,7 +81,7 @@ module _ (old new : List Usage) (role : Path) where
         All-cons (At (n + 1)) e es (one_past n e other (All-head (At n) e es all)) (carried_none n es (rw other at none) (All-tail (At n) e es all))
   ]
 
-  -- where one is, and is written
+  -- there is a total of the prefix, and it is changed
   carried_found : (n : ℕ) → n ≤ length role → (totals : List (Path × Total)) → IsDistinct same_path (keys_of totals) → (t u : Total)
       → lookup (same_path (take n role)) totals ≡ Some t
       → ((outer : Path) → is_within outer role ≡ true → IsExact old outer t → IsExact new outer u)
@@ -103,7 +103,7 @@ module _ (old new : List Usage) (role : Path) where
         (carried_found n few es (IsDistinct-tail same_path e.0 (keys_of es) apart) t u (rw other at found) step (All-tail (At n) e es all)))
   ]
 
-  -- ---- the same, by the text of the front
+  -- ---- the same, by the text of the prefix
 
   pub carried_unkept : (n : ℕ) (p : Path) → p ≡ take n role → (totals : List (Path × Total)) → lookup (same_path p) totals ≡ None
       → AreCarried old new role n totals → AreCarried old new role (n + 1) totals
@@ -122,9 +122,9 @@ module _ (old new : List Usage) (role : Path) where
         (carried_found n few totals apart t u (ap (λ (q : Path). lookup (same_path q) totals) (sym is) ∙ found) step kept.exact);
   }
 
-  -- ---- all fronts
+  -- ---- all prefixes
 
-  -- of the empty front, which is no role, nothing is said
+  -- nothing is claimed about the empty path, which is not a role
   start_one : (outer : Path) (t : Total) → IsExact old outer t → At 1 (outer, t)
   start_one [] t its = record { known = λ is right label. absurd (no_role right) }
   start_one (part ∷ parts) t its =
@@ -155,7 +155,7 @@ module _ (old new : List Usage) (role : Path) where
     ]) totals kept.exact;
   }
 
--- ---- a role that consumes more, or less
+-- ---- a role consumes more or less
 
 module _ (old new : List Usage) (role : Path) (amounts : List Entry) (raised : AreRaised old new role amounts) where
   pub raised_same : (outer : Path) → is_within outer role ≡ false → (label : Text) → used_at new outer label ≡ used_at old outer label
@@ -180,7 +180,7 @@ module _ (old new : List Usage) (role : Path) (amounts : List Entry) (raised : A
     known = λ is right label. omega (arith, sums is label, its.known (known is) right label, raised (is_within outer) label, whole_counted outer within label);
   }
 
--- ---- totals that come and go
+-- ---- totals are added and removed
 
 module _ (used : List Usage) where
   pub exact_put : (role : Path) (t : Total) (totals : List (Path × Total)) → IsExact used role t → All (Exact used) totals
@@ -203,7 +203,7 @@ module _ (used : List Usage) where
         (exact_without test es (All-tail (Exact used) e es all)))
   ]
 
-  -- no more are kept than stood there, and the last may be in the place of one that goes
+  -- removing a total leaves no more totals; the last can move to the place of the removed one
   pub exact_dropped : (test : Path → Bool) (totals new : List (Path × Total)) → new ≡ swap_remove_entry test totals → length new ≤ length totals
       → AreExact used totals → AreExact used new
   exact_dropped test totals new is fewer kept = record {

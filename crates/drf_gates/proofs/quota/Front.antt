@@ -1,4 +1,4 @@
--- The fronts of a role's text, and the limits that are looked up by them.
+-- Prefixes of a role's text, and the limits that are looked up by them.
 use Rattle.std.proofs.Common.{◌≡◌, ◌≢◌, ℕ, ◌+◌, ◌<◌, ◌≤◌, Bool, true, false, cond, eqb, List, [], ◌∷◌, ◌++◌, length, take, drop, All, Option, Some, None, codes, refl, sym, ap, subst, ◌∙◌, ⊎_elim, arith, length-append, take-append-drop}
 use Rattle.std.specs.List.{slice_get, AllByRecursion, IsDistinct}
 use Rattle.std.specs.Map.{keys_of, lookup, lookup_key}
@@ -55,7 +55,7 @@ path_in-some : (text : Text) → text ≢ [] → path_in text ≡ parts_of text
 path_in-some [] some = absurd (some refl)
 path_in-some (b ∷ bs) some = refl
 
--- a front of a role is the path that its text names
+-- a prefix of a role is the path that its text names
 path_in-text_of : (path : Path) → All IsPart path → path_in (text_of path) ≡ path
 path_in-text_of [] each = refl
 path_in-text_of (p ∷ ps) each =
@@ -69,7 +69,7 @@ same_role text role right =
       λ e. (path_decides (path_in text) role).1 (ap path_in e ∙ path_in-text_of role (role_parts role right)),
     )
 
--- ---- where fronts end
+-- ---- where prefixes end
 
 size_of_text : (p : Text) (ps : Path) → length (text_of (p ∷ ps)) + 1 ≡ size_of (p ∷ ps)
 size_of_text p [] = omega (arith, sum_by-cons (λ (part : Text). length part + 1) p [])
@@ -112,7 +112,7 @@ front_is role len right =
     ∙ ap path_in (text_front (take len role) (drop len role))
     ∙ path_in-text_of (take len role) (All-take IsPart len role (role_parts role right))
 
--- ---- the limit of a path, looked up
+-- ---- looking up the limit of a path
 
 none_more : (path : Path) (es : List Usage) → AllByRecursion (λ y. same_path path y ≡ false) (keys_of es) → limits_at path (limit_rows es) ≡ []
 none_more path [] none = refl
@@ -150,7 +150,7 @@ one_at path (e ∷ es) role limit apart key value =
         λ i. limit_row (its i, its_limit i) ∷ rest i
     by false other its_key its_value more = more its_key its_value
 
--- what a look-up finds is all that there is
+-- a look-up finds the only entry there is
 pub all_at : {F : Type 0} (key : F → Path) (value : F → List Entry) (path : Path) (es : List Usage) (found : Option F)
     → IsDistinct same_path (keys_of es)
     → option_map key found ≡ lookup_key (same_path path) es → option_map value found ≡ lookup (same_path path) es

@@ -1,4 +1,4 @@
--- Limits, of which none is the empty path's.
+-- The empty path has no limit.
 use Rattle.std.specs.Prelude.{◌≡◌, Bool, true, false, List, [], ◌∷◌, Option, Some, None, Result, Ok, Err, OnOk, OnErr}
 use Rattle.std.specs.Map.{lookup, remove_entry}
 use Rattle.std.proofs.Common.{refl, ap, ◌∙◌, ⊎_elim, cond, arith}
@@ -42,7 +42,7 @@ nobody_left role (e ∷ es) none = by (same_path [] e.0) refl (same_path role e.
     by false is true rest more = rest
     by false is false rest more = (λ i. cond (is i) (Some e.1) (lookup (same_path []) (remove_entry (same_path role) es))) ∙ more rest
 
--- whether one is put, or memory was wanting
+-- whether a limit is stored, or memory runs out
 module _ {T E : Type 0} (role : Path) (limit : List Entry) (old new : List Limit) where
   pub nobody_after : (r : Result T E) → OnOk r (new ≡ insert_entry same_path old role limit) → OnErr r (new ≡ old) → IsRole role
       → lookup (same_path []) old ≡ None → lookup (same_path []) new ≡ None

@@ -1,4 +1,4 @@
--- What limits leave at least is what those at the fronts of a role do.
+-- The least room that limits leave to a role is the least that the limits of its prefixes leave.
 use Rattle.std.proofs.Common.{◌≡◌, ℕ, ◌+◌, ◌<◌, ◌≤◌, min, Bool, true, false, ◌&&◌, cond, nat_lt, List, [], ◌∷◌, length, take, map, filter, fold, Option, None, Some, refl, sym, ap, subst, ◌∙◌, inl, inr, arith, length-take-le, true≢false}
 use Rattle.std.specs.List.{reduce}
 use Rattle.std.proofs.lemmas.Bool.{cases_Bool}
@@ -13,7 +13,7 @@ use Rattle.drf_gates.specs.quota.Front.{limits_at, least_at}
 use Rattle.drf_gates.specs.quota.Allowance.{least_with}
 use Rattle.drf_gates.proofs.quota.Leave.{front_few, front_there, front_within}
 
--- ---- the lesser of two numbers that may be known
+-- ---- the lesser of two numbers that may be unknown
 
 abbrev lesser_of : Option ℕ → Option ℕ → Option ℕ
 lesser_of None o = o
@@ -85,7 +85,7 @@ module _ (consumed : Consumed) (role : Path) (label : Text) where
       (λ i. lesser_of (each l i) (least_both one other both each ls i))
       ∙ lesser_four (one_of one l) (one_of other l) (least_of one ls) (least_of other ls)
 
-  -- ---- by the fronts so far
+  -- ---- the prefixes so far
 
   abbrev is_until : ℕ → LimitRow → Bool
   is_until n l = nat_lt (length l.role) n && binds role label l
@@ -154,7 +154,7 @@ module _ (consumed : Consumed) (role : Path) (label : Text) where
           ∙ (λ i. lesser_of (cond (sym named i) (Some (room_under consumed label l)) None) (least_of (is_at n) ls))
       by false named is rest = rest
 
-  -- the least of the fronts so far, with what the next one leaves
+  -- the least over one more prefix
   pub least_next : (n : ℕ) (ls : List LimitRow) (known new : Option ℕ) → n ≤ length role → known ≡ least_until n ls
       → new ≡ least_at known consumed (limits_at (take n role) ls) label → new ≡ least_until (n + 1) ls
   least_next n ls known new few so_far next =
@@ -169,12 +169,12 @@ module _ (consumed : Consumed) (role : Path) (label : Text) where
       let none : nat_lt (length l.role) 0 ≡ false = grind (arith, nat_tests) in
       λ i. lesser_of (cond (sym none i && binds role label l) (Some (room_under consumed label l)) None) (least_start ls i)
 
-  -- where the empty path has no limit, the empty front leaves all
+  -- the empty prefix leaves everything, because the empty path has no limit
   pub least_begun : (ls : List LimitRow) → limits_at [] ls ≡ [] → None ≡ least_until 1 ls
   least_begun ls none =
       least_next 0 ls None None (omega arith) (least_start ls) (sym (ap (λ (at : List LimitRow). least_at None consumed at label) none))
 
-  -- no role has more parts than those that stand in it
+  -- a role above another has at most as many parts
   until_end : (n : ℕ) → length role < n → (l : LimitRow) → is_until n l ≡ binds role label l
   until_end n all l = elim (cases_Bool (is_within l.role role)) [
     | inl within ↦

@@ -1,4 +1,4 @@
--- The limits that bind a role pass a test just where those at its fronts do.
+-- The limits that bind a role pass a test if and only if those of its prefixes do.
 use Rattle.std.proofs.Common.{◌≡◌, ℕ, ◌+◌, ◌<◌, ◌≤◌, Bool, true, false, not, ◌&&◌, ◌||◌, cond, nat_le, List, [], ◌∷◌, filter, length, take, refl, sym, ap, ◌∙◌, inl, inr, arith, length-take-le}
 use Rattle.std.specs.List.{list_all}
 use Rattle.std.proofs.lemmas.Bool.{cases_Bool, and_parts}
@@ -12,9 +12,9 @@ use Rattle.drf_rows.specs.declared.rows.LimitRow.{LimitRow}
 use Rattle.drf_gates.specs.quota.Front.{front_leaves, front_passes, limits_at, passes_one}
 use Rattle.drf_gates.proofs.quota.Rows.{leaves_both, leaves_from, leaves_past}
 
--- ---- the outer roles are the fronts
+-- ---- the role and the roles above it are the prefixes
 
--- a role that another stands in is the front of so many parts
+-- a role above another is a prefix of it
 pub front_there : (outer role : Path) → is_within outer role ≡ true → same_path (take (length outer) role) outer ≡ true
 front_there outer role within = same_path-swap (take (length outer) role) outer ∙ within
 
@@ -23,7 +23,7 @@ front_few outer role within =
     let size = ap (λ (p : Path). length p) (same_path-true outer (take (length outer) role) within) in
     omega (arith, size, length-take (length outer) role)
 
--- and the front of a role is such a role
+-- a prefix of a role is such a role
 pub front_within : (outer role : Path) (n : ℕ) → n ≤ length role → same_path (take n role) outer ≡ true → is_within outer role ≡ true
 front_within outer role n few same =
     let its : take n role ≡ outer = same_path-true (take n role) outer same in
@@ -59,7 +59,7 @@ module _ (test : LimitRow → Bool) (role : Path) (label : Text) where
       by true is both = (and_parts (passes_one test label l) (front_passes test role label n ls) both).0
       by false is rest = cc
 
-  -- where each front passes it, all limits do
+  -- if each prefix passes the test, all limits do
   pub fronts_pass : (ls : List LimitRow) → ((n : ℕ) → n < length role + 1 → front_passes test role label n ls ≡ true) → true ≡ all_pass ls
   fronts_pass [] all = refl
   fronts_pass (l ∷ ls) all =
@@ -73,7 +73,7 @@ module _ (test : LimitRow → Bool) (role : Path) (label : Text) where
         | inr past ↦ rest ∙ pass_past l ls past
       ]
 
-  -- where one does not, they do not
+  -- if one prefix does not, not all limits do
   fails_more : (l : LimitRow) (ls : List LimitRow) → false ≡ all_pass ls → false ≡ all_pass (l ∷ ls)
   fails_more l ls fails =
       elim (cases_Bool (binds role label l)) [
@@ -111,13 +111,13 @@ module _ (test : LimitRow → Bool) (role : Path) (label : Text) where
           ap (λ (b : Bool). b && all_pass ls) (sym one.1) ∙ pass_both l ls one.0
       by false passes past is rest more = fails_more l ls (more rest)
 
-  -- where the empty path has no limit, the empty front passes it
+  -- the empty prefix passes the test, because the empty path has no limit
   pub none_passes : (ls : List LimitRow) → limits_at [] ls ≡ [] → (n : ℕ) → n < 1 → front_passes test role label n ls ≡ true
   none_passes ls none n few =
       let zero : n ≡ 0 = omega (arith, few) in
       ap (λ (m : ℕ). front_passes test role label m ls) zero ∙ ap (λ (at : List LimitRow). list_all (passes_one test label) at) none
 
--- ---- what limits leave at least
+-- ---- the least room under the limits
 
 module _ (consumed : Consumed) (role : Path) (label : Text) (least : ℕ) where
   abbrev leaves : LimitRow → Bool

@@ -22,7 +22,7 @@ use Rattle.drf_rows.specs.Quota.{reserves, unreserved_in, reserved_in}
 use Rattle.drf_row_laws.specs.QuotaLaws.{no_text, parts_le}
 use Rattle.drf_gates.specs.quota.Allowance.{AreRaised, IsRaisedBy, IsSame, Usage, amount_in_one, unreserved_one, reserved_one, counted, used_where}
 
--- the element that is read is the first of those that are left
+-- the element that is read is the first of the remaining ones
 pub next_of : {A : Type 0} (xs : List A) (i : ℕ) (x : A) → i < length xs → x ≡ get_or xs i x → drop i xs ≡ x ∷ drop (i + 1) xs
 next_of {A} xs i x in_range read =
     let split : drop i xs ≡ get_or xs i x ∷ drop (i + 1) xs = rw (add-one) (drop-cons xs i x in_range) in
@@ -49,7 +49,7 @@ module _ (r : Resource) (label : Text) where
       gone true = refl
       gone false = refl
 
-  -- for everyone
+  -- the resource is unreserved
   pub unreserved-here : is_default r.role ≡ true → unreserved_one label r ≡ amount_in_one label r
   unreserved-here default =
       ap (λ b. cond (same_text label r.label && same_text [] (cond b [] (text_of r.role))) amount 0) default ∙ swapped true
@@ -62,7 +62,7 @@ module _ (r : Resource) (label : Text) where
     some : same_text (text_of r.role) [] ≡ false
     some = no_text r.role right.role other
 
-    -- for a role
+    -- the resource is reserved for a role
     pub unreserved-none : unreserved_one label r ≡ 0
     unreserved-none =
         ap (λ b. cond (same_text label r.label && same_text [] (cond b [] (text_of r.role))) amount 0) other
@@ -75,7 +75,7 @@ module _ (r : Resource) (label : Text) where
         ∙ (λ i. cond (same_text label r.label && (not (some i) && test (right.role_read i))) amount 0)
         ∙ swapped (test r.role)
 
--- of a bundle in which nothing is reserved, all of a name is for everyone
+-- if nothing in a bundle is reserved, its whole amount of a label is unreserved
 for_everyone : (rs : List Resource) (label : Text) → IsTrue (is_unreserved rs) → stock rs label Thousandths ≡ unreserved_in label rs
 for_everyone [] label all = refl
 for_everyone (r ∷ rs) label all =
@@ -92,13 +92,13 @@ pub sums-unreserved : (bundle : List Resource) (label : Text) → IsTrue (is_unr
     → amount_of (quantities_of bundle) label ≡ unreserved_in label bundle
 sums-unreserved bundle label all = amount-quantities_of bundle label ∙ for_everyone bundle label all
 
--- all of it is of its own name
+-- the whole amount of a resource is of its own label
 pub one_here : (r : Resource) → amount_in_one r.label r ≡ units_in r.value Thousandths
 one_here r = ap (λ b. cond b (units_in r.value Thousandths) 0) (same_itself r.label)
 
 -- ---- amounts that grow
 
--- the amount of a resource's name grows by what it has
+-- the amount of a resource's label grows by the amount of the resource
 pub amount_more : (sum : List Entry) (r : Resource) (label : Text)
     → amount_of (with_amount sum r.label (amount_of sum r.label + units_in r.value Thousandths)) label
     ≡ amount_of sum label + amount_in_one label r
@@ -110,7 +110,7 @@ amount_more sum r label = amount-with sum r.label (amount_of sum r.label + units
     by true same = ap (λ (n : Text). amount_of sum n + units_in r.value Thousandths) (same_from_test r.label label same)
     by false other = omega arith
 
--- so where it is set, and for everyone
+-- the same after the amount is set, for an unreserved resource
 pub set_more : {T E : Type 0} (result : Result T E) (sum new : List Entry) (r : Resource) (name : Text) (amount : ℕ)
     → OnOk result (new ≡ with_amount sum name amount) → name ≡ r.label → amount ≡ amount_of sum r.label + units_in r.value Thousandths
     → is_default r.role ≡ true
@@ -124,7 +124,7 @@ set_more (Err e) sum new r name more set same is default = tt
 
 -- ---- sums over a bundle
 
--- what was added and what is to come is all that the bundle has for everyone
+-- what was added and what remains to be added is all that is unreserved in the bundle
 abbrev pub IsSummed : List Resource → List Entry → List Resource → Type 0
 IsSummed bundle sum left = (label : Text) → amount_of sum label + unreserved_in label left ≡ unreserved_in label bundle
 
@@ -149,7 +149,7 @@ module _ (bundle : List Resource) (is : IsBundle bundle) (sum : List Entry) (i :
       → IsSummed bundle new (drop (i + 1) bundle)
   sum_more new more label = omega (arith, split_sum label, first_unit label, more label)
 
--- what was consumed and what is to come is all that the bundle has reserved
+-- what was consumed and what remains to be consumed is all that is reserved in the bundle
 abbrev pub IsConsumed : List Resource → List Usage → List Usage → List Resource → Type 0
 IsConsumed bundle old new left = (test : Path → Bool) (label : Text)
     → used_where test new label + reserved_in test label left ≡ used_where test old label + reserved_in test label bundle
@@ -177,7 +177,7 @@ module _ (bundle : List Resource) (old mid : List Usage) (i : ℕ) (r : Resource
 
 -- ---- a role that consumes amounts
 
--- by what is said of the amounts
+-- the amounts are known by what they are equal to
 pub raised_by : {T E : Type 0} (result : Result T E) (old new : List Usage) (role : Path) (amounts : List Entry) (more : (Path → Bool) → Text → ℕ)
     → OnOk result (AreRaised old new role amounts)
     → ((test : Path → Bool) (label : Text) → counted test role amounts label ≡ more test label)
@@ -186,9 +186,9 @@ raised_by (Ok x) old new role amounts more raised same =
     λ test label. raised test label ∙ ap (λ n. used_where test old label + n) (same test label)
 raised_by (Err e) old new role amounts more raised same = tt
 
--- ---- what is released, one part after another
+-- ---- releasing one part after another
 
--- what was released and what is to come is all
+-- what was released and what remains to be released is everything
 abbrev pub IsReleased : List Usage → List Usage → ((Path → Bool) → Text → ℕ) → ((Path → Bool) → Text → ℕ) → Type 0
 IsReleased old mid all left =
     (test : Path → Bool) (label : Text) → used_where test mid label + all test label ≡ used_where test old label + left test label
@@ -205,14 +205,14 @@ pub released_done : (old new : List Usage) (all left : (Path → Bool) → Text 
     → ((test : Path → Bool) (label : Text) → left test label ≡ 0) → IsRaisedBy new old all
 released_done old new all left released none = λ test label. omega (arith, released test label, none test label)
 
--- what a role releases of a resource, and what resources that are reserved do
+-- the unreserved part of a bundle, consumed by one role, and the reserved part, consumed by the roles that it is reserved for
 abbrev pub unreserved_by : Path → (List Resource → (Path → Bool) → Text → ℕ)
 unreserved_by role bundle test label = cond (test role) (unreserved_in label bundle) 0
 
 abbrev pub reserved_by : List Resource → (Path → Bool) → Text → ℕ
 reserved_by bundle test label = reserved_in test label bundle
 
--- the first resource, and the others
+-- the first resource and the others
 pub first_unreserved : (role : Path) (bundle : List Resource) (i : ℕ) (r : Resource) → i < length bundle → r ≡ get_or bundle i r
     → (test : Path → Bool) (label : Text)
     → unreserved_by role (drop i bundle) test label ≡ cond (test role) (unreserved_one label r) 0 + unreserved_by role (drop (i + 1) bundle) test label
@@ -233,23 +233,23 @@ first_reserved bundle i r in_range read test label =
     ap (λ (rs : List Resource). reserved_in test label rs) (next_of bundle i r in_range read)
     ∙ where-cons (reserves test label) Thousandths r (drop (i + 1) bundle)
 
--- the resources before a place, and those from it on
+-- the resources before a position, and those from it on
 pub reserved_parts : (test : Path → Bool) (label : Text) (bundle : List Resource) (i : ℕ)
     → reserved_in test label bundle ≡ reserved_in test label (take i bundle) + reserved_in test label (drop i bundle)
 reserved_parts test label bundle i =
     let of : Resource → ℕ = λ r. cond (reserves test label (key_of r)) (units_in r.value Thousandths) 0 in
     ap (sum_by of) (sym (take-append-drop i bundle)) ∙ sum_by-append of (take i bundle) (drop i bundle)
 
--- ---- a role that consumes so much less of one scalar
+-- ---- a role consumes less of one scalar
 
 pub nothing_by : (b : Bool) → ◌≡◌ {A = ℕ} (cond b 0 0) 0
 nothing_by true = refl
 nothing_by false = refl
 
--- ---- a front that was consumed, and is given back
+-- ---- a prefix of the resources was consumed, and is released again
 
 module _ (bundle : List Resource) (old mid : List Usage) (i : ℕ) (consumed : IsConsumed bundle old mid (drop i bundle)) where
-  -- it is among what is consumed
+  -- it is part of what is consumed
   pub front_fits : (test : Path → Bool) (label : Text) → reserved_in test label (take i bundle) ≤ used_where test mid label
   front_fits test label = omega (arith, consumed test label, reserved_parts test label bundle i)
 

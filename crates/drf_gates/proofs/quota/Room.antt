@@ -17,9 +17,9 @@ use Rattle.drf_rows.specs.declared.rows.LimitRow.{LimitRow}
 use Rattle.drf_gates.specs.quota.Allowance.{lesser, lessened, limit_row}
 use Rattle.drf_gates.proofs.quota.Resources.{next_of}
 
--- ---- amounts that are known
+-- ---- known amounts
 
--- what is known after one is set
+-- the known amounts after one is set
 pub known-with : (es : List Entry) (name : Text) (a : ℕ) (label : Text)
     → known_amount (with_amount es name a) label ≡ cond (same_text name label) (Some a) (known_amount es label)
 known-with es name a label =
@@ -44,13 +44,13 @@ known_head e es = λ i. cond (same_itself e.label i || is_named es e.label) (Som
 known_other : (e : Entry) (es : List Entry) (label : Text) → same_text e.label label ≡ false → known_amount (e ∷ es) label ≡ known_amount es label
 known_other e es label other = λ i. cond (other i || is_named es label) (Some (cond (other i) e.amount (amount_of es label))) None
 
--- a name that stands before all is not known, so it cannot be known to one alone
+-- a label that comes before all others of a list is not in it, so the two lists do not know the same labels
 apart : (e : Entry) (es fs : List Entry) → IsTrue (stands_first e.label fs) → ((label : Text) → known_amount (e ∷ es) label ≡ known_amount fs label) → ⊥
 apart e es fs first same =
     let some : ◌≡◌ {A = Option ℕ} (Some e.amount) None = sym (known_head e es) ∙ same e.label ∙ unknown_first e.label fs first in
     cc
 
--- in order, what is known tells all
+-- two lists in order with the same known amounts are equal
 pub same_known : (a b : List Entry) → IsTrue (is_in_order a) → IsTrue (is_in_order b)
     → ((label : Text) → known_amount a label ≡ known_amount b label) → a ≡ b
 same_known [] [] first second same = refl
@@ -83,7 +83,7 @@ same_known (e ∷ es) (f ∷ fs) first second same =
           absurd (apart f fs (e ∷ es) (and_from _ _ above (first_trans f.label e.label es above order_e.0)) (λ label. sym (same label)))
     ]
 
--- ---- amounts that are put in by a function of their names
+-- ---- setting amounts that are a function of their labels
 
 abbrev has_name : List Text → Text → Bool
 has_name names label = list_any (λ n. same_text n label) names
@@ -123,7 +123,7 @@ module _ (value : Text → ℕ) where
 -- ---- the headrooms
 
 module _ (consumed : Consumed) (role : Path) where
-  -- a name is among those that limits name where one of these binds on it
+  -- a label is among those that limits name if a limit on it binds the role
   named_bound : (limits : List LimitRow) (label : Text)
       → has_name (limited_names limits role) label ≡ is_some (headroom_under limits consumed role label)
   named_bound [] label = refl
@@ -150,7 +150,7 @@ module _ (consumed : Consumed) (role : Path) where
       its None = refl
       its (Some n) = refl
 
-  -- amounts that are known as the limits leave them are the headrooms
+  -- amounts are the headrooms if they are what the limits leave
   pub headrooms_are : (limits : List LimitRow) (room : List Entry) → IsTrue (is_in_order room)
       → ((label : Text) → known_amount room label ≡ headroom_under limits consumed role label)
       → room ≡ headrooms limits consumed role
@@ -162,7 +162,7 @@ module _ (consumed : Consumed) (role : Path) where
 -- ---- the scalars of one limit
 
 module _ (consumed : Consumed) (limited : Path) where
-  -- what is known, once the entries to come are gone over, is what it becomes
+  -- the known amounts, after the remaining entries of a limit are taken into account, is the result
   pub record IsLessening (limit first room left : List Entry) : Type 0 where
     pub in_order : IsTrue (is_in_order left)
     pub known : (label : Text)

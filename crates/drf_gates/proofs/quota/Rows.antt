@@ -54,7 +54,7 @@ pub limits_with-none : (limits : List LimitRow) (role : Path) (limit : List Entr
 limits_with-none limits role [] none = refl
 limits_with-none limits role (e ∷ es) none = absurd (omega (arith, none))
 
--- no role has two limits, so one that is still to come is new
+-- no role has two limits, so a later limit is that of another role
 role_apart : (role : Path) (e : Path × List Entry) (es : List (Path × List Entry)) (limit : List Entry) (rest : List (Path × List Entry))
     → AllByRecursion (λ y. same_path e.0 y ≡ false) (keys_of (es ++ (role, limit) ∷ rest)) → same_path role e.0 ≡ false
 role_apart role e [] limit rest none = same_path-swap role e.0 ∙ none.0
@@ -70,7 +70,7 @@ limit_to_come (e ∷ es) role limit rest apart =
 
 -- ---- what is left, limit by limit
 
--- the least of some numbers is at least so much where each of them is
+-- the least of some numbers is at least `least` if each of them is
 least_enough : (least n : ℕ) (ns : List ℕ) → nat_le least (fold min n ns) ≡ (nat_le least n && option_map_or (nat_le least) (reduce min ns) true)
 least_enough least n [] = by (nat_le least n)
   where
@@ -90,7 +90,7 @@ least_enough least n (m ∷ ms) =
     by both false other more same = ap (λ b. b && more) same
 
 module _ (consumed : Consumed) (role : Path) (label : Text) (least : ℕ) where
-  -- whether the limits from here on leave so much
+  -- whether the limits from here on leave at least `least`
   abbrev pub leaves_from : List LimitRow → Bool
   leaves_from ls = option_map_or (nat_le least) (headroom_under ls consumed role label) true
 
@@ -104,7 +104,7 @@ module _ (consumed : Consumed) (role : Path) (label : Text) (least : ℕ) where
       sym (least_enough least (room_under consumed label l) (map (room_under consumed label) (filter (binds role label) ls)))
       ∙ ap (λ (b : Bool). option_map_or (nat_le least) (reduce min (map (room_under consumed label) (cond b (l ∷ filter (binds role label) ls) (filter (binds role label) ls)))) true) (sym here)
 
--- ---- the rows' words
+-- ---- for given rows, the results are the definition's
 
 module _ (rows : Rows) (a : Allowance) (its : IsAllowanceOf rows a) (role : Path) where
   pub headroom_at-its : (label : Text) → headroom_under a.limits (used_at a.used) role label ≡ headroom_at rows role label

@@ -1,4 +1,4 @@
--- Rows that are for something, after a change of one.
+-- Each row still has an amount above 0 after a change of one row.
 use Rattle.std.specs.Prelude.{◌≡◌, ℕ, ◌+◌, nat_lt, Bool, true, false, ◌||◌, List, [], ◌∷◌, IfSome, IsTrue, Option, Some}
 use Rattle.std.specs.List.{list_all, list_any}
 use Rattle.std.specs.Map.{lookup, remove_entry, set_value}
@@ -17,9 +17,9 @@ use Rattle.drf_gates.specs.quota.Allowance.{Usage, AreSome, IsSomething, one_ent
 use Rattle.drf_gates.proofs.quota.Swapped.{swapped}
 use Rattle.drf_gates.proofs.quota.Total.{first_amount}
 
--- ---- amounts that are for something
+-- ---- amounts of which one is above 0
 
--- an amount that is not above 0 is nothing
+-- an amount that is not above 0 is 0
 one_nothing : (label : Text) (amount : ℕ) → nat_lt 0 amount ≡ false → (other : Text) → amount_of (one_entry label amount) other ≡ 0
 one_nothing label amount none other = by (same_text label other) (omega (arith, ltb-false 0 amount none))
   where
@@ -52,7 +52,7 @@ none_something (e ∷ es) ordered none label =
     by true is none more = cc
     by false is none more = omega (arith, first_amount e es ordered label, one_nothing e.label e.amount is label, more none)
 
--- what is left once the zeros are gone, if anything is
+-- what remains after entries of 0 are dropped, if anything does
 pub left_something : (es : List Entry) → IsTrue (list_all (λ e. nat_lt 0 e.amount) es) → (es ≡ [] → ⊥) → IsSomething es
 left_something [] all some = absurd (some refl)
 left_something (e ∷ es) all some = first_something e es (and_parts (nat_lt 0 e.amount) (list_all (λ (x : Entry). nat_lt 0 x.amount) es) all).0
@@ -88,7 +88,7 @@ set_gone test (u ∷ us) row all = elim (cases_Bool (test u.0)) [
   | inr other ↦ rw (other, other) (All-cons One u (remove_entry test (set_value test us row)) (All-head One u us all) (set_gone test us row (All-tail One u us all)))
 ]
 
--- a row that is set, and goes
+-- a row is changed and then removed
 pub some_left : (test : Path → Bool) (us : List Usage) (row : List Entry) → AreSome us → AreSome (swap_remove_entry test (set_value test us row))
 some_left test us row all = All-permutation One _ _ (swapped test (set_value test us row)) (set_gone test us row all)
 

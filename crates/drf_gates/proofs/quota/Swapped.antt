@@ -1,4 +1,4 @@
--- What is left where the last takes the place of what goes: what else would be left, in another order.
+-- `swap_remove`, which moves the last element to the place of the removed one, leaves a permutation of what `remove` leaves.
 use Rattle.std.specs.Prelude.{◌≡◌, ℕ, ◌<◌, ◌-◌, Bool, List, [], ◌∷◌, ◌++◌, Option, Some, None, length, position, remove, swap_remove, take}
 use Rattle.std.specs.List.Sorted.{IsPermutation}
 use Rattle.std.specs.Map.{keys_of, remove_entry}

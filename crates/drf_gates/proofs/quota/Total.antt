@@ -1,4 +1,4 @@
--- What is kept of the roles that have a limit, through each change of what roles consume.
+-- The stored totals of the roles that have a limit stay exact after each change of what roles consume.
 use Rattle.std.specs.Prelude.{◌≡◌, ℕ, ◌+◌, ◌<◌, Bool, true, false, List, [], ◌∷◌, IsTrue, All, length, drop, Some}
 use Rattle.std.specs.Map.{lookup}
 use Rattle.std.proofs.Common.{refl, sym, ap, subst, ◌∙◌, inl, inr, cond, arith, get_or, set}
@@ -19,14 +19,14 @@ use Rattle.drf_gates.specs.declared.quota.totals.Total.{Total}
 use Rattle.drf_gates.proofs.quota.Resources.{next_of}
 use Rattle.drf_gates.proofs.quota.Used.{bounded-lowered}
 
--- ---- amounts that are added or taken, entry by entry
+-- ---- adding or subtracting amounts, entry by entry
 
--- the larger amounts are the smaller ones with the whole, but for what is left of it
+-- the larger amounts are the smaller ones plus `whole`, except for the entries that are left
 pub record IsMoving (small large whole left : List Entry) : Type 0 where
   pub in_order : IsTrue (is_in_order left)
   pub sums : (label : Text) → amount_of large label + amount_of left label ≡ amount_of small label + amount_of whole label
 
--- the first entry, and the others
+-- the first entry and the others
 pub first_amount : (e : Entry) (es : List Entry) → IsTrue (is_in_order (e ∷ es))
     → (label : Text) → amount_of (e ∷ es) label ≡ amount_of (one_entry e.label e.amount) label + amount_of es label
 first_amount e es ordered label =
@@ -46,7 +46,7 @@ module _ (small large whole es : List Entry) (i : ℕ) (e : Entry) (in_range : i
   rest_ordered : IsTrue (is_in_order (drop (i + 1) es))
   rest_ordered = (and_parts (stands_first e.label (drop (i + 1) es)) (is_in_order (drop (i + 1) es)) split_left.in_order).1
 
-  -- one more is added
+  -- one more entry is added
   pub added_more : (new : List Entry)
       → ((label : Text) → amount_of new label ≡ amount_of large label + amount_of (one_entry e.label e.amount) label)
       → IsMoving small new whole (drop (i + 1) es)
@@ -55,7 +55,7 @@ module _ (small large whole es : List Entry) (i : ℕ) (e : Entry) (in_range : i
     sums = λ label. omega (arith, added label, split_left.sums label, first_amount e (drop (i + 1) es) split_left.in_order label);
   }
 
-  -- one more is taken
+  -- one more entry is subtracted
   pub taken_more : (new : List Entry) (name : Text) (amount : ℕ) → name ≡ e.label → amount ≡ e.amount
       → ((label : Text) → amount_of new label + amount_of (one_entry name amount) label ≡ amount_of small label)
       → IsMoving new large whole (drop (i + 1) es)
@@ -67,7 +67,7 @@ module _ (small large whole es : List Entry) (i : ℕ) (e : Entry) (in_range : i
         omega (arith, taken label, split_left.sums label, first_amount e (drop (i + 1) es) split_left.in_order label);
   }
 
--- the amount of an entry's label grows by the entry
+-- the amount of an entry's label grows by the entry's amount
 pub entry_added : (sum new : List Entry) (e : Entry) (amount : ℕ) → amount ≡ e.amount
     → new ≡ with_amount sum e.label (amount_of sum e.label + amount)
     → (label : Text) → amount_of new label ≡ amount_of sum label + amount_of (one_entry e.label e.amount) label
@@ -82,9 +82,9 @@ entry_added sum new e amount more set label =
     by true here = ap (λ (n : Text). amount_of sum n + e.amount) (same_from_test e.label label here)
     by false past = omega arith
 
--- ---- totals of one usage, and of another
+-- ---- totals for different tables of consumption
 
--- a total of another is of use where both consume as much
+-- the totals are exact for another table in which each role consumes the same
 pub exact_alike : (one other : List Usage) (totals : List (Path × Total))
     → ((test : Path → Bool) (label : Text) → used_where test other label ≡ used_where test one label)
     → AreExact one totals → AreExact other totals
@@ -94,7 +94,7 @@ exact_alike one other totals alike kept = record {
       (λ e its. record { known = λ is right label. its.known is right label ∙ sym (alike (is_within e.0) label) }) totals kept.exact;
 }
 
--- what is kept for a role is what it consumes
+-- a known total is what its role consumes
 pub kept_is : (used : List Usage) (totals : List (Path × Total)) (role : Path) (t : Total) (label : Text)
     → IsRole role → lookup (same_path role) totals ≡ Some t → IsTrue t.is_known → All (λ e. IsExact used e.0 e.1) totals
     → amount_of t.amounts label ≡ used_at used role label
@@ -110,11 +110,11 @@ kept_is used (e ∷ es) role t label right found known exact = elim (cases_Bool 
       kept_is used es role t label right (rw other at found) known (All-tail (λ (x : Path × Total). IsExact used x.0 x.1) e es exact)
 ]
 
--- ---- what is kept beside what roles consume
+-- ---- totals and what roles consume change together
 
 module _ (old new : List Usage) (role : Path) (amounts : List Entry) (totals left : List (Path × Total))
     (counted : IsCounted old totals) (some : AreSome old → AreSome new) where
-  -- a role consumes more, and none too much
+  -- a role consumes more, and no sum overflows
   pub raised_beside : AreRaised old new role amounts → IsBounded new
       → ((one other : List Usage) → AreRaised one other role amounts → AreExact one totals → AreExact other left)
       → IsCounted new left

@@ -23,12 +23,12 @@ use Rattle.drf_rows.specs.Quota.{is_within}
 use Rattle.drf_gates.specs.quota.Allowance.{Usage, AreRaised, IsBounded, counted, one_entry, used_where, used_by, used_at, row_of}
 use Rattle.drf_gates.proofs.quota.Swapped.{swapped}
 
--- the first row, and the others
+-- the first row and the others
 used-cons : (test : Path → Bool) (u : Usage) (us : List Usage) (label : Text)
     → used_where test (u ∷ us) label ≡ counted test u.0 u.1 label + used_where test us label
 used-cons test u us label = sum_by-cons (λ (v : Usage). counted test v.0 v.1 label) u us
 
--- the row's amounts are all that the role consumes, if it has no other row
+-- a row's amounts are at most what its role consumes
 pub row_le : (us : List Usage) (role : Path) (label : Text) → amount_of (row_of us role) label ≤ used_by us role label
 row_le [] role label = omega arith
 row_le (u ∷ us) role label = by (same_path role u.0) (row_le us role label) (used-cons (same_path role) u us label)
@@ -81,7 +81,7 @@ nothing : (b : Bool) → ◌≡◌ {A = ℕ} (cond b 0 0) 0
 nothing true = refl
 nothing false = refl
 
--- what is added to one row is added to its role
+-- what is added to a row is added to its role
 counted-plus : (b : Bool) (sum had more : ℕ) → sum ≡ had + more → cond b sum 0 ≡ cond b had 0 + cond b more 0
 counted-plus true sum had more is = is
 counted-plus false sum had more is = refl
@@ -117,7 +117,7 @@ put_raises (u ∷ us) role sum amounts is =
     by false same is more = λ test label.
         omega (arith, used-cons test u (insert_entry same_path us role sum) label, used-cons test u us label, more is test label)
 
--- where a role has a row, its amounts are put there
+-- if the role has a row, inserting sets the amounts of this row
 pub put_is_set : (us : List Usage) (role : Path) (row sum : List Entry) → lookup (same_path role) us ≡ Some row
     → insert_entry same_path us role sum ≡ set_value (same_path role) us sum
 put_is_set [] role row sum found = cc
@@ -128,7 +128,7 @@ put_is_set (u ∷ us) role row sum found = elim (cases_Bool (same_path role u.0)
       rw past (ap (λ (rest : List Usage). u ∷ rest) (put_is_set us role row sum later))
 ]
 
--- so what is added to a row is added to its role
+-- the same after the row is set
 pub set_raises : (us : List Usage) (role : Path) (row sum amounts : List Entry)
     → lookup (same_path role) us ≡ Some row
     → ((label : Text) → amount_of sum label ≡ amount_of row label + amount_of amounts label)
@@ -138,7 +138,7 @@ set_raises us role row sum amounts found is = λ test label.
     ap (λ (vs : List Usage). used_where test vs label) (sym (put_is_set us role row sum found))
     ∙ put_raises us role sum amounts (λ n. is n ∙ ap (λ (q : List Entry). amount_of q n + amount_of amounts n) own) test label
 
--- what is taken from one row is taken from its role
+-- what is subtracted from a row is subtracted from its role
 pub set_lowers : (us : List Usage) (role : Path) (row left amounts : List Entry)
     → lookup (same_path role) us ≡ Some row
     → ((label : Text) → amount_of left label + amount_of amounts label ≡ amount_of row label)
@@ -165,7 +165,7 @@ set_lowers (u ∷ us) role row left amounts found is =
     by false same found more = λ test label.
         omega (arith, used-cons test u (set_value (same_path role) us left) label, used-cons test u us label, more found test label)
 
--- a value that is set is found
+-- a value that was set is found
 pub found_set : (us : List Usage) (role : Path) (row left : List Entry) → lookup (same_path role) us ≡ Some row
     → lookup (same_path role) (set_value (same_path role) us left) ≡ Some left
 found_set [] role row left found = cc
@@ -176,7 +176,7 @@ found_set (u ∷ us) role row left found = elim (cases_Bool (same_path role u.0)
       rw (past, past) (found_set us role row left later)
 ]
 
--- a row with nothing in it can go
+-- an empty row can be removed
 empty_leaves : (us : List Usage) (role : Path) → lookup (same_path role) us ≡ Some []
     → (test : Path → Bool) (label : Text) → used_where test (remove_entry (same_path role) us) label ≡ used_where test us label
 empty_leaves [] role found = λ test label. refl
@@ -194,7 +194,7 @@ empty_leaves (u ∷ us) role found = by (same_path role u.0) found (empty_leaves
     by false found more = λ test label.
         omega (arith, used-cons test u us label, used-cons test u (remove_entry (same_path role) us) label, more found test label)
 
--- lowered, and the empty row gone
+-- amounts are subtracted, and the row, which is empty then, is removed
 pub removed_lowers : (us : List Usage) (role : Path) (row left amounts : List Entry)
     → lookup (same_path role) us ≡ Some row
     → ((label : Text) → amount_of left label + amount_of amounts label ≡ amount_of row label)
@@ -207,7 +207,7 @@ removed_lowers us role row left amounts found is empty = λ test label.
     sum_by-IsPermutation (λ (u : Usage). counted test u.0 u.1 label) _ _ (swapped (same_path role) mid) in
     omega (arith, moved, gone, set_lowers us role row left amounts found is test label)
 
--- nothing is taken from a role that consumes nothing
+-- nothing can be subtracted from a role that consumes nothing
 pub none_lowers : (us : List Usage) (role : Path) (amounts : List Entry) → lookup (same_path role) us ≡ None
     → ((label : Text) → amount_of amounts label ≤ used_by us role label) → AreRaised us us role amounts
 none_lowers us role amounts none fits = λ test label.
@@ -215,7 +215,7 @@ none_lowers us role amounts none fits = λ test label.
     let here : counted test role amounts label ≡ 0 = ap (λ n. cond (test role) n 0) zero ∙ nothing (test role) in
     omega (arith, here)
 
--- so much of one label is at most what a role consumes, if it is so of that label
+-- an amount of one label is at most what a role consumes, if it is at most what the role consumes of this label
 pub one_fits : (us : List Usage) (role : Path) (label : Text) (amount : ℕ) → amount ≤ used_by us role label
     → (other : Text) → amount_of (one_entry label amount) other ≤ used_by us role other
 one_fits us role label amount fits other = elim (cases_Bool (same_text label other)) [
@@ -225,11 +225,11 @@ one_fits us role label amount fits other = elim (cases_Bool (same_text label oth
   | inr past ↦ omega (arith, ap (λ b. cond b amount 0) past)
 ]
 
--- a role is within itself
+-- a role counts as within itself
 pub within_itself : (role : Path) → is_within role role ≡ true
 within_itself role = (starts_is bytes_decides role role (is_within role role) refl).1 [] (sym (append-nil role))
 
--- a role consumes at most what it consumes with the roles below it
+-- a role by itself consumes at most what it and the roles below it consume
 pub used_by_le : (us : List Usage) (role : Path) (label : Text) → used_by us role label ≤ used_at us role label
 used_by_le [] role label = omega arith
 used_by_le (u ∷ us) role label =
@@ -245,13 +245,13 @@ used_by_le (u ∷ us) role label =
     by true is = omega (arith, ap (λ b. cond b (amount_of u.1 label) 0) (is refl))
     by false is = omega arith
 
--- where a role consumes less, none consumes too much
+-- if a role consumes less, all sums stay below 2^64
 pub bounded-lowered : (old new : List Usage) (role : Path) (amounts : List Entry) → AreRaised new old role amounts → IsBounded old → IsBounded new
 bounded-lowered old new role amounts raised bounded = record {
   below = λ outer label right. omega (arith, raised (is_within outer) label, bounded.below outer label right);
 }
 
--- where no role consumes too much with what is added, none does after it
+-- if no sum overflows with what is added, all sums are below 2^64 afterwards
 pub bounded-raised : {T E : Type 0} (r : Result T E) (old new : List Usage) (role : Path) (amounts : List Entry)
     → OnOk r (AreRaised old new role amounts) → OnErr r (new ≡ old) → IsBounded old
     → ((outer : Path) (label : Text) → IsRole outer → is_within outer role ≡ true → used_at old outer label + amount_of amounts label < 2 ^ 64)
@@ -269,10 +269,10 @@ bounded-raised (Ok x) old new role amounts raised err bounded fits = record { be
           omega (arith, raised (is_within outer) label, none, bounded.below outer label right)
     ]
 
--- ---- rows that are copied one by one
+-- ---- copying rows one by one
 
 module _ (whole copy rest : List Usage) (role : Path) (amounts : List Entry) where
-  -- what is there and what is to come is all
+  -- the rows that were copied and those that remain are all rows
   abbrev AreParts : List Usage → List Usage → Type 0
   AreParts here there = (test : Path → Bool) (label : Text) → used_where test here label + used_where test there label ≡ used_where test whole label
 

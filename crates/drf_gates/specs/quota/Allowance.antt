@@ -18,11 +18,11 @@ use Rattle.drf_rows.specs.contracts.rows.LimitRow as limit
 use Rattle.drf_rows.specs.declared.rows.LimitRow.{LimitRow}
 use Rattle.drf_rows.specs.declared.rows.Rows.{Rows}
 
--- what a role consumes itself, the roles below it left out
+-- what a role consumes itself, without the roles below it
 abbrev pub Usage : Type 0
 Usage = Path × List Entry
 
--- limits beside what roles consume
+-- the limits of roles, and what roles consume
 pub record Allowance : Type 0 where
   pub limits : List LimitRow
   pub used : List Usage
@@ -31,7 +31,7 @@ pub record Allowance : Type 0 where
 abbrev pub quota_under : List LimitRow → Option (List Usage) → Option Allowance
 quota_under limits consumption = option_map (λ used. record { limits = limits; used = used }) consumption
 
--- by these a proof tells two of them apart
+-- the codes by which the prover decides equality of these values
 abbrev pub usage_code : Coded (List Usage)
 usage_code = coded_list (coded× (coded_list (coded_list coded_ℕ)) (coded_list entry.the_row.coded))
 
@@ -40,62 +40,62 @@ allowance_code =
     code_by (List LimitRow × List Usage) (coded× (coded_list limit.the_row.coded) usage_code)
     (λ a. (a.limits, a.used)) (λ p. record { limits = p.0; used = p.1 }) (λ _. refl)
 
--- how much of a scalar is added to what the roles that pass a test consume
+-- these amounts if the role passes a test, and 0 otherwise
 abbrev pub counted : (Path → Bool) → Path → List Entry → Text → ℕ
 counted test role amounts label = if test role then amount_of amounts label else 0
 
--- so much of one label
+-- an amount of one label
 abbrev pub one_entry : Text → ℕ → List Entry
 one_entry label amount = record { label = label; amount = amount } ∷ []
 
--- what the roles that pass a test consume of a scalar
+-- what the roles that pass a test consume of a scalar, in thousandths
 abbrev pub used_where : (Path → Bool) → List Usage → Text → ℕ
 used_where test used label = sum_by (λ u. counted test u.0 u.1 label) used
 
--- what a role consumes of it itself
+-- what a role itself consumes of a scalar
 abbrev pub used_by : List Usage → Path → Text → ℕ
 used_by used role label = used_where (same_path role) used label
 
--- and together with the roles below it
+-- what a role and the roles below it consume of a scalar
 abbrev pub used_at : List Usage → Path → Text → ℕ
 used_at used role label = used_where (is_within role) used label
 
--- a role consumes so much more, and with it the roles above it
+-- a role consumes these amounts more, and so do the roles above it
 abbrev pub AreRaised : List Usage → List Usage → Path → List Entry → Type 0
 AreRaised old new role amounts =
     (test : Path → Bool) (label : Text) → used_where test new label ≡ used_where test old label + counted test role amounts label
 
--- roles consume so much more, by a test and a scalar
+-- roles consume more, as a function of the test and the scalar
 abbrev pub IsRaisedBy : List Usage → List Usage → ((Path → Bool) → Text → ℕ) → Type 0
 IsRaisedBy old new more = (test : Path → Bool) (label : Text) → used_where test new label ≡ used_where test old label + more test label
 
--- each role consumes as much
+-- each role consumes the same
 abbrev pub IsSame : List Usage → List Usage → Type 0
 IsSame one other = (test : Path → Bool) (label : Text) → used_where test other label ≡ used_where test one label
 
--- it is what roles consume by the rows
+-- the consumption is that of the rows
 abbrev pub IsConsumptionOf : Rows → List Usage → Type 0
 IsConsumptionOf rows used = (test : Path → Bool) (label : Text) → used_where test used label ≡ consumption_where test rows label
 
--- limits and consumption are those of the rows
+-- the limits and the consumption are those of the rows
 pub record IsAllowanceOf (rows : Rows) (a : Allowance) : Type 0 where
   pub limits : a.limits ≡ rows.limits
   pub used : IsConsumptionOf rows a.used
 
--- no role consumes 2^64 thousandths of a scalar
+-- each role consumes less than 2^64 thousandths of a scalar
 pub record IsBounded (used : List Usage) : Type 0 where
   pub below : (role : Path) (label : Text) → IsRole role → used_at used role label < 2 ^ 64
 
--- amounts of which one is above 0
+-- one of the amounts is above 0
 pub record IsSomething (amounts : List Entry) : Type 0 where
   pub label : Text
   pub above : 0 < amount_of amounts label
 
--- no row stands that is for nothing
+-- each row has an amount above 0
 abbrev pub AreSome : List Usage → Type 0
 AreSome used = All (λ u. IsSomething u.1) used
 
--- the amounts of a role's own row
+-- the amounts in the row of a role
 abbrev pub row_of : List Usage → Path → List Entry
 row_of used role = option_map_or (λ amounts. amounts) (lookup (same_path role) used) []
 
@@ -106,7 +106,7 @@ limit_row e = record { role = e.0; limit = e.1 }
 abbrev pub limit_rows : List (Path × List Entry) → List LimitRow
 limit_rows entries = map limit_row entries
 
--- the least of some numbers and of one that may be known
+-- the lesser of a number and of one that may be unknown
 abbrev pub lesser : Option ℕ → ℕ → ℕ
 lesser None n = n
 lesser (Some m) n = min m n
@@ -115,11 +115,11 @@ abbrev pub least_with : Option ℕ → List ℕ → Option ℕ
 least_with None ns = reduce min ns
 least_with (Some n) ns = Some (fold min n ns)
 
--- what is known of the least room, once one more limit is known
+-- the least known room, after one more limit is taken into account
 abbrev pub lessened : Consumed → LimitRow → Option ℕ → Text → Option ℕ
 lessened consumed l known label = if is_named l.limit label then Some (lesser known (room_under consumed label l)) else known
 
--- how much of a scalar one resource has, and how much for everyone, and reserved for roles that pass a test
+-- the amount of a scalar in one resource: in all, unreserved, and reserved for roles that pass a test
 abbrev pub amount_in_one : Text → Resource → ℕ
 amount_in_one label r = if same_text r.label label then units_in r.value Thousandths else 0
 

@@ -1,4 +1,4 @@
--- A text is hashed as the role that it names.
+-- A prefix of a role's text has the same hash as the role that it names.
 use Rattle.std.specs.Hash as fed
 use Rattle.std.proofs.Common.{◌≡◌, true, [], ◌∷◌, refl, sym, ap, ◌∙◌}
 use Rattle.std.proofs.lemmas.List.Splits.{join_with_byte-slice_split}

@@ -8,7 +8,7 @@ use Rattle.drf_rows.specs.declared.rows.AgentRow.{AgentRow}
 use Rattle.drf_rows.specs.declared.rows.Rows.{Rows}
 use Rattle.drf_audit.specs.declared.agents.AuditLine.{AuditLine}
 
--- an agent's line: its total, what is free, and how many offers and tasks are on it
+-- an agent's line: its total, its free resources, and how many offers and tasks are on it
 abbrev pub line_of : Rows → AgentRow → AuditLine
 line_of rows agent = record {
   agent = agent.name;

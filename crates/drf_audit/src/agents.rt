@@ -23,7 +23,7 @@ pub struct AuditLine {
     pub out: u64,
 }
 
-/// Returns what is left of a bundle after all parts are taken from it.
+/// Returns a bundle without its parts.
 fn left_of(whole: &Bundle, parts: &[&Bundle]) -> Result<Bundle, AllocError>
     ensures { IfOk result (λ left. left ≡ rest_of_all whole.now (parts_of parts.now)) }
 {

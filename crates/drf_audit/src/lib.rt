@@ -1,4 +1,4 @@
-//! Audits agents: the total of each, what is free, and how many offers and tasks it has, computed by several threads.
+//! Audits agents: the total of each, its free resources, and how many offers and tasks it has, computed by several threads.
 #![tactic(auto)]
 
 mod agents;

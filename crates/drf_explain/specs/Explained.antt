@@ -68,7 +68,7 @@ outcome rows agent client =
 
 -- ---- the turn of an agent
 
--- the findings about clients that are tried one after another, until what is left is too small for an offer
+-- the findings about clients that are tried one after another, until too little is free for an offer
 abbrev pub told_of_all : Rows → AgentRow → List Client → List Finding
 told_of_all rows agent [] = []
 told_of_all rows agent (client ∷ clients) =

@@ -91,7 +91,7 @@ OverLimitIsOverLimit =
 
 -- ---- too little
 
--- the client's role can use some of what is free, but this is too small for an offer
+-- the client's role can use some of the free resources, but these are too small for an offer
 pub record IsTooLittle (rows : Rows) (agent : AgentRow) (client : Client) : Type 0 where
   pub some : is_empty (usable rows agent client) ≡ false
   pub little : is_allocatable (usable rows agent client) ≡ false

@@ -41,7 +41,7 @@ pub enum Finding {
         client: ClientPath,
         outcome: Outcome,
     },
-    /// What is left on the agent is too small for an offer, so this number of clients is not tried.
+    /// The remaining free resources of the agent are too small for an offer, so this number of clients is not tried.
     Left {
         agent: Name,
         left: Bundle,

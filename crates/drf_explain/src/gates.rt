@@ -249,7 +249,7 @@ impl<'a> Gates<'a> {
         })
     }
 
-    /// Returns the outcome of trying a client. `free` is what is free, `part` is what its role can use of that, and `bundle` is what the limits
+    /// Returns the outcome of trying a client. `free` are the free resources, `part` is the part of them that its role can use, and `bundle` is what the limits
     /// leave of `part`.
     pub fn outcome(
         &self,

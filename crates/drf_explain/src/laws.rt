@@ -42,7 +42,7 @@ pub fn each_is_untouched_law()
     ensures live { LiveTurnsAreTold }
 {}
 
-/// Proves what each outcome means. A grant is what the cycle grants. What is held back is granted from its timestamp on, and not before.
+/// Proves what each outcome means. A grant is what the cycle grants. A bundle that is held back is granted from its timestamp on, and not before.
 /// A role over its limit has the tightest of the limits that cut the client's part below the size of an offer. Otherwise, what the client's
 /// role can use is too small, or something is free and all of it is reserved for roles that are neither the client's nor above it.
 /// `NothingLeft` is the outcome exactly if nothing is free.

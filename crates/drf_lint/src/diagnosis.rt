@@ -41,8 +41,8 @@ impl From<AllocError> for NoEvent {
     }
 }
 
-/// Returns the JSON value of a text, or `null` if the text is not JSON; there is no hint from here in that case. Strings that have
-/// escapes are decoded into `scratch`.
+/// Returns the JSON value of a text, or `null` if the text is not JSON; callers pass only texts that are. Strings that have escapes are
+/// decoded into `scratch`.
 fn value_of<'a>(
     alloc: Global,
     scratch: &'a mut Scratch,

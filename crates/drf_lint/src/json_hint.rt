@@ -53,7 +53,7 @@ impl Nest {
         };
     }
 
-    /// Opens an array or an object. Returns an error if it is nested too deeply.
+    /// Opens an array or an object. Returns `Stop::Deep` if it is nested too deeply.
     fn begin(&mut self, kind: Within) -> Result<Option<Stop>, AllocError> {
         if self.open.len() >= MOST_DEPTH {
             return Ok(Some(Stop::Deep));
@@ -68,7 +68,7 @@ impl Nest {
         matches!(self.within, Within::Start | Within::Array | Within::Key)
     }
 
-    /// Closes an array or an object. Returns an error if the innermost open one is of the other kind, or if its end is not allowed here.
+    /// Closes an array or an object. Returns why it cannot end here, if the innermost open one is of the other kind or lacks a value.
     fn end(&mut self, kind: Within) -> Option<Stop> {
         if self.within != kind {
             return Some(Stop::Unfit(self.within));
@@ -78,7 +78,7 @@ impl Nest {
         None
     }
 
-    /// Reads a value of one token. Returns an error if no value is allowed here.
+    /// Reads a value of one token. Returns a reason if no value is allowed here.
     fn pass(&mut self) -> Option<Stop> {
         if !self.wants_value() {
             return Some(Stop::Unfit(self.within));
@@ -87,7 +87,7 @@ impl Nest {
         None
     }
 
-    /// Reads a text that is not a key. Returns an error if no such text is allowed here.
+    /// Reads a text that is not a key. Returns a reason if no such text is allowed here.
     fn pass_text(&mut self) -> Option<Stop> {
         if let Within::Object = self.within {
             return Some(Stop::NoColon);
@@ -95,7 +95,7 @@ impl Nest {
         self.pass()
     }
 
-    /// Reads a key. Returns an error if no key is allowed here.
+    /// Reads a key. Returns a reason if no key is allowed here.
     fn pass_key(&mut self) -> Option<Stop> {
         match self.within {
             Within::Object => {
@@ -107,7 +107,7 @@ impl Nest {
         }
     }
 
-    /// Reads a token. Returns an error if it is not allowed here.
+    /// Reads a token. Returns a reason if it is not allowed here, and an error if memory runs out.
     fn take(&mut self, token: Token<'_>) -> Result<Option<Stop>, AllocError> {
         match token {
             Token::BeginObject | Token::BeginArray if !self.wants_value() => {
@@ -197,7 +197,7 @@ fn piece_length(piece: &[u8]) -> usize {
         .map_or(piece.len(), |end| end.saturating_add(1))
 }
 
-/// Returns the length of a string, with its quotes.
+/// Returns the length of a string up to the next quote, including both quotes.
 fn string_length(piece: &[u8]) -> usize {
     let behind = piece.get(1..).unwrap_or(&[]);
     behind

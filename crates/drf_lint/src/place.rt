@@ -59,7 +59,7 @@ pub(crate) fn member_at(
     }))
 }
 
-/// Returns the position of an item, counted from 0, in the array that begins at `place`. Returns `place` if there is no such item.
+/// Returns the position of an item, counted from 0, in the array that begins at `place`. Returns `place` if an item before it cannot be read.
 pub(crate) fn item_at(
     alloc: Global,
     line: &str,

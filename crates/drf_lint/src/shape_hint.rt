@@ -50,7 +50,7 @@ fn is_known(shaped: &Shaped<'_, '_>, key: &str) -> bool {
     is_among(shaped.keys, key) || (shaped.has_event && key == "event")
 }
 
-/// Returns whether the object lacks that key, which is not optional.
+/// Returns whether the key is required and the object lacks it.
 fn is_missing(shaped: &Shaped<'_, '_>, key: &str) -> bool {
     !key.is_empty() && key != OPTIONAL && shaped.value.get(key).is_none()
 }

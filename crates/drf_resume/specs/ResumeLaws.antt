@@ -1,4 +1,4 @@
--- What is proved of runs that resume from a saved state, for all inputs.
+-- Theorems about runs that resume from a saved state, for all inputs.
 use Rattle.std.specs.Prelude.{◌≡◌, ℕ, ◌+◌, ◌==◌, Bool, true, false, List, [], ◌∷◌, ◌++◌, length, Ok, if◌then◌else◌, ◌↔◌}
 use Rattle.drf_core.specs.Machine.{Machine}
 use Rattle.drf_saved_laws.specs.SavedLaws.{IsKeptByEpoch, IsNewEpoch}

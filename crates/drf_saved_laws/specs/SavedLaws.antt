@@ -1,4 +1,4 @@
--- What is proved of saved rows.
+-- Theorems about saved rows.
 use Rattle.std.specs.Prelude.{◌≡◌, Bool, List, [], ◌++◌, map, Some, None}
 use Rattle.std.specs.List.{AllByRecursion}
 use Rattle.drf_role.specs.Path.{Path}

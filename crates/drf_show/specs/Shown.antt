@@ -1,4 +1,4 @@
--- What is shown besides the rows themselves and the nodes of a report, with a line for each: the agents with what is free and held, the clients
+-- What is shown besides the rows themselves and the nodes of a report, with a line for each: the agents with their free and held resources, the clients
 -- with what they are offered and use, the limits with what is consumed, the filters with the time that is left, and how full the tables are.
 use Rattle.std.specs.Prelude.{ℕ, ◌-◌, List, [], ◌∷◌, length, map, fold, filter, flat_map}
 use Rattle.drf_role.specs.Path.{Path}
@@ -29,7 +29,7 @@ use Rattle.drf_show.specs.declared.tables.TableLine.{TableLine}
 
 -- ---- agents
 
--- an agent: its total, what is free, what is held (the rest of the total), and how many offers and tasks are on it
+-- an agent: its total, its free resources, its held resources (the rest of the total), and how many offers and tasks are on it
 abbrev pub agent_line : Rows → AgentRow → AgentLine
 agent_line rows agent = record {
   agent = agent.name;

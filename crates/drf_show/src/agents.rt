@@ -20,7 +20,7 @@ use serde_json::{Value, json};
 use std::alloc::{AllocError, Global};
 use std::thread::Threads;
 
-/// An agent with its total, what is held, what is free, and the number `out` of its offers and tasks.
+/// An agent with its total, its held and its free resources, and the number `out` of offers and tasks on it.
 #[derive(Drop)]
 pub(crate) struct AgentLine {
     pub(crate) agent: Name,

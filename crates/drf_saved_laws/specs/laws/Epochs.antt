@@ -116,7 +116,7 @@ module _ (limits : LimitNumbers) (rows : Rows) (can : IsSaveable limits rows) wh
 pub epoch_can_be_saved : EpochCanBeSaved
 epoch_can_be_saved limits rows can = epoch_saveable limits (live_rows rows) (live_saveable limits rows can)
 
--- ---- what is kept, and what is reset
+-- ---- what an epoch keeps, and what it resets
 
 pub epoch_keeps_the_rest : EpochKeepsTheRest
 epoch_keeps_the_rest rows = (

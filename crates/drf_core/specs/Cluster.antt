@@ -1,16 +1,17 @@
--- A cluster as clauses see it.
+-- A cluster as contracts see it.
 use Rattle.std.specs.Prelude.{ℕ, Bool, refl}
 use Rattle.std.specs.Coded.{Coded, code_by, coded×, coded_ℕ, coded_bool}
 use Rattle.drf_rows.specs.contracts.rows.Rows as rows
 use Rattle.drf_rows.specs.declared.rows.Rows.{Rows}
 use Rattle.drf_sorter.specs.Work.{Work}
 
--- its rows, whether it is counted what roles consume, and what its sorter has worked and owes
+-- the rows, whether consumption is known, and the work of the sorter
 pub record ClusterState : Type 0 where
   pub rows : Rows
   pub counted : Bool
   pub work : Work
 
+-- a coding of clusters, by which proofs tell them apart
 abbrev pub cluster_code : Coded ClusterState
 cluster_code = code_by (Rows × (Bool × (ℕ × ℕ))) (coded× rows.the_row.coded (coded× coded_bool (coded× coded_ℕ coded_ℕ)))
     (λ c. (c.rows, (c.counted, (c.work.made, c.work.marked))))

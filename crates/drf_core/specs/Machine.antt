@@ -1,4 +1,4 @@
--- What an allocator is to its callers: its limits and rows, of which clauses name the live ones, and the work of its sorter.
+-- An allocator as callers see it: its capacities, its rows without expired filters, and the work of its sorter.
 use Rattle.std.specs.Prelude.{◌≡◌, ℕ, ◌≤◌, ◌<◌, ◌^◌, List, ◌++◌, take, slice_get, Some, None, refl}
 use Rattle.std.specs.List.{AllByRecursion}
 use Rattle.std.specs.Coded.{Coded, code_by, coded×, coded_ℕ}
@@ -13,44 +13,47 @@ use Rattle.drf_rows.specs.declared.event.Event.{Event}
 use Rattle.drf_sorter.specs.Work.{Work}
 use Rattle.drf_core.specs.refusal.Cases.{early_refusal_of}
 
+-- the capacities and rows of an allocator
 pub record Machine : Type 0 where
   pub limits : LimitNumbers
   pub rows : Rows
 
--- by it a proof tells two of them apart
+-- a coding of machines, by which proofs tell them apart
 abbrev pub machine_code : Coded Machine
 machine_code = code_by (LimitNumbers × Rows) (coded× limits.the_row.coded rows.the_row.coded) (λ m. (m.limits, m.rows)) (λ p. record { limits = p.0; rows = p.1 }) (λ _. refl)
 
--- an allocator: a machine, and what its sorter has worked and owes
+-- an allocator: a machine, with the keys that its sorter has computed and those that may be stale
 pub record Engine : Type 0 where
   pub limits : LimitNumbers
   pub rows : Rows
   pub work : Work
 
+-- a coding of engines, by which proofs tell them apart
 abbrev pub engine_code : Coded Engine
 engine_code = code_by (LimitNumbers × (Rows × (ℕ × ℕ))) (coded× limits.the_row.coded (coded× rows.the_row.coded (coded× coded_ℕ coded_ℕ)))
     (λ e. (e.limits, (e.rows, (e.work.made, e.work.marked))))
     (λ p. record { limits = p.0; rows = p.1.0; work = record { made = p.1.1.0; marked = p.1.1.1 } }) (λ _. refl)
 
--- the machine as callers see it: with its live rows
+-- the machine as callers see it: without expired filters
 unfoldable pub live : Engine → Machine
 live engine = record { limits = engine.limits; rows = live_rows engine.rows }
 
--- as it is seen when it has just been opened, and after an event
+-- a machine that was just opened
 abbrev pub opened : LimitNumbers → Machine
 opened limits = record { limits = limits; rows = opening }
 
+-- a machine after an event
 unfoldable pub after : Machine → Event → Machine
 after machine event = record { limits = machine.limits; rows = live_rows (rows_after machine.limits machine.rows event) }
 
--- an allocator that has just been opened
+-- an allocator that was just opened
 pub record IsOpened (given : LimitNumbers) (new : Engine) : Type 0 where
   pub limits : new.limits ≡ given
   pub work : new.work ≡ record { made = 0; marked = 0 }
   pub rows : live_rows new.rows ≡ opening
 
--- What holds of the live rows at all times: they are consistent, nothing is granted twice, no number of an offer, not the
--- next one either, is above 2^56, and no filter ends at 2^63 or later.
+-- What always holds for the current state: it is consistent, nothing is granted twice, offer numbers, including the next one, are at most 2^56, and
+-- each filter expires before 2^63.
 pub record IsSafe (rows : Rows) : Type 0 where
   pub consistent : IsConsistent rows
   pub conserved : AllByRecursion (IsConserved rows) rows.agents
@@ -73,8 +76,8 @@ pub record IsAfterAll (old new : Engine) (events : List Event) : Type 0 where
   pub limits : new.limits ≡ old.limits
   pub rows : live_rows new.rows ≡ live_rows (rows_after_all old.limits old.rows events)
 
--- The allocator stopped at an event: those before it were taken, and their replies appended. Where there is room for one more reply, the
--- event is not refused whatever the memory.
+-- A run stopped at an event: the events before it were applied, and their replies appended. If there is room for one more reply, no early refusal
+-- applies to the event.
 pub record HasStopped (old new : Engine) (events : List Event) (before told : List Reply) (room : ℕ) : Type 0 where
   pub number : ℕ
   pub event : Event

@@ -1,4 +1,4 @@
--- What callers see of an allocator follows from what they saw.
+-- What callers see after a call depends only on what they saw before it.
 use Rattle.std.proofs.Common.{◌≡◌, sym, ◌∙◌}
 use Rattle.drf_rows.specs.LimitNumbers.{LimitNumbers}
 use Rattle.drf_rows.specs.Step.{reply_to}

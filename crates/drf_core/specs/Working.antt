@@ -1,4 +1,4 @@
--- How much an event may add to what a sorter owes.
+-- How much work an event may add for the sorter.
 use Rattle.std.specs.Prelude.{ℕ, ◌+◌, ◌≤◌, Bool, true, false, not, IsTrue, List, [], ◌∷◌, ◌++◌, length, map, filter, sum_by}
 use Rattle.std.specs.Option.{option_map_or}
 use Rattle.drf_role.specs.Text.{same_text}
@@ -17,7 +17,7 @@ use Rattle.drf_rows.specs.declared.rows.OfferRow.{OfferRow}
 use Rattle.drf_rows.specs.declared.rows.Rows.{Rows}
 use Rattle.drf_sorter.specs.Work.{Work, debt}
 
--- the nodes of the clients' paths
+-- the number of nodes on the paths of clients
 abbrev pub nodes_of : List Client → ℕ
 nodes_of clients = sum_by (λ c. length (path_of c)) clients
 
@@ -25,13 +25,13 @@ nodes_of clients = sum_by (λ c. length (path_of c)) clients
 abbrev pub offered_to : List OfferRow → List Client
 offered_to offers = map (λ o. (of_offer o).client) offers
 
--- the clients of what ends
+-- the clients of the offers and tasks that end
 abbrev pub losers : Rows → Ending → List Client
 losers rows ending =
     offered_to (filter (ends_offer ending) rows.offers) ++ map (λ t. (of_task t).client) (filter (ends_task ending) rows.tasks)
 
--- The client of each offer that an event adds, of each offer and task that it ends, and each client that it adds, changes or
--- removes. An accepted offer and its tasks are one client's, which stands once.
+-- The client of each offer that an event adds, of each offer and task that it ends, and each client that it adds, changes or removes. The offer and
+-- the tasks of an accept belong to one client, which is listed once.
 abbrev pub touched : Rows → Event → List Client
 touched rows (RemoveAgent agent) = losers rows (all_on agent)
 touched rows (DeactivateAgent agent) = losers rows (offers_on agent)
@@ -50,18 +50,18 @@ touched rows (Revive framework role) = record { role = role; framework = framewo
 touched rows (Cycle at) = offered_to (new_offers rows (effect rows (Cycle at)))
 touched rows event = []
 
--- keys may be made only where clients are put in order, and where they are new
+-- keys may be computed only when clients are put in order or added
 abbrev pub may_make_keys : Event → Bool
 may_make_keys (AddFramework framework roles) = true
 may_make_keys (SetFramework framework roles) = true
 may_make_keys (Cycle at) = true
 may_make_keys event = false
 
--- how many nodes a report has, each once
+-- the number of nodes of a report
 abbrev pub all_nodes : Rows → ℕ
 all_nodes rows = length (report.nodes_of rows)
 
--- What an event that is not refused may add. Each key depends on the cluster's total, so where this is another, each node counts.
+-- What an accepted event may add. Each key depends on the cluster's total, so each node counts if the total changes.
 abbrev pub allowed : Rows → Event → ℕ
 allowed rows (AddAgent agent total) = all_nodes rows
 allowed rows (RemoveAgent agent) = nodes_of (touched rows (RemoveAgent agent)) + all_nodes rows
@@ -69,17 +69,17 @@ allowed rows (SetAgent agent total) = all_nodes rows
 allowed rows (SetWeight role weight) = 1
 allowed rows event = nodes_of (touched rows event)
 
--- what an event may add
+-- what an event may add: nothing if it is refused
 abbrev pub allowance : LimitNumbers → Rows → Event → ℕ
 allowance limits rows event = option_map_or (λ refusal. 0) (refusal_of limits rows event) (allowed rows event)
 
--- what a list of events may add: each event on the rows that it finds
+-- what a list of events may add: each event is taken after those before it
 abbrev pub allowance_of_all : LimitNumbers → Rows → List Event → ℕ
 allowance_of_all limits rows [] = 0
 allowance_of_all limits rows (event ∷ events) =
     allowance limits rows event + allowance_of_all limits (rows_after limits rows event) events
 
--- where work is counted, what is owed grew by no more than the nodes of the clients of new drafts
+-- if work is counted, the debt grew by at most the nodes on the paths of the clients of the new drafts
 abbrev pub AddsDrafts : Bool → Work → Work → List OfferRow → List OfferRow → Type 0
 AddsDrafts counted old new before after =
     IsTrue counted → debt new + nodes_of (offered_to before) ≤ debt old + nodes_of (offered_to after)

@@ -1,4 +1,4 @@
--- A cycle while its offers are drafts, and what is told of it.
+-- A cycle while its offers are drafts, and its explanation.
 pub mod Drafting
 pub mod Entitling
 pub mod Explaining

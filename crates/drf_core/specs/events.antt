@@ -1,2 +1,2 @@
--- What events do that are not refused.
+-- The effects of accepted events.
 pub mod Answered

@@ -1,4 +1,4 @@
--- The rows that the fields of tables stand for, and what the fields keep beside the rows.
+-- The rows that the fields of the tables mean, and what the fields store besides the rows.
 use Rattle.std.specs.Prelude.{◌≡◌, ◌≤◌, ℕ, Bool, List, length, map, fold, slice_set, Option, Some, is_some}
 use Rattle.std.specs.List.{list_all, AllByRecursion}
 use Rattle.std.specs.Global.{Vec}
@@ -38,15 +38,15 @@ weight_row e = record { role = e.0; weight = e.1 }
 abbrev pub weight_rows : List (Path × ℕ) → List WeightRow
 weight_rows entries = map weight_row entries
 
--- the free part of each agent, where it is known
+-- the free resources of each agent, if they are known
 abbrev pub frees_in : List (Text × Agent) → List (Option (List Resource))
 frees_in entries = map (λ e. e.1.free) entries
 
--- the free parts, some of them replaced by what is left
+-- the free resources after some are replaced by those that remain after turns
 abbrev pub known_after : List (Option (List Resource)) → List Left → List (Option (List Resource))
 known_after frees lefts = fold (λ frees left. slice_set frees left.agent (Some left.free)) frees lefts
 
--- what is free is known of every agent
+-- the free resources of every agent are known
 abbrev pub is_settled : List (Text × Agent) → Bool
 is_settled entries = list_all (λ e. is_some e.1.free) entries
 
@@ -74,25 +74,25 @@ rows_of agents frameworks holdings filters weights limits clock next_offer event
   events = events;
 }
 
--- the rows that the fields stand for
+-- the rows that the fields mean
 abbrev pub rows_in : Inside → Rows
 rows_in t =
     rows_of t.agents.entries t.frameworks.entries t.holdings t.filters t.weights.entries t.limits t.clock t.next_offer t.events
 
--- what is kept of an agent as its free part is left of its total when all that is held there is taken from it
+-- if the free resources of an agent are stored, they are its total without all that is held there
 abbrev pub IsKnown : List Holding → Text × Agent → Type 0
 IsKnown holdings e = (free : List Resource) → e.1.free ≡ Some free → free ≡ rest_of_all e.1.total (parts_on e.0 holdings)
 
--- what is kept beside the rows is what they say
+-- what is stored besides the rows agrees with them
 pub record AreDerived (rows : Rows) (agents : List (Text × Agent)) (sum : List Entry) (number : ℕ) : Type 0 where
   pub consistent : IsConsistent rows
   pub free : AllByRecursion (IsKnown (holdings_of rows)) agents
   pub total : sum ≡ cluster_total rows.agents
   pub clients : number ≡ length (clients_of rows)
-  -- so few that all they have of a scalar is below 2^64
+  -- so few that their total of a scalar is below 2^64
   pub few : length rows.agents ≤ 4096
 
--- what is kept beside the rows, and what roles consume, if that is counted
+-- the invariant of the tables: what is stored besides the rows, and consumption if it is known, agree with the rows
 pub record IsWhole (t : Inside) : Type 0 where
   pub kept : AreDerived (rows_in t) t.agents.entries t.total t.clients
   pub consumed : CountsAll (rows_in t) t.consumption

@@ -1,4 +1,4 @@
--- The offers of a cycle, before and after they are put into the rows.
+-- The offers of a cycle, before and after they are added to the rows.
 pub mod Drafts
 pub mod Counting
 pub mod DraftLaws

@@ -1,2 +1,2 @@
--- What roles consume under their limits.
+-- What roles consume.
 pub mod Recounting

@@ -1,3 +1,3 @@
--- The registered agents, and how their entries change.
+-- Registries of agents and frameworks, and changes of their entries.
 pub mod Changing
 pub mod Registered

@@ -1,4 +1,4 @@
--- A cycle that is not ended: its offers are drafts, which the sorter knows and the tables do not.
+-- A running cycle: its offers are drafts, which the sorter already holds and the tables do not.
 use Rattle.std.specs.Prelude.{◌≡◌, ℕ, ◌+◌, ◌<◌, ◌≤◌, ◌^◌, ◌&&◌, Bool, true, false, List, [], ◌∷◌, ◌++◌, length, filter, slice_get, Option, Some, if◌then◌else◌}
 use Rattle.std.specs.List.{AllByRecursion}
 use Rattle.std.specs.Option.{option_map_or, MatchOption}
@@ -24,7 +24,7 @@ use Rattle.drf_core.specs.cycle.Entitling.{IsKnown, IsQuotaOf}
 use Rattle.drf_core.specs.declared.cycle.Drafts.{Drafts}
 use Rattle.drf_core.specs.declared.cycle.free.Free.{Free}
 
--- the sorter knows the drafts, and the rows with them are consistent
+-- the sorter holds the rows with the drafts, and these are consistent
 pub record IsDrafting (content : Content) (rows : Rows) (offers : List OfferRow) : Type 0 where
   pub sorted : IsSame content (content_of (with_offers rows offers))
   pub consistent : IsConsistent (with_offers rows offers)
@@ -32,7 +32,7 @@ pub record IsDrafting (content : Content) (rows : Rows) (offers : List OfferRow)
   pub few_agents : length rows.agents ≤ 4096
   pub low_number : rows.next_offer ≤ 2 ^ 57
 
--- what one more offer consumes can be counted
+-- adding an offer to the consumption does not overflow
 abbrev pub CanCount : Option (List Usage) → OfferRow → Type 0
 CanCount consumption offer = MatchOption consumption (Unit {0}) (λ used. (test : Path → Bool) (label : Text)
     → used_where test used label + (if test offer.role then unreserved_in label offer.bundle else 0) < 2 ^ 64)
@@ -44,22 +44,22 @@ pub record IsRegisteredPath (rows : Rows) (path : Path) : Type 0 where
   pub registered : is_registered rows.frameworks client ≡ true
   pub right : IsClientPath path
 
--- the bundle is what is free on the agent at that place
+-- the bundle is the free resources of the agent at the place
 pub record IsFreeAt (rows : Rows) (place : ℕ) (bundle : List Resource) : Type 0 where
   pub agent : AgentRow
   pub at : slice_get rows.agents place ≡ Some agent
   pub free : bundle ≡ free_of rows agent
 
--- the client of that path was tried on the agent at that place
+-- the client of the path was tried on the agent at the place
 abbrev pub IsTried : Rows → Rows → ℕ → Path → Type 0
 IsTried old new place path = (agent : AgentRow) (client : Client)
     → slice_get old.agents place ≡ Some agent → path ≡ path_of client → new ≡ tried old agent client
 
--- the agent at a place is active, and what is free there is worth an offer
+-- the agent at a place is active, and its free resources are enough for an offer
 abbrev pub is_open_at : Rows → ℕ → Bool
 is_open_at rows place = option_map_or (λ a. a.active && is_allocatable (free_of rows a)) (slice_get rows.agents place) false
 
--- the rows after the turn of the agent at a place, which it has if it is active
+-- the rows after the turn of the agent at a place, if it is active
 abbrev pub turn_at : Rows → ℕ → Rows
 turn_at rows place = option_map_or (λ a. if a.active then turn rows a else rows) (slice_get rows.agents place) rows
 
@@ -67,19 +67,19 @@ turn_at rows place = option_map_or (λ a. if a.active then turn rows a else rows
 abbrev pub turns_of : Rows → Rows
 turns_of rows = turns rows (filter (λ a. a.active) rows.agents)
 
--- what is left is what is free with the drafts, and no agent from a place on has had its turn
+-- the recorded free resources are right for the rows with the drafts, and only agents before the place have had their turns
 pub record HasLeft (rows : Rows) (offers : List OfferRow) (lefts : List Left) (place : ℕ) : Type 0 where
   pub frees : frees_after (frees_of rows) lefts ≡ frees_of (with_offers rows offers)
   pub past : AllByRecursion (λ l. l.agent < place) lefts
 
--- a cycle stands before the turn of the agent at a place
+-- the cycle is before the turn of the agent at a place
 pub record IsCycleAt (content : Content) (tables : Stored) (drafts : Drafts) (place : ℕ) : Type 0 where
   pub drafting : IsDrafting content tables.rows drafts.offers.items
   pub settled : tables.settled ≡ true
   pub left : HasLeft tables.rows drafts.offers.items drafts.lefts.items place
   pub quota : IsQuotaOf (with_offers tables.rows drafts.offers.items) (quota_under tables.rows.limits drafts.consumption)
 
--- and in its turn: that is left there, and these clients wait
+-- the cycle is in the turn of the agent at a place, with these free resources there and these clients in the queue
 pub record IsTurn (content : Content) (tables : Stored) (drafts : Drafts) (place : ℕ) (free : Free) (queue : List Path) : Type 0 where
   pub drafting : IsDrafting content tables.rows drafts.offers.items
   pub settled : tables.settled ≡ true

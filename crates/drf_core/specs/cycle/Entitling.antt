@@ -1,4 +1,4 @@
--- What a role may have of what is free in a turn, and what a client is granted of that.
+-- What a role can have of the free resources in a turn, and what a client is granted of them.
 use Rattle.std.specs.Prelude.{◌≡◌, ℕ, Bool, IsTrue, true, not, ◌&&◌, nat_le, codes, ◌||◌, List, [], drop, take, Option, Some, None, if◌then◌else◌}
 use Rattle.std.specs.Option.{option_map_or, MatchOption}
 use Rattle.drf_role.specs.Text.{Text, same_text}
@@ -17,16 +17,16 @@ use Rattle.drf_core.specs.declared.cycle.free.Free.{Free}
 use Rattle.drf_core.specs.declared.cycle.free.Known.{Known}
 use Rattle.drf_core.specs.declared.cycle.free.Known.TheVariants.{Nothing, Part, Barred}
 
--- limits and consumption are those of the rows; where there is no quota, no role has a limit
+-- the limits and the consumption are those of the rows; without a quota, no role has a limit
 abbrev pub IsQuotaOf : Rows → Option Allowance → Type 0
 IsQuotaOf rows quota = MatchOption quota (rows.limits ≡ []) (IsAllowanceOf rows)
 
--- the bundle is what clients of the role may have of what is free, in all rows with that quota
+-- the bundle is what clients of the role can have of the free resources, in all rows with this quota
 abbrev pub IsEntitlement : Option Allowance → List Resource → Path → List Resource → Type 0
 IsEntitlement quota free role bundle =
     (rows : Rows) (client : Client) → IsQuotaOf rows quota → client.role ≡ role → bundle ≡ entitlement rows free client
 
--- the resource is of a scalar that makes an offer worth it
+-- the resource is of `cpus` or `mem`, the scalars that decide whether an offer is made
 abbrev pub is_of_worth : Resource → Bool
 is_of_worth r = same_text r.label (codes "cpus") || same_text r.label (codes "mem")
 
@@ -38,65 +38,65 @@ is_reserved r = is_of_worth r && not (is_default r.role)
 abbrev pub is_reserved_for : Path → Resource → Bool
 is_reserved_for role r = is_reserved r && begins_with role r.role
 
--- it is reserved for a role with the same first parts, so many
+-- it is reserved for a role that has the first `len` parts in common with this role
 abbrev pub is_reserved_near : Path → ℕ → Resource → Bool
 is_reserved_near role len r = is_reserved r && same_path (take len r.role) (take len role)
 
--- so much of a scalar is free for everyone, and the headroom of a role, if there is one, leaves so much of it
+-- at least this much of a scalar is free and unreserved, and the headroom of the role, if any, leaves that much
 abbrev pub has_at_least : Rows → List Resource → Path → Text → ℕ → Bool
 has_at_least rows free role label least =
     nat_le least (unreserved_in label free) && option_map_or (nat_le least) (headroom_at rows role label) true
 
--- a bundle, if it is worth an offer
+-- a bundle, if it is enough for an offer
 abbrev pub if_allocatable : List Resource → Option (List Resource)
 if_allocatable bundle = if is_allocatable bundle then Some bundle else None
 
--- the part is what clients of the role may have of what is free, in all rows with that quota, if that is worth an offer
+-- the part is what clients of the role can have of the free resources, in all rows with this quota, if that is enough for an offer
 abbrev pub IsOffered : Option Allowance → List Resource → Path → Option (List Resource) → Type 0
 IsOffered quota free role part =
     (rows : Rows) (client : Client) → IsQuotaOf rows quota → client.role ≡ role → part ≡ if_allocatable (entitlement rows free client)
 
--- in all rows with that quota, clients of the role may have nothing of what is free that is worth an offer, nor may any client whose
--- path begins with the first parts, so many, of those of the role's clients
+-- in all rows with this quota, clients of the role can have nothing that is enough for an offer, nor can any client whose path begins with the first
+-- `front` parts of their paths
 pub record IsBarred (quota : Option Allowance) (free : List Resource) (role : Path) (front : ℕ) : Type 0 where
   pub offered : IsOffered quota free role None
   pub alike : (rows : Rows) (client : Client) (framework : Text) → IsQuotaOf rows quota → IsRole client.role
       → take front (path_of client) ≡ take front (client_path role framework) → None ≡ if_allocatable (entitlement rows free client)
 
--- what is known of a role is so in all rows with that quota
+-- what is known about a role holds in all rows with this quota
 abbrev pub IsKnownOf : Option Allowance → List Resource → Known → Type 0
 IsKnownOf quota free Nothing = Unit {0}
 IsKnownOf quota free (Part role part) = IsOffered quota free role (Some part)
 IsKnownOf quota free (Barred role front) = IsBarred quota free role front
 
--- the role of which it is known
+-- the role about which something is known
 abbrev pub known_role : Known → Option Path
 known_role Nothing = None
 known_role (Part role part) = Some role
 known_role (Barred role front) = Some role
 
--- the part that it may have
+-- the part that the role can have
 abbrev pub known_part : Known → Option (List Resource)
 known_part (Part role part) = Some part
 known_part known = None
 
--- so much of the scalars that make an offer worth it is free for everyone
+-- the amounts are how much `cpus` and `mem` is free and unreserved
 pub record IsForEveryone (free : List Resource) (amounts : ForEveryone) : Type 0 where
   pub cpus : amounts.cpus ≡ unreserved_in (codes "cpus") free
   pub mem : amounts.mem ≡ unreserved_in (codes "mem") free
 
--- if it is known how much is free for everyone, it is so much
+-- the stored amounts, if there are any, are right
 abbrev pub IsEveryonesKnown : Free → Type 0
 IsEveryonesKnown free = MatchOption free.for_everyone (Unit {0}) (IsForEveryone free.bundle)
 
--- it is known whether what is free is worth an offer, and perhaps more
+-- it is known whether the free resources are enough for an offer; whatever else is stored is right too
 pub record IsKnown (quota : Option Allowance) (free : Free) : Type 0 where
   pub worth : free.is_worth ≡ is_allocatable free.bundle
   pub unreserved : IsTrue free.is_unreserved → is_unreserved free.bundle ≡ true
   pub everyone : IsEveryonesKnown free
   pub right : IsKnownOf quota free.bundle free.known
 
--- the client that was tried is passed by, and with it perhaps some right behind it that are barred too
+-- the client that was tried is removed from the queue, and possibly barred clients directly after it
 abbrev pub IsPassedOver : Known → List Path → List Path → Type 0
 IsPassedOver (Barred role front) old new = IsPassedFront front old new
 IsPassedOver known old new = new ≡ drop 1 old

@@ -1,4 +1,4 @@
--- What is told of a cycle, agent by agent, while its offers are drafts.
+-- The explanation of a cycle, agent by agent, while its offers are drafts.
 use Rattle.std.specs.Prelude.{◌≡◌, ℕ, ◌++◌, Bool, List, [], ◌∷◌, drop, slice_get, Some, if◌then◌else◌, nat_lt}
 use Rattle.std.specs.Option.{option_map_or}
 use Rattle.drf_role.specs.Text.{Text}
@@ -15,42 +15,42 @@ use Rattle.drf_tables.specs.cycle.Drafts.{with_offers}
 use Rattle.drf_explain.specs.declared.finding.Finding.{Finding}
 use Rattle.drf_explain.specs.declared.finding.Finding.TheVariants.{Left, Tried}
 
--- what is told of clients on an agent: of each, or of those before too little is left
+-- the findings for clients on an agent: for each client, or for those before too little is left
 abbrev pub told_by : Bool → Rows → AgentRow → List Client → List Finding
 told_by each rows agent clients = if each then told_of_each rows agent clients else told_of_all rows agent clients
 
--- and of an agent
+-- the findings for an agent
 abbrev pub told_on : Bool → Rows → AgentRow → List Finding
 told_on each rows agent = if each then each_on rows agent else told_of_agent rows agent
 
--- what is told of the agent at a place
+-- the findings for the agent at a place
 abbrev pub told_at : Bool → Rows → ℕ → List Finding
 told_at each rows place = option_map_or (told_on each rows) (slice_get rows.agents place) []
 
--- what would be told of each client of the turn of the agent at a place, were it tried first
+-- for each client in the turn of the agent at a place, its outcome if it were tried first
 abbrev pub untouched_at : Rows → ℕ → List Finding
 untouched_at rows place = option_map_or (untouched_on rows) (slice_get rows.agents place) []
 
--- what is told of clients that are not tried
+-- the finding for the clients that are not tried
 abbrev pub left_told : Text → List Resource → ℕ → List Finding
 left_told agent left clients = if nat_lt 0 clients then Left agent left clients ∷ [] else []
 
--- all clients were tried on the agent at that place, as far as what is left is worth an offer
+-- all clients were tried on the agent at the place, until too little was left for an offer
 abbrev pub AreTried : Rows → Rows → ℕ → Type 0
 AreTried old new place = (agent : AgentRow) → slice_get old.agents place ≡ Some agent → new ≡ all_tried old agent (turn_order old)
 
--- and that is told behind what was told before
+-- the findings for these clients come after the earlier findings
 abbrev pub AreToldAt : Bool → Rows → ℕ → List Finding → List Finding → Type 0
 AreToldAt each rows place before after = (agent : AgentRow) → slice_get rows.agents place ≡ Some agent
     → after ≡ before ++ told_by each rows agent (turn_order rows)
 
--- the finding is what comes of the client of that path on the agent of that name, in all rows with those gates
+-- the finding is the outcome for the client of the path on the agent of the name
 abbrev pub IsOutcomeOf : Rows → AgentRow → Path → Finding → Type 0
 IsOutcomeOf rows agent path finding = (client : Client) → path ≡ path_of client
     → finding ≡ Tried agent.name (path_of client) (outcome rows agent client)
 
--- ---- a telling that goes from agent to agent
+-- ---- an explanation that is computed agent by agent
 
--- what is left to be told of the agents from a place on, with the drafts: nothing where the telling is over
+-- the findings that remain for the agents from a place on, with the drafts; none if the explanation has ended
 abbrev pub left_to_tell : Bool → Rows → List OfferRow → ℕ → List (List Finding × List Finding)
 left_to_tell over rows offers place = if over then [] else turns_on_all (with_offers rows offers) (drop place rows.agents)

@@ -1,4 +1,4 @@
--- An offer that is accepted.
+-- The refusals of `accept`.
 use Rattle.std.specs.Prelude.{Bool, not, List, [], ◌∷◌, nat_lt}
 use Rattle.std.specs.List.{list_any}
 use Rattle.drf_rows.specs.LimitNumbers.{LimitNumbers}
@@ -12,7 +12,7 @@ use Rattle.drf_rows.specs.declared.reply.Refusal.{Refusal}
 use Rattle.drf_rows.specs.declared.reply.Refusal.TheVariants.{HistoryFull, BadMoment, UnknownFramework, UnknownOffer, NotYours, KnownTask, Empty, NotCovered}
 use Rattle.drf_rows.specs.declared.rows.Rows.{Rows}
 
--- the cases in which an accept is refused, but for the number of filters
+-- the cases in which an accept is refused, except for the number of filters
 abbrev pub cases_of_tasks : LimitNumbers → Rows → accepting.Accept → List (Bool × Refusal)
 cases_of_tasks limits rows a =
     (is_full limits rows, HistoryFull)

@@ -1,4 +1,4 @@
--- The cases of refusal that are tested without memory, and those that are tested where there is memory.
+-- The cases of refusals: early ones, which are tested without memory, and late ones, which can need memory.
 use Rattle.std.specs.Prelude.{Bool, not, List, [], ◌∷◌, ◌++◌, Option}
 use Rattle.drf_role.specs.Text.{Text}
 use Rattle.drf_role.specs.Path.{Path}
@@ -16,7 +16,7 @@ use Rattle.drf_rows.specs.declared.reply.Refusal.{Refusal}
 use Rattle.drf_rows.specs.declared.reply.Refusal.TheVariants.{HistoryFull, UnknownAgent, DefaultRole, Empty, NotUnreserved, NotCovered, OverLimit, TooLarge, TooMany}
 use Rattle.drf_rows.specs.declared.rows.Rows.{Rows}
 
--- of resources that move between everyone and a role: what the event itself tells, and that the agent is there
+-- the early cases of `reserve` and `unreserve`
 abbrev pub cases_of_move : LimitNumbers → Rows → Text → Path → List Resource → List (Bool × Refusal)
 cases_of_move limits rows agent role resources =
     (is_full limits rows, HistoryFull)
@@ -26,41 +26,41 @@ cases_of_move limits rows agent role resources =
     ∷ (not (is_unreserved resources), NotUnreserved)
     ∷ []
 
--- of resources that are reserved: what is free, and what limits admit
+-- the late cases of `reserve`: the resources are not free, or a limit does not admit them
 abbrev pub cases_of_reserved : Rows → Text → Path → List Resource → List (Bool × Refusal)
 cases_of_reserved rows agent role resources =
     (is_not_free rows agent resources, NotCovered) ∷ (not (admits rows role (quantities_of resources)), OverLimit) ∷ []
 
--- of resources that are for everyone again: what is free
+-- the late case of `unreserve`: the reserved resources are not free
 abbrev pub cases_of_unreserved : Rows → Text → Path → List Resource → List (Bool × Refusal)
 cases_of_unreserved rows agent role resources = (is_not_free rows agent (relabel role resources), NotCovered) ∷ []
 
--- of an event of an agent that has to be registered
+-- the cases of an event that needs only a registered agent
 abbrev pub cases_of_agent : LimitNumbers → Rows → Text → List (Bool × Refusal)
 cases_of_agent limits rows agent = (is_full limits rows, HistoryFull) ∷ (not (has_agent rows agent), UnknownAgent) ∷ []
 
--- of another total: what is held, and how large it is
+-- the cases of another total: it does not cover the held resources, or it is too large
 abbrev pub cases_of_total : Rows → Text → List Resource → List (Bool × Refusal)
 cases_of_total rows agent total = (is_below_held rows agent total, NotCovered) ∷ (is_too_large total, TooLarge) ∷ []
 
--- and the names of scalars over all agents
+-- the case of another total that the scalars of all agents have too many names
 abbrev pub cases_of_names : LimitNumbers → Rows → Text → List Resource → List (Bool × Refusal)
 cases_of_names limits rows agent total = (too_many_names limits (with_other_total rows agent total), TooMany) ∷ []
 
--- the cases that are told whatever the memory
+-- the early cases of an event, which are tested without memory
 abbrev pub early_cases_of : LimitNumbers → Rows → Event → List (Bool × Refusal)
 early_cases_of limits rows (SetAgent agent total) = cases_of_agent limits rows agent
 early_cases_of limits rows (Reserve agent role resources) = cases_of_move limits rows agent role resources
 early_cases_of limits rows (Unreserve agent role resources) = cases_of_move limits rows agent role resources
 early_cases_of limits rows event = cases_of limits rows event
 
--- those that are told where there is memory
+-- the late cases of an event, which can need memory
 abbrev pub late_cases_of : LimitNumbers → Rows → Event → List (Bool × Refusal)
 late_cases_of limits rows (SetAgent agent total) = cases_of_total rows agent total ++ cases_of_names limits rows agent total
 late_cases_of limits rows (Reserve agent role resources) = cases_of_reserved rows agent role resources
 late_cases_of limits rows (Unreserve agent role resources) = cases_of_unreserved rows agent role resources
 late_cases_of limits rows event = []
 
--- why an event is refused whatever the memory, if it is
+-- the early refusal of an event, if there is one
 unfoldable pub early_refusal_of : LimitNumbers → Rows → Event → Option Refusal
 early_refusal_of limits rows event = first_case (early_cases_of limits rows event)

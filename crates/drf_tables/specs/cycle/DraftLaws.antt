@@ -1,4 +1,4 @@
--- What offers that are put into the rows together change, table by table.
+-- Lemmas on rows to which offers are added, table by table.
 use Rattle.std.specs.Prelude.{◌≡◌, ◌+◌, List, [], ◌∷◌, ◌++◌, length}
 use Rattle.std.proofs.Common.{sym, ap, ◌∙◌, arith}
 use Rattle.std.proofs.lemmas.List.{append-nil, append_assoc}
@@ -8,7 +8,7 @@ use Rattle.drf_rows.specs.declared.rows.Rows.{Rows}
 use Rattle.drf_tables.specs.cycle.Counting.{counting, counting_all}
 use Rattle.drf_tables.specs.cycle.Drafts.{with_offers}
 
--- the rows with offers, table by table
+-- the rows after offers are added, table by table
 abbrev pub offers_added : Rows → List OfferRow → Rows
 offers_added rows offers = record rows {
   frameworks = counting_all rows.frameworks offers;
@@ -33,12 +33,12 @@ with_offers-added rows [] =
     λ i. record rows { offers = sym (append-nil rows.offers) i; next_offer = none i }
 with_offers-added rows (o ∷ os) = with_offers-added (with_offer rows o) os ∙ offers_added-one rows o os
 
--- each offer has a number of its own
+-- the next offer number grows by the number of offers
 pub next-with_offers : (rows : Rows) (offers : List OfferRow)
     → (with_offers rows offers).next_offer ≡ rows.next_offer + length offers
 next-with_offers rows offers = ap (λ (rs : Rows). rs.next_offer) (with_offers-added rows offers)
 
--- the offers stand last, and nobody registers
+-- the offers are added last
 pub offers-with_offers : (rows : Rows) (offers : List OfferRow) → (with_offers rows offers).offers ≡ rows.offers ++ offers
 offers-with_offers rows offers = ap (λ (rs : Rows). rs.offers) (with_offers-added rows offers)
 

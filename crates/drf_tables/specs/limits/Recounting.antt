@@ -1,4 +1,4 @@
--- What roles consume, kept through a change.
+-- What roles consume before and after a change.
 use Rattle.std.specs.Prelude.{ℕ, Bool, List, find, Option, Some, None, IfSome}
 use Rattle.std.specs.Option.{option_map_or}
 use Rattle.drf_role.specs.Text.{Text, same_text}
@@ -8,11 +8,11 @@ use Rattle.drf_rows.specs.declared.rows.AgentRow.{AgentRow}
 use Rattle.drf_rows.specs.declared.rows.Rows.{Rows}
 use Rattle.drf_gates.specs.quota.Allowance.{Usage, IsConsumptionOf, IsRaisedBy}
 
--- how much is consumed, by a test of roles and a scalar
+-- an amount for each test of roles and each scalar
 abbrev pub Amounts : Type 0
 Amounts = (Path → Bool) → Text → ℕ
 
--- roles consume so much more, where that is counted
+-- roles consume this much more, if consumption is known; it stays known or unknown
 abbrev pub IsRaisedIf : Option (List Usage) → Option (List Usage) → Amounts → Type 0
 IsRaisedIf None None more = Unit {0}
 IsRaisedIf (Some old) (Some new) more = IsRaisedBy old new more
@@ -24,6 +24,6 @@ abbrev pub reserved_at : List AgentRow → Text → Amounts
 reserved_at agents name test label =
     option_map_or (λ (a : AgentRow). reserved_in test label a.total) (find (λ (a : AgentRow). same_text a.name name) agents) 0
 
--- where it is counted what roles consume, it is what they do by the rows
+-- consumption, if it is known, is what roles consume by the rows
 pub record CountsAll (rows : Rows) (consumption : Option (List Usage)) : Type 0 where
   pub each : IfSome consumption (IsConsumptionOf rows)

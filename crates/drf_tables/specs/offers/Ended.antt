@@ -1,4 +1,4 @@
--- What it means that something that is held has ended.
+-- The rows after an offer or a task ends, or after an offer is accepted.
 use Rattle.std.specs.Prelude.{◌≡◌, ℕ, ◌+◌, Bool, true, ◌⊎◌, List, [], ◌∷◌, ◌++◌, map, count_by, cond, Option, Some, None, if◌then◌else◌}
 use Rattle.std.specs.Option.{option_map_or}
 use Rattle.drf_role.specs.Text.{Text}
@@ -13,37 +13,37 @@ use Rattle.drf_rows.specs.declared.rows.Rows.{Rows}
 use Rattle.drf_holdings.specs.Stored.{OffersAndTasks, IsOfferOut, IsTaskOut, holding_of}
 use Rattle.drf_holdings.specs.declared.holdings.Taken.{Taken}
 
--- how many holdings an ending would end
+-- how many offers and tasks an `Ending` selects
 abbrev pub left_to_end : Rows → Ending → ℕ
 left_to_end rows ending = count_by (ends_offer ending) rows.offers + count_by (ends_task ending) rows.tasks
 
--- what is held, as holdings are seen
+-- the offers and tasks of the rows
 abbrev pub held_in : Rows → OffersAndTasks
 held_in rows = record { offers = rows.offers; tasks = rows.tasks }
 
--- one holding that ends was taken out
+-- one of the selected offers and tasks was removed
 pub record HasEnded (old new : Rows) (ending : Ending) (ended : Taken) : Type 0 where
   pub registered : is_registered old.frameworks (holding_of ended).client ≡ true
   pub taken : IsOfferOut ending (held_in old) (held_in new) (holding_of ended) ⊎ IsTaskOut ending (held_in old) (held_in new) (holding_of ended)
   -- nothing else changed
   pub others : new ≡ record old { offers = new.offers; tasks = new.tasks }
-  -- the others that end are still to end, and all that stays, stays
+  -- the other selected ones remain to be removed, and nothing else is removed
   pub later : without_ended new ending ≡ without_ended old ending
   pub fewer : left_to_end old ending ≡ left_to_end new ending + 1
-  -- whatever passes a test holds so much less
+  -- the holdings that pass a test hold this much less
   pub out : (test : Holding → Bool) (label : Text)
       → held_where test (holdings_of old) label
       ≡ held_where test (holdings_of new) label + cond (test (holding_of ended)) (amount_in label (holding_of ended)) 0
 
--- what an accept gives back of its offer
+-- the rest of an offer that an accept releases
 abbrev pub rest_taken : OfferRow → List Start → Taken
 rest_taken o starts = record { agent = o.agent; role = o.role; framework = o.framework; bundle = left_of_offer o starts }
 
--- a filter, if there is to be one
+-- a filter, if one is to be set
 abbrev pub filter_if : Bool → FilterRow → Option FilterRow
 filter_if is_filtered filter = if is_filtered then Some filter else None
 
--- parts of the offer are tasks, and a filter stands last, if there is one
+-- the rows after an offer is replaced by tasks, and a filter, if any, is added last
 abbrev pub with_accepted : Rows → OfferRow → List Start → Option FilterRow → Rows
 with_accepted rows o starts filter = record (without_ended rows (one_offer o.number)) {
   tasks = rows.tasks ++ map (task_of o) starts;

@@ -1,4 +1,4 @@
--- Agents whose entries change.
+-- Changes of the entries of a registry.
 use Rattle.std.specs.Prelude.{◌≡◌, ℕ, ◌≤◌, Bool, true, false, List, map, Option, Some, None, take, if◌then◌else◌}
 use Rattle.std.specs.Global.{Vec}
 use Rattle.std.specs.List.{AllByRecursion}
@@ -17,74 +17,74 @@ use Rattle.drf_role.specs.Text.{Text, same_text}
 use Rattle.drf_tables.specs.Inside.{is_settled}
 use Rattle.drf_tables.specs.declared.tables.Agent.{Agent}
 
--- what has a name changes
+-- changes the value of a name
 abbrev pub changed : {A : Type 0} → Text → (A → A) → Text × A → Text × A
 changed name change e = if same_text e.0 name then (e.0, change e.1) else e
 
--- each client of a framework changes
+-- changes each client of a framework
 abbrev pub with_each : (ClientRow → ClientRow) → Vec ClientRow → Vec ClientRow
 with_each change clients = with_items clients (map change clients.items)
 
--- what was free and a part that comes back, together
+-- the free resources together with a released part, if they are known
 abbrev pub joined_free : Option (List Resource) → List Resource → Option (List Resource)
 joined_free None part = None
 joined_free (Some known) part = join known part
 
--- the part joins what is free, where that is known
+-- the part can be joined with the free resources, if these are known
 abbrev pub CanTakeBack : List Resource → Option (List Resource) → Type 0
 CanTakeBack part free = (known : List Resource) → free ≡ Some known → refusal known part ≡ None
 
--- and so it does on the agent of a name
+-- the part can be joined with the free resources of the agent of a name
 abbrev pub CanGiveBack : Text → List Resource → List (Text × Agent) → Type 0
 CanGiveBack name part entries = AllByRecursion (λ e. same_text e.0 name ≡ true → CanTakeBack part e.1.free) entries
 
--- a part comes back, or what is free there is not known any more
+-- an agent after a part is released, or with unknown free resources
 abbrev pub freed : Bool → List Resource → Agent → Agent
 freed kept part a = record a { free = if kept then joined_free a.free part else None }
 
--- one more part is held there
+-- an agent after one more part is held
 abbrev pub with_held : List Resource → Agent → Agent
 with_held part a = record a { free = option_map (λ known. rest known part) a.free }
 
--- the agent of a name got a part back, or what is free there is not known any more
+-- a part was released on the agent of a name, or its free resources became unknown
 pub record HasFreed (name : Text) (part : List Resource) (old new : List (Text × Agent)) : Type 0 where
   pub kept : Bool
   pub same : new ≡ map (changed name (freed kept part)) old
 
--- it is active, or not
+-- an agent that is active or not
 abbrev pub with_active : Bool → Agent → Agent
 with_active active a = record a { active = active }
 
--- a part is exchanged for another, in its total and in what is free
+-- an agent after a part is replaced, both in its total and in its free resources
 abbrev pub with_exchanged : List Resource → List Resource → Agent → Agent
 with_exchanged old new a = record a { total = exchanged old new a.total; free = option_map (exchanged old new) a.free }
 
--- both have the first part
+-- the total and the free resources have the part that is replaced
 pub record CanExchangeAt (old new : List Resource) (a : Agent) : Type 0 where
   pub total : CanExchange a.total old new
   pub free : (known : List Resource) → a.free ≡ Some known → CanExchange known old new
 
--- what is free of another total, where as much is held of it as of the old one
+-- the free resources of another total, if as much is held as before
 abbrev pub other_free : List Resource → List Resource → Option (List Resource) → Option (List Resource)
 other_free total old None = None
 other_free total old (Some known) = Some (rest total (rest old known))
 
--- its total is another, and what is free is left of that, or is not known
+-- an agent with another total, and the free resources of that total or unknown ones
 abbrev pub with_other : Bool → List Resource → Agent → Agent
 with_other kept total a = record a { total = total; free = if kept then other_free total a.total a.free else None }
 
--- the agent of a name got another total, and what is free there is left of that, or is not known any more
+-- the agent of a name got another total; its free resources are right, or unknown
 pub record HasOther (name : Text) (total : List Resource) (old new : List (Text × Agent)) : Type 0 where
   pub kept : Bool
   pub same : new ≡ map (changed name (with_other kept total)) old
 
--- the agent is there, and what is free on it has the first part
+-- the agent is registered, and its free resources have the part that is replaced
 pub record CanExchangeOn (rows : Rows) (agent : Text) (old new : List Resource) : Type 0 where
   pub row : AgentRow
   pub found : agent_at rows agent ≡ Some row
   pub can : CanExchange (free_of rows row) old new
 
--- the agent is there, and the total covers what is held on it
+-- the agent is registered, and the total is valid and covers what is held there
 pub record CanHaveTotal (rows : Rows) (agent : Text) (total : List Resource) : Type 0 where
   pub row : AgentRow
   pub found : agent_at rows agent ≡ Some row
@@ -92,6 +92,6 @@ pub record CanHaveTotal (rows : Rows) (agent : Text) (total : List Resource) : T
   pub small : (label : Text) → amount_of (quantities_of total) label ≤ LARGEST_AMOUNT
   pub covered : is_below_held rows agent total ≡ false
 
--- what is free is known of the first agents
+-- the free resources of the first agents are known
 abbrev pub are_settled : ℕ → List (Text × Agent) → Bool
 are_settled number entries = is_settled (take number entries)

@@ -1,5 +1,5 @@
-//! Amounts of resources: what can be joined and taken apart, and a pool that gives parts out and
-//! takes them back.
+//! Amounts of resources that can be joined and taken apart, and a pool from which numbered parts of an amount are taken
+//! and given back.
 #![tactic(auto)]
 
 mod algebra;

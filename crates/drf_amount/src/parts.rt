@@ -1,4 +1,4 @@
-//! Several amounts at once, and the numbered parts of a pool.
+//! Operations on several amounts, and on the numbered parts of a pool.
 ghost use Rattle.std.specs.Prelude.{◌≡◌, ℕ, ◌+◌, ◌-◌, ◌≤◌, ◌^◌, ◌++◌, length, take, Some, All, IfOk, IfErr, OnOk, OnErr};
 ghost use Rattle.std.specs.Map.{keys_of};
 ghost use Rattle.drf_amount.specs.Pool.{NumbersRise, joined_all, numbered};
@@ -8,7 +8,7 @@ use super::algebra::{Algebra, AlgebraFault};
 use std::alloc::{AllocError, Global};
 use std::collections::BTreeMap;
 
-/// The join of all, from the left.
+/// Returns the join of all amounts, from the left.
 pub fn join_all<A: Algebra>(alloc: Global, amounts: &[A]) -> Result<A, AlgebraFault>
     ensures given { OnOk result (All A.is_given amounts.now) }
     ensures joined { IfOk result (λ whole. joined_all A.join A.empty amounts.now ≡ Some whole) }
@@ -21,7 +21,7 @@ pub fn join_all<A: Algebra>(alloc: Global, amounts: &[A]) -> Result<A, AlgebraFa
     Ok(whole)
 }
 
-// Where memory ends, a front of the amounts stands behind the parts.
+// Appends copies of the amounts under the numbers from `first` on. If memory runs out, some of them were appended.
 fn put_some<A: Algebra>(
     alloc: Global,
     parts: &mut BTreeMap<u64, A>,
@@ -44,7 +44,7 @@ fn put_some<A: Algebra>(
     Ok(numbers)
 }
 
-// Takes out the last parts, until as many are left. It needs no memory.
+// Removes the last parts, until `count` are left. It allocates nothing.
 fn truncate<A: Algebra>(parts: &mut BTreeMap<u64, A>, count: usize)
     requires { count ≤ length parts.old.entries }
     ensures { parts.new.entries ≡ take count parts.old.entries }
@@ -54,7 +54,8 @@ fn truncate<A: Algebra>(parts: &mut BTreeMap<u64, A>, count: usize)
     }
 }
 
-/// Puts copies of the amounts behind the parts, under the numbers from `first` on, and answers these: all or none.
+/// Appends copies of the amounts under the numbers from `first` on, and returns these numbers. On an error no part is
+/// appended.
 pub fn put_all<A: Algebra>(
     alloc: Global,
     parts: &mut BTreeMap<u64, A>,
@@ -75,7 +76,7 @@ pub fn put_all<A: Algebra>(
     put
 }
 
-/// The parts, copied.
+/// Returns copies of the parts. Fails with `AllocError` if memory runs out.
 pub fn copy_parts<A: Algebra>(
     alloc: Global,
     parts: &BTreeMap<u64, A>,

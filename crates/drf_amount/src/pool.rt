@@ -12,26 +12,26 @@ use std::collections::BTreeMap;
 use std::marker::Model;
 use thiserror::Error;
 
-/// Why a pool refused a call, which changed nothing. Where several hold, the first is answered; a call says where want of
-/// memory may come sooner.
+/// Why a pool refused a call. A refused call changes nothing. If several reasons apply, the first in this order is
+/// returned; where `Memory` can come earlier, the method says so.
 #[derive(Clone, Copy, Debug, PartialEq, Eq, Error)]
 pub enum PoolFault {
-    /// No part that is out has the number.
+    /// No part with this number is taken.
     #[error("no part has this number")]
     UnknownPart,
     /// There is less than is to be taken.
     #[error("there is less than is to be taken")]
     NotCovered,
-    /// A name has two kinds.
+    /// A name would have values of two kinds.
     #[error("a name has two kinds")]
     Kind,
-    /// A member stands in both.
+    /// The amounts share a member.
     #[error("a member stands in both")]
     Overlap,
-    /// A scalar is above 2^64 - 1 thousandths.
+    /// A scalar would exceed 2^64 - 1 thousandths.
     #[error("a scalar is too large")]
     TooLarge,
-    /// The number 2^64 - 1 was reached.
+    /// The number of the next part would be 2^64 - 1.
     #[error("no number is left")]
     Full,
     #[error("out of memory")]
@@ -68,7 +68,7 @@ impl<T: Drop> From<AllocFailed<T>> for PoolFault {
     }
 }
 
-/// A total, of which a part is free and numbered parts are out.
+/// An amount, of which numbered parts are taken and the rest is free.
 #[derive(Drop)]
 pub struct Pool<A: Algebra> {
     alloc: Global,
@@ -90,7 +90,7 @@ impl<A: Algebra> Model for Pool<A> {
 }
 
 impl<A: Algebra> Pool<A> {
-    /// A pool with all of `total` free.
+    /// Returns a pool in which all of `total` is free. Fails with `AllocError` if memory runs out.
     pub fn new(alloc: Global, total: A) -> Result<Self, AllocError>
         ensures { IfOk result (λ pool. pool ≡ pool_of total total [] 0) }
     {
@@ -103,7 +103,7 @@ impl<A: Algebra> Pool<A> {
         })
     }
 
-    /// All that there is, free or out.
+    /// Returns the whole amount, free and taken.
     pub fn total(&self) -> &A
         ensures value { result.now ≡ self.now.total }
         ensures pool { IsPool A.is_given A.join self.now }
@@ -111,29 +111,29 @@ impl<A: Algebra> Pool<A> {
         &self.total
     }
 
-    /// What no part has taken.
+    /// Returns the free amount.
     pub fn free(&self) -> &A
         ensures { result.now ≡ self.now.free }
     {
         &self.free
     }
 
-    /// The part that is out under a number.
+    /// Returns the taken part with this number.
     pub fn part(&self, number: u64) -> Option<&A>
         ensures { option_copied result ≡ part_at self.now.parts number }
     {
         self.parts.get(&number)
     }
 
-    /// Takes `wanted` out of the free part, and answers its number: from 0, and never used again.
-    /// Faults: `NotCovered`, `Full`, `Memory`.
+    /// Takes `wanted` from the free amount, and returns the number of the new part. Numbers begin at 0 and are never
+    /// used twice. Errors: `NotCovered`, `Full`, `Memory`.
     pub fn take(&mut self, wanted: &A) -> Result<u64, PoolFault>
         ensures given { A.is_given wanted.now }
         ensures ok { IfOk result (Takes A.is_given A.join self.old self.new wanted.now) }
         ensures fault { IfErr result (IsTakeFault A.is_given A.join self.old wanted.now) }
         ensures err { OnErr result (self.new ≡ self.old) }
     {
-        // `Full` is answered before want of memory, and after `NotCovered`.
+        // `Full` is tested before memory can run out, and after `NotCovered`.
         if self.next == u64::MAX && self.free.covers(wanted) {
             return Err(PoolFault::Full);
         }
@@ -146,7 +146,7 @@ impl<A: Algebra> Pool<A> {
         Ok(number)
     }
 
-    /// Frees the part with a number, and answers it. Faults: `UnknownPart`, `Memory`.
+    /// Frees the part with this number, and returns it. Errors: `UnknownPart`, `Memory`.
     pub fn give_back(&mut self, number: u64) -> Result<A, PoolFault>
         ensures ok { IfOk result (GivesBack A.is_given A.join self.old self.new number) }
         ensures fault { IfErr result (IsGiveBackFault self.old number) }
@@ -161,8 +161,8 @@ impl<A: Algebra> Pool<A> {
         Ok(part)
     }
 
-    /// Leaves only `smaller` out of the part with a number, and frees the rest of it. Faults:
-    /// `UnknownPart`, `NotCovered`, `Memory`.
+    /// Replaces the part with this number by `smaller`, and frees the rest of it. Errors: `UnknownPart`, `NotCovered`,
+    /// `Memory`.
     pub fn shrink(&mut self, number: u64, smaller: &A) -> Result<(), PoolFault>
         ensures given { IsSome (part_at self.old.parts number) → A.is_given smaller.now }
         ensures ok { OnOk result (Shrinks A.is_given A.join self.old self.new number smaller.now) }
@@ -180,9 +180,10 @@ impl<A: Algebra> Pool<A> {
         Ok(())
     }
 
-    /// Puts several parts in the place of one: it goes, they are out under new numbers, in order, and its rest is free. Faults:
-    /// `UnknownPart`; what keeps the first of them, from the left, from those before it, `Kind`, `Overlap` or `TooLarge`;
-    /// `NotCovered`; `Full`; and `Memory`, which may come before all but the first.
+    /// Replaces the part with this number by several parts under new numbers, in order, and frees the rest of it.
+    /// Returns the new numbers. Errors: `UnknownPart`; `Kind`, `Overlap` or `TooLarge` if a part has no join with those
+    /// before it (from the left); `NotCovered`; `Full`; and `Memory`, which can come before all of these except
+    /// `UnknownPart`.
     pub fn split(&mut self, number: u64, parts: &[A]) -> Result<Vec<u64>, PoolFault>
         ensures given { OnOk result (All A.is_given parts.now) }
         ensures ok { IfOk result (λ numbers.
@@ -207,9 +208,8 @@ impl<A: Algebra> Pool<A> {
         Ok(numbers)
     }
 
-    /// Puts `new` for `old`, in the total and in the free part. Faults: `NotCovered`; what keeps
-    /// `new` from the rest of the total, `Kind`, `Overlap` or `TooLarge`; and `Memory`, which may
-    /// come before these three.
+    /// Replaces `old` by `new`, in the total and in the free amount. Errors: `NotCovered`; `Kind`, `Overlap` or
+    /// `TooLarge` if `new` has no join with the rest of the total; and `Memory`, which can come before these.
     pub fn replace_free(&mut self, old: &A, new: &A) -> Result<(), PoolFault>
         ensures given { A.is_given old.now }
         ensures new_given { OnOk result (A.is_given new.now) }
@@ -226,7 +226,7 @@ impl<A: Algebra> Pool<A> {
         Ok(())
     }
 
-    /// A pool of equal content.
+    /// Returns a pool with equal content. Fails with `AllocError` if memory runs out.
     pub fn copy(&self) -> Result<Pool<A>, AllocError>
         ensures { IfOk result (λ copy. copy ≡ self.now) }
     {

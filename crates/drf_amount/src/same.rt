@@ -1,9 +1,9 @@
-//! Whether two amounts are the same.
+//! Equality of amounts.
 ghost use Rattle.std.specs.Prelude.{◌≡◌, ◌↔◌, IsTrue};
 
 use super::algebra::Algebra;
 
-/// Whether two amounts are the same: of one size, and one is covered by the other.
+/// Returns whether two amounts are equal: they have the same size, and one covers the other.
 pub fn is_same<A: Algebra>(amount: &A, other: &A) -> bool
     ensures { IsTrue result ↔ (amount.now ≡ other.now) }
 {

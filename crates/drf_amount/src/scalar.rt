@@ -1,3 +1,4 @@
+//! Scalars: numbers of thousandths.
 ghost use Rattle.std.specs.Prelude.{◌≡◌, ◌+◌, ◌<◌, Some, IfOk, IfErr};
 ghost use Rattle.drf_amount.specs.declared.algebra.AlgebraFault.TheVariants.{NotCovered};
 ghost use Rattle.drf_amount.specs.Scalar.{IsScalar, scalar_join, scalar_refusal};
@@ -7,7 +8,7 @@ use super::algebra::{Algebra, AlgebraFault};
 use std::alloc::{AllocError, Global};
 use std::marker::Model;
 
-/// A quantity of one resource, in thousandths of its unit: Mesos keeps scalars to three decimals.
+/// An amount of one scalar resource, in thousandths of its unit. Mesos keeps scalars to three decimals.
 #[derive(Clone, Copy, PartialEq, Eq, PartialOrd, Ord, Hash)]
 pub struct Scalar(u64);
 
@@ -25,12 +26,14 @@ impl Model for Scalar {
 }
 
 impl Scalar {
+    /// Returns the scalar of so many thousandths.
     pub fn new(thousandths: u64) -> Self
         ensures { result ≡ thousandths }
     {
         Scalar(thousandths)
     }
 
+    /// Returns the thousandths.
     pub fn thousandths(self) -> u64
         ensures { result ≡ self }
     {

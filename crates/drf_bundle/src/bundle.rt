@@ -1,4 +1,4 @@
-//! Bundles of resources.
+//! Bundles: resources with their reservations.
 ghost use Rattle.std.specs.Prelude.{◌≡◌, IsTrue, [], ◌∷◌, ◌++◌, None, Some, OnOk, IfOk, IfErr, IsOk, map};
 ghost use Rattle.std.specs.List.{AllByRecursion, list_all};
 ghost use Rattle.std.specs.Option.{option_copied};
@@ -20,15 +20,16 @@ use std::alloc::{AllocError, Global};
 use std::marker::Model;
 use std::sync::Arc;
 
-/// The most resources that are looked through one by one.
+/// Up to this many resources are searched one by one.
 const FEW: usize = 8;
 
-/// What there is of each resource, for everyone or for a role. One name has one kind, no member
-/// stands under two reservations of a name, and the scalars of a name sum to less than 2^64. Copies share what they hold.
+/// The amounts of some resources, each unreserved or reserved for a role. A name has one kind in a bundle, no member
+/// occurs under two reservations of a name, and the scalars of a name add up to less than 2^64 thousandths. Copies
+/// share their content.
 pub struct Bundle {
-    // What its copies share. The empty bundle, which takes no memory, need not have any.
+    // The content, which copies share. The empty bundle, which takes no memory, can do without.
     shared: Option<Arc<Parts>>,
-    // Empty, to be lent where nothing is shared.
+    // Always empty: it is what `quantities` borrows if there is no content.
     nothing: Quantities,
 }
 
@@ -52,7 +53,7 @@ impl Model for Bundle {
     ghost invariant = { λ b. b.nothing ≡ [] };
 }
 
-// Written out, so that the proof of whoever drops a bundle sees one call, and not its two forms.
+// Written out, so that a caller's proof about dropping a bundle deals with one call, and not with its two forms.
 impl Drop for Bundle {
     fn drop(self) {
         let Bundle {
@@ -62,7 +63,7 @@ impl Drop for Bundle {
     }
 }
 
-/// Whether the resource of a name and a reservation is at the place.
+/// Returns whether the resource with this name and reservation is at this place.
 fn is_at(resources: &[Resource], label: &Label, role: &Role, at: usize) -> bool
     ensures { IsTrue result → IsKeyAt resources.now (label.now, reservation role.now) at }
 {
@@ -72,7 +73,8 @@ fn is_at(resources: &[Resource], label: &Label, role: &Role, at: usize) -> bool
     }
 }
 
-/// Where the resource of a name and a reservation stands, or where it would go. The places from the hint on are looked at first.
+/// Returns the place of the resource with this name and reservation (`Ok`), or the place where it would be inserted
+/// (`Err`). The search begins at the hint.
 fn place_near(
     resources: &[Resource],
     label: &Label,
@@ -91,7 +93,7 @@ fn place_near(
     place(resources, label, role)
 }
 
-/// The value of a name under a reservation, looked for from the front.
+/// Returns the value with this name and reservation, by a search from the beginning.
 fn value_among<'a>(resources: &'a [Resource], label: &Label, role: &Role) -> Option<&'a Value>
     ensures { option_copied result ≡ value_at resources.now (label.now, reservation role.now) }
 {
@@ -103,8 +105,8 @@ fn value_among<'a>(resources: &'a [Resource], label: &Label, role: &Role) -> Opt
     None
 }
 
-/// The value of a name under a reservation, which is likely to stand at the hint or close behind it. Few resources are looked through: one that
-/// is not there is missed sooner than by a search.
+/// Returns the value with this name and reservation, which is probably at the hint or soon after it. Up to `FEW`
+/// resources are searched one by one: for an absent key this is faster than a binary search.
 fn value_at<'a>(
     resources: &'a [Resource],
     label: &Label,
@@ -130,8 +132,8 @@ fn value_at<'a>(
     }
 }
 
-/// Whether the value under the resource's key covers it. The key is compared with the one at the hint here, since this is asked most: it takes half as
-/// much as by a call.
+/// Returns whether the value at the resource's key covers the resource. The key is first compared with the one at the
+/// hint, without a call: this is the most frequent case, and it takes half the time.
 fn covers_one(whole: &[Resource], resource: &Resource, hint: usize) -> bool
     requires { IsTrue (is_in_order whole.now) }
     ensures { result ≡ covers_one whole.now resource.now }
@@ -147,7 +149,8 @@ fn covers_one(whole: &[Resource], resource: &Resource, hint: usize) -> bool
     }
 }
 
-/// What parts that are taken one after another leave of so many thousandths of a resource. They are likely to have it at the hint or close behind it.
+/// Returns what is left of `thousandths` of a resource after the amounts in the parts are subtracted, one after
+/// another. The parts probably have the resource at the hint or soon after it.
 fn thousandths_left(
     thousandths: u64,
     resource: &Resource,
@@ -165,7 +168,7 @@ fn thousandths_left(
     left
 }
 
-/// What parts that are taken one after another leave of the value of a resource.
+/// Returns what is left of the value of a resource after its values in the parts are removed, one after another.
 fn members_left(
     resource: &Resource,
     parts: &[(Name, Bundle)],
@@ -182,7 +185,7 @@ fn members_left(
     Ok(left)
 }
 
-/// The same, for scalars by numbers alone.
+/// Returns the same as `members_left`; for scalars it computes with numbers only.
 fn value_left(
     resource: &Resource,
     parts: &[(Name, Bundle)],
@@ -197,7 +200,7 @@ fn value_left(
     Ok(Value::Scalar(Scalar::new(left)))
 }
 
-/// Whether a role may use all of the resources.
+/// Returns whether a role can use all of the resources.
 fn are_for(resources: &[Resource], role: &Role) -> bool
     ensures { result ≡ list_all (is_for role.now) resources.now }
 {
@@ -209,7 +212,8 @@ fn are_for(resources: &[Resource], role: &Role) -> bool
     true
 }
 
-/// Whether the limits leave all of the resource. No clause says so where they do: a wrong answer costs a copy.
+/// Returns whether the limits leave the whole resource. The contract does not say that it is `true` whenever they do: a
+/// wrong `false` only costs a copy.
 fn stays_whole(limits: &Quantities, resource: &Resource) -> bool
     ensures { IsTrue result → clipped limits.now resource.now ≡ resource.now }
 {
@@ -225,7 +229,7 @@ fn stays_whole(limits: &Quantities, resource: &Resource) -> bool
     }
 }
 
-/// Whether the limits leave all of each resource. Here too a wrong answer costs a copy.
+/// Returns whether the limits leave each resource whole. As in `stays_whole`, a wrong `false` only costs a copy.
 fn stay_whole(limits: &Quantities, resources: &[Resource]) -> bool
     ensures { IsTrue result → map (clipped limits.now) resources.now ≡ resources.now }
 {
@@ -237,7 +241,7 @@ fn stay_whole(limits: &Quantities, resources: &[Resource]) -> bool
     true
 }
 
-/// The resource cut to what the limits say, if it is an unreserved scalar that they name.
+/// Returns the resource, cut to the limit of its name if it is an unreserved scalar that the limits name.
 fn clipped(limits: &Quantities, resource: &Resource) -> Result<Resource, AllocError>
     ensures { IfOk result (λ cut. cut ≡ clipped limits.now resource.now) }
 {
@@ -253,7 +257,7 @@ fn clipped(limits: &Quantities, resource: &Resource) -> Result<Resource, AllocEr
     Ok(cut)
 }
 
-/// The resource, if there is anything of it, after those that are there.
+/// Appends the resource, unless its value is empty.
 fn push_filled(resources: &mut Vec<Resource>, resource: Resource) -> Result<(), AllocError>
     ensures given { IsGiven resource.value }
     ensures pushed { OnOk result (resources.new.items ≡ resources.old.items ++ filled_of (resource ∷ [])) }
@@ -265,6 +269,7 @@ fn push_filled(resources: &mut Vec<Resource>, resource: Resource) -> Result<(), 
 }
 
 impl Bundle {
+    /// Returns the bundle of these resources. Fails with `AllocError` if memory runs out.
     fn new(alloc: Global, resources: Vec<Resource>) -> Result<Bundle, AllocError>
         requires { IsBundle resources.items }
         ensures { IfOk result (λ bundle. bundle ≡ resources.items) }
@@ -272,7 +277,8 @@ impl Bundle {
         Bundle::from_parts(Parts::new(alloc, resources)?)
     }
 
-    /// The bundle of resources that were put together. Where there are none it takes no memory.
+    /// Returns the bundle that was built in `parts`. If it is empty, this cannot fail; otherwise it fails with
+    /// `AllocError` if memory runs out.
     pub fn from_parts(parts: Parts) -> Result<Bundle, AllocError>
         ensures bundle { IfOk result (λ bundle. bundle ≡ parts) }
         ensures none { parts ≡ [] → IsOk result }
@@ -291,7 +297,8 @@ impl Bundle {
         self.nothing.alloc()
     }
 
-    /// The bundle of one resource, reserved for the role if that is not `*`. A value with nothing in it makes no resource.
+    /// Returns the bundle of one resource, reserved for `role` unless that is `*`. If the value is empty, so is the
+    /// bundle.
     pub fn one(
         alloc: Global,
         label: &Label,
@@ -312,14 +319,14 @@ impl Bundle {
         Bundle::new(alloc, resources)
     }
 
-    /// The value of a name under a reservation, `*` for what is unreserved.
+    /// Returns the value with this name and reservation; the role `*` means unreserved.
     pub fn get(&self, label: &Label, role: &Role) -> Option<&Value>
         ensures { option_copied result ≡ value_at self.now (label.now, reservation role.now) }
     {
         value_at(self.entries(), label, role, 0)
     }
 
-    /// The resources in the order in which they are written.
+    /// Returns the resources in order of names, and for one name in order of reservations, unreserved first.
     pub fn entries(&self) -> &[Resource]
         ensures value { result.now ≡ self.now }
         ensures bundle { IsBundle self.now }
@@ -330,7 +337,7 @@ impl Bundle {
         }
     }
 
-    /// The scalars of each name, summed over all reservations.
+    /// Returns the scalars of each name, in thousandths, summed over all reservations.
     pub fn quantities(&self) -> &Quantities
         ensures value { result.now ≡ quantities_of self.now }
         ensures bundle { IsBundle self.now }
@@ -341,14 +348,14 @@ impl Bundle {
         }
     }
 
-    /// Tells a proof what every bundle is. It does nothing.
+    /// Proves that the bundle is valid. It does nothing.
     pub fn recall(&self)
         ensures { IsBundle self.now }
     {
         let _ = self.entries();
     }
 
-    /// Whether nothing is reserved.
+    /// Returns whether nothing in the bundle is reserved.
     pub fn is_unreserved(&self) -> bool
         ensures { result ≡ is_unreserved self.now }
     {
@@ -360,7 +367,7 @@ impl Bundle {
         true
     }
 
-    /// What a role may use: what is unreserved, and what is reserved for it or for a role above it.
+    /// Returns what a role can use: the unreserved resources, and those reserved for it or for a role above it.
     pub fn part_for(&self, role: &Role) -> Result<Bundle, AllocError>
         ensures { IfOk result (λ part. part ≡ part_for role.now self.now) }
     {
@@ -377,7 +384,7 @@ impl Bundle {
         Bundle::new(self.alloc(), part)
     }
 
-    /// The bundle with each unreserved scalar that the limits name cut to what they say.
+    /// Returns the bundle with each unreserved scalar that `limits` names cut to the amount there.
     pub fn clip(&self, limits: &Quantities) -> Result<Bundle, AllocError>
         ensures { IfOk result (λ part. part ≡ clip limits.now self.now) }
     {
@@ -392,7 +399,7 @@ impl Bundle {
         Bundle::new(self.alloc(), part)
     }
 
-    /// The bundle with all of it reserved for the role, or unreserved where that is `*`.
+    /// Returns the bundle with everything in it reserved for the role, or unreserved if the role is `*`.
     pub fn relabel(&self, role: &Role) -> Result<Bundle, AllocError>
         requires { IsTrue (is_unreserved self.now) }
         ensures { IfOk result (λ moved. moved ≡ relabel role.now self.now) }
@@ -405,7 +412,7 @@ impl Bundle {
         Bundle::new(self.alloc(), moved)
     }
 
-    /// Why the two have no join.
+    /// Returns why the two bundles have no join, if they have none.
     fn refusal(&self, other: &Bundle) -> Option<AlgebraFault>
         ensures given { IsBundle self.now × IsBundle other.now }
         ensures refusal { result ≡ refusal self.now other.now }
@@ -419,7 +426,7 @@ impl Bundle {
         None
     }
 
-    /// Whether the scalars of some name would exceed 2^64 - 1 thousandths.
+    /// Returns whether the scalars of some name would add up to more than 2^64 - 1 thousandths.
     fn is_too_large_with(&self, other: &Bundle) -> bool
         ensures { result ≡ is_too_large self.now other.now }
     {
@@ -428,7 +435,7 @@ impl Bundle {
             .any(|resource| self.exceeds_with(other, &resource.label))
     }
 
-    /// Whether the scalars of that name would exceed 2^64 - 1 thousandths.
+    /// Returns whether the scalars of this name would add up to more than 2^64 - 1 thousandths.
     fn exceeds_with(&self, other: &Bundle, label: &Label) -> bool
         ensures { result ≡ exceeds self.now other.now label.now }
     {
@@ -439,14 +446,15 @@ impl Bundle {
         sum.is_none()
     }
 
-    /// What is left of it without the part, of which it need not have all.
+    /// Returns what is left of the bundle without `part`. The bundle need not cover the part.
     pub fn rest(&self, part: &Bundle) -> Result<Bundle, AllocError>
         ensures { IfOk result (λ left. left ≡ rest self.now part.now) }
     {
         Bundle::from_parts(rest(self.alloc(), self.entries(), part.entries())?)
     }
 
-    /// What is left of it without parts that are taken one after another, of which it need not have all. Their names are not looked at.
+    /// Returns what is left of the bundle after the parts are removed, one after another. The bundle need not cover
+    /// them. Their names are ignored.
     pub fn rest_of_all(&self, parts: &[(Name, Bundle)]) -> Result<Bundle, AllocError>
         requires { AllByRecursion IsBundle (map (λ p. p.1) parts.now) }
         ensures { IfOk result (λ left. left ≡ rest_of_all self.now (map (λ p. p.1) parts.now)) }
@@ -459,8 +467,8 @@ impl Bundle {
         Bundle::new(self.alloc(), left)
     }
 
-    /// The bundle with another part in the place of one, of which it need not have all. What is left without that one must have a join with
-    /// the other.
+    /// Returns the bundle with `old` removed and `new` joined to the rest. The bundle need not cover `old`, but the
+    /// rest must have a join with `new`.
     pub fn exchange(&self, old: &Bundle, new: &Bundle) -> Result<Bundle, AllocError>
         requires { refusal (rest self.now old.now) new.now ≡ None }
         ensures { IfOk result (λ both. join (rest self.now old.now) new.now ≡ Some both) }
@@ -469,7 +477,7 @@ impl Bundle {
         Bundle::from_parts(merged(self.alloc(), left.entries(), new.entries())?)
     }
 
-    /// The join of two bundles that are known to have one, of which nothing is tested.
+    /// Returns the join of two bundles that are known to have one, without testing it.
     pub fn joined(&self, other: &Bundle) -> Result<Bundle, AllocError>
         requires { refusal self.now other.now ≡ None }
         ensures { IfOk result (λ both. join self.now other.now ≡ Some both) }
@@ -544,7 +552,7 @@ impl Algebra for Bundle {
         amount
     }
 
-    /// A second owner of what it holds. It asks for no memory, and fails where 2^63 owners were counted.
+    /// Returns a copy that shares the content. It allocates nothing, and fails only if there would be 2^63 owners.
     fn copy(&self) -> Result<Bundle, AllocError> {
         self.recall();
         match &self.shared {

@@ -1,4 +1,4 @@
-//! Bundles of resources, and quantities of scalars.
+//! Bundles of resources with their reservations, and quantities of scalars.
 #![tactic(auto)]
 
 mod bundle;

@@ -1,4 +1,4 @@
-//! Two lists of resources in order, gone through side by side.
+//! Operations that walk through two lists of resources in order, side by side.
 ghost use Rattle.std.specs.Prelude.{◌≡◌, IsTrue, IfOk, OnOk, [], ◌∷◌, ◌++◌};
 ghost use Rattle.drf_bundle.specs.Bundle.{IsBundle, is_in_order, merged, rest, filled_of, with_value, have_clash, clashes_with_some};
 ghost use Rattle.drf_bundle.specs.Value.{less};
@@ -11,7 +11,7 @@ use drf_amount::AlgebraFault;
 use std::alloc::{AllocError, Global};
 use std::cmp::Ordering;
 
-/// The list in which the next key stands.
+/// The list that has the next key: the left one, the right one, or both.
 #[derive(Clone, Copy)]
 enum Side {
     Left,
@@ -19,6 +19,7 @@ enum Side {
     Both,
 }
 
+/// Returns which list has the next key, or `None` if both are empty.
 fn next_side(left: &[Resource], right: &[Resource]) -> Option<Side>
     ensures { result ≡ next_side left.now right.now }
 {
@@ -38,7 +39,7 @@ fn next_side(left: &[Resource], right: &[Resource]) -> Option<Side>
     })
 }
 
-/// Puts what a part of its value leaves of a resource behind the others, if that is anything.
+/// Appends what is left of the resource's value without `part`, unless nothing is left.
 fn push_left(left: &mut Parts, resource: &Resource, part: &Value) -> Result<(), AllocError>
     requires { IsBundle (left.old ++ filled_of (with_value resource.now (less resource.now.value part.now) ∷ [])) }
     ensures { OnOk result (left.new ≡ left.old ++ filled_of (with_value resource.now (less resource.now.value part.now) ∷ [])) }
@@ -50,7 +51,7 @@ fn push_left(left: &mut Parts, resource: &Resource, part: &Value) -> Result<(), 
     Ok(())
 }
 
-/// The resources of both in order, those of one key united.
+/// Returns the resources of both lists in order, with the values at equal keys united.
 pub fn merged(alloc: Global, left: &[Resource], right: &[Resource]) -> Result<Parts, AllocError>
     requires fits { FitTogether left.now right.now }
     requires bundle { IsBundle (merged left.now right.now) }
@@ -79,7 +80,7 @@ pub fn merged(alloc: Global, left: &[Resource], right: &[Resource]) -> Result<Pa
     Ok(found)
 }
 
-/// What is left of the resources without the part, of which they need not have all.
+/// Returns what is left of the resources without those in `part`, which they need not cover.
 pub fn rest(alloc: Global, whole: &[Resource], part: &[Resource]) -> Result<Parts, AllocError>
     requires whole { IsBundle whole.now }
     requires part { IsTrue (is_in_order part.now) }
@@ -105,7 +106,8 @@ pub fn rest(alloc: Global, whole: &[Resource], part: &[Resource]) -> Result<Part
     Ok(left)
 }
 
-/// Whether the resource clashes with one of its name, of others that do not stand before it.
+/// Returns whether the resource clashes with one of the same name in `others`, which begin with this name or a later
+/// one.
 fn clashes_with_some(resource: &Resource, others: &[Resource], clash: Clash) -> bool
     requires in_order { IsTrue (is_in_order others.now) }
     requires not_before { IsTrue (none_before resource.now.label others.now) }
@@ -122,7 +124,7 @@ fn clashes_with_some(resource: &Resource, others: &[Resource], clash: Clash) -> 
     false
 }
 
-/// How the names of the first resources compare, if there are both.
+/// Returns how the names of the first resources compare, or `None` if a list is empty.
 fn compare_names(left: &[Resource], right: &[Resource]) -> Option<Ordering>
     ensures { result ≡ names_cmp left.now right.now }
 {
@@ -132,7 +134,7 @@ fn compare_names(left: &[Resource], right: &[Resource]) -> Option<Ordering>
     Some(compare_labels(&resource.label, &other.label))
 }
 
-/// Whether a name stands in both with values that clash in that way.
+/// Returns whether some name has values in both lists that clash in this way.
 pub fn have_clash(left: &[Resource], right: &[Resource], clash: Clash) -> bool
     requires left { IsTrue (is_in_order left.now) }
     requires right { IsTrue (is_in_order right.now) }
@@ -155,7 +157,8 @@ pub fn have_clash(left: &[Resource], right: &[Resource], clash: Clash) -> bool
     false
 }
 
-/// The fault of the first way in which values of a name clash. Where none do, one walk tells it.
+/// Returns the error of the first way in which values of a name clash, if any do. If none do, one walk through the
+/// lists decides this.
 pub fn clash_fault(left: &[Resource], right: &[Resource]) -> Option<AlgebraFault>
     requires left { IsTrue (is_in_order left.now) }
     requires right { IsTrue (is_in_order right.now) }

@@ -1,4 +1,4 @@
-//! The labels of quantities, one after another.
+//! An iterator over the labels of quantities.
 ghost use Rattle.std.specs.Prelude.{◌≡◌};
 ghost use Rattle.std.specs.Iterator.{YieldsFirstBy, item_count};
 ghost use Rattle.drf_bundle.specs.Quantities.{names_of};
@@ -6,7 +6,7 @@ ghost use Rattle.drf_bundle.specs.Quantities.{names_of};
 use crate::quantities::Entry;
 use std::marker::Model;
 
-/// Gives the labels of quantities in order. Contracts see the list of those to come.
+/// Iterates over the labels of quantities in order. Contracts see the list of the labels that are still to come.
 #[derive(Drop)]
 pub struct Names<'a> {
     entries: &'a [Entry],
@@ -25,6 +25,7 @@ impl<'a> Model for Names<'a> {
 }
 
 impl<'a> Names<'a> {
+    /// Returns the iterator over the labels of these entries.
     pub(crate) fn new(entries: &'a [Entry]) -> Names<'a>
         ensures { result ≡ names_of entries.now }
     {

@@ -1,4 +1,4 @@
-//! What a bundle is put together of, and what its copies share.
+//! The content of a bundle: what is built, and then shared by copies.
 ghost use Rattle.std.specs.Prelude.{◌≡◌, ◌+◌, ◌<◌, ◌^◌, IsTrue, [], ◌∷◌, ◌++◌, OnOk, OnErr, IfOk, IfErr};
 ghost use Rattle.drf_bundle.specs.Bundle.{IsBundle, is_in_order, reservation, add_scalar, quantities_of};
 ghost use Rattle.drf_bundle.specs.Value.{Thousandths, units_in};
@@ -12,10 +12,10 @@ use drf_role::{Label, Role};
 use std::alloc::{AllocError, Global};
 use std::marker::Model;
 
-/// Resources in order, with the sums of their scalars: put together one by one, and then shared by the copies of a bundle.
+/// Resources in order, with the sums of their scalars. They are added one by one; then copies of a bundle share them.
 pub struct Parts {
     pub(crate) resources: Vec<Resource>,
-    // The scalars of each name over all reservations, kept to be lent.
+    // The scalars of each name over all reservations, stored so that they can be borrowed.
     pub(crate) quantities: Quantities,
 }
 
@@ -37,7 +37,7 @@ impl Model for Parts {
     ghost invariant = { λ p. HasSums p.resources.items p.quantities };
 }
 
-// Written out, so that the proof of whoever drops the parts sees one call.
+// Written out, so that a caller's proof about dropping the parts deals with one call.
 impl Drop for Parts {
     fn drop(self) {
         let Parts {
@@ -47,7 +47,7 @@ impl Drop for Parts {
     }
 }
 
-/// Adds the resource's scalar to the sum of its name.
+/// Adds the scalar of the resource to the sum of its name. On an error nothing changes.
 pub fn add_scalar(sums: &mut Quantities, resource: &Resource) -> Result<(), AllocError>
     requires { amount_of sums.old resource.now.label + units_in resource.now.value Thousandths < 2 ^ 64 }
     ensures ok { OnOk result (sums.new ≡ add_scalar sums.old resource.now) }
@@ -56,12 +56,12 @@ pub fn add_scalar(sums: &mut Quantities, resource: &Resource) -> Result<(), Allo
     let Value::Scalar(scalar) = &resource.value else {
         return Ok(());
     };
-    // Resources stand in order of name, so it is the last name, or one behind it.
+    // Resources are added in order of names, so the name is the last one, or comes after it.
     let last = sums.entries().len().saturating_sub(1);
     sums.add(&resource.label, scalar.thousandths(), last)
 }
 
-/// The scalars of each name, summed over all reservations.
+/// Returns the scalars of each name, summed over all reservations.
 fn sums(alloc: Global, resources: &[Resource]) -> Result<Quantities, AllocError>
     requires { IsBundle resources.now }
     ensures { IfOk result (λ q. q ≡ quantities_of resources.now) }
@@ -73,7 +73,8 @@ fn sums(alloc: Global, resources: &[Resource]) -> Result<Quantities, AllocError>
     Ok(sums)
 }
 
-/// Where the resource of a name and a reservation stands, or where it would go.
+/// Returns the place of the resource with this name and reservation (`Ok`), or the place where it would be inserted
+/// (`Err`).
 pub fn place(resources: &[Resource], label: &Label, role: &Role) -> Result<usize, usize>
     requires { IsTrue (is_in_order resources.now) }
     ensures found { IfOk result (IsKeyAt resources.now (label.now, reservation role.now)) }
@@ -83,7 +84,7 @@ pub fn place(resources: &[Resource], label: &Label, role: &Role) -> Result<usize
 }
 
 impl Parts {
-    /// No resource.
+    /// Returns the parts without any resource.
     pub fn empty(alloc: Global) -> Parts
         ensures { result ≡ [] }
     {
@@ -93,6 +94,7 @@ impl Parts {
         }
     }
 
+    /// Returns the parts with these resources. Fails with `AllocError` if memory runs out.
     pub(crate) fn new(alloc: Global, resources: Vec<Resource>) -> Result<Parts, AllocError>
         requires { IsBundle resources.items }
         ensures { IfOk result (λ parts. parts ≡ resources.items) }
@@ -103,23 +105,25 @@ impl Parts {
         })
     }
 
-    /// Puts a resource behind all others, with which it makes a bundle. An `Err` changes nothing.
+    /// Appends a resource. On an error nothing changes.
     pub(crate) fn push(&mut self, resource: Resource) -> Result<(), AllocError>
         requires { IsBundle (self.old ++ resource ∷ []) }
         ensures ok { OnOk result (self.new ≡ self.old ++ resource ∷ []) }
         ensures err { OnErr result (self.new ≡ self.old) }
     {
-        // With room the push takes no memory, so that nothing has to be taken back.
+        // The room is reserved first, so the push cannot fail after the sum was changed.
         self.resources.reserve(1)?;
         add_scalar(&mut self.quantities, &resource)?;
         self.resources.push_reserved(resource);
         Ok(())
     }
 
+    /// Returns the allocator.
     pub(crate) fn alloc(&self) -> Global {
         *self.resources.allocator()
     }
 
+    /// Returns the resources, in order.
     pub(crate) fn entries(&self) -> &[Resource]
         ensures value { result.now ≡ self.now }
         ensures bundle { IsBundle self.now }
@@ -127,6 +131,7 @@ impl Parts {
         self.resources.as_slice()
     }
 
+    /// Returns the scalars of each name, in thousandths, summed over all reservations.
     pub(crate) fn quantities(&self) -> &Quantities
         ensures value { result.now ≡ quantities_of self.now }
         ensures bundle { IsBundle self.now }

@@ -1,3 +1,4 @@
+//! Quantities: amounts of scalars by label.
 ghost use Rattle.std.specs.Prelude.{◌≡◌, ℕ, List, [], length, ◌^◌, ◌<◌, IsTrue, ◌+◌, ◌≤◌, ◌&&◌, nat_lt, nat_le, if◌then◌else◌, IfOk, IfErr, OnOk, OnErr, IsOk, IfSome, IfNone, false};
 ghost use Rattle.std.specs.List.{insert, position};
 ghost use Rattle.drf_bundle.specs.Quantities.{HasNoZeros, amount_of, is_named, known_amount, names_all, is_in_order, with_amount, plus, minus, covers, without_zeros, names_of};
@@ -10,10 +11,10 @@ use drf_role::Label;
 use std::alloc::{AllocError, Global};
 use std::marker::Model;
 
-/// The most entries that are looked through one by one.
+/// Up to this many entries are searched one by one.
 const FEW: usize = 8;
 
-/// An amount of one scalar resource.
+/// The amount of one scalar.
 #[derive(Drop)]
 pub struct Entry {
     pub label: Label,
@@ -21,6 +22,7 @@ pub struct Entry {
 }
 
 impl Entry {
+    /// Returns an equal entry. Fails with `AllocError` if memory runs out.
     fn copy(&self) -> Result<Entry, AllocError>
         ensures { IfOk result (λ entry. entry ≡ self.now) }
     {
@@ -31,7 +33,7 @@ impl Entry {
     }
 }
 
-// Puts an entry at a place. Amounts are mostly put together in order, and behind all others none is moved.
+// Inserts an entry at a place. Entries are mostly added in order, and at the end none has to be moved.
 fn put_at(entries: &mut Vec<Entry>, at: usize, entry: Entry) -> Result<(), AllocError>
     requires { at ≤ length entries.old.items }
     ensures ok { OnOk result (entries.new.items ≡ insert entries.old.items at entry) }
@@ -43,7 +45,7 @@ fn put_at(entries: &mut Vec<Entry>, at: usize, entry: Entry) -> Result<(), Alloc
     Ok(entries.insert(at, entry)?)
 }
 
-/// Amounts of scalar resources by label, in thousandths. A label may be named with the amount 0.
+/// Amounts of scalars by label, in thousandths. A label can be named with the amount 0.
 pub struct Quantities {
     entries: Vec<Entry>,
 }
@@ -61,7 +63,7 @@ impl Model for Quantities {
     ghost invariant = { λ q. IsTrue (is_in_order q.entries.items) };
 }
 
-// Written out, so that the proof of whoever drops quantities sees one call.
+// Written out, so that a caller's proof about dropping quantities deals with one call.
 impl Drop for Quantities {
     fn drop(self) {
         let Quantities { entries: _entries } = self;
@@ -69,7 +71,7 @@ impl Drop for Quantities {
 }
 
 impl Quantities {
-    /// No label is named.
+    /// Returns quantities that name no label.
     pub fn empty(alloc: Global) -> Quantities
         ensures { result ≡ [] }
     {
@@ -78,7 +80,7 @@ impl Quantities {
         }
     }
 
-    /// The thousandths of the label of that text, 0 where it is not named.
+    /// Returns the thousandths of the label with this text, or 0 if it is not named.
     pub fn get(&self, label: &str) -> u64
         ensures { result ≡ amount_of self.now label.now }
     {
@@ -91,14 +93,14 @@ impl Quantities {
         }
     }
 
-    /// The thousandths of a label, 0 where it is not named.
+    /// Returns the thousandths of a label, or 0 if it is not named.
     pub fn amount_of(&self, label: &Label) -> u64
         ensures { result ≡ amount_of self.now label.now }
     {
         self.amount_near(label, &mut 0)
     }
 
-    /// The thousandths of the label of that text, if it is named.
+    /// Returns the thousandths of the label with this text, or `None` if it is not named.
     pub fn known_amount(&self, label: &str) -> Option<u64>
         ensures { result ≡ known_amount self.now label.now }
     {
@@ -111,7 +113,7 @@ impl Quantities {
         }
     }
 
-    /// The thousandths of a label, if it is named.
+    /// Returns the thousandths of a label, or `None` if it is not named.
     pub fn known_amount_of(&self, label: &Label) -> Option<u64>
         ensures { result ≡ known_amount self.now label.now }
     {
@@ -120,7 +122,7 @@ impl Quantities {
         Some(entry.amount.thousandths())
     }
 
-    // The thousandths of a label that is likely to stand at that place, which becomes the one behind it.
+    // Returns the thousandths of a label, which is probably at `place`; sets `place` to the place after it.
     fn amount_near(&self, label: &Label, place: &mut usize) -> u64
         ensures { result ≡ amount_of self.now label.now }
     {
@@ -134,14 +136,14 @@ impl Quantities {
         }
     }
 
-    /// Whether the label is named, be its amount 0 or not.
+    /// Returns whether the label is named, even if its amount is 0.
     pub fn is_named(&self, label: &str) -> bool
         ensures { result ≡ is_named self.now label.now }
     {
         self.place_of_text(label).is_ok()
     }
 
-    // Whether a label is named that is likely to stand at that place, which becomes the one behind it.
+    // Returns whether a label is named, which is probably at `place`; sets `place` to the place after it.
     fn is_named_near(&self, label: &Label, place: &mut usize) -> bool
         ensures { result ≡ is_named self.now label.now }
     {
@@ -154,7 +156,7 @@ impl Quantities {
         }
     }
 
-    /// The labels and their amounts, by the bytes of the labels.
+    /// Returns the labels with their amounts, in byte order of the labels.
     pub fn entries(&self) -> &[Entry]
         ensures value { result.now ≡ self.now }
         ensures in_order { IsTrue (is_in_order self.now) }
@@ -162,21 +164,22 @@ impl Quantities {
         self.entries.as_slice()
     }
 
-    /// Tells a proof that the labels are in order. It does nothing.
+    /// Proves that the labels are in order. It does nothing.
     pub fn recall(&self)
         ensures { IsTrue (is_in_order self.now) }
     {
         let _ = self.entries();
     }
 
-    /// The labels in order of bytes, be their amounts 0 or not.
+    /// Returns the labels in byte order, also those with the amount 0.
     pub fn names(&self) -> Names<'_>
         ensures { result ≡ names_of self.now }
     {
         Names::new(self.entries())
     }
 
-    /// Gives a label that amount, and names it where it was not.
+    /// Sets the amount of a label, and names the label if it was not named. Fails with `AllocError` if memory runs out,
+    /// and never for a named label; then nothing changes.
     pub fn set(&mut self, label: Label, thousandths: u64) -> Result<(), AllocError>
         ensures ok { OnOk result (self.new ≡ with_amount self.old label thousandths) }
         ensures err { OnErr result (self.new ≡ self.old) }
@@ -193,7 +196,8 @@ impl Quantities {
         }
     }
 
-    /// Adds to the amount of a label, and names it where it was not. It is likely to stand at that place or right behind it.
+    /// Adds to the amount of a label, and names it if it was not named. The label is probably at the hint or just after
+    /// it.
     pub(crate) fn add(
         &mut self,
         label: &Label,
@@ -215,8 +219,9 @@ impl Quantities {
         }
     }
 
-    /// Adds to the amount of a label, and names it where it was not. Whether it was done: it is not where memory ends, or where the sum
-    /// would be 2^64 or more. That a label which was not named fails for want of memory alone is in no clause.
+    /// Adds to the amount of a label, and names it if it was not named. Returns whether this was done: it fails if the
+    /// sum would be 2^64 or more, or if memory runs out, and then nothing changes. The contract does not say that for a
+    /// new label running out of memory is the only reason.
     pub fn add_to(&mut self, label: &Label, thousandths: u64) -> bool
         ensures ok { IsTrue result → self.new ≡ with_amount self.old label.now (amount_of self.old label.now + thousandths) }
         ensures not { result ≡ false → self.new ≡ self.old }
@@ -228,7 +233,8 @@ impl Quantities {
         }
     }
 
-    /// Adds to the amount of a label, if it is named and the sum is below 2^64. Whether it was done. It needs no memory.
+    /// Adds to the amount of a label if it is named and the sum is below 2^64, and returns whether this was done. It
+    /// allocates nothing.
     pub fn add_to_named(&mut self, label: &Label, thousandths: u64) -> bool
         ensures ok { IsTrue result → self.new ≡ with_amount self.old label.now (amount_of self.old label.now + thousandths) }
         ensures not { result ≡ false → self.new ≡ self.old }
@@ -240,7 +246,7 @@ impl Quantities {
         }
     }
 
-    // Adds to the amount at the place, if the sum is below 2^64. Whether it was done.
+    // Adds to the amount at a place if the sum is below 2^64, and returns whether this was done.
     fn add_at(&mut self, at: usize, thousandths: u64) -> bool
         requires { at < length self.old }
         ensures ok { (label : List ℕ) → IsAt self.old label at → IsTrue result → self.new ≡ with_amount self.old label (amount_of self.old label + thousandths) }
@@ -255,7 +261,7 @@ impl Quantities {
         true
     }
 
-    // Names a label that goes to that place.
+    // Inserts a label with its amount at the place where it belongs.
     fn name_at(&mut self, at: usize, label: &Label, thousandths: u64) -> Result<(), AllocError>
         requires { IsGapFor self.old label.now at }
         ensures ok { OnOk result (self.new ≡ with_amount self.old label.now thousandths) }
@@ -266,6 +272,7 @@ impl Quantities {
         Ok(put_at(&mut self.entries, at, Entry { label, amount })?)
     }
 
+    /// Returns equal quantities. Fails with `AllocError` if memory runs out.
     pub fn copy(&self) -> Result<Quantities, AllocError>
         ensures { IfOk result (λ q. q ≡ self.now) }
     {
@@ -276,7 +283,7 @@ impl Quantities {
         Ok(Quantities { entries })
     }
 
-    /// The amounts of both, label by label.
+    /// Returns the sum of both amounts for each label.
     pub fn plus(&self, other: &Quantities) -> Result<Quantities, AllocError>
         requires { (label : List ℕ) → amount_of self.now label + amount_of other.now label < 2 ^ 64 }
         ensures { IfOk result (λ q. q ≡ plus self.now other.now) }
@@ -288,7 +295,7 @@ impl Quantities {
         Ok(sum)
     }
 
-    /// Whether it names each label of the other.
+    /// Returns whether these quantities name each label that the other ones name.
     pub fn names_all(&self, other: &Quantities) -> bool
         ensures { result ≡ names_all self.now other.now }
     {
@@ -301,7 +308,7 @@ impl Quantities {
         true
     }
 
-    /// Adds the amounts of the other, all of whose labels it names. It needs no memory.
+    /// Adds the amounts of `other`, whose labels must all be named here. It allocates nothing.
     pub fn raise(&mut self, other: &Quantities)
         requires named { IsTrue (names_all self.old other.now) }
         requires fits { (label : List ℕ) → amount_of self.old label + amount_of other.now label < 2 ^ 64 }
@@ -313,7 +320,7 @@ impl Quantities {
         }
     }
 
-    // Adds to the amount of a label that it names, which is likely to stand at that place, and that becomes the one behind it.
+    // Adds to the amount of a named label, which is probably at `place`; sets `place` to the place after it.
     fn raise_one(&mut self, label: &Label, thousandths: u64, place: &mut usize)
         requires named { IsTrue (is_named self.old label.now) }
         requires fits { amount_of self.old label.now + thousandths < 2 ^ 64 }
@@ -328,7 +335,7 @@ impl Quantities {
         entry.amount = Scalar::new(sum);
     }
 
-    /// How many labels the two name together. It needs no memory.
+    /// Returns how many labels the two name together. It allocates nothing.
     pub fn count_with(&self, other: &Quantities) -> u64
         ensures { result ≡ length (plus self.now other.now) }
     {
@@ -342,7 +349,7 @@ impl Quantities {
         count
     }
 
-    /// Takes the amounts of `other` away. A label that comes to 0 stays named.
+    /// Subtracts the amounts of `other`. A label whose amount becomes 0 stays named.
     pub fn lower(&mut self, other: &Quantities)
         requires { IsTrue (covers self.old other.now) }
         ensures { self.new ≡ minus self.old other.now }
@@ -354,7 +361,7 @@ impl Quantities {
         }
     }
 
-    /// Takes so much of a label away. It needs no memory.
+    /// Subtracts thousandths from the amount of a label. It allocates nothing.
     pub fn reduce(&mut self, label: &Label, thousandths: u64)
         requires { thousandths ≤ amount_of self.old label.now }
         ensures { (other : List ℕ) → amount_of self.new other + (if same_text label.now other then thousandths else 0) ≡ amount_of self.old other }
@@ -362,8 +369,8 @@ impl Quantities {
         let _ = self.take_from(label, thousandths);
     }
 
-    /// Takes so much of a label away, if there is as much. Whether it was done. It needs no memory. That the label stays named is in
-    /// no clause.
+    /// Subtracts thousandths from the amount of a label if it has that many, and returns whether this was done. It
+    /// allocates nothing. The contract does not say that the label stays named.
     pub fn take_from(&mut self, label: &Label, thousandths: u64) -> bool
         ensures ok { IsTrue result
             → (other : List ℕ) → amount_of self.new other + (if same_text label.now other then thousandths else 0) ≡ amount_of self.old other }
@@ -381,11 +388,12 @@ impl Quantities {
         true
     }
 
+    /// Returns the allocator.
     pub(crate) fn alloc(&self) -> Global {
         *self.entries.allocator()
     }
 
-    /// Forgets the labels whose amount is 0.
+    /// Removes the labels whose amount is 0.
     pub fn remove_zeros(&mut self)
         ensures value { self.new ≡ without_zeros self.old }
         ensures none { HasNoZeros self.new }
@@ -393,7 +401,7 @@ impl Quantities {
         self.entries.retain(|entry| entry.amount.thousandths() > 0);
     }
 
-    // Whether the text is the label at the place.
+    // Returns whether the label with this text is at this place.
     fn text_is_at(&self, label: &str, at: usize) -> bool
         ensures { IsTrue result → IsAt self.now label.now at }
     {
@@ -403,7 +411,7 @@ impl Quantities {
         }
     }
 
-    // Whether the label is at the place.
+    // Returns whether the label is at this place.
     fn label_is_at(&self, label: &Label, at: usize) -> bool
         ensures { IsTrue result → IsAt self.now label.now at }
     {
@@ -413,7 +421,7 @@ impl Quantities {
         }
     }
 
-    // Where the label is, if it is named. The hint is looked at first.
+    // Returns the place of the label if it is named. The hint is tried first.
     fn place_if_named(&self, label: &Label, hint: usize) -> Option<usize>
         ensures found { IfSome result (IsAt self.now label.now) }
         ensures none { IfNone result (is_named self.now label.now ≡ false) }
@@ -424,7 +432,8 @@ impl Quantities {
         self.place_elsewhere(label, hint)
     }
 
-    // The same. Few entries are looked through, as to compare labels for equality costs little; of more, the hint and the next place come first.
+    // Returns the same if the label is not at the hint. A few entries are searched one by one, because comparing labels
+    // for equality is cheap; in a longer list the hint and the next place are tried first.
     fn place_elsewhere(&self, label: &Label, hint: usize) -> Option<usize>
         ensures found { IfSome result (IsAt self.now label.now) }
         ensures none { IfNone result (is_named self.now label.now ≡ false) }
@@ -435,14 +444,15 @@ impl Quantities {
         self.first_place(label)
     }
 
-    // The first place of the label, looked for from the front.
+    // Returns the first place of the label, by a search from the beginning.
     fn first_place(&self, label: &Label) -> Option<usize>
         ensures { result ≡ position (λ e. same_text e.label label.now) self.now }
     {
         self.entries.iter().position(|entry| entry.label == *label)
     }
 
-    // Where the label is, or where it would go. Few entries are looked through first.
+    // Returns the place of the label (`Ok`), or where it would be inserted (`Err`). A few entries are searched one by
+    // one first.
     fn place_among(&self, label: &Label) -> Result<usize, usize>
         ensures found { IfOk result (IsAt self.now label.now) }
         ensures absent { IfErr result (IsGapFor self.now label.now) }
@@ -455,7 +465,8 @@ impl Quantities {
         self.place_by_order(label.text())
     }
 
-    // Where the label is, or where it would go. The hint and the next place are looked at first.
+    // Returns the place of the label (`Ok`), or where it would be inserted (`Err`). The hint and the next place are
+    // tried first.
     fn place_of_label(&self, label: &Label, hint: usize) -> Result<usize, usize>
         ensures found { IfOk result (IsAt self.now label.now) }
         ensures absent { IfErr result (IsGapFor self.now label.now) }
@@ -470,7 +481,8 @@ impl Quantities {
         self.place_by_order(label.text())
     }
 
-    // Where the label of that text is, or where it would go. The first three places are looked at first.
+    // Returns the place of the label with this text (`Ok`), or where it would be inserted (`Err`). The first three
+    // places are tried first.
     fn place_of_text(&self, label: &str) -> Result<usize, usize>
         ensures found { IfOk result (IsAt self.now label.now) }
         ensures absent { IfErr result (IsGapFor self.now label.now) }
@@ -487,7 +499,8 @@ impl Quantities {
         self.place_by_order(label)
     }
 
-    // Where the label of that text is, or where it would go. Amounts are put together in order, so it is looked for behind all others first.
+    // Returns the place of the label with this text (`Ok`), or where it would be inserted (`Err`). The end is tried
+    // first, because entries are mostly added in order.
     fn place_by_order(&self, label: &str) -> Result<usize, usize>
         ensures found { IfOk result (IsAt self.now label.now) }
         ensures absent { IfErr result (IsGapFor self.now label.now) }
@@ -498,7 +511,7 @@ impl Quantities {
         self.search(label)
     }
 
-    // Whether the label would go behind all others.
+    // Returns whether the label would come after all others.
     fn is_behind(&self, label: &str) -> bool
         ensures { IsTrue result → IsGapFor self.now label.now (length self.now) }
     {
@@ -508,6 +521,7 @@ impl Quantities {
         }
     }
 
+    /// Returns the place of the label with this text (`Ok`), or where it would be inserted (`Err`), by binary search.
     fn search(&self, label: &str) -> Result<usize, usize>
         ensures found { IfOk result (IsAt self.now label.now) }
         ensures absent { IfErr result (IsGapFor self.now label.now) }

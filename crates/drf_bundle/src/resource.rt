@@ -1,4 +1,4 @@
-//! A value with its name and its reservation.
+//! A resource: a value with a name and a reservation.
 ghost use Rattle.std.specs.Prelude.{◌≡◌, ◌+◌, ◌<◌, ◌^◌, IfOk};
 ghost use Rattle.drf_role.specs.Path.{same_path};
 ghost use Rattle.drf_role.specs.Text.{same_text};
@@ -12,14 +12,15 @@ use drf_role::{Label, Role};
 use std::alloc::AllocError;
 use std::cmp::Ordering;
 
-/// What there is of one resource for one role, or for everyone where the role is `*`.
+/// A resource: a value with its name, reserved for a role, or unreserved if the role is `*`.
 pub struct Resource {
     pub label: Label,
     pub role: Role,
     pub value: Value,
 }
 
-// Written out, so that the proof of whoever drops a resource sees one call, and not the forms of its value.
+// Written out, so that a caller's proof about dropping a resource deals with one call, and not with the kinds of its
+// value.
 impl Drop for Resource {
     fn drop(self) {
         let Resource {
@@ -30,14 +31,14 @@ impl Drop for Resource {
     }
 }
 
-/// Nothing for everyone, else the role's text: resources of one name stand in this order.
+/// Returns the text of the role, which is empty for `*`: the resources of one name are ordered by it.
 fn reservation(role: &Role) -> &str
     ensures { result.now ≡ reservation role.now }
 {
     if role.is_default() { "" } else { role.text() }
 }
 
-/// How two labels stand in order. Most that are compared are equal, which costs less to see.
+/// Returns how two labels compare in byte order. Equality is tested first, because it is frequent and cheap.
 pub(crate) fn compare_labels(label: &Label, other: &Label) -> Ordering
     ensures { result ≡ slice_cmp nat_cmp label.now other.now }
 {
@@ -47,7 +48,7 @@ pub(crate) fn compare_labels(label: &Label, other: &Label) -> Ordering
     label.cmp(other)
 }
 
-/// Whether two roles are the same. Most that are compared are `*`, which costs less to see.
+/// Returns whether two roles are equal. `*` is tested first, because it is frequent and cheap.
 pub(crate) fn is_same_role(role: &Role, other: &Role) -> bool
     ensures { result ≡ same_path role.now other.now }
 {
@@ -57,7 +58,7 @@ pub(crate) fn is_same_role(role: &Role, other: &Role) -> bool
     role == other
 }
 
-/// Whether two reservations are the same.
+/// Returns whether two reservations are equal.
 fn is_same_reservation(role: &Role, other: &Role) -> bool
     ensures { result ≡ same_text (reservation role.now) (reservation other.now) }
 {
@@ -67,7 +68,7 @@ fn is_same_reservation(role: &Role, other: &Role) -> bool
     reservation(role) == reservation(other)
 }
 
-/// How two reservations stand in order.
+/// Returns how two reservations compare.
 fn compare_reservations(role: &Role, other: &Role) -> Ordering
     ensures { result ≡ slice_cmp nat_cmp (reservation role.now) (reservation other.now) }
 {
@@ -78,7 +79,7 @@ fn compare_reservations(role: &Role, other: &Role) -> Ordering
 }
 
 impl Resource {
-    /// How it stands in order to what has that name and reservation.
+    /// Returns how the key of the resource compares with this name and reservation.
     pub(crate) fn cmp_key(&self, label: &Label, role: &Role) -> Ordering
         ensures { result ≡ key_cmp (key_of self.now) (label.now, reservation role.now) }
     {
@@ -88,28 +89,28 @@ impl Resource {
         }
     }
 
-    /// Whether it has that name and reservation.
+    /// Returns whether the resource has this name and reservation.
     pub(crate) fn has_key(&self, label: &Label, role: &Role) -> bool
         ensures { result ≡ same_key (label.now, reservation role.now) (key_of self.now) }
     {
         *label == self.label && is_same_reservation(role, &self.role)
     }
 
-    /// Whether it is for everyone.
+    /// Returns whether the resource is unreserved.
     pub fn is_unreserved(&self) -> bool
         ensures { result ≡ is_default self.now.role }
     {
         self.role.is_default()
     }
 
-    /// Whether the role may use it: it is for everyone, for the role, or for a role above it.
+    /// Returns whether a role can use the resource: it is unreserved, or reserved for this role or a role above it.
     pub fn is_for(&self, role: &Role) -> bool
         ensures { result ≡ is_for role.now self.now }
     {
         self.is_unreserved() || role.is_within(&self.role)
     }
 
-    /// A copy for that role.
+    /// Returns a copy that is reserved for this role.
     pub(crate) fn moved_to(&self, role: &Role) -> Result<Resource, AllocError>
         ensures { IfOk result (λ moved. moved ≡ moved_to role.now self.now) }
     {
@@ -120,7 +121,7 @@ impl Resource {
         })
     }
 
-    /// A copy with that value.
+    /// Returns a copy with this value.
     pub(crate) fn with_value(&self, value: Value) -> Result<Resource, AllocError>
         ensures { IfOk result (λ resource. resource ≡ with_value self.now value) }
     {
@@ -131,13 +132,14 @@ impl Resource {
         })
     }
 
+    /// Returns an equal resource. Fails with `AllocError` if memory runs out.
     pub fn copy(&self) -> Result<Resource, AllocError>
         ensures { IfOk result (λ resource. resource ≡ self.now) }
     {
         self.with_value(self.value.copy()?)
     }
 
-    /// Both together, of two of one key.
+    /// Returns the united resource of two with the same key.
     pub(crate) fn united(&self, other: &Resource) -> Result<Resource, AllocError>
         requires { units_in self.now.value Thousandths + units_in other.now.value Thousandths < 2 ^ 64 }
         ensures { IfOk result (λ both. both ≡ with_value self.now (united self.now.value other.now.value)) }

@@ -1,4 +1,4 @@
-//! One more resource in a bundle, where sets of one name and reservation may share members.
+//! Adding a resource to a bundle that is being built. Sets with the same name and reservation can share members.
 ghost use Rattle.std.specs.Prelude.{◌≡◌, ◌+◌, ◌<◌, ◌^◌, ◌&&◌, not, Some, [], ◌∷◌, filter, length, nat_le, IsTrue, IfSome, IfErr, OnOk, OnErr};
 ghost use Rattle.drf_amount.specs.Algebra.{IsJoinFault};
 ghost use Rattle.drf_role.specs.Text.{same_text};
@@ -16,7 +16,7 @@ use drf_amount::AlgebraFault;
 use drf_role::{Label, Role};
 use std::alloc::AllocError;
 
-/// The resources of a name, which stand together.
+/// Returns the resources with this name, which are neighbours in the list.
 fn named<'a>(resources: &'a [Resource], label: &Label) -> &'a [Resource]
     requires { IsTrue (is_in_order resources.now) }
     ensures { result.now ≡ filter (λ r. same_text r.label label.now) resources.now }
@@ -27,7 +27,7 @@ fn named<'a>(resources: &'a [Resource], label: &Label) -> &'a [Resource]
     &rest[..count]
 }
 
-/// Whether the name has a value of another kind.
+/// Returns whether a value of another kind has this name.
 fn has_other_kind(resources: &[Resource], label: &Label, value: &Value) -> bool
     requires { IsTrue (is_in_order resources.now) }
     ensures { result ≡ has_other_kind resources.now label.now value.now }
@@ -37,7 +37,7 @@ fn has_other_kind(resources: &[Resource], label: &Label, value: &Value) -> bool
         .any(|other| other.value.clashes_with(value, Clash::Kinds))
 }
 
-/// Whether the two have different keys and share a member.
+/// Returns whether the two resources have different keys and share a member.
 fn share_apart(other: &Resource, resource: &Resource) -> bool
     ensures { result ≡ (not (same_key (key_of other.now) (key_of resource.now)) && share_members other.now.value resource.now.value) }
 {
@@ -45,7 +45,7 @@ fn share_apart(other: &Resource, resource: &Resource) -> bool
         && other.value.clashes_with(&resource.value, Clash::Members)
 }
 
-/// Whether a member stands under another reservation of the name.
+/// Returns whether a member of the resource is under another reservation of its name.
 fn is_reserved_elsewhere(resources: &[Resource], resource: &Resource) -> bool
     requires { IsTrue (is_in_order resources.now) }
     ensures { result ≡ is_reserved_elsewhere resources.now resource.now }
@@ -55,7 +55,7 @@ fn is_reserved_elsewhere(resources: &[Resource], resource: &Resource) -> bool
         .any(|other| share_apart(other, resource))
 }
 
-/// Whether with the resource the scalars of its name exceed 2^64 - 1 thousandths.
+/// Returns whether the scalars of this name would add up to more than 2^64 - 1 thousandths.
 fn is_too_much(sums: &Quantities, resource: &Resource) -> bool
     ensures { result ≡ nat_le (2 ^ 64) (amount_of sums.now resource.now.label + units_in resource.now.value Thousandths) }
 {
@@ -65,7 +65,8 @@ fn is_too_much(sums: &Quantities, resource: &Resource) -> bool
     sum.is_none()
 }
 
-/// Whether a resource of the name would go behind all others, as most do that are read in order.
+/// Returns whether a resource with this name would come after all others. This is the most frequent case when a text is
+/// read, because texts are mostly in order.
 fn is_behind(resources: &[Resource], label: &Label) -> bool
     requires { IsTrue (is_in_order resources.now) }
     ensures { IsTrue result → IsNameGap resources.now label.now (length resources.now) }
@@ -76,7 +77,7 @@ fn is_behind(resources: &[Resource], label: &Label) -> bool
     }
 }
 
-/// Where a resource of the name would go, if the name has none.
+/// Returns the place where a resource with this name would be inserted, or `None` if the name exists already.
 fn gap_of_name(resources: &[Resource], label: &Label) -> Option<usize>
     requires { IsTrue (is_in_order resources.now) }
     ensures { IfSome result (IsNameGap resources.now label.now) }
@@ -89,7 +90,8 @@ fn gap_of_name(resources: &[Resource], label: &Label) -> Option<usize>
         .err()
 }
 
-/// Puts the resource into the gap for its key, and adds its scalar to the sum of its name.
+/// Inserts the resource at the free place of its key, and adds its scalar to the sum of its name. On an error nothing
+/// changes.
 fn put_in_gap(
     resources: &mut Vec<Resource>,
     sums: &mut Quantities,
@@ -101,14 +103,15 @@ fn put_in_gap(
     ensures ok { OnOk result ((resources.new.items ≡ merged resources.old.items (resource ∷ [])) × (sums.new ≡ add_scalar sums.old resource)) }
     ensures err { OnErr result ((resources.new.items ≡ resources.old.items) × (sums.new ≡ sums.old)) }
 {
-    // With room the insertion takes no memory, so that nothing has to be taken back.
+    // The room is reserved first, so the insertion cannot fail after the sum was changed.
     resources.reserve(1)?;
     add_scalar(sums, &resource)?;
     resources.insert(at, resource)?;
     Ok(())
 }
 
-/// Puts the resource among those in order, and adds its scalar to the sum of its name.
+/// Inserts the resource in order, or unites it with the one that has its key, and adds its scalar to the sum of its
+/// name. On an error nothing changes.
 fn put(
     resources: &mut Vec<Resource>,
     sums: &mut Quantities,
@@ -132,14 +135,14 @@ fn put(
 }
 
 impl Parts {
-    /// Whether the name has a value of another kind.
+    /// Returns whether a value of another kind has this name.
     pub fn has_other_kind(&self, label: &Label, value: &Value) -> bool
         ensures { result ≡ has_other_kind self.now label.now value.now }
     {
         has_other_kind(&self.resources, label, value)
     }
 
-    /// Why the resource cannot be united with the bundle.
+    /// Returns why the resource cannot be united with the bundle, if it cannot.
     fn union_refusal(&self, resource: &Resource) -> Option<AlgebraFault>
         ensures { result ≡ union_refusal self.now resource.now }
     {
@@ -152,7 +155,7 @@ impl Parts {
         is_too_much(&self.quantities, resource).then_some(AlgebraFault::TooLarge)
     }
 
-    /// Unites with the first resource of a name, whose place was found.
+    /// Unites the bundle with the first resource of a name, whose place is known.
     fn unite_first(&mut self, at: usize, first: Resource) -> Result<(), AlgebraFault>
         requires { IsNameGap self.old first.label at }
         ensures ok { OnOk result (union self.old first ≡ Some self.new) }
@@ -167,7 +170,7 @@ impl Parts {
         Ok(put_in_gap(&mut self.resources, &mut self.quantities, at, first)?)
     }
 
-    /// Unites with a resource, of whose name there may be others.
+    /// Unites the bundle with a resource whose name can already exist.
     fn unite_further(&mut self, resource: Resource) -> Result<(), AlgebraFault>
         ensures ok { OnOk result (union self.old resource ≡ Some self.new) }
         ensures err { OnErr result (self.new ≡ self.old) }
@@ -184,9 +187,10 @@ impl Parts {
         Ok(put(&mut self.resources, &mut self.quantities, resource)?)
     }
 
-    /// Puts one more resource in: under one name and reservation scalars add and sets unite, shared
-    /// members or not. The first of `Kind`, `Overlap` and `TooLarge` that holds is told, `Kind` of a value
-    /// with nothing in it too, which else changes nothing. An `Err` changes nothing.
+    /// Adds a resource to the bundle: at an existing key, scalars are added, and sets are united and can share members.
+    /// The errors are `Kind` (the name has another kind), `Overlap` (a member is under another reservation of the
+    /// name), `TooLarge` (the scalars of the name would exceed 2^64 - 1 thousandths) and `Memory`; of several, the
+    /// first is returned. An empty value changes nothing, but `Kind` is tested for it too. On an error nothing changes.
     pub fn unite(&mut self, label: Label, role: Role, value: Value) -> Result<(), AlgebraFault>
         ensures ok { OnOk result (union self.old (record { label = label; role = role; value = value }) ≡ Some self.new) }
         ensures err { OnErr result (self.new ≡ self.old) }

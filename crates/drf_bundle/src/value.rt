@@ -1,4 +1,4 @@
-//! One resource's value: thousandths, a set of numbers or a set of labels.
+//! The value of a resource: thousandths, a set of numbers or a set of labels.
 ghost use Rattle.std.specs.Prelude.{◌≡◌, ◌+◌, ◌<◌, ◌^◌, IsTrue, ◌↔◌, IfOk};
 ghost use Rattle.drf_bundle.specs.Value.{Thousandths, units_in, IsGiven, amount_in, clash_in, united, less, has_all_of};
 
@@ -6,30 +6,30 @@ use drf_amount::{Algebra, Scalar};
 use drf_kinds::{Items, Ranges};
 use std::alloc::AllocError;
 
-/// What there is of a resource.
+/// The value of a resource.
 #[derive(Drop)]
 pub enum Value {
-    /// A number of thousandths, as of `cpus`.
+    /// A scalar in thousandths, such as `cpus`.
     Scalar(Scalar),
-    /// Numbers below 2^32, as of `ports`.
+    /// A set of numbers below 2^32, such as `ports`.
     Ranges(Ranges),
-    /// Labels, as of disks.
+    /// A set of labels, such as disks.
     Items(Items),
 }
 
-/// How two values of one name can be at odds.
+/// The ways in which two values of one name can clash.
 #[derive(Clone, Copy)]
 pub enum Clash {
-    /// They have two kinds.
+    /// The values are of different kinds.
     Kinds,
-    /// A member stands in both.
+    /// A member is in both values.
     Members,
-    /// The one or the other.
+    /// One of the other two.
     Either,
 }
 
 impl Value {
-    /// Whether there is nothing of it.
+    /// Returns whether the value is 0 or an empty set.
     pub fn is_empty(&self) -> bool
         ensures given { IsGiven self.now }
         ensures is_empty { IsTrue result ↔ (amount_in self.now ≡ 0) }
@@ -41,7 +41,7 @@ impl Value {
         }
     }
 
-    /// Its thousandths, or how many members it has.
+    /// Returns the thousandths of a scalar, or the number of members of a set.
     pub fn amount(&self) -> u128
         ensures amount { result ≡ amount_in self.now }
         ensures small { result < 2 ^ 64 }
@@ -53,7 +53,7 @@ impl Value {
         }
     }
 
-    /// Its thousandths, where it is a scalar.
+    /// Returns the thousandths of a scalar, and 0 for a set.
     pub(crate) fn thousandths(&self) -> u64
         ensures { result ≡ units_in self.now Thousandths }
     {
@@ -64,6 +64,7 @@ impl Value {
         }
     }
 
+    /// Returns an equal value. Fails with `AllocError` if memory runs out.
     pub fn copy(&self) -> Result<Value, AllocError>
         ensures { IfOk result (λ value. value ≡ self.now) }
     {
@@ -74,7 +75,7 @@ impl Value {
         })
     }
 
-    /// Whether the two are at odds in that way.
+    /// Returns whether the two values clash in this way.
     pub(crate) fn clashes_with(&self, other: &Value, clash: Clash) -> bool
         ensures { result ≡ clash_in clash self.now other.now }
     {
@@ -95,7 +96,7 @@ impl Value {
         }
     }
 
-    /// Whether the other is of this one's kind, and has no unit that this one lacks.
+    /// Returns whether `part` is of the same kind, and every unit of it is in this value.
     pub(crate) fn covers(&self, part: &Value) -> bool
         ensures { result ≡ has_all_of self.now part.now }
     {
@@ -107,7 +108,7 @@ impl Value {
         }
     }
 
-    /// Both together, shared members or not.
+    /// Returns the sum of two scalars, or the union of two sets, which can share members.
     pub(crate) fn unite(&self, other: &Value) -> Result<Value, AllocError>
         requires { units_in self.now Thousandths + units_in other.now Thousandths < 2 ^ 64 }
         ensures { IfOk result (λ value. value ≡ united self.now other.now) }
@@ -125,7 +126,7 @@ impl Value {
         }
     }
 
-    /// What is left without `part`, of which it need not have all.
+    /// Returns what is left without `part`, which this value need not cover.
     pub(crate) fn minus(&self, part: &Value) -> Result<Value, AllocError>
         ensures { IfOk result (λ value. value ≡ less self.now part.now) }
     {

@@ -1,4 +1,4 @@
-//! Computed runs in which each case of each refusal stands, and laws of what events leave alone.
+//! Computed runs in which every refusal case of every event occurs, and a theorem about what events leave unchanged.
 #![tactic(auto, unfolding(drf_rows::specs::Share::is_ahead, drf_rows::specs::Held::standing_of, drf_rows::specs::Cycle::free_of, drf_rows::specs::Cycle::with_offer, drf_rows::specs::Cycle::turn, drf_rows::specs::Cycle::cycle, drf_rows::specs::Step::refusal_of, drf_rows::specs::Step::effect, drf_rows::specs::Step::rows_after, drf_rows::specs::Step::reply_to))]
 
 ghost use Rattle.std.specs.Prelude.{◌≡◌, [], ◌∷◌, codes};
@@ -14,46 +14,52 @@ ghost use Rattle.drf_cases.specs.ServedCases.{mem_for, one_counted, one_idle, on
 ghost use Rattle.drf_cases.specs.Told.{IsRun, few};
 ghost use Rattle.drf_cases.specs.Untouched.{ClockStands, FiltersStand, LimitsStand, NumberStands, WeightsStand};
 
-/// Agents: unknown or known, too large, too many, too many names of scalars, a total below what is held. Who is active may be activated, and who
-/// is not may be deactivated.
+/// Proves a run with the refusals about agents: unknown, already registered, too large, too many agents, too many names
+/// of scalars, and a total below what is held. An active agent can be activated, and an inactive one deactivated.
 pub fn agents_cases()
     ensures { IsRun few agents_told }
 {}
 
-/// Frameworks and clients: unknown or known, without roles, too many roles, frameworks or clients, no client of that role. Who is suppressed may
-/// be suppressed, and who is not may revive.
+/// Proves a run with the refusals about frameworks and clients: unknown, already registered, without roles, too many
+/// roles, frameworks or clients, and not in the role. A suppressed client can be suppressed, and one that is not can
+/// revive.
 pub fn frameworks_cases()
     ensures { IsRun few frameworks_told }
 {}
 
-/// Roles of a framework that change: of no framework, to no roles, to too many roles or clients, away from a role with an offer or a task.
+/// Proves a run with the refusals when a framework's roles change: an unknown framework, no roles, too many roles or
+/// clients, and leaving a role with an offer or a task.
 pub fn set_framework_cases()
     ensures { IsRun few set_framework_told }
 {}
 
-/// Offers, tasks and cycles: a moment too late, who is unknown, what is unknown or another's, tasks that are known, empty or too much, and a filter too many.
+/// Proves a run with the refusals about offers, tasks and cycles: a timestamp too late, unknown frameworks, offers and
+/// tasks, another framework's offer, task names in use, empty tasks, tasks beyond the offer, and one filter too many.
 pub fn offers_cases()
     ensures { IsRun few offers_told }
 {}
 
-/// Reservations: of no agent, for everyone, of nothing, of what is reserved or not free, over a limit. They are taken on an agent that takes no part.
+/// Proves a run with the refusals about reservations: an unknown agent, the role `*`, nothing, resources that are
+/// reserved already or not free, and a limit that would be exceeded. Inactive agents can have reservations.
 pub fn reservations_cases()
     ensures { IsRun few reservations_told }
 {}
 
-/// Weights and limits: out of range, of `*`, too many rows, too many names.
+/// Proves a run with the refusals about weights and limits: out of range, the role `*`, too many rows, and too many
+/// names.
 pub fn roles_cases()
     ensures { IsRun few roles_told }
 {}
 
-/// A history that is full refuses each event, for that alone.
+/// Proves that every event is refused with `HistoryFull` if the history is full.
 pub fn full_cases()
     ensures all { FullRefusesAll }
     ensures run { IsRun one_event full_told }
 {}
 
-/// What suppressed clients hold and were offered counts for those above them, and so does what runs on agents that take no part; what is reserved
-/// counts for the threshold, but for those alone who may use it.
+/// Proves what counts for the order of clients. What suppressed clients hold, and the offers that they received, count
+/// for the nodes above them; so does what is held on inactive agents. Reserved resources count for the least size of an
+/// offer, but only to clients that can use them.
 pub fn fairness_cases()
     ensures suppressed { served one_suppressed ≡ codes "f3" ∷ codes "f2" ∷ [] }
     ensures counted { served one_counted ≡ codes "f3" ∷ codes "f2" ∷ [] }
@@ -62,13 +68,14 @@ pub fn fairness_cases()
     ensures for_others { replies_with (mem 16000 ∷ mem_for (codes "b") 16000 ∷ []) ≡ not_offered }
 {}
 
-/// Each refusal is told by the number and the name that the documents have.
+/// Proves that the number and name of each refusal are those in the documents.
 pub fn refusals_cases()
     ensures { refusals_told ≡ refusals_documented }
 {}
 
-/// Weights and limits of roles stand until they are set, whoever comes or goes. So do filters but over an accept or a decline, which may set one, a
-/// revival, a change of roles, and the removal of an agent or a framework, the clock until a moment is told, and the number of the next offer until a cycle.
+/// Proves what events leave unchanged. Weights and limits stay until they are set. Filters stay except in an accept or
+/// a decline (which can add one), a revive, a change of roles, and the removal of an agent or a framework. The clock
+/// stays until an event with a timestamp, and the next offer number until a cycle.
 pub fn untouched_law()
     ensures weights { WeightsStand }
     ensures limits { LimitsStand }

@@ -1,5 +1,5 @@
-//! When an event is refused, case by case, as runs that are computed of the written definition. The functions do nothing: what they promise is
-//! proved of the definition alone.
+//! Computed runs of the definition that show when each event is refused and what it does. The functions do nothing:
+//! their contracts are computed from the definition.
 #![tactic(auto)]
 
 mod cases;

@@ -1,4 +1,4 @@
-//! Runs whose replies are computed from the definitions. The functions do nothing.
+//! Computed runs. The functions do nothing.
 #![tactic(auto, unfolding(drf_rows::specs::Share::is_ahead, drf_rows::specs::Held::standing_of, drf_rows::specs::Cycle::free_of, drf_rows::specs::Cycle::with_offer, drf_rows::specs::Cycle::turn, drf_rows::specs::Cycle::cycle, drf_rows::specs::Share::common_divisor, drf_rows::specs::Report::report_of, drf_rows::specs::Step::refusal_of, drf_rows::specs::Step::effect, drf_rows::specs::Step::rows_after, drf_rows::specs::Step::reply_to))]
 
 ghost use Rattle.std.specs.Prelude.{◌≡◌, [], ◌∷◌, codes};
@@ -15,18 +15,18 @@ ghost use Rattle.drf_worked.specs.WeightExamples.{bounds, bounds_replies, replac
 
 use drf_rows::{Refusal, Reply};
 
-/// What is offered is not offered again, and each offer changes who is served first.
+/// Proves runs in which offered resources are not offered again, and each offer changes which client is served first.
 pub fn cycles_example()
     ensures two_cycles { replies_to ceilings opening two_cycles ≡ two_cycles_replies }
     ensures two_frameworks { replies_to ceilings opening two_frameworks ≡ two_frameworks_replies }
 {}
 
-/// What is reserved for a role is offered to it and to the roles below it, and to no other.
+/// Proves a run in which reserved resources are offered to their role and the roles below it, and to no other.
 pub fn reservations_example()
     ensures { replies_to ceilings opening reserved_for_eng ≡ reserved_for_eng_replies }
 {}
 
-/// An offer has at least 0.01 `cpus` or 32 `mem`.
+/// Proves that an offer has at least 0.01 `cpus` or 32 `mem`.
 pub fn least_offer_example()
     ensures below { replies_with (cpus 9 ∷ mem 31999 ∷ []) ≡ not_offered }
     ensures others { replies_with (gpus 8000 ∷ []) ≡ not_offered }
@@ -36,14 +36,14 @@ pub fn least_offer_example()
     ensures mem { replies_with (mem 32000 ∷ []) ≡ offered_whole (mem 32000 ∷ []) }
 {}
 
-/// An agent that is not active has no turn, and a suppressed client is not tried.
+/// Proves a run in which an inactive agent has no turn, and a suppressed client is not tried.
 pub fn inactive_example()
     ensures offered { offered half_at_work ≡ (codes "n2", codes "fb") ∷ [] }
 {}
 
-/// Of a scalar on one agent the largest amount is accepted, and one thousandth more is not; a limit of one or two of agents,
-/// names of scalars, frameworks, clients, roles or events refuses one more. Names count while their agent is known, active or
-/// not, and a role that is listed twice is one role and one client.
+/// Proves runs at the capacities. The greatest amount of a scalar on one agent is accepted, and one thousandth more is
+/// refused. Small capacities for agents, names of scalars, frameworks, clients, roles and events refuse one more. The
+/// names of inactive agents count. A role that is listed twice is one role and one client.
 pub fn limits_example()
     ensures largest { replies_with (cpus 1099511627775 ∷ []) ≡ offered_whole (cpus 1099511627775 ∷ []) }
     ensures too_large { replies_with (cpus 1099511627776 ∷ []) ≡ refused_as_too_large }
@@ -58,7 +58,8 @@ pub fn limits_example()
     ensures events { replies_to two_events opening one_cycle ≡ Reply.Done ∷ Reply.Done ∷ Reply.Refused Refusal.HistoryFull ∷ [] }
 {}
 
-/// Shares are compared as exact fractions, then counts, then names, from the top of the role tree down.
+/// Proves runs in which clients are ordered by exact fractions, then by counts, then by names, from the top of the tree
+/// of roles down.
 pub fn order_example()
     ensures close { served close_shares ≡ codes "fb" ∷ codes "fa" ∷ [] }
     ensures equal { served equal_shares ≡ codes "fb" ∷ codes "fa" ∷ [] }
@@ -72,8 +73,8 @@ pub fn order_example()
     ensures below { served nothing_held ≡ codes "f2" ∷ codes "f1" ∷ [] }
 {}
 
-/// Weights are from a thousandth to 1000, a row that is replaced keeps its place, and the heavier of two roles that hold
-/// the same is served first.
+/// Proves runs with weights. They are from 0.001 to 1000; a row that is replaced keeps its place; and if two roles hold
+/// the same, the one with the greater weight is served first.
 pub fn weights_example()
     ensures bounds { replies_to ceilings opening bounds ≡ bounds_replies }
     ensures replaced { weights_after replaced ≡ replaced_rows }
@@ -82,8 +83,8 @@ pub fn weights_example()
     ensures heavier { replies_by_weight 1001 ≡ third_to (codes "fb") (codes "b") }
 {}
 
-/// What a role holds counts what the roles below it hold; weights are roles' alone; a client that is suppressed is
-/// reported, and scalars count over all reservations.
+/// Proves reports. What a role holds includes what the roles below it hold; only roles have weights; suppressed clients
+/// are reported; and scalars count over all reservations.
 pub fn report_example()
     ensures tree { report_of tree_at_work ≡ tree_report }
     ensures weighted { report_of one_weighted ≡ weighted_report }
@@ -92,9 +93,9 @@ pub fn report_example()
     ensures events { replies_to ceilings opening two_reports ≡ two_reports_replies }
 {}
 
-/// Tasks are started with parts of one offer, all or none. What a task used is offered again when it has finished, and what was
-/// declined when its filter has ended: counted from the clock, after 365 days at most. One filter in force more than the limit
-/// is refused.
+/// Proves runs with tasks and filters. An accept starts all of its tasks or none. What a task used is offered again
+/// after it has finished, and declined resources after their filter has expired, which is at most 365 days after the
+/// clock. One filter more than the capacity is refused.
 pub fn life_example()
     ensures task { replies_to ceilings opening a_task ≡ a_task_replies }
     ensures several { replies_to ceilings opening two_tasks ≡ two_tasks_replies }
@@ -104,16 +105,17 @@ pub fn life_example()
     ensures limit { replies_to one_filter opening two_filters ≡ two_filters_replies }
 {}
 
-/// A deactivated agent is not offered, a suppressed client is offered nothing, and one that revives is offered what it
-/// declined; what leaves is reported no more. Each refusal from `BadMoment` to `NotCovered` is told, but for
-/// `KnownAgent`.
+/// Proves runs in which a deactivated agent is not offered, a suppressed client is offered nothing, a client that
+/// revives is offered what it declined, and removed agents and frameworks are no longer reported. Each refusal from
+/// `BadMoment` to `NotCovered`, except `KnownAgent`, occurs.
 pub fn taking_part_example()
     ensures part { replies_to ceilings opening taking_part ≡ taking_part_replies }
     ensures refused { replies_to ceilings opening refused ≡ refused_replies }
 {}
 
-/// A filter holds back what it covers from its own client on its own agent, from the clock after its event to its end; what
-/// sets no filter is not refused for their limit. The latest moment is accepted.
+/// Proves runs with filters. A filter keeps what it covers from its own client on its own agent only, from its event
+/// until its end. An accept or a decline that sets no filter is not refused because of the capacity for filters. The
+/// greatest timestamp is accepted.
 pub fn filters_example()
     ensures whose { replies_to ceilings opening whose_filter ≡ whose_filter_replies }
     ensures rest { replies_to ceilings opening a_rest ≡ a_rest_replies }
@@ -121,15 +123,16 @@ pub fn filters_example()
     ensures limit { replies_to one_filter opening at_the_limit ≡ at_the_limit_replies }
 {}
 
-/// What revives, leaves or is deactivated leaves alone what is another client's or another agent's.
+/// Proves runs in which reviving, removing and deactivating leave other clients and agents unchanged.
 pub fn others_example()
     ensures roles { replies_to ceilings opening two_roles ≡ two_roles_replies }
     ensures frameworks { replies_to ceilings opening one_role_revives ≡ one_role_revives_replies }
     ensures left { replies_to ceilings opening who_leaves ≡ who_leaves_replies }
 {}
 
-/// A framework that takes a role is offered what is reserved for it, and a role in use is not left. A role that is taken again has no filter, and its
-/// offers are counted anew. Roles that stay come first, and new ones follow in the order of the list.
+/// Proves runs in which a framework's roles change. It is offered what is reserved for a new role, cannot leave a role
+/// in use, and a role that is taken again has no filters and the count 0. Roles that stay come first, then the new ones
+/// in the order of the list.
 pub fn role_changes_example()
     ensures change { replies_to ceilings opening roles_change ≡ roles_change_replies }
     ensures order { frameworks_after five_roles ≡ five_roles_rows }

@@ -1,3 +1,4 @@
+//! Finite sets of labels.
 ghost use Rattle.std.specs.Prelude.{◌≡◌, ◌<◌, ◌^◌, ℕ, List, All, IfOk};
 ghost use Rattle.std.specs.FinSet as set;
 ghost use Rattle.drf_kinds.specs.Sets.{set_join, set_refusal, is_kept};
@@ -11,9 +12,9 @@ use drf_role::Label;
 use std::alloc::{AllocError, Global};
 use std::marker::Model;
 
-/// A finite set of labels, as of disks.
+/// A finite set of labels, such as disks.
 pub struct Items {
-    // In order of bytes, each once.
+    // In byte order, without repetitions.
     names: Vec<Label>,
 }
 
@@ -32,14 +33,14 @@ impl Model for Items {
     ghost invariant = { λ i. AreNamesOfSet i.names.items };
 }
 
-// Written out, so that the proof of whoever drops a set sees one call, and not its labels.
+// Written out, so that a caller's proof about dropping a set deals with one call, and not with its labels.
 impl Drop for Items {
     fn drop(self) {
         let Items { names: _names } = self;
     }
 }
 
-/// Tells the proof that each of them is a label.
+/// Proves that each of them is a valid label, from the invariant of `Label`.
 fn recall(labels: &[Label])
     ensures { All IsLabel labels.now }
 {
@@ -49,7 +50,8 @@ fn recall(labels: &[Label])
 }
 
 impl Items {
-    /// The set of the labels: one that stands twice counts once.
+    /// Returns the set of the labels. A label that occurs twice counts once. Fails with `AllocError` if memory runs
+    /// out.
     pub fn from_names(_alloc: Global, names: Vec<Label>) -> Result<Items, AllocError>
         ensures { IfOk result (λ items. items ≡ set.from_list names.items) }
     {
@@ -60,7 +62,7 @@ impl Items {
         Ok(Items { names })
     }
 
-    /// The labels, in order of bytes.
+    /// Returns the labels, in byte order.
     pub fn names(&self) -> &[Label]
         ensures ascending { AreAscending result.now }
         ensures labels { All IsLabel result.now }
@@ -70,7 +72,7 @@ impl Items {
         self.names.as_slice()
     }
 
-    /// Whether `name` is a member, by binary search.
+    /// Returns whether `name` is a member, by binary search.
     pub fn contains(&self, name: &str) -> bool
         ensures { result ≡ set.contains self.now name.now }
     {
@@ -79,7 +81,7 @@ impl Items {
             .is_ok()
     }
 
-    /// The labels of both sets if `united`, and else those that are in this one alone.
+    /// Returns the labels of both sets if `united`, and otherwise those that are only in this one.
     fn combined(&self, other: &Items, united: bool) -> Result<Items, AllocError>
         ensures { IfOk result (λ found. (text : List ℕ) → set.contains found text ≡ is_kept united (set.contains self.now text) (set.contains other.now text)) }
     {
@@ -89,14 +91,14 @@ impl Items {
         })
     }
 
-    /// The labels of both sets, shared or not.
+    /// Returns the labels of both sets, which can share members.
     pub fn unite(&self, other: &Items) -> Result<Items, AllocError>
         ensures { IfOk result (λ found. found ≡ set.union self.now other.now) }
     {
         self.combined(other, true)
     }
 
-    /// The labels of this set that are not in the other, which need not be part of it.
+    /// Returns the labels of this set that are not in the other one, which need not be a subset.
     pub fn difference(&self, other: &Items) -> Result<Items, AllocError>
         ensures { IfOk result (λ found. found ≡ set.difference self.now other.now) }
     {
@@ -149,6 +151,7 @@ impl Algebra for Items {
         Ok(self.difference(part)?)
     }
 
+    /// Returns the number of labels.
     fn amount(&self) -> u128
         ensures given { IsLabelSet self.now }
         ensures amount { result ≡ set.len self.now }

@@ -1,5 +1,4 @@
-//! Kinds of resources that are sets: finite sets of numbers and of labels, as amounts that can be
-//! joined where they are disjoint.
+//! Sets as resource values: finite sets of numbers and of labels, which can be joined if they are disjoint.
 #![tactic(auto)]
 
 mod interval;

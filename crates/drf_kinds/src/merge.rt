@@ -1,4 +1,4 @@
-//! Two lists of labels in order of bytes, gone through side by side.
+//! Operations that walk through two sorted lists of labels, side by side.
 ghost use Rattle.std.specs.Prelude.{◌≡◌, List, ℕ, false, IsTrue, IfOk};
 ghost use Rattle.std.specs.Bool.{OnTrue, OnFalse};
 ghost use Rattle.drf_kinds.specs.Sets.{is_met, is_kept};
@@ -8,7 +8,7 @@ use drf_role::Label;
 use std::alloc::{AllocError, Global};
 use std::cmp::Ordering;
 
-/// The list in which the next label stands.
+/// The list that has the next label: the left one, the right one, or both.
 #[derive(Clone, Copy)]
 enum Side {
     Left,
@@ -16,6 +16,7 @@ enum Side {
     Both,
 }
 
+/// Returns which list has the next label, or `None` if both are at their end.
 fn next_side(left: &[Label], right: &[Label]) -> Option<Side>
     ensures { result ≡ next_side left.now right.now }
 {
@@ -35,7 +36,7 @@ fn next_side(left: &[Label], right: &[Label]) -> Option<Side>
     })
 }
 
-/// Whether some label of the left list is in the right one, or out of it if not `inside`.
+/// Returns whether some label of the left list is in the right one (`inside`), or is not in it (otherwise).
 pub fn meets(left: &[Label], right: &[Label], inside: bool) -> bool
     requires left { AreAscending left.now }
     requires right { AreAscending right.now }
@@ -65,7 +66,7 @@ pub fn meets(left: &[Label], right: &[Label], inside: bool) -> bool
     false
 }
 
-/// The labels of both lists if `united`, and else those that are in the left one alone, in order.
+/// Returns the labels of both lists if `united`, and otherwise those that are only in the left one, in order.
 pub fn combined(
     alloc: Global,
     left: &[Label],
@@ -93,7 +94,7 @@ pub fn combined(
                 right = &right[1..];
             }
             Side::Both => {
-                // One that is kept is found later, in the left list.
+                // A label of both lists that is kept is added later, from the left list.
                 if !united {
                     left = &left[1..];
                 }
@@ -104,7 +105,7 @@ pub fn combined(
     Ok(found)
 }
 
-/// Copies of the labels.
+/// Returns copies of the labels. Fails with `AllocError` if memory runs out.
 pub fn copies(alloc: Global, labels: &[Label]) -> Result<Vec<Label>, AllocError>
     ensures { IfOk result (λ copies. copies.items ≡ labels.now) }
 {

@@ -1,3 +1,4 @@
+//! Finite sets of numbers.
 ghost use Rattle.std.specs.Prelude.{◌≡◌, ◌↔◌, ◌<◌, ◌≤◌, ◌^◌, ℕ, All, Any, IsTrue, IsErrOf, IfOk, map};
 ghost use Rattle.std.specs.List.Sorted.{IsNonDecreasingBy, IsPermutation};
 ghost use Rattle.std.specs.FinSet as set;
@@ -13,10 +14,10 @@ use std::alloc::{AllocError, Global};
 use std::marker::Model;
 use thiserror::Error;
 
-/// Why pairs of numbers are no set.
+/// Why pairs of numbers do not make a set.
 #[derive(Clone, Copy, Debug, PartialEq, Eq, Error)]
 pub enum RangesFault {
-    /// The first end of a pair is the greater.
+    /// The first number of a pair is greater than the second.
     #[error("the first end of a range is the greater")]
     Backwards,
     #[error("out of memory")]
@@ -31,9 +32,9 @@ impl From<AllocError> for RangesFault {
     }
 }
 
-/// A finite set of numbers below 2^32, as of ports.
+/// A finite set of numbers below 2^32, such as ports.
 pub struct Ranges {
-    // Each is maximal: neither the number before it nor the one after it is in the set.
+    // Each interval is maximal: neither the number before it nor the one after it is in the set.
     intervals: Intervals,
 }
 
@@ -52,7 +53,8 @@ impl Model for Ranges {
     ghost invariant = { λ r. AreIntervalsOfSet r.intervals.items };
 }
 
-// Written out, so that the proof of whoever drops a set sees one call, and not where its intervals lie.
+// Written out, so that a caller's proof about dropping a set deals with one call, and not with where its intervals are
+// stored.
 impl Drop for Ranges {
     fn drop(self) {
         let Ranges {
@@ -61,7 +63,7 @@ impl Drop for Ranges {
     }
 }
 
-/// The intervals of pairs.
+/// Returns the intervals of the pairs.
 fn intervals_of(alloc: Global, pairs: &[(u32, u32)]) -> Result<Intervals, AllocError>
     ensures { IfOk result (λ v. v.items ≡ map interval_of pairs.now) }
 {
@@ -71,7 +73,7 @@ fn intervals_of(alloc: Global, pairs: &[(u32, u32)]) -> Result<Intervals, AllocE
         .collect(alloc)
 }
 
-/// The intervals of pairs, in order of their first ends.
+/// Returns the intervals of the pairs, ordered by their first numbers.
 fn sorted(alloc: Global, pairs: &[(u32, u32)]) -> Result<Intervals, AllocError>
     ensures intervals { IfOk result (λ v. IsPermutation (map interval_of pairs.now) v.items) }
     ensures sorted { IfOk result (λ v. IsNonDecreasingBy (λ i. i.first) v.items) }
@@ -81,7 +83,7 @@ fn sorted(alloc: Global, pairs: &[(u32, u32)]) -> Result<Intervals, AllocError>
     Ok(intervals)
 }
 
-/// The maximal intervals of the numbers of `intervals`, which stand in order of their first ends.
+/// Returns the maximal intervals that cover the same numbers as `intervals`, which are ordered by their first numbers.
 fn merged(alloc: Global, intervals: &[Interval]) -> Result<Intervals, AllocError>
     requires sorted { IsNonDecreasingBy (λ i. i.first) intervals.now }
     requires ordered { All (λ i. i.first ≤ i.last) intervals.now }
@@ -114,6 +116,7 @@ fn merged(alloc: Global, intervals: &[Interval]) -> Result<Intervals, AllocError
 }
 
 impl Ranges {
+    /// Returns the set with these maximal intervals.
     fn new(intervals: Intervals) -> Ranges
         requires { AreMaximal intervals.items }
         ensures { result ≡ members intervals.items }
@@ -121,7 +124,7 @@ impl Ranges {
         Ranges { intervals }
     }
 
-    /// The numbers of both sets if `united`, and else those that are in this one alone.
+    /// Returns the numbers of both sets if `united`, and otherwise those that are only in this one.
     fn combined(&self, other: &Ranges, united: bool) -> Result<Ranges, AllocError>
         ensures { IfOk result (λ found. (n : ℕ) → set.contains found n ≡ is_kept united (set.contains self.now n) (set.contains other.now n)) }
     {
@@ -129,8 +132,9 @@ impl Ranges {
         Ok(Ranges::new(combined(alloc, &self.intervals, &other.intervals, united)?))
     }
 
-    /// The numbers of all the pairs, each from its first end to its second. A pair whose first end
-    /// is the greater is `Backwards`, whatever the memory.
+    /// Returns the set of the numbers of all pairs, each from its first number to its second, both included. Fails with
+    /// `Backwards` if the first number of a pair is greater than the second, and with `Memory` if memory runs out;
+    /// `Backwards` is tested first.
     pub fn from_pairs(alloc: Global, pairs: &[(u32, u32)]) -> Result<Ranges, RangesFault>
         ensures members { IfOk result (λ ranges. (n : ℕ) → IsTrue (set.contains ranges n) ↔ Any (λ pair. (pair.0 ≤ n) × (n ≤ pair.1)) pairs.now) }
         ensures backwards { IsErrOf result RangesFault.Backwards ↔ Any (λ pair. pair.1 < pair.0) pairs.now }
@@ -143,21 +147,21 @@ impl Ranges {
         Ok(Ranges::new(merged(alloc, &intervals)?))
     }
 
-    /// The numbers of both sets, shared or not.
+    /// Returns the numbers of both sets, which can share members.
     pub fn unite(&self, other: &Ranges) -> Result<Ranges, AllocError>
         ensures { IfOk result (λ found. found ≡ set.union self.now other.now) }
     {
         self.combined(other, true)
     }
 
-    /// The numbers of this set that are not in the other, which need not be part of it.
+    /// Returns the numbers of this set that are not in the other one, which need not be a subset.
     pub fn difference(&self, other: &Ranges) -> Result<Ranges, AllocError>
         ensures { IfOk result (λ found. found ≡ set.difference self.now other.now) }
     {
         self.combined(other, false)
     }
 
-    /// The maximal intervals, in ascending order: a number stands between any two that is in none.
+    /// Returns the maximal intervals in ascending order: between two of them there is a number that is not in the set.
     pub fn intervals(&self) -> &[Interval]
         ensures maximal { AreMaximal result.now }
         ensures value { members result.now ≡ self.now }
@@ -166,7 +170,7 @@ impl Ranges {
         self.intervals.as_slice()
     }
 
-    /// Whether `number` is a member, by binary search.
+    /// Returns whether `number` is a member, by binary search.
     pub fn contains(&self, number: u32) -> bool
         ensures { result ≡ set.contains self.now number }
     {
@@ -223,6 +227,7 @@ impl Algebra for Ranges {
         Ok(self.difference(part)?)
     }
 
+    /// Returns how many numbers the set has.
     fn amount(&self) -> u128
         ensures given { IsNumberSet self.now }
         ensures amount { result ≡ set.len self.now }

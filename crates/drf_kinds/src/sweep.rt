@@ -1,5 +1,5 @@
-//! Two sets of numbers, gone through side by side. A set is seen as the places where it begins and
-//! ends: its intervals' first numbers, and the numbers after their last ones.
+//! Operations that walk through two sets of numbers, side by side. A set is seen as its edges, the places where it
+//! begins and ends: the first number of each interval, and the number after its last one.
 ghost use Rattle.std.specs.Prelude.{◌≡◌, ◌≢◌, ℕ, false, min, IsTrue, IfOk, IfSome, IfNone};
 ghost use Rattle.std.specs.Bool.{OnTrue, OnFalse};
 ghost use Rattle.drf_kinds.specs.Intervals.{AreMaximal, is_in};
@@ -10,10 +10,10 @@ use crate::interval::{Interval, Intervals};
 use std::alloc::{AllocError, Global};
 use std::marker::Model;
 
-/// Above each place where a set of numbers below 2^32 can begin or end.
+/// A value greater than every edge of a set of numbers below 2^32.
 const NOWHERE: u64 = 1 << 33;
 
-/// What is left of a set's places, and whether the numbers before the next one are inside.
+/// The edges of a set that are still to come, and whether the numbers before the next edge are in the set.
 #[derive(Drop)]
 struct Edges<'a> {
     intervals: &'a [Interval],
@@ -29,6 +29,7 @@ impl<'a> Model for Edges<'a> {
 }
 
 impl<'a> Edges<'a> {
+    /// Returns all edges of the set with these intervals.
     fn new(intervals: &'a [Interval]) -> Edges<'a>
         ensures { result ≡ steps_of false intervals.now }
     {
@@ -38,13 +39,14 @@ impl<'a> Edges<'a> {
         }
     }
 
+    /// Returns whether the numbers before the next edge are in the set.
     fn is_inside(&self) -> bool
         ensures { result ≡ self.now.inside }
     {
         self.inside
     }
 
-    /// The next place.
+    /// Returns the next edge, or `NOWHERE` if there is none.
     fn next(&self) -> u64
         ensures { result ≡ next_place self.now.places }
     {
@@ -55,7 +57,7 @@ impl<'a> Edges<'a> {
         }
     }
 
-    /// Goes past `place`, if it is the next one.
+    /// Moves past `place` if it is the next edge.
     fn pass(&mut self, place: u64)
         requires { place ≢ NOWHERE }
         ensures { self.new ≡ passed place self.old }
@@ -72,7 +74,7 @@ impl<'a> Edges<'a> {
     }
 }
 
-/// Goes past the next place of either set.
+/// Moves past the next edge of the two sets, and returns it, or `None` if there is none.
 fn pass_both(left: &mut Edges, right: &mut Edges) -> Option<u64>
     ensures place { IfSome result (λ place. place ≡ min (next_place left.old.places) (next_place right.old.places)) }
     ensures some { IfSome result (λ place. place ≢ NOWHERE) }
@@ -91,7 +93,7 @@ fn pass_both(left: &mut Edges, right: &mut Edges) -> Option<u64>
     Some(place)
 }
 
-/// Whether some number of the left set is in the right one, or out of it if not `inside`.
+/// Returns whether some number of the left set is in the right one (`inside`), or is not in it (otherwise).
 pub fn meets(left: &[Interval], right: &[Interval], inside: bool) -> bool
     requires left { AreMaximal left.now }
     requires right { AreMaximal right.now }
@@ -108,7 +110,7 @@ pub fn meets(left: &[Interval], right: &[Interval], inside: bool) -> bool
     false
 }
 
-/// Whether a number is kept, by whether it is in each of two sets.
+/// Returns whether a number is kept, given whether it is in each of the two sets.
 fn is_kept(united: bool, left: bool, right: bool) -> bool
     ensures { result ≡ is_kept united left right }
 {
@@ -119,7 +121,8 @@ fn is_kept(united: bool, left: bool, right: bool) -> bool
     }
 }
 
-/// The numbers of both sets if `united`, and else those that are in the left one alone.
+/// Returns the numbers of both sets if `united`, and otherwise those that are only in the left one, as maximal
+/// intervals.
 pub fn combined(
     alloc: Global,
     left: &[Interval],

@@ -1,4 +1,4 @@
-//! Parts that are joined by `/`.
+//! Texts whose parts are joined by `/`: roles and the paths of nodes.
 ghost use Rattle.std.specs.Prelude.{◌≡◌, ◌<◌, ◌≤◌, ◌↔◌, ◌==◌, [], ◌∷◌, List, ℕ, IfOk, IsTrue, Some, codes, length, slice_get, slice_index_or, take};
 ghost use Rattle.std.specs.String.{string_bytes};
 ghost use Rattle.std.specs.Str.{IsAscii};
@@ -23,7 +23,7 @@ use std::sync::Arc;
 /// The text that needs no memory.
 const STAR: &str = "*";
 
-/// How many places of parts lie beside the text; those of more parts need memory of their own.
+/// For how many parts the places are stored beside the text; those of more parts need their own memory.
 const NEAR_SPANS: usize = 4;
 
 /// Where a part begins and ends in the text.
@@ -33,25 +33,25 @@ struct Span {
     end: usize,
 }
 
-/// Whether a text is the other one, or goes on after it with `/`.
+/// Returns whether `text` is equal to `front`, or continues it with `/`.
 fn goes_on(text: &[u8], front: &[u8]) -> bool
     ensures { IsTrue result ↔ GoesOn text.now front.now }
 {
-    // Most texts part here, so that nothing else of them is compared.
+    // Most texts differ in this, so nothing else is compared.
     if text.len() > front.len() && text[front.len()] != b'/' {
         return false;
     }
     text.starts_with(front)
 }
 
-/// An ASCII text and the places of its parts.
+/// An ASCII text with the places of its parts.
 #[derive(Drop)]
 struct Cut {
     text: String,
     spans: SmallVec<Span, NEAR_SPANS>,
 }
 
-/// `*`, the text of most roles, needs no memory; any other text is shared by its copies.
+/// The stored text: `*`, the text of most roles, needs no memory; any other text is shared by its copies.
 #[derive(Drop)]
 enum Kept {
     Star,
@@ -59,6 +59,7 @@ enum Kept {
 }
 
 impl Kept {
+    /// Returns the text.
     fn text(&self) -> &str
         ensures { result.now ≡ text_in self.now }
     {
@@ -68,7 +69,7 @@ impl Kept {
         }
     }
 
-    /// The number of parts.
+    /// Returns the number of parts.
     fn len(&self) -> usize
         ensures { result ≡ length (spans_in self.now) }
     {
@@ -78,6 +79,7 @@ impl Kept {
         }
     }
 
+    /// Returns the place of a part in the text.
     fn span(&self, i: usize) -> Span
         requires { i < length (spans_in self.now) }
         ensures { result ≡ slice_index_or (spans_in self.now) i result }
@@ -91,7 +93,7 @@ impl Kept {
         }
     }
 
-    /// The same text. It asks for no memory, and fails where 2^63 owners were counted.
+    /// Returns a copy that shares the text. It allocates nothing, and fails only if there would be 2^63 owners.
     fn copy(&self) -> Result<Kept, AllocError>
         ensures text { IfOk result (λ kept. text_in kept ≡ text_in self.now) }
         ensures spans { IfOk result (λ kept. spans_in kept ≡ spans_in self.now) }
@@ -103,7 +105,7 @@ impl Kept {
     }
 }
 
-/// A text in parts. Contracts see the list of the parts.
+/// A text in parts. Contracts see the list of its parts.
 pub struct Joined {
     kept: Kept,
     alloc: Global,
@@ -122,7 +124,7 @@ impl Model for Joined {
     ghost invariant = { λ p. IsCut (text_in p.kept) (spans_in p.kept) };
 }
 
-// Written out, so that the proof of whoever drops a text sees one call, and not the two forms of what is kept.
+// Written out, so that a caller's proof about dropping a text deals with one call, and not with its two forms.
 impl Drop for Joined {
     fn drop(self) {
         let Joined {
@@ -133,7 +135,7 @@ impl Drop for Joined {
 }
 
 impl Joined {
-    /// The places of the parts of a text.
+    /// Returns the places of the parts of a text.
     fn spans(alloc: Global, text: &str) -> Result<SmallVec<Span, NEAR_SPANS>, AllocError>
         ensures { IfOk result (λ spans. spans.items ≡ spans_from 0 (parts_of text.now)) }
     {
@@ -152,6 +154,7 @@ impl Joined {
         Ok(spans)
     }
 
+    /// Returns the text, cut at each `/`. Fails with `AllocError` if memory runs out.
     pub fn cut(alloc: Global, text: String) -> Result<Joined, AllocError>
         requires { IsAscii (string_bytes text) }
         ensures { IfOk result (λ parts. parts ≡ parts_of (string_bytes text)) }
@@ -163,7 +166,7 @@ impl Joined {
         })
     }
 
-    /// The text `*`.
+    /// Returns the text `*`.
     pub fn star(alloc: Global) -> Joined
         ensures { result ≡ codes "*" ∷ [] }
     {
@@ -173,6 +176,7 @@ impl Joined {
         }
     }
 
+    /// Returns a copy of the text, cut at each `/`. Fails with `AllocError` if memory runs out.
     pub fn from_text(alloc: Global, text: &str) -> Result<Joined, AllocError>
         requires { IsAscii text.now }
         ensures { IfOk result (λ parts. parts ≡ parts_of text.now) }
@@ -183,18 +187,19 @@ impl Joined {
         Joined::cut(alloc, String::from_str(alloc, text)?)
     }
 
-    /// The allocator of its text.
+    /// Returns the allocator of the text.
     pub fn alloc(&self) -> Global {
         self.alloc
     }
 
-    /// Whether it is kept without memory, as `*` is. No other text is.
+    /// Returns whether the text is stored without memory. Only `*` is.
     pub fn needs_no_memory(&self) -> bool
         ensures { IsTrue result → self.now ≡ codes "*" ∷ [] }
     {
         matches!(self.kept, Kept::Star)
     }
 
+    /// Returns the text.
     pub fn text(&self) -> &str
         ensures text { result.now ≡ text_of self.now }
         ensures parts { parts_of result.now ≡ self.now }
@@ -203,13 +208,14 @@ impl Joined {
         self.kept.text()
     }
 
+    /// Returns the number of parts.
     pub fn len(&self) -> usize
         ensures { result ≡ length self.now }
     {
         self.kept.len()
     }
 
-    /// The place of a part in the text.
+    /// Returns the place of a part in the text.
     fn span(&self, i: usize) -> Span
         requires { i < length self.now }
         ensures { result ≡ slice_index_or (spans_from 0 self.now) i result }
@@ -217,6 +223,7 @@ impl Joined {
         self.kept.span(i)
     }
 
+    /// Returns the part at an index.
     pub fn part(&self, i: usize) -> &str
         requires { i < length self.now }
         ensures { slice_get self.now i ≡ Some result.now }
@@ -225,13 +232,14 @@ impl Joined {
         &self.text()[span.start..span.end]
     }
 
+    /// Returns an iterator over the parts.
     pub fn parts(&self) -> Parts<'_>
         ensures { result ≡ self.now }
     {
         Parts::new(self)
     }
 
-    /// The first parts, `len` of them. Where these are all, no memory is asked for.
+    /// Returns the prefix of `len` parts. If these are all parts, nothing is allocated.
     pub fn front(&self, len: usize) -> Result<Joined, AllocError>
         requires some { 1 ≤ len }
         requires within { len ≤ length self.now }
@@ -244,7 +252,7 @@ impl Joined {
         Joined::from_text(self.alloc, &self.text()[..end])
     }
 
-    /// The same text. It asks for no memory, and fails where 2^63 owners were counted.
+    /// Returns a copy that shares the text. It allocates nothing, and fails only if there would be 2^63 owners.
     pub fn copy(&self) -> Result<Joined, AllocError>
         ensures { IfOk result (λ parts. parts ≡ self.now) }
     {
@@ -254,6 +262,7 @@ impl Joined {
         })
     }
 
+    /// Returns whether the parts of `front` are a prefix of these.
     pub fn begins_with(&self, front: &Joined) -> bool
         ensures { IsTrue result ↔ BeginsWith self.now front.now }
     {
@@ -304,7 +313,7 @@ impl Ord for Joined {
 
     ghost matches_eq = { lists_ties (slice_cmp nat_cmp) texts_ties };
 
-    /// Part by part, each by its bytes, a path before what goes on after it.
+    /// Paths are compared part by part, each part by its bytes; a prefix comes before longer paths.
     fn cmp(&self, other: &Joined) -> Ordering {
         let shared = self.len().min(other.len());
         for i in 0..shared {

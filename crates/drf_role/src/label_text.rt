@@ -1,4 +1,4 @@
-//! The text of a label. Most are short, and are compared often.
+//! The text of a label. Most labels are short, and labels are often compared for equality.
 ghost use Rattle.std.specs.Prelude.{◌≡◌, ◌≤◌, List, ℕ, All, IfOk, IsOk, Some, length};
 ghost use Rattle.std.specs.Hash as fed;
 ghost use Rattle.std.specs.Cmp;
@@ -15,10 +15,10 @@ use std::hash::{Hash, Hasher};
 use std::marker::Model;
 use std::sync::Arc;
 
-/// The most bytes of a text that has a number.
+/// The greatest length, in bytes, of a text that has a number.
 const MAX_NUMBERED_LEN: usize = 7;
 
-/// A text of at most 8 bytes lies here, and needs no memory; a longer one is shared by its copies.
+/// The bytes of a text. At most 8 bytes are stored here and need no memory; a longer text is shared by its copies.
 #[derive(Drop)]
 enum LabelBytes {
     Here(ArrayString<8>),
@@ -26,6 +26,7 @@ enum LabelBytes {
 }
 
 impl LabelBytes {
+    /// Returns a copy of the text. Fails with `AllocError` if memory runs out, and never for at most 8 bytes.
     fn from_text(alloc: Global, text: &str) -> Result<LabelBytes, AllocError>
         ensures bytes { IfOk result (λ bytes. bytes_of bytes ≡ text.now) }
         ensures here { length text.now ≤ 8 → IsOk result }
@@ -36,6 +37,7 @@ impl LabelBytes {
         }
     }
 
+    /// Returns the text.
     fn text(&self) -> &str
         ensures { result.now ≡ bytes_of self.now }
     {
@@ -45,6 +47,7 @@ impl LabelBytes {
         }
     }
 
+    /// Returns an equal text.
     fn copy(&self) -> Result<LabelBytes, AllocError>
         ensures { IfOk result (λ bytes. bytes_of bytes ≡ bytes_of self.now) }
     {
@@ -55,7 +58,7 @@ impl LabelBytes {
     }
 }
 
-/// The bytes as digits to base 256, and how many they are as a last one to base 8.
+/// Returns the number with these bytes as digits in base 256, and their count as a last digit in base 8.
 fn number_of(bytes: &[u8]) -> u64
     requires { length bytes.now ≤ 7 }
     ensures number { result ≡ number_of bytes.now }
@@ -68,7 +71,7 @@ fn number_of(bytes: &[u8]) -> u64
     number * 8 + bytes.len() as u64
 }
 
-/// The number of a text of 1 to 7 bytes, which no other has, and 0 of any other text.
+/// Returns a number that identifies a text of 1 to 7 bytes, and 0 for any other text.
 fn text_number(text: &str) -> u64
     ensures { IsNumbered text.now result }
 {
@@ -96,7 +99,7 @@ impl Model for LabelText {
     ghost invariant = { λ t. IsNumbered (bytes_of t.bytes) t.number };
 }
 
-// Written out, so that the proof of whoever drops a text sees one call, and not the two forms of its bytes.
+// Written out, so that a caller's proof about dropping a text deals with one call, and not with its two forms.
 impl Drop for LabelText {
     fn drop(self) {
         let LabelText {
@@ -107,7 +110,7 @@ impl Drop for LabelText {
 }
 
 impl LabelText {
-    /// A text of at most 8 bytes needs no memory.
+    /// Returns a copy of the text. Fails with `AllocError` if memory runs out, and never for at most 8 bytes.
     pub fn from_text(alloc: Global, text: &str) -> Result<LabelText, AllocError>
         ensures text { IfOk result (λ label. label ≡ text.now) }
         ensures here { length text.now ≤ 8 → IsOk result }
@@ -118,13 +121,14 @@ impl LabelText {
         })
     }
 
+    /// Returns the text.
     pub fn text(&self) -> &str
         ensures { result.now ≡ self.now }
     {
         self.bytes.text()
     }
 
-    /// The same text. It asks for no memory, and fails where 2^63 owners of a long one were counted.
+    /// Returns an equal text. It allocates nothing, and fails only if a long text would have 2^63 owners.
     pub fn copy(&self) -> Result<LabelText, AllocError>
         ensures { IfOk result (λ label. label ≡ self.now) }
     {

@@ -1,4 +1,4 @@
-//! Names, labels, roles and paths of clients and nodes.
+//! Names, labels, roles, and paths of clients and nodes.
 #![tactic(auto)]
 
 mod joined;

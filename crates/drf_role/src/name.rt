@@ -8,29 +8,34 @@ use std::alloc::{AllocError, Global};
 use std::marker::Model;
 use thiserror::Error;
 
-/// The most bytes of a name or a label.
+/// The greatest length of a name or a label, in bytes.
 pub(crate) const MAX_NAME_LEN: usize = 64;
 
+/// Why a text is not read as a name or a label.
 #[derive(Clone, Copy, Debug, PartialEq, Eq, Error)]
 pub enum NameFault {
+    /// The text is not a name, or not a label.
     #[error("not a name")]
     BadName,
     #[error("out of memory")]
     Memory,
 }
 
+/// Returns whether a name can have this byte.
 fn is_name_byte(byte: u8) -> bool
     ensures { IsTrue result ↔ IsNameByte byte }
 {
     byte.is_ascii_alphanumeric() || byte == b'_' || byte == b'-' || byte == b'.'
 }
 
+/// Returns whether a label can have this byte.
 fn is_label_byte(byte: u8) -> bool
     ensures { IsTrue result ↔ IsLabelByte byte }
 {
     is_name_byte(byte) || byte == b'/'
 }
 
+/// Returns whether the text is a valid name.
 fn is_name(text: &str) -> bool
     ensures { IsTrue result ↔ IsName text.now }
 {
@@ -38,6 +43,7 @@ fn is_name(text: &str) -> bool
     !bytes.is_empty() && bytes.len() <= MAX_NAME_LEN && bytes.iter().all(|b| is_name_byte(*b))
 }
 
+/// Returns whether the text is a valid label.
 fn is_label(text: &str) -> bool
     ensures { IsTrue result ↔ IsLabel text.now }
 {
@@ -61,7 +67,7 @@ impl Model for Name {
     ghost inverse = { λ bytes. record { word = bytes } };
 }
 
-// Written out, so that the proof of whoever drops a name sees one call.
+// Written out, so that a caller's proof about dropping a name deals with one call.
 impl Drop for Name {
     fn drop(self) {
         let Name { word: _word } = self;
@@ -69,7 +75,8 @@ impl Drop for Name {
 }
 
 impl Name {
-    /// Reads a name. What is no name is `BadName`, and memory is asked for only at a name.
+    /// Reads a name. Fails with `BadName` if the text is not a name, and with `Memory` if memory runs out. A text that
+    /// is not a name needs no memory.
     pub fn read(alloc: Global, text: &str) -> Result<Name, NameFault>
         ensures ok { IfOk result (λ name. name ≡ text.now) }
         ensures right { OnOk result (IsName text.now) }
@@ -85,6 +92,7 @@ impl Name {
         }
     }
 
+    /// Returns the text of the name.
     pub fn text(&self) -> &str
         ensures text { result.now ≡ self.now }
         ensures right { IsName self.now }
@@ -92,13 +100,14 @@ impl Name {
         self.word.text()
     }
 
-    /// Tells a proof what every name is. It does nothing.
+    /// Proves that the name is valid. It does nothing.
     pub fn recall(&self)
         ensures { IsName self.now }
     {
         let _ = self.text();
     }
 
+    /// Returns an equal name.
     pub fn copy(&self) -> Result<Name, AllocError>
         ensures { IfOk result (λ name. name ≡ self.now) }
     {
@@ -124,7 +133,7 @@ impl Model for Label {
     ghost inverse = { λ bytes. record { text = bytes } };
 }
 
-// Written out, so that the proof of whoever drops a label sees one call.
+// Written out, so that a caller's proof about dropping a label deals with one call.
 impl Drop for Label {
     fn drop(self) {
         let Label { text: _text } = self;
@@ -132,7 +141,8 @@ impl Drop for Label {
 }
 
 impl Label {
-    /// Reads a label. What is no label is `BadName`, and memory is asked for only at a label of more than 8 bytes.
+    /// Reads a label. Fails with `BadName` if the text is not a label, and with `Memory` if memory runs out. Only a
+    /// label of more than 8 bytes needs memory.
     pub fn read(alloc: Global, text: &str) -> Result<Label, NameFault>
         ensures ok { IfOk result (λ label. label ≡ text.now) }
         ensures right { OnOk result (IsLabel text.now) }
@@ -149,6 +159,7 @@ impl Label {
         }
     }
 
+    /// Returns the text of the label.
     pub fn text(&self) -> &str
         ensures text { result.now ≡ self.now }
         ensures right { IsLabel self.now }
@@ -156,13 +167,14 @@ impl Label {
         self.text.text()
     }
 
-    /// Tells a proof what every label is. It does nothing.
+    /// Proves that the label is valid. It does nothing.
     pub fn recall(&self)
         ensures { IsLabel self.now }
     {
         let _ = self.text();
     }
 
+    /// Returns an equal label.
     pub fn copy(&self) -> Result<Label, AllocError>
         ensures { IfOk result (λ label. label ≡ self.now) }
     {

@@ -1,11 +1,11 @@
-//! The parts of a role or a path, one after another.
+//! An iterator over the parts of a role or a path.
 ghost use Rattle.std.specs.Prelude.{◌≡◌, List, ℕ};
 ghost use Rattle.std.specs.Iterator.{YieldsFirstBy, item_count};
 
 use crate::joined::Joined;
 use std::marker::Model;
 
-/// Gives the parts of a role or a path in order. Contracts see the list of those to come.
+/// Iterates over the parts of a role or a path, in order. Contracts see the list of the parts that are still to come.
 #[derive(Drop)]
 pub struct Parts<'a> {
     joined: &'a Joined,
@@ -23,6 +23,7 @@ impl<'a> Model for Parts<'a> {
 }
 
 impl<'a> Parts<'a> {
+    /// Returns the iterator over the parts.
     pub(crate) fn new(joined: &'a Joined) -> Parts<'a>
         ensures { result ≡ joined.now }
     {

@@ -15,12 +15,13 @@ use std::alloc::{AllocError, Global};
 use std::hash::{Hash, Hasher};
 use std::marker::Model;
 
-// The part under which the clients of a role itself stand.
+// The child of a role below which the frameworks of the role itself are.
 const OWN_CHILD: &str = ".";
 
-// That part, between a role and a framework.
+// The same with its separators, between a role and a framework.
 const DOT_PART: &str = "/./";
 
+/// Returns the text of a client's path.
 fn client_text(alloc: Global, role: &str, framework: &str) -> Result<String, AllocError>
     requires { length role.now + length framework.now < 1000 }
     ensures { IfOk result
@@ -34,8 +35,7 @@ fn client_text(alloc: Global, role: &str, framework: &str) -> Result<String, All
     Ok(text)
 }
 
-/// The path of a client: the parts of its role, `.` for the clients of the role itself, and its
-/// framework. Contracts see the list of these parts.
+/// The path of a client: the parts of its role, then `.`, then its framework. Contracts see the list of these parts.
 pub struct ClientPath {
     role: Role,
     framework: Name,
@@ -49,7 +49,7 @@ impl Model for ClientPath {
     ghost invariant = { λ p. IsNamed p.role p.framework };
 }
 
-// Written out, so that the proof of whoever drops a path sees one call.
+// Written out, so that a caller's proof about dropping a path deals with one call.
 impl Drop for ClientPath {
     fn drop(self) {
         let ClientPath {
@@ -60,13 +60,14 @@ impl Drop for ClientPath {
 }
 
 impl ClientPath {
+    /// Returns the path of a framework in a role. Fails with `AllocError` if memory runs out.
     pub fn new(_alloc: Global, role: &Role, framework: &Name) -> Result<ClientPath, AllocError>
         ensures { IfOk result (λ path. path ≡ client_path role.now framework.now) }
     {
         Ok(ClientPath::from_parts(role.copy()?, framework.copy()?))
     }
 
-    /// The path of a framework in a role, which it keeps; no memory is asked for.
+    /// Returns the path of a framework in a role. It takes both, and allocates nothing.
     pub fn from_parts(role: Role, framework: Name) -> ClientPath
         ensures { result ≡ client_path role framework }
     {
@@ -75,21 +76,21 @@ impl ClientPath {
         ClientPath { role, framework }
     }
 
-    /// The role that the client is in.
+    /// Returns the role of the client.
     pub fn role(&self) -> &Role
         ensures { result.now ≡ role_part self.now }
     {
         &self.role
     }
 
-    /// The name of the client's framework.
+    /// Returns the name of the client's framework.
     pub fn framework(&self) -> &Name
         ensures { result.now ≡ framework_part self.now }
     {
         &self.framework
     }
 
-    /// The number of parts.
+    /// Returns the number of parts.
     pub fn len(&self) -> usize
         ensures len { result ≡ length self.now }
         ensures few { result ≤ 10 }
@@ -98,7 +99,7 @@ impl ClientPath {
         self.role.len() + 2
     }
 
-    /// The part at an index.
+    /// Returns the part at an index.
     pub fn part(&self, i: usize) -> &str
         requires { i < length self.now }
         ensures { slice_get self.now i ≡ Some result.now }
@@ -112,6 +113,7 @@ impl ClientPath {
         }
     }
 
+    /// Returns an equal path.
     pub fn copy(&self) -> Result<ClientPath, AllocError>
         ensures { IfOk result (λ path. path ≡ self.now) }
     {
@@ -121,7 +123,7 @@ impl ClientPath {
         })
     }
 
-    // The parts in one text.
+    // Returns the parts joined to one text.
     fn joined(&self) -> Result<Joined, AllocError>
         ensures parts { IfOk result (λ joined. joined ≡ self.now) }
         ensures right { IsClientPath self.now }
@@ -132,7 +134,7 @@ impl ClientPath {
         Ok(joined)
     }
 
-    // The first parts. Those of the role alone need no text of the client.
+    // Returns the prefix of `len` parts. If it lies within the role, the text of the whole path is not built.
     fn front(&self, len: usize) -> Result<Joined, AllocError>
         requires some { 1 ≤ len }
         requires within { len ≤ length self.now }
@@ -145,7 +147,7 @@ impl ClientPath {
         self.joined()?.front(len)
     }
 
-    /// The node that the first parts name, `len` of them.
+    /// Returns the node of the first `len` parts.
     pub fn node(&self, len: usize) -> Result<NodePath, AllocError>
         requires some { 1 ≤ len }
         requires within { len ≤ length self.now }
@@ -182,8 +184,8 @@ impl Hash for ClientPath {
     }
 }
 
-/// The path of a node: a non-empty prefix of a client's path. Contracts see the list of its
-/// parts. Paths are ordered part by part, each part by bytes, a prefix before what it begins.
+/// The path of a node: a non-empty prefix of a client's path. Contracts see the list of its parts. Paths are ordered
+/// part by part, each part by its bytes; a prefix comes before longer paths.
 #[derive(PartialEq, Eq, PartialOrd, Ord, Hash)]
 pub struct NodePath {
     joined: Joined,
@@ -199,7 +201,7 @@ impl Model for NodePath {
     ghost inverse = { λ parts. record { joined = parts } };
 }
 
-// Written out, so that the proof of whoever drops a path sees one call.
+// Written out, so that a caller's proof about dropping a path deals with one call.
 impl Drop for NodePath {
     fn drop(self) {
         let NodePath { joined: _joined } = self;
@@ -207,7 +209,7 @@ impl Drop for NodePath {
 }
 
 impl NodePath {
-    /// The parts joined by `/`.
+    /// Returns the parts joined by `/`.
     pub fn text(&self) -> &str
         ensures text { result.now ≡ text_of self.now }
         ensures parts { parts_of result.now ≡ self.now }
@@ -216,7 +218,7 @@ impl NodePath {
         self.joined.text()
     }
 
-    /// The number of parts.
+    /// Returns the number of parts.
     pub fn len(&self) -> usize
         ensures len { result ≡ length self.now }
         ensures some { 1 ≤ result }
@@ -225,7 +227,7 @@ impl NodePath {
         self.joined.len()
     }
 
-    /// The part at an index.
+    /// Returns the part at an index.
     pub fn part(&self, i: usize) -> &str
         requires { i < length self.now }
         ensures { slice_get self.now i ≡ Some result.now }
@@ -233,6 +235,7 @@ impl NodePath {
         self.joined.part(i)
     }
 
+    /// Returns an equal path.
     pub fn copy(&self) -> Result<NodePath, AllocError>
         ensures { IfOk result (λ node. node ≡ self.now) }
     {

@@ -1,4 +1,4 @@
-//! Roles: `*`, or paths of components as `eng/web`.
+//! Roles: `*`, or components joined by `/`, such as `eng/web`.
 ghost use Rattle.std.specs.Prelude.{◌≡◌, ◌↔◌, ◌<◌, ◌≤◌, List, ℕ, All, IfOk, IsTrue, IsErrOf, Some, length, slice_get, take};
 ghost use Rattle.drf_role.specs.Parts.{parts_of, text_of};
 ghost use Rattle.drf_role.specs.Path.{begins_with};
@@ -10,22 +10,25 @@ use std::alloc::{AllocError, Global};
 use std::marker::Model;
 use thiserror::Error;
 
-/// The most bytes of a role's text.
+/// The greatest length of a role's text, in bytes.
 const MAX_ROLE_LEN: usize = 64;
 
-/// The most components of a role.
+/// The greatest number of components of a role.
 const MAX_COMPONENTS: usize = 8;
 
 const DEFAULT_ROLE: &str = "*";
 
+/// Why a text is not read as a role.
 #[derive(Clone, Copy, Debug, PartialEq, Eq, Error)]
 pub enum RoleFault {
+    /// The text is not a role.
     #[error("not a role")]
     BadRole,
     #[error("out of memory")]
     Memory,
 }
 
+/// Returns whether a component can have this byte.
 fn is_component_byte(byte: u8) -> bool
     ensures { IsTrue result ↔ IsComponentByte byte }
 {
@@ -37,6 +40,7 @@ fn is_component_byte(byte: u8) -> bool
         && byte != b';'
 }
 
+/// Returns whether the text is a valid component.
 fn is_component(text: &str) -> bool
     ensures { IsTrue result ↔ IsComponent text.now }
 {
@@ -50,18 +54,21 @@ fn is_component(text: &str) -> bool
     bytes.iter().all(|b| is_component_byte(*b))
 }
 
+/// Returns the number of components of the text.
 fn component_count(text: &str) -> usize
     ensures { result ≡ length (parts_of text.now) }
 {
     text.split('/').count()
 }
 
+/// Returns whether all components of the text are valid.
 fn are_components(text: &str) -> bool
     ensures { IsTrue result ↔ All IsComponent (parts_of text.now) }
 {
     text.split('/').all(|component| is_component(component))
 }
 
+/// Returns whether the text consists of 1 to 8 valid components in at most 64 bytes.
 fn is_role_path(text: &str) -> bool
     ensures { IsTrue result ↔ IsRolePath (parts_of text.now) }
 {
@@ -74,6 +81,7 @@ fn is_role_path(text: &str) -> bool
     are_components(text)
 }
 
+/// Returns whether the text is a valid role.
 fn is_role(text: &str) -> bool
     ensures { IsTrue result ↔ IsRoleText text.now }
 {
@@ -83,8 +91,7 @@ fn is_role(text: &str) -> bool
     is_role_path(text)
 }
 
-/// A role: `*`, or 1 to 8 components joined by `/`, in 64 bytes at most. Contracts see the
-/// list of its components.
+/// A role: `*`, or 1 to 8 components joined by `/`, in at most 64 bytes. Contracts see the list of its components.
 #[derive(PartialEq, Eq, Hash)]
 pub struct Role {
     joined: Joined,
@@ -100,7 +107,7 @@ impl Model for Role {
     ghost inverse = { λ components. record { joined = components } };
 }
 
-// Written out, so that the proof of whoever drops a role sees one call.
+// Written out, so that a caller's proof about dropping a role deals with one call.
 impl Drop for Role {
     fn drop(self) {
         let Role { joined: _joined } = self;
@@ -108,7 +115,8 @@ impl Drop for Role {
 }
 
 impl Role {
-    /// Reads a role. What is no role is `BadRole`, and memory is asked for only at a role.
+    /// Reads a role. Fails with `BadRole` if the text is not a role, and with `Memory` if memory runs out. A text that
+    /// is not a role needs no memory.
     pub fn read(alloc: Global, text: &str) -> Result<Role, RoleFault>
         ensures text { IfOk result (λ role. text_of role ≡ text.now) }
         ensures parts { IfOk result (λ role. role ≡ parts_of text.now) }
@@ -125,7 +133,7 @@ impl Role {
         }
     }
 
-    /// The role `*`.
+    /// Returns the role `*`.
     pub fn default_role(alloc: Global) -> Role
         ensures { result ≡ default_role }
     {
@@ -134,7 +142,7 @@ impl Role {
         }
     }
 
-    /// The text of the role: `*`, or its components joined by `/`.
+    /// Returns the text of the role: `*`, or its components joined by `/`.
     pub fn text(&self) -> &str
         ensures text { result.now ≡ text_of self.now }
         ensures parts { parts_of result.now ≡ self.now }
@@ -143,7 +151,7 @@ impl Role {
         self.joined.text()
     }
 
-    /// Tells a proof what every role is. It does nothing.
+    /// Proves that the role is valid. It does nothing.
     pub fn recall(&self)
         ensures right { IsRole self.now }
         ensures parts { parts_of (text_of self.now) ≡ self.now }
@@ -151,7 +159,7 @@ impl Role {
         let _ = self.text();
     }
 
-    /// The number of components.
+    /// Returns the number of components.
     pub fn len(&self) -> usize
         ensures len { result ≡ length self.now }
         ensures some { 1 ≤ result }
@@ -160,7 +168,7 @@ impl Role {
         self.joined.len()
     }
 
-    /// The component at an index.
+    /// Returns the component at an index.
     pub fn part(&self, i: usize) -> &str
         requires { i < length self.now }
         ensures { slice_get self.now i ≡ Some result.now }
@@ -168,19 +176,19 @@ impl Role {
         self.joined.part(i)
     }
 
-    /// The components in order.
+    /// Returns an iterator over the components.
     pub fn parts(&self) -> Parts<'_>
         ensures { result ≡ self.now }
     {
         self.joined.parts()
     }
 
-    /// The allocator of its text.
+    /// Returns the allocator of the text.
     pub(crate) fn alloc(&self) -> Global {
         self.joined.alloc()
     }
 
-    /// The first components, `len` of them, as the parts of a node.
+    /// Returns the first `len` components, as the parts of a node.
     pub(crate) fn front(&self, len: usize) -> Result<Joined, AllocError>
         requires some { 1 ≤ len }
         requires within { len ≤ length self.now }
@@ -189,6 +197,7 @@ impl Role {
         self.joined.front(len)
     }
 
+    /// Returns an equal role.
     pub fn copy(&self) -> Result<Role, AllocError>
         ensures { IfOk result (λ role. role ≡ self.now) }
     {
@@ -197,15 +206,14 @@ impl Role {
         })
     }
 
-    /// Whether the role is `*`.
+    /// Returns whether the role is `*`.
     pub fn is_default(&self) -> bool
         ensures { IsTrue result ↔ (self.now ≡ default_role) }
     {
         self.joined.needs_no_memory() || self.text() == DEFAULT_ROLE
     }
 
-    /// Whether the role is the other one or stands below it. `*` is within itself alone, and no
-    /// other role is within `*`.
+    /// Returns whether the role is `outer` or below it. `*` is only within itself, and no other role is within `*`.
     pub fn is_within(&self, outer: &Role) -> bool
         ensures value { result ≡ begins_with self.now outer.now }
         ensures within { IsTrue result ↔ IsWithin self.now outer.now }

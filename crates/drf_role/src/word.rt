@@ -1,4 +1,4 @@
-//! A text that its copies share. Contracts see it as its bytes.
+//! A text that its copies share. Contracts see its bytes.
 ghost use Rattle.std.specs.Prelude.{◌≡◌, ◌≤◌, List, ℕ, IfOk, Some, length};
 ghost use Rattle.std.specs.Arc.{arc_value};
 ghost use Rattle.std.specs.Hash as fed;
@@ -27,7 +27,7 @@ impl Model for Word {
     ghost view = { λ w. (arc_value w.text).bytes };
 }
 
-// Written out, so that the proof of whoever drops a text sees one call.
+// Written out, so that a caller's proof about dropping a text deals with one call.
 impl Drop for Word {
     fn drop(self) {
         let Word { text: _text } = self;
@@ -35,6 +35,7 @@ impl Drop for Word {
 }
 
 impl Word {
+    /// Returns a copy of the text. Fails with `AllocError` if memory runs out.
     pub fn from_text(alloc: Global, text: &str) -> Result<Word, AllocError>
         requires { length text.now ≤ 64 }
         ensures { IfOk result (λ word. word ≡ text.now) }
@@ -46,13 +47,14 @@ impl Word {
         })
     }
 
+    /// Returns the text.
     pub fn text(&self) -> &str
         ensures { result.now ≡ self.now }
     {
         self.text.as_str()
     }
 
-    /// A second owner of the same text. It asks for no memory, and fails where 2^63 owners were counted.
+    /// Returns a copy that shares the text. It allocates nothing, and fails only if there would be 2^63 owners.
     pub fn copy(&self) -> Result<Word, AllocError>
         ensures { IfOk result (λ word. word ≡ self.now) }
     {

@@ -1,2 +1,3 @@
-//! Theorems about the definition that proofs of the code rest on, in `specs/`. It has no functions: what the definition promises is told by those of `drf_laws`.
+//! Theorems about the definition, in `specs/`, on which the proofs of the code are based. This crate has no functions:
+//! the functions of `drf_laws` state what follows from the definition.
 #![tactic(auto)]

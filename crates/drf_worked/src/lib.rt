@@ -1,2 +1,3 @@
-//! Words by which runs are written that are computed of the definition, in `specs/`. It has no functions: `drf_cases` computes them.
+//! Definitions in `specs/` for writing down runs and their replies. This crate has no functions: `drf_cases` computes
+//! the runs.
 #![tactic(auto)]

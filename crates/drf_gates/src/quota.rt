@@ -239,7 +239,8 @@ impl<'a> Quota<'a> {
         true
     }
 
-    /// Returns whether a role can consume so much more without exceeding its limit or that of a role above it. Amounts are in thousandths.
+    /// Returns whether a role can consume these amounts more without exceeding its limit or that of a role above it. Amounts are in
+    /// thousandths.
     pub fn admits(&self, role: &Role, amounts: &Quantities) -> bool
         ensures value { result ≡ admits_under self.now.limits (used_at self.now.used) role.now amounts.now }
         ensures of_rows { (rows : Rows) → IsAllowanceOf rows self.now → result ≡ admits rows role.now amounts.now }

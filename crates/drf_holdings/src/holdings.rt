@@ -78,8 +78,8 @@ fn task_rows(offer: &OfferRow, tasks: Vec<(Name, Bundle)>) -> Result<Vec<TaskRow
     Ok(rows)
 }
 
-/// The offers and tasks of all clients. Contracts see their lists. Removing a holding never allocates. A call looks only at the holdings
-/// that it is about, except when it closes free slots or drops empty lists. This is not proved.
+/// The offers and tasks of all clients. Contracts see their lists. Removing a holding never allocates. Apart from searches by number, a
+/// call looks only at the holdings that it is about, except when it closes free slots or numbers all tasks again. This is not proved.
 #[derive(Drop)]
 pub struct Holdings {
     offers: OfferTable,
@@ -180,7 +180,7 @@ impl Holdings {
         self.tasks.has(framework, name)
     }
 
-    /// Returns an agent's total without what is held there. It fails only when out of memory.
+    /// Returns `total` without what is held on the agent. It fails only when out of memory.
     pub fn left_on(&self, agent: &Name, total: &Bundle) -> Result<Bundle, AllocError>
         ensures { IfOk result (λ left. left ≡ rest_of_all total.now (parts_on agent.now (holdings_in self.now))) }
     {

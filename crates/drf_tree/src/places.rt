@@ -88,7 +88,7 @@ impl Places {
         self.items.len()
     }
 
-    /// Sets the place of a number. No number below it can be free.
+    /// Sets the place of a number. All numbers below it must be in use.
     pub(crate) fn put(&mut self, node: usize, place: Place)
         requires there { node < length self.old.items }
         requires first { AreTaken self.old.items node }

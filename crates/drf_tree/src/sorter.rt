@@ -10,8 +10,8 @@ use drf_sorter::{DEFAULT_WEIGHT, Share, Sorter};
 use std::alloc::{AllocError, Global};
 use std::marker::Model;
 
-/// A sorter with its clients in a ledger and their order in a tree. After a change of a client, at most one key is computed again for each
-/// node on its path.
+/// A sorter with its clients in a ledger and their order in a tree. After a change of a client, at most one key for each node on its path
+/// must be computed again.
 #[derive(Drop)]
 pub struct TreeSorter {
     ledger: Ledger,

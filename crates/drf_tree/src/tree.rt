@@ -257,7 +257,7 @@ impl Tree {
         Ok(node)
     }
 
-    /// Returns a child that holds nothing. Its key does not depend on the total and the weight.
+    /// Returns a child that holds nothing. Its key depends neither on the total nor on the weight.
     fn first_child(&mut self, node: usize, path: &NodePath) -> Result<Child, AllocError>
         ensures node { IfOk result (λ child. child.node ≡ node) }
         ensures key { IfOk result (λ child. IsKeyOfNothing path.now (key_by child.key)) }

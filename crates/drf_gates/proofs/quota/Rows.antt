@@ -68,7 +68,7 @@ limit_to_come (e ∷ es) role limit rest apart =
     rw other (ap (λ (xs : List (Path × List Entry)). e ∷ xs)
     (limit_to_come es role limit rest (IsDistinct-tail same_path e.0 (keys_of (es ++ (role, limit) ∷ rest)) apart)))
 
--- ---- what is left, limit by limit
+-- ---- the room under each limit
 
 -- the least of some numbers is at least `least` if each of them is
 least_enough : (least n : ℕ) (ns : List ℕ) → nat_le least (fold min n ns) ≡ (nat_le least n && option_map_or (nat_le least) (reduce min ns) true)

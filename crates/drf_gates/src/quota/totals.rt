@@ -33,7 +33,7 @@ fn make_room(sum: &mut Quantities, label: &str)
     }
 }
 
-/// Adds to the amount of a label. Returns whether it succeeded; it can fail when out of memory.
+/// Adds to the amount of a label. Returns whether it succeeded; it fails when out of memory, or if the sum would be 2^64 or more.
 fn add_entry(sum: &mut Quantities, more: &Entry) -> bool
     ensures { IsTrue result → (label : Text)
         → amount_of sum.new label ≡ amount_of sum.old label + amount_of (one_entry more.now.label more.now.amount) label }

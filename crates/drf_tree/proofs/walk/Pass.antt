@@ -99,7 +99,7 @@ module _ (tree : Tree) (shape : IsShapeOf tree) where
           length-append (Pending m (g ∷ frames)) (flat_map (walk (active_paths content) (path_at places) kin m) (drop f.next (kin f.node))),
         )
 
-    -- ---- the first frames are kept
+    -- ---- the first frames stay
 
     module _ (kept : List Frame) (f : Frame) (later : List Frame) (are : AreFrames places (kept ++ f ∷ later))
         (settled : IsSettled content places families (kept ++ f ∷ later)) where
@@ -150,7 +150,7 @@ module _ (tree : Tree) (shape : IsShapeOf tree) where
         some = λ first next. some_gone;
       }
 
-    -- so many frames are kept
+    -- the number of frames that stay
     passed_at : (frames rest : List Frame) (len : ℕ) → drop len frames ≡ rest → len < length frames → AreFrames places frames
         → IsSettled content places families frames
         → IsPassedFront len (frames_queue content tree frames) (frames_queue content tree (take len frames))

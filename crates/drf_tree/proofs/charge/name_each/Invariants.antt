@@ -2,7 +2,7 @@ use Rattle.std.proofs.Common.{◌≡◌, ◌⊎◌, true, List, ℕ, take}
 use Rattle.drf_bundle.specs.Quantities.{amount_of, is_named, names_all}
 use Rattle.drf_tree.proofs.charge.name_each.Given as goal
 
--- each label so far is named
+-- each label so far has an entry
 abbrev pub invariant-loop-entry : goal.invariant-loop-entry
 invariant-loop-entry l = record {
   same : (label : List ℕ) → amount_of l.held label ≡ amount_of l.initial.held label;

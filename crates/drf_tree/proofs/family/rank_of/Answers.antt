@@ -5,12 +5,12 @@ use Rattle.drf_tree.proofs.Names.{Child, are_sorted, is_before, without_place}
 use Rattle.drf_tree.proofs.keys.Turned.{rank-back_after, rank-back_before, rank-front_after, rank-front_before, sorted_back, sorted_front}
 use Rattle.drf_tree.proofs.family.rank_of.Goals as goal
 
--- what is said of the key that was read holds of that at the place
+-- what holds of the key that was read holds of the child at the position
 of_key : (children : List Child) (at : ℕ) (child : Child) (P : Child → Type 0) → at < length children → P (slice_index_or children at child)
     → (d : Child) → P (slice_index_or children at d)
 of_key children at child P small holds d = subst P (get_or_default children at child d small) holds
 
--- those behind the place, to their end
+-- the children after the position, up to the end
 behind_it : (children : List Child) (at : ℕ) → take (length children - (at + 1)) (drop (at + 1) children) ≡ drop (at + 1) children
 behind_it children at = take_all (length children - (at + 1)) (drop (at + 1) children) (omega (arith, length-drop (at + 1) children))
 

@@ -4,6 +4,6 @@ use Rattle.drf_gates.specs.quota.Front.{front_passes}
 use Rattle.drf_gates.specs.quota.Allowance.{used_at}
 use Rattle.drf_gates.proofs.quota.Quota.admits_one.Given as goal
 
--- the limits of the fronts so far leave room
+-- the limits of the prefixes so far leave room
 abbrev pub invariant-loop-len : goal.invariant-loop-len
 invariant-loop-len l = (n : ℕ) → n < l.len → front_passes (stays_within (used_at l.self.used) l.more) l.role l.more.label n l.self.limits ≡ true

@@ -9,7 +9,7 @@ use Rattle.drf_gates.proofs.quota.Rows.{leaves-its}
 use Rattle.drf_gates.proofs.quota.Leave.{front_little, fronts_leave, none_passes}
 use Rattle.drf_gates.proofs.quota.Quota.short_front.Goals as goal
 
--- a role that begins with the same parts has as many
+-- a role that begins with the same parts has at least as many
 as_many : (role other : Path) (len : ℕ) → len ≤ length role → take len other ≡ take len role → len ≤ length other
 as_many role other len within same =
     let size = ap (λ (p : Path). length p) same in
@@ -30,7 +30,7 @@ returns-then-not-front_leaves-clause-first c = record {
 pub returns-clause-none : goal.returns-clause-none
 returns-clause-none c none len few = c.loop-len.invariant len (omega (arith, c.len-fronts.ensures.len))
 
--- the limit of the front leaves as little to it
+-- the limit of the prefix leaves as little to the other role
 pub returns-then-not-front_leaves-clause-short : goal.returns-then-not-front_leaves-clause-short
 returns-then-not-front_leaves-clause-short c rows other its same =
     let a : Allowance = c.args.self.now in

@@ -5,13 +5,13 @@ use Rattle.drf_gates.specs.quota.Allowance.{one_entry}
 use Rattle.drf_gates.proofs.quota.Total.{entry_added}
 use Rattle.drf_gates.proofs.quota.totals.add_entry.Goals as goal
 
--- the label was named
+-- the label had an entry
 pub returns-then-add_to_named : goal.returns-then-add_to_named
 returns-then-add_to_named c done label =
     entry_added c.args.sum.now c.add_to_named.new.self c.args.more.now c.thousandths-thousandths.result c.thousandths-thousandths.ensures
     (c.add_to_named.ensures.ok c.if-add_to_named.true) label
 
--- nothing changed before there was room for it
+-- making room changed no amount
 pub returns : goal.returns
 returns c done label =
     entry_added c.make_room.new.sum c.add_to.new.self c.args.more.now c.thousandths-thousandths.result c.thousandths-thousandths.ensures (c.add_to.ensures.ok done) label

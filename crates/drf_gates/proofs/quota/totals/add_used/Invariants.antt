@@ -4,7 +4,7 @@ use Rattle.drf_bundle.specs.Quantities.{amount_of}
 use Rattle.drf_gates.specs.quota.Allowance.{used_at}
 use Rattle.drf_gates.proofs.quota.totals.add_used.Given as goal
 
--- the sum so far, and what the others consume
+-- the sum so far plus what the remaining roles consume
 abbrev pub invariant-loop-role : goal.invariant-loop-role
 invariant-loop-role l =
     (label : Text)

@@ -4,7 +4,7 @@ use Rattle.drf_gates.specs.quota.Allowance.{Usage}
 use Rattle.drf_gates.specs.quota.Totals.{AreExact, IsExact}
 use Rattle.drf_gates.proofs.quota.totals.copy_totals.Given as goal
 
--- what is copied is exact where what is copied from is
+-- the copied totals are exact if the original ones are
 abbrev pub invariant-loop-role : goal.invariant-loop-role
 invariant-loop-role l =
     (used : List Usage) → AreExact used l.totals.entries

@@ -3,6 +3,6 @@ use Rattle.drf_gates.specs.quota.Allowance.{AreRaised, Usage}
 use Rattle.drf_gates.specs.quota.Totals.{AreCarried, AreExact}
 use Rattle.drf_gates.proofs.quota.totals.lower_totals.Given as goal
 
--- the totals of the fronts so far are those of now
+-- the totals of the prefixes so far are the new ones
 abbrev pub invariant-loop-len : goal.invariant-loop-len
 invariant-loop-len l = (old new : List Usage) → AreRaised new old l.role l.amounts → AreExact old l.fn.totals.entries → AreCarried old new l.role l.len l.totals.entries

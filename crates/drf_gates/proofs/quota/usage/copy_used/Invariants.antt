@@ -4,7 +4,7 @@ use Rattle.drf_role.specs.Text.{Text}
 use Rattle.drf_gates.specs.quota.Allowance.{AreSome, used_where}
 use Rattle.drf_gates.proofs.quota.usage.copy_used.Given as goal
 
--- what is copied and what is to come is all, and no row of the copy is for nothing
+-- the rows that were copied and those that remain are all rows, and each copied row has an amount above 0
 abbrev pub invariant-loop-role : goal.invariant-loop-role
 invariant-loop-role l = record {
   parts : (test : Path → Bool) (label : Text)

@@ -13,7 +13,7 @@ use Rattle.drf_sorter.proofs.OrderLemmas.{sorted_serving, distinct_moved}
 use Rattle.drf_sorter.proofs.PlainLemmas.{distinct_active}
 use Rattle.drf_sorter.proofs.plain.PlainSorterSorter.fix_order.Goals as goal
 
--- candidates carry paths of clients
+-- the candidates have paths of clients
 right_paths : (s : Standing) (candidates : List Candidate) → AllByRecursion (HasKeys s) candidates
     → AllByRecursion IsClientPath (map (λ (d : Candidate). d.path) candidates)
 right_paths s [] keys = tt

@@ -37,7 +37,7 @@ pub returns-then-self-eq-DEFAULT_WEIGHT-clause-lowest : goal.returns-then-self-e
 returns-then-self-eq-DEFAULT_WEIGHT-clause-lowest c =
     lowest-terms_are c.args.self.now _ (returns-then-self-eq-DEFAULT_WEIGHT-clause-value c)
 
--- what the divisor of the two long numbers divides
+-- dividing by the greatest common divisor of the 128-bit numbers
 long_divisor : (c : goal.After-common_divisor-divisor)
     → IsGcd (fraction_of c.args.self.now).part (fraction_of c.args.self.now).whole c.common_divisor-divisor.result
 long_divisor c =

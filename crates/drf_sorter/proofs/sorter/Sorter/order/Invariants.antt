@@ -1,7 +1,7 @@
 use Rattle.std.proofs.Common.{◌≡◌, ◌++◌, length}
 use Rattle.drf_sorter.proofs.sorter.Sorter.order.Given as goal
 
--- what was listed and what is still to be served are the order that was fixed
+-- the clients listed so far and those still to be served are the order that was fixed
 abbrev pub invariant-loop-client : goal.invariant-loop-client
 invariant-loop-client g l = record {
   content : g.Self.Sorter.content l.self ≡ g.Self.Sorter.content l.initial.self;

@@ -7,7 +7,7 @@ use Rattle.drf_tree.proofs.Names.{Text, Child, IsFresh, known}
 use Rattle.drf_tree.proofs.shape.SameFamily.{each_moved}
 use Rattle.drf_tree.proofs.family.Family.renew_all.Goals as goal
 
--- what is sorted is what was written, which is as long as what stood there
+-- the sorted list has the children whose keys were computed, and these are as many as before
 sorted_is : (old mid new : List Child) (n : ℕ) → n ≡ length old → map known mid ≡ map known old
     → IsPermutation (take n (mid ++ drop (length mid) old)) new → IsPermutation mid new
 sorted_is old mid new n long same moved =

@@ -9,7 +9,7 @@ use Rattle.drf_tree.proofs.walk.Kept.{kept_by, settled_along}
 use Rattle.drf_tree.proofs.keys.Renew.{ledger_weighs}
 use Rattle.drf_tree.proofs.sorter.TreeSorterSorter.set_total.Goals as goal
 
--- the tree is right for this total as it is
+-- the tree is right for this total without a change
 pub invariant_of-self : goal.invariant_of-self
 invariant_of-self c =
     let content = ledger_content c.self.inside.ledger in
@@ -32,7 +32,7 @@ invariant_of-self-2 c =
     (settled_along content new c.self.inside.tree.places.items c.self.inside.tree.families.items refl c.self.inside.walk.frames.items
     c.self.invariant.settled)
 
--- ---- no more is stale than there is
+-- ---- at most as many keys are stale as there are nodes
 
 pub returns-then-self-clause-stale : goal.returns-then-self-clause-stale
 returns-then-self-clause-stale c = λ nodes has counted.

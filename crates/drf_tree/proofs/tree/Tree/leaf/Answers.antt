@@ -3,7 +3,7 @@ use Rattle.std.proofs.Common.{refl, ◌≡◌, ℕ, List, None, Option, Some, tr
 use Rattle.drf_tree.proofs.Names.{Path, Place, client_at, is_live, place_at}
 use Rattle.drf_tree.proofs.tree.Tree.leaf.Goals as goal
 
--- a client stands somewhere
+-- the node of a client is live
 client_live : (places : List (Option Place)) (node : ℕ) (path : Path) → client_at places node ≡ Some path
     → is_live places node ≡ true
 client_live places node path client = by (place_at places node) client

@@ -8,7 +8,7 @@ use Rattle.drf_tree.proofs.keys.Nothing.{key_of_none}
 use Rattle.drf_tree.proofs.keys.Repair.{sum_there}
 use Rattle.drf_tree.proofs.tree.Tree.mark_all.Goals as goal
 
--- what the clients have does not tell the total
+-- the sums do not depend on the total
 sum_stays : (content : Content) (total : List Entry) (path : Path) (sum : Sum) → IsSumOf content path sum
     → IsSumOf (record content { total = total }) path sum
 unfolding standing_in

@@ -14,7 +14,7 @@ sum_read content tree shape sums node sum live at =
     (slice_get_read tree.sums.items (length tree.sums.items) node sum refl
     (omega (arith, live_within tree.places.items node live, shape.sums_long)) at)
 
--- the number above a node has a family
+-- the parent of a node has a family
 parent_within : (tree : Tree) → IsShapeOf tree → (node parent : ℕ) → is_live tree.places.items node ≡ true
     → parent ≡ parent_at tree.places.items node → parent < length tree.families.items
 parent_within tree shape node parent live is =

@@ -10,7 +10,7 @@ module _ (content : Content) (tree : Tree) (of : IsTreeOf content tree) (marks :
   abbrev stale : List Bool
   stale = tree.marks.stale
 
-  -- the flag of a node is taken down before its key is right
+  -- the dirty flag of a node is cleared before its key is right
   one_down : (node : ℕ) → marks.stale ≡ slice_set stale node false → IsTreeBut node content (record tree { marks = marks })
   one_down node taken = record {
     paths = of.paths;
@@ -40,7 +40,7 @@ module _ (content : Content) (tree : Tree) (of : IsTreeOf content tree) (marks :
         ]) (of.right i);
   }
 
-  -- and one mark is gone
+  -- one flag fewer is set
   one_less : (node : ℕ) → slice_index_or stale node false ≡ true → marks.stale ≡ slice_set stale node false
       → marked_in marks.stale + 1 ≡ marked_in stale
   one_less node up taken =

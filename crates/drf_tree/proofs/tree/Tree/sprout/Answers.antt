@@ -6,7 +6,7 @@ use Rattle.drf_tree.proofs.growth.Sprout.{IsReady, counted_shape, counted_tree, 
 use Rattle.drf_tree.proofs.tree.Tree.sprout.Goals.{In_ok-child}
 use Rattle.drf_tree.proofs.tree.Tree.sprout.Goals as goal
 
--- what was asked of the tree holds after a number was found and a key was made
+-- the preconditions still hold after a number was found and a key was computed
 ready_at : (c : In_ok-child) → IsReady c.first_child.new.self.places.items c.args.parent c.args.path
 ready_at c =
     ready_seen c.args.self.now.places.items _ c.args.parent c.args.path (λ i. ap (λ ps. place_at ps.items i) c.in_ok-child.ensures.places ∙ c.in_ok-node.ensures.places i)
@@ -17,7 +17,7 @@ shape_at c =
     let e = c.in_ok-child.ensures in
     counted_shape c.vacant.new.self c.first_child.new.self e.places e.sums e.families e.stale c.in_ok-node.ensures.shape
 
--- the node above has a family
+-- the parent has a family
 below_at : (c : In_ok-child) → c.args.parent < length c.first_child.new.self.families.items
 below_at c = omega (arith, node_within c.first_child.new.self (shape_at c) c.args.parent (ready_at c).there, (shape_at c).families_long)
 
@@ -27,12 +27,12 @@ returns-in_err-child-clause-tree c content of weighs nobody =
     let v = c.in_ok-node.ensures in
     counted_tree c.vacant.new.self c.first_child.new.self e.places e.sums e.families e.stale v.shape content (v.tree content of)
 
--- what holds at all holds on failure
+-- what holds in any case holds on failure
 on_err : {T E : Type 0} (r : Result T E) (P : Type 0) → P → OnErr r P
 on_err (Ok x) P p = tt
 on_err (Err e) P p = p
 
--- where there is no memory for a child, each place is as it was
+-- if memory runs out for a child, the places are unchanged
 pub returns-in_err-child-clause-err : goal.returns-in_err-child-clause-err
 returns-in_err-child-clause-err c =
     let same : (i : ℕ) → place_at c.first_child.new.self.places.items i ≡ place_at c.args.self.now.places.items i =

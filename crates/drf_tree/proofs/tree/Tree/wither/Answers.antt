@@ -18,7 +18,7 @@ index_mut-requires c =
 pub free-requires : goal.free-requires
 free-requires c = live_within c.args.self.now.places.items c.args.node c.requires.node
 
--- the family that was read is the one that the node stands in
+-- the family that was read is the one with the node
 family_is : (t : Tree) → IsShapeOf t → (node parent : ℕ) (f : Family) → is_live t.places.items node ≡ true
     → parent ≡ parent_at t.places.items node → f ≡ slice_index_or t.families.items parent f
     → children_at t.families.items parent ≡ f.children.items

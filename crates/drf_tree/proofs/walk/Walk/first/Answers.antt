@@ -15,7 +15,7 @@ last_apart xs x some at =
     split_at xs (length xs - 1) x (slice_get_read xs (length xs) (length xs - 1) x refl (omega (arith, some)) at)
     ∙ ap (λ (ys : List _). take (length xs - 1) xs ++ x ∷ ys) (drop_all (suc (length xs - 1)) xs (omega arith))
 
--- what is read at the last frame of a walk that stands at a client
+-- reading at the last frame of a walk that is at a client
 module _ (tree : Tree) (shape : IsShapeOf tree) (frames : List Frame) (are : AreFrames tree.places.items frames)
     (f : Frame) (some : 0 < length frames) (at : f ≡ slice_index_or frames (length frames - 1) f)
     (family : Family) (read : family ≡ slice_index_or tree.families.items f.node family)
@@ -43,7 +43,7 @@ module _ (tree : Tree) (shape : IsShapeOf tree) (frames : List Frame) (are : Are
   number o is =
       sym (read_at tree shape f.node f.next family (frames_last tree.places.items front f all).node read o is) ∙ client.next
 
-  -- the client of the place that was read
+  -- the client at the position that was read
   shown : (i : ℕ) → Some i ≡ slice_get (numbers_of family.children.items) f.next → (o : Option Place)
       → o ≡ place_at tree.places.items i
       → option_map_or (λ p. p.client) o None ≡ slice_get (frames_queue content tree frames) 0

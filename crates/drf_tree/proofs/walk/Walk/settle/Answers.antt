@@ -4,7 +4,7 @@ use Rattle.drf_tree.specs.declared.walk.Next.TheVariants.{Client, End, Nobody, N
 use Rattle.drf_tree.proofs.walk.Step.{IsStep, settled_at, step_down, step_end, step_nobody}
 use Rattle.drf_tree.proofs.walk.Walk.settle.Goals as goal
 
--- the steps between the lists that the code has
+-- one step of the walk, for the lists in the code
 module _ (tree : Tree) (shape : IsShapeOf tree) (old front : List Frame) (f : Frame) (old_is : old ≡ front ++ f ∷ [])
     (are : AreFrames tree.places.items old) where
   all : AreFrames tree.places.items (front ++ f ∷ [])

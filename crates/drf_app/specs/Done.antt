@@ -64,7 +64,7 @@ pub record HasAudit (machine : Machine) (old new : Streams) (answer : ℕ) : Typ
   pub status : answer ≡ status_of ended
   pub told : IsToldOf ended old.errors.bytes new.errors.bytes new.errors.failed
 
--- a text about the cycle at a timestamp was written; `tell` gives this text for rows
+-- the text that `tell` gives for rows, with the cycle at a timestamp, was written
 pub record HasToldCycle (tell : Rows → List ℕ) (machine : Machine) (old new : Streams) (answer : ℕ) : Type 0 where
   pub ended : Result (Unit {0}) RunFault
   pub rows : HasToldOfRows tell machine old.input.bytes new.input.bytes old.output.bytes new.output.bytes ended

@@ -2,7 +2,7 @@
 use Rattle.std.specs.Prelude.{ℕ, Bool, List, Option}
 use Rattle.drf_journal.specs.declared.device.Device.{Device}
 
--- a stream: what is left to read or was written, if that is known; the number of calls; and whether it failed
+-- a stream: the bytes still to be read or already written, if they are known; the number of calls; and whether it failed
 pub record Stream : Type 0 where
   pub bytes : Option (List ℕ)
   pub calls : ℕ

@@ -1,6 +1,6 @@
 //! Tests runs that resume from a saved state. Each example named in `resumes` is cut after every line and saved there. A run of the rest from this
 //! state must write the rest of the replies, and must end in the same state as the whole run. Each line of `state_faults` has the expected message
-//! about a text that is not a state and, after `|`, this text, with a space for each line feed.
+//! about a text that is not a state and, after `|`, the text itself, with a space for each line feed.
 use crate::commands::{Done, done_from};
 use crate::rows::bytes;
 use crate::streams::{NO_BOUNDS, first_lines, tell};

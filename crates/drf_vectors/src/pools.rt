@@ -4,7 +4,7 @@ use crate::answer::Answer;
 use crate::subject::{Subject, read_all};
 use drf_amount::{Pool, PoolFault};
 
-/// Appends what is free, and the total.
+/// Appends the free amount and the total.
 fn state<A: Amount>(answer: &mut Answer, pool: &Pool<A>) {
     tell(answer, pool.free());
     answer.say(" of ");
@@ -42,7 +42,7 @@ fn part<A: Amount>(answer: &mut Answer, pool: &Pool<A>, number: u64) {
     }
 }
 
-/// Appends a part of a copy of the pool, and what is free in the copy.
+/// Appends a part of a copy of the pool, and the free amount of the copy.
 fn copied<A: Amount>(answer: &mut Answer, pool: &Pool<A>, number: u64) {
     if let Some(copy) = answer.found(pool.copy()) {
         part(answer, &copy, number);
@@ -104,7 +104,7 @@ fn read_and_call<A: Amount>(answer: &mut Answer, pool: &mut Pool<A>, text: &str)
     }
 }
 
-/// Makes the calls, and appends what is free after each.
+/// Makes the calls, and appends the free amount after each.
 fn calls<A: Amount>(answer: &mut Answer, pool: &mut Pool<A>, texts: &str) {
     state(answer, pool);
     for text in texts.split("; ") {
@@ -121,7 +121,7 @@ fn open<A: Amount>(answer: &mut Answer, total: &str) -> Option<Pool<A>> {
     answer.found(Pool::new(answer.alloc(), total))
 }
 
-/// Appends what is free and the total, and then the result of each call with what is free after it.
+/// Appends the free amount and the total, and then the result of each call with the free amount after it.
 pub fn answers<A: Amount>(answer: &mut Answer, text: &str) {
     let (total, texts) = text.split_once("; ").unwrap_or((text, ""));
     if let Some(mut pool) = open::<A>(answer, total) {

@@ -55,7 +55,7 @@ pub fn clipped(answer: &mut Answer, of: &(Quantities, Bundle)) {
     told(answer, of.1.clip(&of.0));
 }
 
-/// Appends what is left of a bundle without another.
+/// Appends a bundle without another.
 pub fn rest(answer: &mut Answer, of: &(Bundle, Bundle)) {
     told(answer, of.0.rest(&of.1));
 }

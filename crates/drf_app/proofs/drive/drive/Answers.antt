@@ -4,7 +4,7 @@ use Rattle.drf_app.specs.Line.{Names}
 use Rattle.drf_app.specs.Done.{driven, refused}
 use Rattle.drf_app.proofs.drive.drive.Goals as goal
 
--- two answers of one parse are the same
+-- two results of the same parse are equal
 same_name : {a b : Text × List Row} → Some a ≡ Some b → a.0 ≡ b.0
 same_name {a = a} {b = b} e = let same : a ≡ b = cc in ap (λ (p : Text × List Row). p.0) same
 

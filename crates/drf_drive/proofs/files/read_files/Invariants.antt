@@ -2,7 +2,7 @@ use Rattle.std.proofs.Common.{◌≡◌, map, take}
 use Rattle.drf_drive.specs.Files.{AreContents, bytes_of}
 use Rattle.drf_drive.proofs.files.read_files.Given as goal
 
--- what the files so far have
+-- the bytes of the files so far
 abbrev pub invariant-loop-name : goal.invariant-loop-name
 invariant-loop-name g l = record {
   same : g.F.FileBytes.known l.files ≡ g.F.FileBytes.known l.fn.files;

@@ -2,7 +2,7 @@ use Rattle.std.proofs.Common.{length}
 use Rattle.drf_drive.proofs.Scripts.{ReadFront}
 use Rattle.drf_drive.proofs.script.take_lines.Given as goal
 
--- the lines so far are the events
+-- the events are those of the lines so far
 abbrev pub invariant-loop-rest : goal.invariant-loop-rest
 invariant-loop-rest l = ReadFront l.fn.bytes l.rest l.events.items
 

@@ -4,7 +4,7 @@ use Rattle.std.specs.Vec.Iter.{into_iter_items}
 use Rattle.drf_master.specs.Scripts.{AreDone}
 use Rattle.drf_master.proofs.driving.all_done.Given as goal
 
--- the results so far were done, and there is room for all
+-- the results so far are of jobs that succeeded, and there is room for all
 abbrev pub invariant-loop-result : goal.invariant-loop-result
 invariant-loop-result l =
     (l.fn.results.items ≡ l.yielded ++ into_iter_items l.result-iterator)

@@ -17,7 +17,7 @@ loop-pass-preserved c =
     subst (λ (lists : List (List Receipt)). IsTally c.args.journal.now lists c.take_all.new.self.named.items c.take_all.new.self.wrong) (sym more)
     (c.take_all.ensures (receipts_of (take c.loop-pass.pass-index c.args.passes.now)) c.loop-pass.invariant)
 
--- where there is no wrong place, and there are enough receipts
+-- if no place is wrong and there are enough receipts, the journal is a shuffle
 told-ok : (journal : List Entry) (lists : List (List Receipt)) (named : List Bool) (wrong : Option ℕ) → IsTally journal lists named wrong → wrong ≡ None
     → ¬ IsMissing journal lists → IsShuffle journal lists
 told-ok journal lists named wrong tally none enough =

@@ -3,7 +3,7 @@ use Rattle.drf_master.specs.Tallies.{IsTally, least_above, least_after}
 use Rattle.drf_master.specs.declared.pass.Receipt.{Receipt}
 use Rattle.drf_master.proofs.matching.Tally.take_all.Given as goal
 
--- the receipts so far are those of one pass more
+-- the receipts so far are those of one more pass
 abbrev pub invariant-loop-receipt : goal.invariant-loop-receipt
 invariant-loop-receipt l =
     (least_above l.before ≡ least_after 0 (take l.receipt-index l.receipts))

@@ -117,7 +117,7 @@ class Replay:
         if "refused" in reply:
             raise BadInput(f'{source}: {kind or event["event"]}: refused {reply["refused"]} {reply["name"]} {when}')
 
-    # What is held
+    # Held resources
 
     def hold(self, held):
         self.on_agent[held.agent][held] = None
@@ -192,7 +192,7 @@ class Replay:
                 after, phase = task.finish
                 self.later(at + after, phase if after else phase + self.phase, FINISH, self.finish, running)
             elif task.is_lost:
-                # It may have gone on. It is not known for how long, so it ends after the time that it ran.
+                # It may have continued, but it is not known for how long, so here it ends after the time for which it ran.
                 self.later(at + task.ran + 1, 0, FINISH, self.release, running)
         self.allocator.send(f'{{"event":"accept","framework":"{actor.framework}","offer":{held.number},"at":{at},"tasks":[{",".join(texts)}]'
                             f',"refuse_ms":{held.habit.accept}}}')

@@ -20,7 +20,7 @@ from multiprocessing.pool import ThreadPool
 sys.path.append(f"{os.path.dirname(os.path.realpath(__file__))}/../tools")
 from common import released_program
 
-# Events behind which each table has rows.
+# Events after which each table has rows.
 LINES = b"""\
 {"event":"add_agent","agent":"n1","total":"cpus:4;mem:1024;ports:[31000-31009]"}
 {"event":"add_agent","agent":"n2","total":"cpus:2;cpus(eng):1;disk:{sda,sdb}"}
@@ -148,7 +148,7 @@ def tables():
     }
 
 
-# Of each: a table, the place of a row there or its length, what stands there, and its fault.
+# For each: a table, the index of one of its rows or its length, what is put there, and its error.
 ONE_MORE = [
     ("state", 0, row("state", clock=(1 << 62) + 1, events=1, next_offer=1), "2 BadMoment"),
     ("state", 0, row("state", clock=0, events=1 << 32, next_offer=1), "1 HistoryFull"),

@@ -66,7 +66,7 @@ COMMANDS = [["run"], ["run", "--echo"], ["audit"], ["explain"], ["check"], ["sav
 # How many reply lines and lines in all a line that is answered has; the other commands write once they have read all.
 LINES_OF = {"run": 1, "run --echo": 2}
 READ_FAULTS = (errno.EIO, errno.EINTR, errno.EAGAIN, errno.EISDIR)
-# 0 stands for a write that takes nothing.
+# 0 means a write that takes no bytes.
 WRITE_FAULTS = (errno.EIO, errno.EINTR, errno.EAGAIN, errno.ENOSPC, errno.EPIPE, 0)
 OPEN_FAULTS = (errno.EACCES, errno.EMFILE, errno.EINTR)
 WHOLE = 1 << 30

@@ -45,7 +45,7 @@ void *realloc(void *kept, size_t size) {
     return real(kept, size);
 }
 """
-# Which refusals of which events may be answered by want of memory.
+# Which refusals of which events may be replaced by "out of memory".
 LATE = {"reserve": {15, 16}, "unreserve": {15}, "set_agent": {15, 18, 19}}
 
 

@@ -98,7 +98,7 @@ def held(role, shorter):
     total = "cpus:4;disk:100000;gpus:1;mem:8192"
     with_agents = [line("add_agent", agent=f"n{i}", total=total) for i in range(count)]
     tasks = [line("accept", framework="f0", offer=i, task=f"t{i}", use="cpus:3;mem:4096", at=0, refuse_ms=0) for i in range(1, count // 2 + 1)]
-    # the cycle comes while there is one framework, as it is dear with many
+    # the cycle comes while there is only one framework, because it is slow with many
     return weights + named[:1] + with_agents + [line("cycle", at=0)] + tasks + named[1:]
 
 

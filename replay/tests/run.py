@@ -75,7 +75,7 @@ def is_near(value, expected):
     return abs(value - expected) < 1e-9
 
 
-# A journal whose replay is worked out by hand
+# A journal whose expected replay was computed by hand
 
 # Two machines of cpus:2, one framework, three tasks of cpus:2. f answers after 100 ms and starts at most one task with an accept.
 #
@@ -329,8 +329,8 @@ def test_known_demand_of_the_model(room):
 
 
 def test_known_demand_of_another_policy(room):
-    # The true demand, run with weight 8 for web, tells what the replay of the journal with equal weights should say: web waits less, and
-    # the median wait of data is longer.
+    # The true demand, run with weight 8 for web, shows what the replay of the journal with equal weights should report: web waits less,
+    # and the median wait of data is longer.
     journal, before = known({}, 4)
     _, after = known({"web": "8"}, 4)
     report = room.report("-", "--set-weight", "web=8", stdin=journal)

@@ -116,7 +116,7 @@ class Durzhanok:
                 if told is not None:
                     told.add(number)
                 if kind == "offer" and standing.get(number) != data:
-                    if number in standing:  # numbers began anew meanwhile
+                    if number in standing:  # numbers have begun again
                         yield "gone", {"offer": number}
                     standing[number] = data
                     yield kind, data

@@ -1,4 +1,4 @@
-# What callers are told: answers, refusals, rights, streams, time-outs. Each test is handed the programs. Outside the proof.
+# Tests of replies to callers: answers, refusals, rights, streams, timeouts. Each test receives the programs. Outside the proof.
 import json
 import os
 import random
@@ -42,7 +42,7 @@ def test_refusals(programs):
         told(404, "no such call", path="/nothing", body=None)
         told(405, "POST", body=None)
         told(410, "too long ago", Idempotency_Key=old_key(2))
-        told(400, "yet to come", Idempotency_Key=old_key(-1))  # it would outlive what is kept of it
+        told(400, "yet to come", Idempotency_Key=old_key(-1))  # it would outlive its kept entry
         told(400, "visible", Idempotency_Key="a b")
         told(400, "milliseconds", path="/drf/v1/explain?at=-1", body=None)
         told(400, "bytes", path="/drf/v1/journal?from=x", body=None)
@@ -56,7 +56,7 @@ def test_refusals(programs):
         told(200, "", body=line, Idempotency_Key="k1", name="ops")  # another caller's key is another key
         told(200, '{"name":"NotJson","refused":31}\n{"offers":[]}', body='{"at":$,"event"\n{"event":"cycle"}\n')
         told(200, '{"name":"LineTooLong","refused":34}', body="x" * 70000)
-        for longest in (65537, 65536, 65520):  # with and without the moment that is put in
+        for longest in (65537, 65536, 65520):  # with and without the timestamp that is inserted
             told(200, "{", body='{"event":"cycle","role":"' + "<" * (longest - 27) + '"}', name="ops")
             told(200, "{", body='{"event":"cycle","role":"' + "<" * (longest - 27) + '"}')
         status, journal, _ = g.ask("/drf/v1/journal")
@@ -154,7 +154,7 @@ def test_streams(programs):
         assert wait(lambda: len(offers) == 4 and offers[3][1]["why"] == "deactivate_agent"), offers
         assert wait(lambda: len(replies) == 4), replies
         assert json.loads(replies[0][1]["line"])["agent"] == "n<2>\u2028" and replies[0][1]["reply"]["name"] == "BadText", replies[0]
-        g.kill_drf()  # what stood comes again to nobody
+        g.kill_drf()  # nobody receives the outstanding offers again
         g.until_ready()
         g.send({"event": "activate_agent", "agent": "n1"}, {"event": "cycle"})
         assert wait(lambda: len(offers) == 5), offers

@@ -1,5 +1,5 @@
 #!/usr/bin/env python3
-# Kills gateways, allocators and etcd members at random moments under load, and then compares what was acknowledged with what stands. Outside the proof.
+# Kills gateways, allocators and etcd members at random times under load, and then compares the acknowledged events with the state. Outside the proof.
 """    chaos.py KIND SECONDS [SEED]        KIND is alone, three or outer; GATEWAY and DRF name the programs
 """
 import collections

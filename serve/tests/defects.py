@@ -305,7 +305,7 @@ def test_keys_of_one_caller(programs):
 
         revive, activate, used, tried = {"event": "revive", "framework": "site"}, {"event": "activate_agent", "agent": "n0"}, [], 0
         until = time.time() + 60
-        while len(used) < 20 and time.time() < until:  # while messages are pruned, some keys count twice for a moment
+        while len(used) < 20 and time.time() < until:  # while messages are pruned, some keys briefly count twice
             tried += 1
             status = send("site", revive, f"k{tried}")[0]
             assert status in (200, 429), status

@@ -1,4 +1,4 @@
-# What happens when parts fail: each fault is told, and loses nothing. Each test is handed the programs. Outside the proof.
+# Tests of failing parts: each error is reported, and nothing is lost. Each test receives the programs. Outside the proof.
 import hashlib
 import json
 import os

@@ -92,7 +92,7 @@ def what_is_used_and_what_is_offered_are_apart(browser, room):
 @test
 def limits_stand_beside_consumption(browser, room):
     own = small(browser)
-    # What is reserved for `data` counts once, held or not; what is held of it does not count again.
+    # Resources reserved for `data` count once, held or not; what `data` holds of them does not count again.
     equal("limits", browser.texts("#tree .limits li"), ["cpus 4 of 4, full", "mem 5,120 of 8,192", "cpus 8 of 9"])
     holds("a full limit is told", any("data has consumed its limit of cpus" in note for note in browser.texts("#notes li")))
     own.end()
@@ -306,7 +306,7 @@ def it_is_used_by_keyboard(browser, room):
     own.end()
 
 
-# The ratio of each visible text to what is behind it, after WCAG 2; large texts need 3, others 4.5.
+# The contrast ratio of each visible text to its background, after WCAG 2; large texts need 3, others 4.5.
 CONTRAST = """
 const rgb = c => c.match(/[\\d.]+/g).map(Number), lin = v => (v /= 255) <= .04045 ? v / 12.92 : ((v + .055) / 1.055) ** 2.4;
 const lum = c => .2126 * lin(c[0]) + .7152 * lin(c[1]) + .0722 * lin(c[2]);

@@ -40,7 +40,7 @@ func demoCommand(ctx context.Context, arguments []string, in io.Reader, out io.W
 		return err
 	}
 	o.Gateway = program
-	signal.Ignore(syscall.SIGTTIN) // in the background of a terminal nothing is read, and the demo goes on
+	signal.Ignore(syscall.SIGTTIN) // in the background of a terminal nothing is read, and the demo continues
 	ctx, stop := signal.NotifyContext(ctx, syscall.SIGHUP)
 	defer stop()
 	if err := demo.Run(ctx, o); err != nil {

@@ -1,5 +1,5 @@
-// Command gateway is the service around `drf run`. Outside the proof: it orders, stores, feeds and hands back lines, and never says itself what
-// a reply is.
+// Command gateway is the service around `drf run`. Outside the proof: it orders and stores lines, passes them to the allocator, and returns its
+// replies; it never computes a reply itself.
 package main
 
 import (

@@ -210,7 +210,7 @@ func (g *gateway) setCallers(callers *auth.Callers) {
 	g.metrics.SetTokens(callers.List())
 }
 
-// runParts runs everything behind the server until the context ends.
+// runParts runs all parts of the gateway except the HTTP server, until the context ends.
 func (g *gateway) runParts(ctx context.Context, journal *allocator.Journal) {
 	cluster, err := etcd.Open(ctx, g.etcd)
 	if err != nil {

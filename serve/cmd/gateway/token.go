@@ -71,7 +71,7 @@ func addToken(arguments []string, out io.Writer, now time.Time) error {
 	return err
 }
 
-// listTokens prints who has a token, with which rights, and until when. The file has no secrets.
+// listTokens prints the name of each token, its rights, and when it expires. The file has no secrets.
 func listTokens(arguments []string, out io.Writer, now time.Time) error {
 	if len(arguments) != 1 {
 		return errors.New(tokenUsage)

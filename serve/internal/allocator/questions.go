@@ -216,7 +216,7 @@ func (q *Questions) feed(to oplog.Position, questions []string) error {
 	return out.Flush()
 }
 
-// read skips the replies to the event lines, and hands out the answers.
+// read skips the replies to the event lines, and delivers the answers to the questions.
 func (q *Questions) read(to oplog.Position, questions []string, texts map[string][]*question) error {
 	for n := to.Lines - q.at.Lines; n > 0; n-- {
 		for isWhole := false; !isWhole; {

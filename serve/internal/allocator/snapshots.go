@@ -103,7 +103,7 @@ func (s *snapshots) removeBelow(number int) {
 	}
 }
 
-// onMarker is called after a marker's message. A snapshot is made while messages go on; an epoch's ends the generation.
+// onMarker is called after a marker's message. A snapshot is made while messages continue to be applied; an epoch's marker ends the generation.
 func (s *snapshots) onMarker(ctx context.Context, f *inFlight, now oplog.Position) error {
 	number, err := strconv.Atoi(strings.TrimPrefix(f.Key, markerKey))
 	if err != nil {

@@ -38,7 +38,7 @@ func TestRoutes(t *testing.T) {
 	}
 }
 
-// Random keys of 32 hexadecimal digits are not dated, whatever digit stands where a UUID has its version.
+// Random keys of 32 hexadecimal digits have no time, whatever digit is at the place of a UUID's version.
 func TestKeyTimes(t *testing.T) {
 	if at, is := keyTime("01890a5d-ac96-774b-bcce-b302099a8057"); !is || at.UnixMilli() != 0x01890a5dac96 {
 		t.Error(at, is)

@@ -1,4 +1,4 @@
-// Who calls, and for how long a token lets them. Outside the proof.
+// Identifies callers, and how long their tokens are valid. Outside the proof.
 
 package api
 

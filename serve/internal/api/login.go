@@ -20,7 +20,7 @@ const (
 	maxCodes = 1000            // that are not used yet
 )
 
-// login is the token that a code stands for.
+// login is a token and the time until which its code is valid.
 type login struct {
 	token string
 	until time.Time

@@ -225,7 +225,7 @@ func bearer(r *http.Request) (token string, is bool) {
 	return auth.BearerToken(r.Header.Get("Authorization"))
 }
 
-// dispatch finds who calls, and what for.
+// dispatch identifies the caller and the call.
 func (s *Server) dispatch(w http.ResponseWriter, r *http.Request) error {
 	callers := s.callers.Load().(*auth.Callers)
 	token, hasToken := bearer(r)

@@ -192,7 +192,7 @@ func (a *Archiver) step(ctx context.Context) error {
 		for _, r := range records {
 			if r.Message != a.seen()+1 && len(a.open) > 0 || a.isDue() {
 				if err := a.close(ctx); errors.Is(err, errPruned) {
-					break // what is kept is read again
+					break // the kept segments are read again
 				} else if err != nil {
 					return err
 				}

@@ -125,7 +125,7 @@ func TestOtherDamage(t *testing.T) {
 	}
 }
 
-// Replies are checked by the allocator itself: one that was changed by somebody who made the chain anew is found.
+// Replies are checked by the allocator itself, so a changed reply is found even if the chain of hashes was rebuilt after the change.
 func TestReplies(t *testing.T) {
 	program := os.Getenv("DRF")
 	if program == "" {

@@ -26,7 +26,7 @@ type archived struct {
 
 func (a *Archiver) knownPath() string { return filepath.Join(a.config.Data, "archived") }
 
-// openFolder takes the folder, and reads what is there.
+// openFolder takes ownership of the folder, and reads its segments.
 func (a *Archiver) openFolder() error {
 	folder := a.config.Folder
 	if _, err := disk.PrivateFolder(folder); err != nil {
@@ -44,7 +44,8 @@ func (a *Archiver) openFolder() error {
 	return nil
 }
 
-// readFolder reads what is there: the next segment follows the last one. In an empty folder the chain continues that of another folder.
+// readFolder reads the segments of the folder: the next segment follows the last one. In an empty folder the chain continues that of another
+// folder.
 func (a *Archiver) readFolder() error {
 	folder := a.config.Folder
 	parts, _ := filepath.Glob(filepath.Join(folder, "*"+suffix+part))
@@ -213,8 +214,8 @@ func checkSpace(folder string, size int) error {
 	return nil
 }
 
-// firstKept returns the first segment that is kept when one of a size is added. What is kept begins with a state, so that its replies can be
-// checked: segments are removed up to one that has a state.
+// firstKept returns the first segment that is kept when one of this size is added. Segments are removed up to one that begins with a state, so that
+// the replies in those that are kept can be checked.
 func (a *Archiver) firstKept(size int64, hasState bool) int {
 	a.mu.RLock()
 	defer a.mu.RUnlock()

@@ -38,7 +38,7 @@ func (c *Caller) MaySend() bool {
 	return false
 }
 
-// rule says who may send an event: who has the right to the agent or framework that it names, or another right.
+// rule is the rights of which one is needed to send an event: the right to the agent or framework that it names, or another right.
 type rule struct{ named, right string }
 
 var rules = map[string]rule{
@@ -64,8 +64,8 @@ type Judged struct {
 	Timed bool   // it gets the timestamp of its message
 }
 
-// Judge returns a line as the allocator is to read it, or why the caller may not send it. Who may send everything sends lines as they are,
-// broken ones too.
+// Judge returns the line that the allocator is to read, or why the caller has no right to send it. The lines of a caller that has the right to send
+// everything are not changed, even if they are not valid.
 func (c *Caller) Judge(line []byte) (Judged, error) {
 	object := registry.Fields(line)
 	kind := registry.Text(object, "event")

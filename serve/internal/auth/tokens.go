@@ -1,5 +1,5 @@
-// Package auth, outside the proof, decides who may do what: tokens, their rights, and lines that are written again so that the allocator
-// reads exactly what was judged.
+// Package auth, outside the proof, decides which callers may make which calls: tokens, their rights, and lines that are rewritten so that the
+// allocator reads exactly what was judged.
 package auth
 
 import (
@@ -19,8 +19,7 @@ import (
 	"gateway/internal/disk"
 )
 
-// Caller is who has a token. Its rights are admin, operate, clock, read, framework:NAME, role:ROLE, agent:NAME, agent:PREFIX* or
-// user:NAME.
+// Caller is the owner of a token. Its rights are admin, operate, clock, read, framework:NAME, role:ROLE, agent:NAME, agent:PREFIX* or user:NAME.
 type Caller struct {
 	Name    string     `json:"name"`
 	Sha256  string     `json:"sha256"`

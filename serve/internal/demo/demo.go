@@ -245,7 +245,7 @@ func (s *simulation) beat(ctx context.Context, round int) {
 	}
 }
 
-// pass sends what is due after a time, and a cycle.
+// pass advances the time, and sends the events that are due by then, followed by a cycle.
 func (s *simulation) pass(ctx context.Context, span time.Duration) error {
 	s.now += span
 	events := append(s.cluster.Due(s.now), Event{"event": "cycle"})

@@ -137,7 +137,8 @@ func (c *Cluster) Ask(ctx context.Context, patience time.Duration) (*clientv3.Cl
 	return client, ctx, cancel
 }
 
-// Leave moves on to the next member, unless that was done since the client was asked: what ends then must not leave the next one too.
+// Leave moves on to the next member, unless this was done after the client was asked: an error of the old member must not make the gateway leave
+// the new one too.
 func (c *Cluster) Leave(client *clientv3.Client, reason error) {
 	c.mu.Lock()
 	defer c.mu.Unlock()

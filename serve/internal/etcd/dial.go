@@ -18,8 +18,8 @@ import (
 
 const redial = 2 * time.Second // between tries to reach a member
 
-// dial connects to the members. Without a user that waits for no member. With one, a member must be reached to say who calls: those that
-// cannot be reached are tried again while others are used.
+// dial connects to the members. Without a user, it does not wait for any member. With a user, a member must be reached to authenticate; members
+// that cannot be reached are tried again while others are used.
 func (c *Cluster) dial(ctx context.Context, config Config) error {
 	connect, err := connector(config)
 	if err != nil {

@@ -52,7 +52,7 @@ func TestLoneMember(t *testing.T) {
 	}
 }
 
-// freeAddress returns an address on the loopback that was free a moment ago.
+// freeAddress returns a loopback address that was free just before.
 func freeAddress(t *testing.T) string {
 	listener, err := net.Listen("tcp", "127.0.0.1:0")
 	if err != nil {
@@ -62,7 +62,7 @@ func freeAddress(t *testing.T) string {
 	return listener.Addr().String()
 }
 
-// A member that lacks a majority says so, and stops when it is told to.
+// A member without a majority reports this, and stops when it is asked to.
 func TestMemberWithoutMajority(t *testing.T) {
 	// Nobody listens on the ports of the others.
 	members := fmt.Sprintf("a=http://%s,b=http://127.0.0.1:1,c=http://127.0.0.1:2", freeAddress(t))

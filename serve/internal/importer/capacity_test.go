@@ -74,7 +74,7 @@ func TestCapacities(t *testing.T) {
 	}
 	for name, c := range map[string]struct {
 		cluster document.Cluster
-		want    string // what is left out
+		want    string // what is omitted
 		lines   int    // that have the text
 		text    string
 	}{

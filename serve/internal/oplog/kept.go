@@ -17,7 +17,7 @@ import (
 	"go.etcd.io/etcd/clientv3"
 )
 
-// keptEntry is what is kept of a pruned message.
+// keptEntry is the part of a pruned message that is kept.
 type keptEntry struct {
 	key     [16]byte // digest of its key
 	body    [8]byte  // digest of its note and lines

@@ -12,8 +12,8 @@ import (
 	"go.etcd.io/etcd/clientv3"
 )
 
-// ownerNumber stands for an owner's name in a kept entry, where it shares 8 bytes with the number of the message. Two names have the same
-// number in one of 524,287 cases; they share a limit then.
+// ownerNumber represents an owner's name in a kept entry, where it shares 8 bytes with the number of the message. Two names have the same number in
+// one of 524,287 cases; then they share a limit.
 type ownerNumber uint32
 
 const (

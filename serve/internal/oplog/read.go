@@ -21,7 +21,7 @@ const (
 	chunkBytes = 4 << 20 // of messages that are read at once, about
 )
 
-// Load hands on the messages after a revision that the list has at a revision of etcd, in order.
+// Load passes to hand, in order, the messages after a revision that the list has at a revision of etcd.
 func (l *Log) Load(ctx context.Context, after Revision, revision int64, hand func([]Message) error) error {
 	index, err := l.index(ctx, revision)
 	if err != nil {
@@ -57,7 +57,7 @@ func (l *Log) index(ctx context.Context, revision int64) (index []*mvccpb.KeyVal
 	return index, nil
 }
 
-// fetch hands on the messages of an index, whole transactions at a time.
+// fetch passes the messages of an index to hand, whole transactions at a time.
 func (l *Log) fetch(ctx context.Context, index []*mvccpb.KeyValue, revision int64, hand func([]Message) error) error {
 	for size := maxGroup; len(index) > 0; {
 		count := 0
@@ -99,7 +99,8 @@ func (l *Log) fetch(ctx context.Context, index []*mvccpb.KeyValue, revision int6
 	return nil
 }
 
-// Follow hands on the messages after a revision as they come, in order. When a member is left, the next one is asked for what follows.
+// Follow passes the messages after a revision to hand as they arrive, in order. When a member is left, the following messages are read from the
+// next one.
 func (l *Log) Follow(ctx context.Context, after int64, hand func([]Message) error) error {
 	for ctx.Err() == nil {
 		if err := l.watch(ctx, &after, hand); err != nil {

@@ -54,7 +54,7 @@ func (r *Runner) put(ctx context.Context, b *oplog.Batch) error {
 	defer cancel()
 	_, err := r.log.Append(ctx, b)
 	wasApplied, full := (*oplog.AppliedError)(nil), (*oplog.FullError)(nil)
-	if errors.As(err, &wasApplied) || errors.Is(err, oplog.ErrNotDue) || errors.As(err, &full) { // callers are told that the store is full
+	if errors.As(err, &wasApplied) || errors.Is(err, oplog.ErrNotDue) || errors.As(err, &full) { // callers get an error that says that the store is full
 		return nil
 	}
 	return err
@@ -78,7 +78,7 @@ func (r *Runner) RunCycles(ctx context.Context) {
 
 const ticks = 4 // of Run, a second
 
-// Run looks for what is due until the context ends.
+// Run looks for due calls until the context ends.
 func (r *Runner) Run(ctx context.Context) {
 	for tick := 0; ctx.Err() == nil; tick++ {
 		if r.ready() == nil {

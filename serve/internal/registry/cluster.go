@@ -180,7 +180,7 @@ func (c *cluster) end(reason string, ended []heldOffer) {
 	}
 }
 
-// publish tells who listens to the offers of a framework.
+// publish notifies those who follow the offers of a framework.
 func (c *cluster) publish(o Offer, name string, data interface{}) {
 	c.hub.publish(OffersOf(o.Framework), func() []byte { return Event(0, name, data) })
 }

@@ -41,10 +41,10 @@ func registered(kind string) string {
 	return kind
 }
 
-// Config says how long who may be silent.
+// Config says how long the owner of a session may be silent.
 type Config struct {
 	Timeouts map[string]time.Duration // by kind; 0 is for ever
-	Rate     float64                  // endings a second, at most
+	Rate     float64                  // events a second, at most
 	Burst    int
 	Alone    bool // no other gateway takes heartbeats
 }
@@ -62,14 +62,14 @@ type Manager struct {
 	lastRun time.Duration
 	live    []string
 	silent  map[string]time.Duration // watched keys without a lease, and since when
-	tokens  float64                  // endings that may be appended at once
+	tokens  float64                  // events that may be appended at once
 }
 
 // New returns the sessions. Run must be called for silent ones to end.
 func New(config Config, log *oplog.Log, registry *registry.Registry, ready func() error) *Manager {
 	start := time.Now()
 	m := &Manager{config: config, log: log, registry: registry, ready: ready, silent: map[string]time.Duration{}, tokens: float64(config.Burst)}
-	m.running = func() time.Duration { return time.Since(start) } // goes on while the process is stopped
+	m.running = func() time.Duration { return time.Since(start) } // includes the time while the process is stopped
 	return m
 }
 
@@ -129,7 +129,7 @@ func (m *Manager) Heartbeat(ctx context.Context, kind, name string) (wasAlive bo
 	return false, nil
 }
 
-// waitRegistered gives the registry a moment to catch up, as the registration may have gone to another gateway.
+// waitRegistered waits briefly until the registry has the registration, because another gateway may have received it.
 func (m *Manager) waitRegistered(ctx context.Context, kind, name string) (registration int64, is bool) {
 	for end := time.Now().Add(time.Second); ; time.Sleep(50 * time.Millisecond) {
 		if registration, is = m.registry.Registration(kind, name); is || ctx.Err() != nil || time.Now().After(end) {
@@ -138,7 +138,7 @@ func (m *Manager) waitRegistered(ctx context.Context, kind, name string) (regist
 	}
 }
 
-// waitApplied waits a moment for the registry to have a message, so that the condition of the next ending can hold.
+// waitApplied waits briefly until the registry has a message, so that the condition of the next event can hold.
 func (m *Manager) waitApplied(ctx context.Context, revision int64) {
 	for end := time.Now().Add(time.Second); m.registry.Info().Revision < revision && ctx.Err() == nil && time.Now().Before(end); {
 		time.Sleep(2 * time.Millisecond)
@@ -218,8 +218,8 @@ func (m *Manager) mayEnd(kind, key string) bool {
 	return now-m.calm >= grace && (m.config.Alone || now-since >= holdFor)
 }
 
-// endSilent appends what is due for sessions that have no lease. The revision of the session is in the message's key, so that it is appended
-// once; when its owner came again or registered again meanwhile, nothing is.
+// endSilent appends the events that are due for sessions that have no lease. The revision of the session is in the message's key, so the message is
+// appended only once. Nothing is appended if the owner sent a heartbeat or registered again in the meantime.
 func (m *Manager) endSilent(ctx context.Context, kind string) error {
 	ctx, cancel := context.WithTimeout(ctx, 20*time.Second)
 	defer cancel()

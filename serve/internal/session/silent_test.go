@@ -69,7 +69,7 @@ func TestNotesOfRemovedAgentsAreForgotten(t *testing.T) {
 		t.Error("the note of an agent that is silent was forgotten")
 	}
 	w.send(`{"event":"remove_agent","agent":"n1"}`, `{"event":"add_agent","agent":"n1","total":"cpus:1"}`)
-	// The registry follows the list, so it knows of the second registration a moment later.
+	// The registry follows the list, so it learns of the second registration a little later.
 	for end := time.Now().Add(20 * time.Second); ; time.Sleep(50 * time.Millisecond) {
 		found, err := m.Silent(context.Background())
 		if err != nil {

@@ -80,7 +80,7 @@ func allocate(ctx context.Context, program string, cluster *document.Cluster, cl
 	}
 }
 
-// isUsable reports whether a wish of any client fits into what is free on an agent. An agent on which none fits needs no more filters.
+// isUsable reports whether a wish of any client fits into the free resources of an agent. An agent on which none fits needs no more filters.
 func (r *run) isUsable(agent int) bool {
 	for k, c := range r.clients {
 		if r.unmet[k] == 0 {
@@ -173,7 +173,8 @@ func (r *run) setWants(k int, wants bool) {
 	r.encode(map[string]any{"event": event, "framework": r.clients[k].framework, "role": r.clients[k].role})
 }
 
-// answer accepts an offer for the largest wish that fits, and else declines it for ever: what is free on an agent only becomes less.
+// answer accepts an offer for the largest wish that fits. Otherwise it declines the offer for ever, because the free resources of an agent only
+// decrease.
 func (r *run) answer(o offer) (accepts bool, err error) {
 	k := r.index[[2]string{o.Framework, o.Role}]
 	b, err := resources.Parse(o.Resources)

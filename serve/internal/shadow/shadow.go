@@ -146,7 +146,7 @@ func (s *Shadow) Follow(ctx context.Context, out, notes io.Writer) error {
 	}
 }
 
-// write writes a report, and lists what is left out when that changes.
+// write writes a report, and lists what was left out of it when that changes.
 func (s *Shadow) write(report *Report, out, notes io.Writer) error {
 	if leftOut := strings.Join(report.LeftOut, "\n"); leftOut != s.leftOut {
 		s.leftOut = leftOut

@@ -122,7 +122,7 @@ func TestCompare(t *testing.T) {
 			cluster{agents: []string{"4+ops:4"}, tasks: []string{"data S0 1 4", "ops S0 1 1"}},
 			[]row{{"data", 4, 4, 4, ""}, {"ops", 1, 1, 4, "reservation: cpus:3 reserved for it is not used in Mesos"}},
 		},
-		// What is left when data has the unreserved part is reserved for ops, which wants nothing more as it is not active.
+		// The resources that remain when data has the unreserved part are reserved for ops, which wants no more because it is not active.
 		"reserved for others": {
 			cluster{agents: []string{"4+ops:4", "!4"}, tasks: []string{"data S0 1 2", "data S1 1 4", "!ops S0 1 1"}},
 			[]row{{"data", 6, 6, 8, "demand: one task more fits in Mesos, so it does not want more"}, {"ops", 1, 1, 1, ""}},

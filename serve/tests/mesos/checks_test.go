@@ -108,7 +108,7 @@ func TestChecks(t *testing.T) {
 	const reason = "REASON_TASK_CHECK_STATUS_UPDATED"
 	c.expect("TASK_RUNNING", "", object{"check_status.type": "COMMAND", "check_status.command.exit_code": nil, "reason": nil})
 	c.expect("TASK_RUNNING", reason, object{"check_status.command.exit_code": 3.0, "healthy": nil})
-	s.agents[0].kill() // the check goes on
+	s.agents[0].kill() // the check continues
 	os.WriteFile(file, []byte("0"), 0o600)
 	time.Sleep(time.Second)
 	s.agents[0].start()

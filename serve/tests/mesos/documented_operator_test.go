@@ -1,4 +1,4 @@
-// The calls of Mesos' documentation of the operator API and of the classic endpoints, sent by curl as it stands there, with the ids of this
+// The calls in Mesos' documentation of the operator API and of the classic endpoints, sent by curl as they are written there, with the ids of this
 // service. Outside the proof.
 
 package mesos
@@ -9,7 +9,7 @@ import (
 	"testing"
 )
 
-// curl runs curl with arguments, in which ADDRESS is a gateway, and returns the answer with its status behind it.
+// curl runs curl with these arguments, in which ADDRESS stands for a gateway, and returns the answer followed by its status.
 func (s *service) curl(arguments ...string) string {
 	s.t.Helper()
 	for k := range arguments {

@@ -1,4 +1,5 @@
-// The calls of Mesos' documentation of the scheduler API, sent by curl: JSON as it stands there, with the ids of this service. Outside the proof.
+// The calls in Mesos' documentation of the scheduler API, sent by curl: the JSON as it is written there, with the ids of this service. Outside the
+// proof.
 
 package mesos
 

@@ -165,7 +165,7 @@ func TestDrainedMachineComesAgain(t *testing.T) {
 	c.offer()
 }
 
-// DEACTIVATE_AGENT holds across a restart of the agent, and its tasks go on.
+// DEACTIVATE_AGENT lasts across a restart of the agent, and the agent's tasks keep running.
 func TestDeactivate(t *testing.T) {
 	s := newService(t, 1, 0)
 	a, c, _ := s.cluster()

@@ -104,7 +104,7 @@ func New(config Config) (*Agent, error) {
 // ID returns the agent's id.
 func (a *Agent) ID() string { return a.id }
 
-// Run keeps a link to one of the gateways until the context ends. Tasks go on then.
+// Run keeps a link to one of the gateways until the context ends. Tasks keep running after that.
 func (a *Agent) Run(ctx context.Context) {
 	a.mu.Lock()
 	for _, t := range a.tasks {

@@ -1,4 +1,4 @@
-// Who may ask an agent: the callers that a gateway knows. Outside the proof.
+// Which callers an agent answers: those that a gateway knows. Outside the proof.
 
 package agent
 

@@ -1,5 +1,5 @@
-// Health checks and checks of commands, as Mesos' command executor runs them. They run in the supervisor, so they go on while the agent's
-// program does not. Outside the proof.
+// Health checks and command checks, as Mesos' command executor runs them. They run in the supervisor, so they continue while the agent's program is
+// stopped. Outside the proof.
 
 package agent
 

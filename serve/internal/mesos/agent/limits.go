@@ -153,7 +153,7 @@ func (g cgroup) isOutOfMemory() bool {
 	return false
 }
 
-// remove kills what is left in the group, and removes it.
+// remove kills the processes that are still in the group, and removes it.
 func (g cgroup) remove() {
 	if g == "" {
 		return

@@ -1,4 +1,4 @@
-// Who has the other end of a connection. Outside the proof.
+// Tests of finding the process at the other end of a connection. Outside the proof.
 
 package agent
 

@@ -105,8 +105,8 @@ func (e exit) text() string {
 	return "exited with status " + strconv.Itoa(e.Code)
 }
 
-// ended returns how the process ended. Of one that ended with its supervisor, as when the machine restarted, that is not known: what is left
-// of it is killed, and isLost is true.
+// ended returns how the process ended. If it ended together with its supervisor, for example when the machine restarted, this is not known: then
+// its remaining processes are killed, and isLost is true.
 func (s supervised) ended() (e exit, hasEnded, isLost bool) {
 	isRunning := s.runs() // before its exit is looked for
 	text, err := os.ReadFile(s.path("exit"))
@@ -123,7 +123,7 @@ func (s supervised) ended() (e exit, hasEnded, isLost bool) {
 	return e, true, true
 }
 
-// killLeft kills what a supervisor left behind that was itself killed: all processes of its group and of its session.
+// killLeft kills the processes that remain after a supervisor was killed: all processes of its group and of its session.
 func (s supervised) killLeft() {
 	s.cgroup().remove()
 	boot, _ := os.ReadFile(s.path("started"))

@@ -1,4 +1,4 @@
-// Tests of the calls on an agent's folder that is written by hand. Outside the proof.
+// Tests of the calls, on an agent's folder that the tests write themselves. Outside the proof.
 
 package agentapi
 

@@ -1,4 +1,4 @@
-// Tests of a custom executor and its tasks, on a folder that is written by hand. Outside the proof.
+// Tests of a custom executor and its tasks, on a folder that the tests write themselves. Outside the proof.
 
 package agentapi
 

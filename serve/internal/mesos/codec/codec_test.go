@@ -198,7 +198,7 @@ func TestRecords(t *testing.T) {
 	}
 }
 
-// What is read from JSON is written as it reads again, and carried by protobuf.
+// A message that was read from JSON is the same after it is written and read again, as JSON and as protobuf.
 func FuzzJSON(f *testing.F) {
 	f.Add([]byte(`{"type":"ACCEPT","framework_id":{"value":"f"},"accept":{"offer_ids":[{"value":"o"}],"operations":[{"type":"LAUNCH","launch":{"task_infos":[{"name":"t","task_id":{"value":"t"},"agent_id":{"value":"a"},"resources":[{"name":"cpus","type":"SCALAR","scalar":{"value":0.1}}],"limits":{"cpus":{"value":1}}}]}}]}}`))
 	f.Add([]byte(`{"type":"NEW","x":[{"@protobuf":"AA=="}],"@protobuf":"mgMFbmV3ZXI="}`))
@@ -219,7 +219,7 @@ func FuzzJSON(f *testing.F) {
 	})
 }
 
-// What is read from protobuf is carried by JSON, and written equally from there on.
+// A message that was read from protobuf is the same in JSON, and is written in the same way from then on.
 func FuzzProtobuf(f *testing.F) {
 	f.Add(New(call).Set("type", "KILL").Set("kill.task_id.value", "t").Protobuf())
 	f.Add([]byte{0x9a, 0x06, 0x01, 0x00})

@@ -82,7 +82,7 @@ func (o *Operator) reactivateAgent(ctx context.Context, c *api.Call, call codec.
 	})
 }
 
-// drainAgent kills the tasks of an agent. What becomes of it is in the registry, so any gateway goes on with it.
+// drainAgent kills the tasks of an agent. The progress of the drain is in the registry, so any gateway can continue it.
 func (o *Operator) drainAgent(ctx context.Context, c *api.Call, call codec.Message) error {
 	id := call.Text("drain_agent.agent_id.value")
 	note := &mesos.Note{Kind: mesos.NoteDrain, Agent: id, MarkGone: call.Bool("drain_agent.mark_gone")}

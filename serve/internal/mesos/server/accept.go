@@ -1,4 +1,4 @@
-// ACCEPT: offers become tasks, reservations, and refusals of what is left. Outside the proof.
+// The call ACCEPT: offers become tasks and reservations, and the rest is refused. Outside the proof.
 
 package server
 
@@ -23,7 +23,7 @@ const (
 	defaultRefusal = 5000.0 // milliseconds, Mesos' default
 )
 
-// part is what is left of one of the offers, and the allocator's tasks that it is accepted for.
+// part is the remaining resources of one of the offers, and the allocator's tasks for which it is accepted.
 type part struct {
 	mesos.Offer
 	left  resources.Bundle
@@ -131,7 +131,8 @@ func (s *Server) acceptance(f *framework, ids []string) *acceptance {
 	return a
 }
 
-// refusal returns for how many milliseconds what is left is refused. A time that is no number or negative is the default, as by Mesos.
+// refusal returns for how many milliseconds the remaining resources are refused. As in Mesos, a time that is negative or not a number means the
+// default.
 func (s *Server) refusal(filters codec.Message) int64 {
 	ms := defaultRefusal
 	if filters.Has("refuse_seconds") {
@@ -255,7 +256,7 @@ func (a *acceptance) launch(tasks []codec.Message, executor codec.Message, group
 	return "", "", ""
 }
 
-// left returns what is left of all offers.
+// left returns the remaining resources of all offers.
 func (a *acceptance) left() resources.Bundle {
 	all := resources.Bundle{}
 	for _, p := range a.parts {
@@ -297,7 +298,7 @@ func (a *acceptance) hold(name string, wanted resources.Bundle) (holds []mesos.H
 	return holds
 }
 
-// putAccept appends the message. A refusal of what is left that the allocator has no room for is repeated without a time.
+// putAccept appends the message. If the allocator has no room for a filter on the remaining resources, the message is repeated without a filter.
 func (s *Server) putAccept(ctx context.Context, a *acceptance, refuseMS int64) error {
 	m := &message{note: a.note}
 	if a.invalid != "" || len(a.moves) > 0 {

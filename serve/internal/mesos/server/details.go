@@ -115,8 +115,8 @@ func sortedAgents(agents map[string]*mesos.Agent) []string {
 	return ids
 }
 
-// killTask answers POST /drf/v1/kill-task with {"framework":ID,"task":ID}: the task is killed as by its framework's KILL. The framework's
-// principal may do that, and who may operate.
+// killTask answers POST /drf/v1/kill-task with {"framework":ID,"task":ID}: the task is killed as by its framework's KILL. The framework's principal
+// and operators may do this.
 func (s *Server) killTask(c *api.Call) error {
 	body, release, err := c.Body()
 	if err != nil {

@@ -1,5 +1,5 @@
-// What is due: for streams whose gateway ended, for who stays away, and for resources that nobody holds. Each gateway may append it. Outside
-// the proof.
+// Actions that become due: for streams whose gateway ended, for frameworks and agents that stay away, and for resources that nobody holds. Any
+// gateway can append them. Outside the proof.
 
 package server
 
@@ -17,7 +17,7 @@ import (
 // holdFor is how long another gateway may seem not to run before its streams are ended.
 const holdFor = 3 * time.Second
 
-// Run does what is due until the context ends.
+// Run performs due actions until the context ends.
 func (s *Server) Run(ctx context.Context) {
 	go s.runAcks(ctx)
 	for ctx.Err() == nil {
@@ -78,8 +78,8 @@ func (s *Server) hasEnded(owner, stream string, live map[string]bool) bool {
 
 type deed func(context.Context) error
 
-// dueNow returns what is due. Times for which a framework or an agent may be away begin again when this gateway becomes ready: while there was no
-// service, none could come.
+// dueNow returns the actions that are due. The times for which a framework or an agent may be away start again when this gateway becomes ready,
+// because nobody could reconnect while there was no service.
 func (s *Server) dueNow() (deeds []deed) {
 	live, now := map[string]bool{}, s.log.Clock.Now().UnixMilli()
 	isOver := func(left, wait int64) bool { return now-left >= wait && time.Since(s.since).Milliseconds() >= wait }

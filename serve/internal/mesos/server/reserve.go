@@ -60,7 +60,7 @@ func (a *acceptance) move(op codec.Message) error {
 	return nil
 }
 
-// reservationProblem returns what is not supported of the reservation of a resource, or an empty text.
+// reservationProblem returns which part of a resource's reservation is not supported, or an empty text.
 func (a *acceptance) reservationProblem(m codec.Message) string {
 	infos := m.List("reservations")
 	if m.Has("reservation") {

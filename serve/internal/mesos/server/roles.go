@@ -200,7 +200,8 @@ func (p *pauses) begin(id string) {
 	p.until[id] = time.Now().Add(rolePause)
 }
 
-// dueRoles returns what is due for frameworks that have left roles: those without their tasks go, and so do offers that were made there.
+// dueRoles returns the actions that are due for frameworks that are leaving roles: a role is left once none of the framework's tasks runs in it,
+// and offers that were made there end.
 func (s *Server) dueRoles() (deeds []deed) {
 	var due []string
 	s.state.Read(func() {

@@ -1,4 +1,4 @@
-// The scheduler API: who calls, and what for. Outside the proof.
+// The scheduler API: identifies the caller and the call. Outside the proof.
 
 package server
 

@@ -66,7 +66,7 @@ type Server struct {
 	names     named // for Details
 }
 
-// New returns a server. Run must be called for it to do what is due.
+// New returns a server. Run must be called, or it performs no due actions.
 func New(config Config, log *oplog.Log, allocator *allocator.Allocator, registry *registry.Registry, state *mesos.State, streams *Streams, ready func() error) *Server {
 	s := &Server{config: config, log: log, allocator: allocator, registry: registry, state: state, streams: streams, ready: ready,
 		acks: make(chan mesos.Ack, 4096), silent: map[string]time.Time{}, pauses: pauses{until: map[string]time.Time{}}}
@@ -185,7 +185,8 @@ func registers(event interface{}) string {
 // guards is how many names there are for messages that touch. Each is a key in etcd; where many agents come at once, few share one.
 const guards = 4096
 
-// guardOf returns the name that messages touch which change who has a stream. Several frameworks or agents share one.
+// guardOf returns the name of the guard that is touched by messages that change which gateway has a stream. Several frameworks or agents share one
+// guard.
 func guardOf(kind, id string) string {
 	sum := fnv.New32a()
 	sum.Write([]byte(kind + "/" + id))

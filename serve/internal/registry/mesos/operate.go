@@ -75,7 +75,7 @@ func (s *State) takeKept(agent string) (found Kept, is bool) {
 	return found, is
 }
 
-// comeAgain deactivates an agent that was deactivated before it was removed. Its drain goes on.
+// comeAgain deactivates an agent that was deactivated before it was removed. If it was being drained, the drain continues.
 func (s *State) comeAgain(a *Agent) {
 	found, is := s.takeKept(a.ID)
 	if !is {

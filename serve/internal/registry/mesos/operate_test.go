@@ -85,7 +85,7 @@ func TestDrainFold(t *testing.T) {
 	}
 	l.end("t0")
 	l.end("t1")
-	restored := newList() // another gateway goes on from a snapshot
+	restored := newList() // another gateway continues from a snapshot
 	if err := restored.Restore(l.Snapshot()); err != nil || string(restored.Snapshot()) != string(l.Snapshot()) {
 		t.Fatal(err)
 	}

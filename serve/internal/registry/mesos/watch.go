@@ -29,7 +29,7 @@ type Change struct {
 	Status    Status
 }
 
-// Moment is a state that a task took.
+// Moment is a state of a task, and when the task entered it.
 type Moment struct {
 	State string `json:"state"`
 	At    int64  `json:"at"`

@@ -26,7 +26,7 @@ import (
 	"github.com/mesos/mesos-go/api/v1/lib/httpcli/httpexec"
 )
 
-// program is the executor. Its lock guards what is not acknowledged, and the commands that run.
+// program is the executor. Its lock guards the unacknowledged updates and tasks, and the commands that run.
 type program struct {
 	config config.Config
 	sender calls.Sender
@@ -76,7 +76,7 @@ func main() {
 	log.Fatal("no agent came back")
 }
 
-// subscription returns a SUBSCRIBE with what is not acknowledged.
+// subscription returns a SUBSCRIBE with the unacknowledged updates and tasks.
 func (p *program) subscription() *executor.Call {
 	p.mu.Lock()
 	defer p.mu.Unlock()

@@ -1,3 +1,4 @@
+-- Lemmas for the proofs of the core.
 pub mod drafting
 pub mod effects
 pub mod refusing

@@ -1,4 +1,4 @@
--- A cycle that is not ended, and what is told of it.
+-- Lemmas on running cycles and on their explanation.
 pub mod Drafts
 pub mod Tried
 pub mod Granted

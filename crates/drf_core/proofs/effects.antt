@@ -1,4 +1,4 @@
--- What the tables and the sorter hold after events that are not refused.
+-- What the tables and the sorter hold after accepted events.
 pub mod Moved
 pub mod Weighed
 pub mod Registered

@@ -1,4 +1,4 @@
--- Tests of refusal.
+-- Lemmas on the tests of refusals.
 pub mod Known
 pub mod Late
 pub mod Roles

@@ -1,4 +1,4 @@
--- Whole steps and runs.
+-- Lemmas on whole steps and runs.
 pub mod Filters
 pub mod Safe
 pub mod Work

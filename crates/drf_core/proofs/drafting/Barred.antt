@@ -1,4 +1,4 @@
--- Which clients may have nothing, where it is known that those of a role may have nothing.
+-- Which clients can get nothing, if it is known that those of a role can get nothing.
 use Rattle.std.proofs.Common.{◌≡◌, ℕ, ◌+◌, ◌<◌, ◌≤◌, zero, suc, false, List, [], ◌∷◌, ◌++◌, Option, Some, None, length, take, drop, refl, sym, ap, subst, ◌∙◌, inl, inr, arith}
 use Rattle.std.specs.Prelude.{slice_get, codes}
 use Rattle.std.specs.List.{list_any, AllByRecursion}
@@ -23,7 +23,7 @@ use Rattle.drf_core.proofs.drafting.Granted.{nothing_granted, spent}
 use Rattle.drf_core.proofs.drafting.Near.{none_near, shorter}
 use Rattle.drf_core.proofs.drafting.Turn.{AreWaiting, all_dropped, queue_begins, waiting-passed}
 
--- ---- paths that begin alike
+-- ---- paths with common first parts
 
 -- the parts before the first `.` are those of the role
 roles_alike : (n : ℕ) (r s : Path) (f g : Text) → NoDots r → NoDots s → n ≤ length s → take n (client_path r f) ≡ take n (client_path s g) → take n r ≡ take n s
@@ -35,7 +35,7 @@ roles_alike (suc n) (x ∷ xs) (y ∷ ys) f g p q few alike =
     let tail = roles_alike n xs ys f g p.1 q.1 (omega (arith, few)) cc in
     λ i. head i ∷ tail i
 
--- where the `.` is alike too, the roles are the same
+-- if the first parts up to the `.` are the same, the roles are the same
 same_role : (r s : Path) (f g : Text) → NoDots r → NoDots s → take (suc (length s)) (client_path r f) ≡ take (suc (length s)) (client_path s g) → r ≡ s
 same_role [] [] f g p q alike = refl
 same_role [] (y ∷ ys) f g p q alike = absurd (q.0 cc)
@@ -45,9 +45,9 @@ same_role (x ∷ xs) (y ∷ ys) f g p q alike =
     let tail = same_role xs ys f g p.1 q.1 cc in
     λ i. head i ∷ tail i
 
--- ---- who may have nothing
+-- ---- barred clients
 
--- the clients of a role that may have nothing
+-- if a role can have nothing, its clients are barred
 pub barred-role : (quota : Option Allowance) (free : List Resource) (role : Path) (front : ℕ) → IsRole role → front ≡ length role + 1
     → IsOffered quota free role None → IsBarred quota free role front
 barred-role quota free role front right is offered =
@@ -60,7 +60,7 @@ barred-role quota free role front right is offered =
           (subst (λ (n : ℕ). take n (client_path client.role client.framework) ≡ take n (client_path role framework)) size alike));
     }
 
--- less of a scalar is free for everyone, or left by limits to roles with these first parts, so many
+-- less of a scalar is free and unreserved, or left by limits to roles with these first parts
 abbrev pub IsShort : Option Allowance → List Resource → Path → ℕ → Text → ℕ → Type 0
 IsShort quota free role len label least =
     (rows : Rows) (other : Path) → IsQuotaOf rows quota → take len other ≡ take len role → has_at_least rows free other label least ≡ false
@@ -70,7 +70,7 @@ short-offered : (quota : Option Allowance) (free : List Resource) (role : Path) 
 short-offered quota free role cpus mem bundle none short little =
     spent quota free role bundle none (λ now its. short now role its refl) (λ now its. little now role its refl)
 
--- and all who begin with the first parts of such a role, so many that limits leave as little to them and nothing is reserved for them
+-- clients with enough first parts in common with a barred role are barred too: limits leave them as little, and nothing is reserved for them
 pub barred-front : (quota : Option Allowance) (free : List Resource) (role : Path) (cpus mem front : ℕ) → IsBundle free → IsRole role
     → list_any (is_reserved_for role) free ≡ false → list_any (is_reserved_near role front) free ≡ false
     → cpus ≤ front → mem ≤ front → front ≤ length role + 1
@@ -89,7 +89,7 @@ barred-front quota free role cpus mem front bundle right above near few_cpus few
   }
 ]
 
--- ---- those that are passed by
+-- ---- clients that are skipped
 
 front_all : {X : Type 0} (P : X → Type 0) (xs ys : List X) → AllByRecursion P (xs ++ ys) → AllByRecursion P xs
 front_all P [] ys all = tt
@@ -105,14 +105,14 @@ passed_alone Nothing queue left alone is = is
 passed_alone (Part role part) queue left alone is = is
 passed_alone (Barred role front) queue left alone is = absurd (alone role front refl)
 
--- what holds of those that wait holds of those that are left
+-- what holds for all clients in the queue holds for those that remain
 pub all_left : (P : Path → Type 0) (known : Known) (queue left : List Path) → IsPassedOver known queue left → AllByRecursion P queue → AllByRecursion P left
 all_left P Nothing queue left over all = subst (AllByRecursion P) (sym over) (all_dropped P queue all)
 all_left P (Part role part) queue left over all = subst (AllByRecursion P) (sym over) (all_dropped P queue all)
 all_left P (Barred role front) queue left over all = back_all P over.passed left (subst (AllByRecursion P) over.split all)
 
 module _ (rows : Rows) (place : ℕ) (start now : Rows) (agents : now.agents ≡ rows.agents) where
-  -- clients that are granted nothing need not wait
+  -- clients that would be granted nothing can be removed from the queue
   past_idle : (others left : List Path) → AllByRecursion (λ p. IsTried now now place p) others → AreWaiting rows place start now (others ++ left)
       → AreWaiting rows place start now left
   past_idle [] left idle waiting = waiting
@@ -122,7 +122,7 @@ module _ (rows : Rows) (place : ℕ) (start now : Rows) (agents : now.agents ≡
 
   module _ (quota : Option Allowance) (free : List Resource) (counted : IsQuotaOf now quota) (there : IsFreeAt now place free) (role : Path) (front : ℕ)
       (barred : IsBarred quota free role front) (first : Path) (its : IsClientPath first) (role_is : role ≡ role_part first) where
-    -- a client is granted nothing that shares its first parts with one of a role of which that is known
+    -- a client is granted nothing if its path has the first parts in common with those of a barred role
     idle_at : (path : Path) → IsRegisteredPath rows path → take front path ≡ take front first → IsTried now now place path
     idle_at path known alike agent client at joined =
         let here : there.agent ≡ agent = let e : Some there.agent ≡ Some agent = sym there.at ∙ at in cc in
@@ -141,7 +141,7 @@ module _ (rows : Rows) (place : ℕ) (start now : Rows) (agents : now.agents ≡
     all_idle [] known alike = tt
     all_idle (path ∷ paths) known alike = (idle_at path known.0 alike.0, all_idle paths known.1 alike.1)
 
-  -- those that wait still when the client that was tried is passed by, and others with it
+  -- the queue after the client that was tried is removed, and others with it
   pub waiting-left : (quota : Option Allowance) (free : List Resource) → IsQuotaOf now quota → IsFreeAt now place free
       → (known : Known) → IsKnownOf quota free known → (queue left : List Path) (first : Path) → AllByRecursion (IsRegisteredPath rows) queue → slice_get queue 0 ≡ Some first
       → ((role path : Path) → known_role known ≡ Some role → slice_get queue 0 ≡ Some path → role ≡ role_part path)
@@ -161,7 +161,7 @@ module _ (rows : Rows) (place : ℕ) (start now : Rows) (agents : now.agents ≡
           (all_idle quota free counted there role front barred first (subst IsClientPath same known.0.right) (is role first refl at) paths known.1 alike.1)
           (subst (λ ps. AreWaiting rows place start now ps) (ap (λ ps. drop 1 ps) split) waiting)
 
--- fewer are left
+-- the queue becomes shorter
 pub passed_falls : (known : Known) (queue left : List Path) (first : Path) → slice_get queue 0 ≡ Some first → IsPassedOver known queue left → length left < length queue
 passed_falls Nothing queue left first at over = omega (arith, ap length (queue_begins queue first at), ap length over)
 passed_falls (Part role part) queue left first at over = omega (arith, ap length (queue_begins queue first at), ap length over)

@@ -1,4 +1,4 @@
--- A cycle in which nobody is tried changes nothing: no agent has a turn, or no client is to be served.
+-- A cycle changes nothing if no agent has a turn or no client is active.
 use Rattle.std.proofs.Common.{◌≡◌, ℕ, zero, suc, ◌+◌, ◌≤◌, [], ◌∷◌, List, Option, Some, None, Bool, true, false, map, refl, sym, ap, subst, ◌∙◌, arith, cond, drop, length, true≢false}
 use Rattle.std.specs.Prelude.{filter, is_some, slice_get}
 use Rattle.std.specs.Option.{option_map_or}
@@ -30,7 +30,7 @@ module _ (rows : Rows) (still : (place : ℕ) → rows ≡ turn_at rows place) w
 pub no_turns-closed : (rows : Rows) → ((place : ℕ) → is_open_at rows place ≡ false) → turns_of rows ≡ rows
 no_turns-closed rows closed = no_turns rows (λ place. turn_at-closed rows place (closed place))
 
--- no client is to be served
+-- an empty queue means that no client is active
 no_clients : (clients : List Client) (queue : List Path) → is_some (slice_get queue 0) ≡ false → queue ≡ map path_of clients → clients ≡ []
 no_clients [] queue none are = refl
 no_clients (client ∷ clients) queue none are =

@@ -1,4 +1,4 @@
--- The turns of all agents, and the cycle that they are.
+-- The turns of all agents form the cycle.
 use Rattle.std.proofs.Common.{◌≡◌, ℕ, zero, suc, ◌+◌, ◌*◌, ◌<◌, ◌≤◌, List, [], ◌∷◌, Option, Some, None, true, false, Bool, refl, sym, ap, subst, ◌∙◌, length, cond, arith, drop, add-one}
 use Rattle.std.specs.Prelude.{◌^◌, ◌≢◌, is_some, max, slice_get, filter}
 use Rattle.std.specs.Option.{option_map_or}
@@ -26,7 +26,7 @@ use Rattle.drf_tables.specs.cycle.DraftLaws.{offers-with_offers}
 use Rattle.drf_tables.specs.limits.Recounting.{CountsAll}
 use Rattle.drf_laws.specs.laws.Kept.{consistent-clock}
 
--- what is left of a list from a place on begins with the element there
+-- the rest of a list from a place on begins with the element there
 pub record BeginsAt {A : Type 0} (xs : List A) (i : ℕ) : Type 0 where
   pub first : A
   pub at : slice_get xs i ≡ Some first
@@ -73,13 +73,13 @@ new_offers-drafts rows offers turned =
     ∙ ap (drop (length rows.offers)) (offers-with_offers rows offers)
     ∙ drop-append_seam rows.offers offers
 
--- ---- a cycle begins, and is ended
+-- ---- a cycle begins and ends
 
 pub content_of-clock : (rows : Rows) (clock : ℕ) → content_of (record rows { clock = clock }) ≡ content_of rows
 unfolding content_of
 content_of-clock rows clock = refl
 
--- there are no drafts yet
+-- a cycle begins without drafts
 pub drafting-begins : (content : Content) (limits : LimitNumbers) (rows tables : Rows) (clock : ℕ) (offers : List OfferRow) → IsSame content (content_of rows)
     → IsKept limits rows → clock ≤ LATEST_MOMENT → tables ≡ record rows { clock = clock } → offers ≡ [] → IsDrafting content tables offers
 drafting-begins content limits rows tables clock offers sorted kept moment same none =
@@ -102,7 +102,7 @@ cycle-begins content tables rows drafts same drafting settled none nothing count
   quota = rw (same, none) counted;
 }
 
--- the turns are the cycle
+-- the rows after all turns are those after the cycle
 pub turns_of-cycle : (rows tables : Rows) (at clock : ℕ) → clock ≡ max rows.clock at → tables ≡ record rows { clock = clock } → turns_of tables ≡ effect rows (Cycle at)
 unfolding effect cycle
 turns_of-cycle rows tables at clock moment same = ap turns_of same ∙ ap (λ n. turns_of (record rows { clock = n })) moment
@@ -117,13 +117,13 @@ pub counts_all : (rows : Rows) (limits : List LimitRow) (consumption : Option (L
 counts_all rows limits None none = record { each = tt }
 counts_all rows limits (Some used) is = record { each = is.used }
 
--- where any role has a limit, it is counted
+-- if any role has a limit, consumption is known
 pub is_counting : (rows : Rows) (limits : List LimitRow) (consumption : Option (List Usage)) → IsQuotaOf rows (quota_under limits consumption)
     → rows.limits ≢ [] → is_some consumption ≡ true
 is_counting rows limits None none some = absurd (some none)
 is_counting rows limits (Some used) is some = refl
 
--- what is lent counts: where nothing is, no role has a limit
+-- borrowed consumption is right; if there is none, no role has a limit
 pub quota-lent : (rows : Rows) (consumption : Option (List Usage)) (counted : Bool) → CountsAll rows consumption → is_some consumption ≡ counted
     → (rows.limits ≢ [] → counted ≡ true) → IsQuotaOf rows (quota_under rows.limits consumption)
 quota-lent rows (Some used) counted counts is told = record { limits = refl; used = counts.each }

@@ -1,4 +1,4 @@
--- Drafts: what one more offer changes of a cycle that is not ended.
+-- How one more draft changes a running cycle.
 use Rattle.std.proofs.Common.{◌≡◌, true, List, [], ◌∷◌, ◌++◌, refl, ap, subst, ◌∙◌}
 use Rattle.std.specs.List.{AllByRecursion}
 use Rattle.std.proofs.lemmas.Grind.{fold-append}
@@ -18,7 +18,7 @@ use Rattle.drf_content.specs.Content.{content_of}
 use Rattle.drf_content.specs.laws.Offer.{content_of-with_offer, discharged-with_change, HasChargeAt-charged}
 use Rattle.drf_content.specs.laws.Members.{has_client-registered}
 
--- ---- what offers leave as it is
+-- ---- what offers do not change
 
 pub with_offers-push : (rows : Rows) (offers : List OfferRow) (offer : OfferRow)
     → with_offers rows (offers ++ offer ∷ []) ≡ with_offer (with_offers rows offers) offer
@@ -34,7 +34,7 @@ pub is_registered-with_offers : (rows : Rows) (offers : List OfferRow) (client :
 is_registered-with_offers rows [] client = refl
 is_registered-with_offers rows (o ∷ os) client = is_registered-with_offers (with_offer rows o) os client ∙ is_registered-with_offer rows o client
 
--- ---- the last draft is taken back
+-- ---- the last draft is undone
 
 module _ (content : Content) (rows : Rows) (offers drafts : List OfferRow) (offer : OfferRow) (is : offers ≡ drafts ++ offer ∷ [])
     (sorted : IsSame content (content_of (with_offers rows offers)))

@@ -1,4 +1,4 @@
--- What a role may have, what is granted of it, and what a quota counts, by what the code reads.
+-- What a role can have, what is granted of it, and how it is counted, in terms of what the code computes.
 use Rattle.std.proofs.Common.{◌≡◌, ◌≢◌, ℕ, ◌<◌, ◌≤◌, Bool, true, false, true≢false, ◌&&◌, nat_lt, nat_le, List, [], ◌∷◌, Option, Some, None, length, refl, sym, ap, subst, ◌∙◌, cond, arith}
 use Rattle.std.specs.Prelude.{not, ◌||◌, min, codes, IsTrue, ◌↔◌, MatchOption}
 use Rattle.std.specs.List.{list_all, list_any}
@@ -38,9 +38,9 @@ use Rattle.drf_core.specs.declared.cycle.free.Free.{Free}
 use Rattle.drf_core.specs.declared.cycle.free.Known.{Known}
 use Rattle.drf_core.specs.declared.cycle.free.Known.TheVariants.{Nothing, Part, Barred}
 
--- ---- what a role may have
+-- ---- what a role can have
 
--- where no limit leaves a headroom, nothing is cut
+-- without a headroom, nothing is cut
 pub entitled-whole : (quota : Option Allowance) (free : List Resource) (role : Path) (part : List Resource) → IsBundle free
     → ((rows : Rows) → IsQuotaOf rows quota → headroom rows role ≡ []) → part ≡ part_for role free → IsEntitlement quota free role part
 entitled-whole quota free role part right none found rows client counted same =
@@ -54,7 +54,7 @@ pub no_entries : (entries : List Entry) → length entries ≡ 0 → entries ≡
 no_entries [] none = refl
 no_entries (e ∷ es) none = absurd (omega (arith, none))
 
--- else it is cut to the headroom of the quota
+-- otherwise it is cut to the headroom
 pub entitled-cut : (a : Allowance) (free : List Resource) (role : Path) (room : List Entry) (part bundle : List Resource)
     → ((rows : Rows) → IsAllowanceOf rows a → room ≡ headroom rows role) → part ≡ part_for role free → bundle ≡ clip room part
     → IsEntitlement (Some a) free role bundle
@@ -66,7 +66,7 @@ pub offered-is : (quota : Option Allowance) (free : List Resource) (role : Path)
 offered-is quota free role part worth entitled told rows client counted same =
     ap (λ b. cond b (Some part) None) told ∙ ap if_allocatable (entitled rows client counted same)
 
--- as it is known
+-- what is known about a role is what it can have
 pub offered-known : (quota : Option Allowance) (free : List Resource) (known : Known) (role : Path) → IsKnownOf quota free known → known_role known ≡ Some role
     → IsOffered quota free role (known_part known)
 offered-known quota free Nothing role right named = absurd cc
@@ -78,13 +78,13 @@ no_part Nothing none = refl
 no_part (Part role part) none = absurd (none role part refl)
 no_part (Barred role front) none = refl
 
--- what is known whatever is counted later is known in each case
+-- what is known for any later quota is known in either case of a grant
 pub known_each : (granted : Option (List Resource)) (quota : Option Allowance) (free : Free) → ((later : Option Allowance) → IsKnown later free)
     → MatchOption granted (IsKnown quota free) (λ _. (later : Option Allowance) → IsKnown later free)
 known_each None quota free known = known quota
 known_each (Some bundle) quota free known = known
 
--- of what is for everyone each role may have all
+-- each role can have all unreserved resources
 for_all : (role : Path) (free : List Resource) → is_unreserved free ≡ true → free ≡ part_for role free
 for_all role [] all = refl
 for_all role (r ∷ rs) all =
@@ -93,7 +93,7 @@ for_all role (r ∷ rs) all =
     ap (λ (rest : List Resource). r ∷ rest) (for_all role rs parts.1)
     ∙ sym (ap (λ (b : Bool). cond (b || begins_with role r.role) (r ∷ part) part) parts.0)
 
--- and where there are no limits all of it is offered
+-- without limits, all unreserved resources can be offered
 pub offered-whole : (quota : Option Allowance) (free : List Resource) → IsBundle free → is_unreserved free ≡ true → is_allocatable free ≡ true
     → ((rows : Rows) → IsQuotaOf rows quota → rows.limits ≡ []) → (role : Path) → IsOffered quota free role (Some free)
 offered-whole quota free right all worth unlimited role =
@@ -103,7 +103,7 @@ offered-whole quota free right all worth unlimited role =
 
 -- ---- limits that leave too little
 
--- the scalars that make an offer worth it
+-- `cpus` and `mem` decide whether an offer is made
 or_last : (a : Bool) {b : Bool} → b ≡ true → (a || b) ≡ true
 or_last true is = refl
 or_last false is = is
@@ -118,14 +118,14 @@ cpus_worth r is = ap (λ b. b || same_text r.label (codes "mem")) (swapped r (co
 mem_worth : (r : Resource) → same_text (codes "mem") r.label ≡ true → is_of_worth r ≡ true
 mem_worth r is = or_last (same_text r.label (codes "cpus")) (swapped r (codes "mem") is)
 
--- all that there is of a scalar is for everyone
+-- a resource of this scalar is unreserved
 abbrev is_for_all_of : Text → Resource → Bool
 is_for_all_of label r = not (same_text label r.label) || is_default r.role
 
 abbrev is_for_all : Text → List Resource → Bool
 is_for_all label rs = list_all (is_for_all_of label) rs
 
--- what a role may use of such a scalar is for everyone, where nothing is reserved for it
+-- if nothing is reserved for a role, all that it can use of such a scalar is unreserved
 none_reserved : (role : Path) (label : Text) → ((r : Resource) → same_text label r.label ≡ true → is_of_worth r ≡ true)
     → (rs : List Resource) → list_any (is_reserved_for role) rs ≡ false → is_for_all label (part_for role rs) ≡ true
 none_reserved role label worth [] none = refl
@@ -147,7 +147,7 @@ none_reserved role label worth (r ∷ rs) none =
     by false true false other named none' others =
         and_from (is_for_all_of label r) (is_for_all label part) (ap (λ (x : Bool). not x || is_default r.role) named) others
 
--- what is cut stays so
+-- it is still unreserved after it is cut
 shared-clipped : (label : Text) (limits : List Entry) (rs : List Resource) → is_for_all label rs ≡ true → is_for_all label (clip limits rs) ≡ true
 shared-clipped label limits [] shared = refl
 shared-clipped label limits (r ∷ rs) shared =
@@ -178,7 +178,7 @@ shared-all label rs shared = all rs shared ∙ sym (amount-quantities_of rs labe
         at true true shared = refl
         at true false shared = absurd (true≢false (sym shared))
 
--- a client for which none is reserved may have no more of a scalar than is free for everyone, and no more than the headroom
+-- a client without reservations can have at most what is free and unreserved of a scalar, and at most the headroom
 below : (rows : Rows) (free : List Resource) (client : Client) (label : Text) (least : ℕ) → IsBundle free
     → is_for_all label (entitlement rows free client) ≡ true → has_at_least rows free client.role label least ≡ false
     → amount_of (quantities_of (entitlement rows free client)) label < least
@@ -210,7 +210,7 @@ spent quota free role right none few little rows client counted same =
 
 -- ---- what is granted
 
--- the bundle was worth an offer
+-- a bundle that is offered is enough for an offer
 allocatable-some : (bundle whole : List Resource) (b : Bool) → Some bundle ≡ cond b (Some whole) None → (b ≡ true) × (bundle ≡ whole)
 allocatable-some bundle whole true same = (refl, let e : Some bundle ≡ Some whole = same in cc)
 allocatable-some bundle whole false same = absurd (let e : Some bundle ≡ None = same in cc)
@@ -219,7 +219,7 @@ allocatable-none : (whole : List Resource) (b : Bool) → None ≡ cond b (Some 
 allocatable-none whole true same = absurd (let e : None ≡ Some whole = same in cc)
 allocatable-none whole false same = refl
 
--- a client that may have nothing that is worth an offer is granted nothing
+-- a client that can have nothing that is enough for an offer is granted nothing
 pub nothing_granted : (rows : Rows) (agent : AgentRow) (client : Client) (free : List Resource) → free ≡ free_of rows agent
     → None ≡ if_allocatable (entitlement rows free client) → None ≡ grant rows agent client
 nothing_granted rows agent client free is_free nothing =
@@ -256,7 +256,7 @@ module _ (path : Path) (quota : Option Allowance) (free : List Resource) where
       by true whole = refl
       by false whole = refl
 
--- ---- what a quota counts
+-- ---- consumption
 
 -- the test whether any role has a limit
 pub no_limits : (limits : List LimitRow) (some : Bool) → IsTrue some ↔ (limits ≢ []) → some ≡ false → limits ≡ []
@@ -282,7 +282,7 @@ unfolding with_offer
 unlimited-counted rows offer limits None none counted = counted
 unlimited-counted rows offer limits (Some used) none counted = cc
 
--- there is room for it, since with it there is no more than in the cluster
+-- counting it does not overflow, since clients hold at most the cluster's total
 pub can_count : (rows : Rows) (offer : OfferRow) (limits : List LimitRow) (consumption : Option (List Usage)) → IsQuotaOf rows (quota_under limits consumption)
     → IsConsistent (with_offer rows offer) → length (with_offer rows offer).agents ≤ 4096 → CanCount consumption offer
 can_count rows offer limits None counted right few = tt

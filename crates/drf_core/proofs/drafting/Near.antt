@@ -1,4 +1,4 @@
--- Roles that begin alike, and what is reserved for them.
+-- Roles with common first parts, and what is reserved for them.
 use Rattle.std.proofs.Common.{◌≡◌, ℕ, ◌+◌, ◌<◌, ◌≤◌, zero, suc, Bool, true, false, ◌&&◌, ◌||◌, List, [], ◌∷◌, length, take, drop, get_or, refl, sym, ap, subst, ◌∙◌, inl, inr, arith, take_all, true≢false, length-take-le}
 use Rattle.std.specs.List.{list_any}
 use Rattle.std.specs.Prelude.{slice_get, Some}
@@ -12,7 +12,7 @@ use Rattle.drf_role.specs.PathLaws.{same_path-true, same_path_itself}
 use Rattle.drf_bundle.specs.declared.resource.Resource.{Resource}
 use Rattle.drf_core.specs.cycle.Entitling.{is_reserved, is_reserved_for, is_reserved_near}
 
--- fewer parts are alike too
+-- paths that agree in their first parts agree in fewer of them
 pub shorter : (m n : ℕ) (a b : Path) → m ≤ n → take n a ≡ take n b → take m a ≡ take m b
 shorter zero n a b few alike = refl
 shorter (suc m) zero a b few alike = absurd (omega (arith, few))
@@ -27,7 +27,7 @@ shorter (suc m) (suc n) (x ∷ xs) (y ∷ ys) few alike =
 same_from_equal : (a b : Path) → a ≡ b → same_path a b ≡ true
 same_from_equal a b same = ap (same_path a) (sym same) ∙ same_path_itself a
 
--- ---- part by part
+-- ---- paths are compared part by part
 
 pub alike_more : (i : ℕ) (a b : Path) (p q : Text) → slice_get a i ≡ Some p → slice_get b i ≡ Some q → same_text p q ≡ true → take i a ≡ take i b
     → take (i + 1) a ≡ take (i + 1) b
@@ -95,16 +95,16 @@ parted_more m n a b few parted = elim (cases_Bool (same_path (take n a) (take n 
   | inr other ↦ other
 ]
 
--- ---- resource by resource
+-- ---- resources are tested one by one
 
--- what passes no test is passed by
+-- a resource that fails the test can be skipped
 pub any_next : (test : Resource → Bool) (rs : List Resource) (i : ℕ) (r : Resource) → i < length rs → r ≡ get_or rs i r → test r ≡ false
     → list_any test (drop i rs) ≡ list_any test (drop (i + 1) rs)
 any_next test rs i r less is fails =
     ap (list_any test) (drop_more rs i r less) ∙ ap (λ (x : Resource). test x || list_any test (drop (i + 1) rs)) (sym is)
     ∙ ap (λ (c : Bool). c || list_any test (drop (i + 1) rs)) fails
 
--- what is reserved for roles that differ in their first parts
+-- resources that are reserved for roles with other first parts
 and_false : (b : Bool) → (b && false) ≡ false
 and_false true = refl
 and_false false = refl
@@ -113,7 +113,7 @@ pub reserved_far : (role : Path) (m n : ℕ) (r : Resource) → m ≤ n → same
 reserved_far role m n r few parted =
     ap (λ (b : Bool). is_reserved r && b) (parted_more m n r.role role few parted) ∙ and_false (is_reserved r)
 
--- what is not reserved for roles with some first parts is not for roles with more of them
+-- a resource that is not reserved for roles with some first parts is not reserved for roles with more of them
 pub far_more : (role : Path) (m n : ℕ) (r : Resource) → m ≤ n → is_reserved_near role m r ≡ false → is_reserved_near role n r ≡ false
 far_more role m n r few far = by (is_reserved r) far
   where
@@ -121,7 +121,7 @@ far_more role m n r few far = by (is_reserved r) far
     by true one = parted_more m n r.role role few one
     by false one = refl
 
--- what is reserved for no role with so many first parts is for none with more of them
+-- resources of which none is reserved for roles with some first parts: none is for roles with more of them
 pub near_more : (role : Path) (m n : ℕ) → m ≤ n → (rs : List Resource) → list_any (is_reserved_near role m) rs ≡ false
     → list_any (is_reserved_near role n) rs ≡ false
 near_more role m n few [] none = refl
@@ -131,7 +131,7 @@ near_more role m n few (r ∷ rs) none =
     let rest = near_more role m n few rs parts.1 in
     λ i. one i || rest i
 
--- what neither is above a role nor shares its first parts is above no role that does
+-- a role that is not above another, and has other first parts, is above no role with the first parts of the other
 apart : (role other outer : Path) (n : ℕ) → take n other ≡ take n role → begins_with role outer ≡ false → same_path (take n outer) (take n role) ≡ false
     → begins_with other outer ≡ false
 apart role other outer n alike above near = elim (cases_Bool (begins_with other outer)) [
@@ -148,7 +148,7 @@ apart role other outer n alike above near = elim (cases_Bool (begins_with other 
   | inr past ↦ past
 ]
 
--- where nothing is reserved for a role or above it, nor for roles with its first parts, nothing is for such a role or above it
+-- if nothing is reserved for a role, for roles above it, or for roles with its first parts, nothing is reserved for these or above them
 pub none_near : (role other : Path) (n : ℕ) → take n other ≡ take n role → (rs : List Resource) → list_any (is_reserved_for role) rs ≡ false
     → list_any (is_reserved_near role n) rs ≡ false → list_any (is_reserved_for other) rs ≡ false
 none_near role other n alike [] above near = refl

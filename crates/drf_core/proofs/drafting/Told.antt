@@ -1,4 +1,4 @@
--- What is told of a cycle, client by client and agent by agent.
+-- The explanation of a cycle, client by client and agent by agent.
 use Rattle.std.proofs.Common.{◌≡◌, ℕ, ◌+◌, ◌<◌, ◌≤◌, suc, Bool, true, false, ◌&&◌, List, [], ◌∷◌, ◌++◌, Option, Some, None, length, map, drop, refl, sym, ap, subst, ◌∙◌, cond, arith, append_assoc, append-nil}
 use Rattle.std.specs.Prelude.{slice_get, is_some, filter}
 use Rattle.std.specs.Option.{option_map_or}
@@ -38,7 +38,7 @@ use Rattle.drf_core.specs.cycle.Explaining.{IsOutcomeOf, left_to_tell, left_told
 use Rattle.drf_core.proofs.drafting.Cycle.{begins_at}
 use Rattle.drf_core.proofs.drafting.Turn.{element_at, queue_begins, turn_at-closed}
 
--- ---- what decides stays while offers are drafts
+-- ---- drafts do not change what decides an outcome, except free resources
 
 kept-with_offers : (rows : Rows) (offers : List OfferRow)
     → ((with_offers rows offers).filters ≡ rows.filters) × ((with_offers rows offers).clock ≡ rows.clock) × ((with_offers rows offers).limits ≡ rows.limits)
@@ -59,7 +59,7 @@ gates-drafts rows offers agent gates are =
       limits = are.limits ∙ sym kept.2;
     }
 
--- filters that have run out hold nothing back
+-- expired filters have no effect
 pub gates-live : (rows : Rows) (agent : AgentRow) (gates : Gates) → AreGatesOf (live_rows rows) agent gates → AreGatesOf rows agent gates
 gates-live rows agent gates are = record {
   name = are.name;
@@ -71,7 +71,7 @@ gates-live rows agent gates are = record {
   limits = are.limits;
 }
 
--- ---- what comes of a client
+-- ---- the outcome for a client
 
 pub finding-is : (rows : Rows) (agent : AgentRow) (path : Path) (quota : Option Allowance) (free part bundle : List Resource) (name : Text) (of : Path) (what : Outcome)
     → ((client : Client) → path ≡ path_of client → what ≡ outcome_by rows agent client free part bundle)
@@ -86,9 +86,9 @@ finding-is rows agent path quota free part bundle name of what comes parted enti
     let path_is : of ≡ path_of client = same ∙ joined in
     λ i. Tried (named i) (path_is i) (its i)
 
--- ---- clients that are told of
+-- ---- findings for clients
 
--- where enough is left, the first is told of and tried, whoever is told of behind it
+-- if enough is left for an offer, the first client is reported and tried, and then the others
 told_by-first : (each : Bool) (rows : Rows) (agent : AgentRow) (client : Client) (clients : List Client) → is_allocatable (free_of rows agent) ≡ true
     → told_by each rows agent (client ∷ clients) ≡ told_here rows agent client ∷ told_by each (tried rows agent client) agent clients
 told_by-first true rows agent client clients worth = refl
@@ -96,7 +96,7 @@ told_by-first false rows agent client clients worth =
     ap (λ b. cond b (told_here rows agent client ∷ told_of_all (tried rows agent client) agent clients)
     (Left agent.name (free_of rows agent) (suc (length clients)) ∷ [])) worth
 
--- where too little is left, what comes of each comes of the rows as they stand
+-- if too little is left, the outcomes for all clients are those in the same rows
 told-behind : (rows : Rows) (agent : AgentRow) (clients : List Client) → is_allocatable (free_of rows agent) ≡ false
     → map (told_here rows agent) clients ≡ told_of_each rows agent clients
 told-behind rows agent [] little = refl
@@ -105,7 +105,7 @@ told-behind rows agent (client ∷ clients) little =
     (told-behind rows agent clients little
     ∙ ap (λ (r : Rows). told_of_each r agent clients) (sym (all_tried_none rows agent (client ∷ []) little)))
 
--- what is told where too little is left, or nobody
+-- the findings if too little is left, or no client remains
 module _ (rows : Rows) (agent : AgentRow) (queue : List Path) (free : List Resource) (over : (is_some (slice_get queue 0) && is_allocatable free) ≡ false)
     (is_free : free ≡ free_of rows agent) where
   pub behind-each : (clients : List Client) → queue ≡ map path_of clients → map (told_here rows agent) clients ≡ told_by true rows agent clients
@@ -126,9 +126,9 @@ module _ (rows : Rows) (agent : AgentRow) (queue : List Path) (free : List Resou
       ∙ ap (λ b. cond b (told_here rows agent client ∷ told_of_all (tried rows agent client) agent clients)
       (Left agent.name (free_of rows agent) (suc (length clients)) ∷ [])) (sym little)
 
--- ---- clients that wait
+-- ---- clients in the queue
 
--- to tell of the clients that are still to be tried gives what telling of all gives
+-- the findings for the clients in the queue complete the findings for all
 abbrev pub AreTold : Bool → Rows → ℕ → Rows → Rows → List Path → List Finding → List Finding → Type 0
 AreTold each rows place start now queue before findings = (agent : AgentRow) (clients : List Client) → slice_get rows.agents place ≡ Some agent
     → queue ≡ map path_of clients → findings ++ told_by each now agent clients ≡ before ++ told_by each start agent (turn_order start)
@@ -149,7 +149,7 @@ pub told-begins : (each : Bool) (rows : Rows) (place : ℕ) (start : Rows) (queu
 told-begins each rows place start queue findings order agent clients at queued =
     ap (λ cs. findings ++ told_by each start agent cs) (same_clients clients (turn_order start) (sym queued ∙ order))
 
--- when one was tried and told of, the others wait
+-- after a client was tried and reported, the others are in the queue
 pub told-passed : (each : Bool) (rows : Rows) (place : ℕ) (start now after : Rows) (queue left : List Path) (before findings next : List Finding) (path : Path)
     → AreTold each rows place start now queue before findings → now.agents ≡ rows.agents → IsRegisteredPath rows path → slice_get queue 0 ≡ Some path
     → IsTried now after place path → left ≡ drop 1 queue
@@ -168,9 +168,9 @@ told-passed each rows place start now after queue left before findings next path
     ∙ ap (λ fs. findings ++ fs) (sym (told_by-first each now agent c clients (worth agent at)))
     ∙ told agent (c ∷ clients) at (queue_begins queue path first ∙ (λ i. known.joined i ∷ tail i))
 
--- ---- clients behind
+-- ---- clients that are not tried
 
--- those who wait of some clients, and what was told of the others
+-- some clients are in the queue, and the findings for the others are reported
 abbrev pub WaitBehind : Rows → AgentRow → List Client → List Path → List Finding → List Finding → Type 0
 WaitBehind rows agent clients queue before findings =
     (rest : List Client) × (queue ≡ map path_of rest) × (findings ++ map (told_here rows agent) rest ≡ before ++ map (told_here rows agent) clients)
@@ -210,7 +210,7 @@ none_behind rows agent clients queue before findings none behind = by behind.0 b
 
 -- ---- the turn of an agent
 
--- it stands at its place with drafts too
+-- the agent has the same place in the rows with the drafts
 pub agent_in : (rows : Rows) (offers : List OfferRow) (place : ℕ) → place < length rows.agents
     → (a : AgentRow) × (slice_get rows.agents place ≡ Some a) × (slice_get (with_offers rows offers).agents place ≡ Some a)
 agent_in rows offers place inside =
@@ -258,7 +258,7 @@ module _ (rows : Rows) (place : ℕ) (agent : AgentRow) (at : slice_get rows.age
       → told_by each rows agent (turn_order rows) ≡ told_at each rows place
   told_at-tried each active some = told_on-tried each active some ∙ sym (told_at-agent each)
 
-  -- where nobody is tried, nothing is told of anybody
+  -- an inactive agent has no findings for clients
   pub untouched_at-idle : agent.active ≡ false → [] ≡ untouched_at rows place
   untouched_at-idle idle = sym (untouched_at-agent ∙ ap (λ b. cond b (untouched_on_active rows agent) []) idle)
 
@@ -315,12 +315,12 @@ told-next rows before after i first findings next within same turned added so_fa
     ∙ ap (λ as'. findings ++ told_of_agents before as') (sym b.rest)
     ∙ so_far
 
--- behind the last agent nothing is left to be told
+-- after the last agent no findings remain
 pub none_left : (over : Bool) (rows : Rows) (offers : List OfferRow) (place : ℕ) → length rows.agents ≤ place → left_to_tell over rows offers place ≡ []
 none_left true rows offers place past = refl
 none_left false rows offers place past = ap (turns_on_all (with_offers rows offers)) (drop_all place rows.agents past)
 
--- the next agent is told of, and the others are left
+-- the next agent is reported, and the others remain
 pub telling-next : (rows before after : Rows) (i : ℕ) (told : List Finding) → i < length rows.agents → before.agents ≡ rows.agents
     → after ≡ turn_at before i → told ≡ [] ++ told_at true before i
     → turns_on_all before (drop i rows.agents) ≡ (told, untouched_at before i) ∷ turns_on_all after (drop (i + 1) rows.agents)
@@ -333,7 +333,7 @@ telling-next rows before after i told within same turned said =
     let next : after_agent before b.first ≡ after = sym (turned ∙ turn_at-agent before i b.first at) in
     ap (turns_on_all before) b.rest ∙ (λ j. (each j, untouched j) ∷ turns_on_all (next j) later)
 
--- what would be told of the next agent's clients, were each tried first
+-- the outcome for each client of the next agent if it were tried first
 pub untouched-next : (rows before : Rows) (i : ℕ) (told : List Finding) (turn : List Finding × List Finding) (turns : List (List Finding × List Finding))
     → i < length rows.agents → before.agents ≡ rows.agents → told ≡ [] ++ untouched_at before i
     → turns_on_all before (drop i rows.agents) ≡ turn ∷ turns → told ≡ turn.1
@@ -347,7 +347,7 @@ untouched-next rows before i told turn turns within same said is =
 
 -- ---- the cycle
 
--- a telling begins with all agents
+-- an explanation begins with all agents
 pub telling-begins : (rows tables : Rows) (at : ℕ) → tables ≡ at_moment rows at → turns_on_all tables tables.agents ≡ turns_by_agent rows at
 unfolding turns_by_agent
 telling-begins rows tables at moved = ap (λ (r : Rows). turns_on_all r r.agents) moved

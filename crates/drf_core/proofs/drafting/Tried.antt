@@ -1,4 +1,4 @@
--- A client is tried: one more draft, or none.
+-- A client is tried: there is one more draft, or none.
 use Rattle.std.proofs.Common.{refl, ◌≡◌, ℕ, ◌+◌, ◌<◌, ◌≤◌, ◌^◌, true, List, [], ◌∷◌, ◌++◌, Option, Some, None, length, map, sym, ap, subst, ◌∙◌, arith}
 use Rattle.std.specs.Prelude.{slice_get}
 use Rattle.std.specs.List.{AllByRecursion}
@@ -128,20 +128,20 @@ pub tried_none : (rows : Rows) (agent : AgentRow) (client : Client) → grant ro
 tried_none rows agent client none =
     sym (ap (λ (o : Option (List Resource)). option_map_or (λ b. with_offer rows (new_offer rows agent client b)) o rows) none)
 
--- a grant reads filters and the clock, which drafts leave alone
+-- a grant depends on filters and the clock, which drafts do not change
 filters-with_offers : (rows : Rows) (offers : List OfferRow)
     → ((with_offers rows offers).filters ≡ rows.filters) × ((with_offers rows offers).clock ≡ rows.clock)
 unfolding with_offer
 filters-with_offers rows [] = (refl, refl)
 filters-with_offers rows (o ∷ os) = filters-with_offers (with_offer rows o) os
 
--- that is granted of what is free on the agent of that name, in all rows with that quota, and with the filters and the clock of these
+-- the part is granted on the agent of the name, in all rows with this quota and with the filters and the clock of these rows
 abbrev pub IsGrantedBy : Rows → Text → Option Allowance → List Resource → Path → Option (List Resource) → Type 0
 IsGrantedBy tables name quota free path granted = (rows : Rows) (agent : AgentRow) (client : Client)
     → free_of rows agent ≡ free → agent.name ≡ name → rows.filters ≡ tables.filters → rows.clock ≡ tables.clock
     → IsQuotaOf rows quota → path ≡ path_of client → granted ≡ grant rows agent client
 
--- ---- what the code makes is the next draft
+-- ---- the row that the code makes is the next draft
 
 pub record IsNext (content : Content) (rows : Rows) (offers : List OfferRow) (place : ℕ) (path : Path) (free bundle : List Resource) (row : OfferRow) : Type 0 where
   pub drafting : IsDrafting content rows offers
@@ -188,7 +188,7 @@ next_from content rows offers place path quota free bundle row number name draft
       made = row_is ∙ (λ i. record { number = next i; agent = named agent at i; framework = framework i; role = role i; bundle = bundle });
     }
 
--- another agent at the place, and another client of the path, are those
+-- the place determines the agent, and the path determines the client
 module _ {content : Content} {rows : Rows} {offers : List OfferRow} {place : ℕ} {path : Path} {free bundle : List Resource} {row : OfferRow}
     (next : IsNext content rows offers place path free bundle row) where
   pub known_next : has_client content path ≡ true
@@ -240,7 +240,7 @@ module _ {content : Content} {rows : Rows} {offers : List OfferRow} {place : ℕ
       (tried_next next.agent next.client (ap (λ (as' : List AgentRow). slice_get as' place) (agents-with_offers rows offers) ∙ next.at) next.joined)
       (free_next left left_is)
 
--- where nothing is granted
+-- the client was tried, and nothing was granted
 pub tried_nothing : (rows : Rows) (offers : List OfferRow) (place : ℕ) (path : Path) (quota : Option Allowance) (free : List Resource) (name : Text)
     → IsFreeAt (with_offers rows offers) place free
     → IsQuotaOf (with_offers rows offers) quota

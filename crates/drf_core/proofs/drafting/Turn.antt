@@ -56,7 +56,7 @@ map_none name f g n (x ∷ xs) none agree =
     let tail = map_none name f g n xs parts.1 agree in
     λ i. head i ∷ tail i
 
--- two functions that agree but at one name give two lists that agree but at one place
+-- two functions that differ only at one name give lists that differ only at one place
 slice_set-map : {X Y : Type 0} (name : X → Text) (f g : X → Y) (xs : List X) (i : ℕ) (a : X) → are_distinct (map name xs) ≡ true → slice_get xs i ≡ Some a
     → ((x : X) → same_text (name a) (name x) ≡ false → f x ≡ g x) → slice_set (map f xs) i (g a) ≡ map g xs
 slice_set-map name f g [] i a apart at agree = cc
@@ -72,7 +72,7 @@ slice_set-map name f g (x ∷ xs) (suc i) a apart at agree =
     let tail = slice_set-map name f g xs i a parts.1 at agree in
     λ j. head j ∷ tail j
 
--- ---- what is left free
+-- ---- free resources that remain
 
 slice_get-set_other : {X : Type 0} (xs : List X) (i j : ℕ) (x : X) → i < j → slice_get (slice_set xs i x) j ≡ slice_get xs j
 slice_get-set_other [] i j x below = refl
@@ -97,7 +97,7 @@ frees_after-later frees [] place past = refl
 frees_after-later frees (l ∷ lefts) place past =
     frees_after-later (slice_set frees l.agent l.free) lefts place past.1 ∙ slice_get-set_other frees l.agent place l.free past.0
 
--- an agent whose turn has not come has what it had
+-- the free resources of an agent do not change before its turn
 pub free-before : (rows : Rows) (offers : List OfferRow) (lefts : List Left) (place : ℕ) (agent : AgentRow) → HasLeft rows offers lefts place
     → slice_get rows.agents place ≡ Some agent → free_of (with_offers rows offers) agent ≡ free_of rows agent
 free-before rows offers lefts place agent left at =
@@ -145,7 +145,7 @@ cycle-closed content tables drafts place at =
       quota = at.quota;
     }
 
--- an agent whose turn begins has what it had
+-- at the beginning of its turn, the free resources of an agent are recorded
 pub left-begins : (rows : Rows) (offers : List OfferRow) (lefts : List Left) (place : ℕ) (agent : AgentRow) (free : List Resource) → HasLeft rows offers lefts place
     → slice_get rows.agents place ≡ Some agent → free ≡ free_of rows agent → HasLeft rows offers (lefts ++ record { agent = place; free = free } ∷ []) (place + 1)
 left-begins rows offers lefts place agent free left at is_free =
@@ -158,7 +158,7 @@ left-begins rows offers lefts place agent free left at is_free =
       past = past-push lefts place (record { agent = place; free = free }) left.past refl;
     }
 
--- and what is left when a client was tried
+-- the recorded free resources after a client was tried
 pub left-tried : (rows : Rows) (offers drafts : List OfferRow) (lefts : List Left) (place : ℕ) (agent : AgentRow) (client : Client) (old new : List Resource)
     → are_distinct (map (λ a. a.name) rows.agents) ≡ true
     → HasLeft rows offers (lefts ++ record { agent = place; free = old } ∷ []) (place + 1)
@@ -184,7 +184,7 @@ left-tried rows offers drafts lefts place agent client old new apart left at tri
 
 -- ---- the turn
 
--- an agent that is not open has its turn without an offer
+-- the turn of an agent that is inactive, or has too little free, changes nothing
 pub turn_at-closed : (rows : Rows) (place : ℕ) → is_open_at rows place ≡ false → rows ≡ turn_at rows place
 unfolding turn
 turn_at-closed rows place closed = by (slice_get rows.agents place) closed
@@ -198,7 +198,7 @@ turn_at-closed rows place closed = by (slice_get rows.agents place) closed
     by None closed = refl
     by (Some a) closed = choose a a.active closed
 
--- another has the turn in which all clients are tried
+-- in the turn of any other agent, all clients are tried
 pub turn_at-open : (rows : Rows) (place : ℕ) (agent : AgentRow) → slice_get rows.agents place ≡ Some agent → is_open_at rows place ≡ true
     → all_tried rows agent (turn_order rows) ≡ turn_at rows place
 unfolding turn
@@ -209,7 +209,7 @@ turn_at-open rows place agent at is_open =
     sym (ap (λ o. option_map_or (λ a. cond a.active (all_tried rows a (turn_order rows)) rows) o rows) at
     ∙ ap (λ b. cond b (all_tried rows agent (turn_order rows)) rows) active)
 
--- whether it is open can be told by the tables, until its turn has come
+-- until its turn, the tables without the drafts decide whether an agent is open
 pub is_open_at-before : (rows : Rows) (offers : List OfferRow) (lefts : List Left) (place : ℕ) → HasLeft rows offers lefts place
     → is_open_at (with_offers rows offers) place ≡ is_open_at rows place
 is_open_at-before rows offers lefts place left =
@@ -230,7 +230,7 @@ element_at [] i below = absurd (omega arith)
 element_at (x ∷ xs) zero below = (x, refl)
 element_at (x ∷ xs) (suc i) below = element_at xs i (omega arith)
 
--- the paths are those of the turn's clients, each of which is registered
+-- the paths are those of the clients of the turn, and each client is registered
 pub record IsOrdered (rows : Rows) (offers : List OfferRow) (paths : List Path) : Type 0 where
   pub same : paths ≡ map path_of (turn_order (with_offers rows offers))
   pub known : AllByRecursion (λ c. is_registered rows.frameworks c ≡ true) (turn_order (with_offers rows offers))
@@ -262,16 +262,16 @@ registered_all rows (c ∷ cs) (p ∷ paths) are known right =
     let others : paths ≡ map path_of cs = cc in
     (record { client = c; joined = joined; registered = known.0; right = right.0 }, registered_all rows cs paths others known.1 right.1)
 
--- ---- clients that wait
+-- ---- clients in the queue
 
--- the clients that are still to be tried: to try them gives what trying all gives
+-- trying the clients in the queue from here gives the same rows as trying all clients from the start
 pub record AreWaiting (rows : Rows) (place : ℕ) (start now : Rows) (queue : List Path) : Type 0 where
   pub clients : List Client
   pub queued : queue ≡ map path_of clients
   pub same : (agent : AgentRow) → slice_get rows.agents place ≡ Some agent → all_tried now agent clients ≡ all_tried start agent (turn_order start)
 
 module _ (rows : Rows) (place : ℕ) (start now : Rows) (queue : List Path) (waiting : AreWaiting rows place start now queue) where
-  -- when the next one was tried, the others wait
+  -- after the next client was tried, the others are in the queue
   pub waiting-passed : (after : Rows) (left : List Path) (path : Path) → now.agents ≡ rows.agents → slice_get queue 0 ≡ Some path
       → IsTried now after place path → left ≡ drop 1 queue → AreWaiting rows place start after left
   waiting-passed after left path agents first tried left_is = by waiting.clients waiting.queued waiting.same
@@ -290,7 +290,7 @@ module _ (rows : Rows) (place : ℕ) (start now : Rows) (queue : List Path) (wai
                 ap (λ (r : Rows). all_tried r agent cs) (tried agent c (ap (λ as'. slice_get as' place) agents ∙ at) joined) ∙ same agent at;
           }
 
-  -- when none waits, or where too little is left to grant, all were tried
+  -- if the queue is empty, or too little is left to grant, all clients were tried
   pub waiting-over : (free : List Resource) → (is_some (slice_get queue 0) && is_allocatable free) ≡ false
       → (agent : AgentRow) → slice_get rows.agents place ≡ Some agent → free ≡ free_of now agent → now ≡ all_tried start agent (turn_order start)
   waiting-over free over agent at is_free = by waiting.clients waiting.queued (waiting.same agent at)
@@ -302,7 +302,7 @@ module _ (rows : Rows) (place : ℕ) (start now : Rows) (queue : List Path) (wai
           ap is_allocatable (sym is_free) ∙ sym (ap (λ ps. is_some (slice_get ps 0) && is_allocatable free) queued) ∙ over in
           sym (all_tried_none now agent (c ∷ cs) little) ∙ same
 
--- a client is still to be served
+-- the queue is not empty
 pub first_of_queue : (queue : List Path) (worth : Bool) → (is_some (slice_get queue 0) && worth) ≡ true → (path : Path) × (slice_get queue 0 ≡ Some path)
 first_of_queue [] worth some = cc
 first_of_queue (path ∷ queue) worth some = (path, refl)
@@ -311,7 +311,7 @@ pub queue_begins : (queue : List Path) (path : Path) → slice_get queue 0 ≡ S
 queue_begins [] path first = absurd cc
 queue_begins (p ∷ queue) path first = let same : p ≡ path = cc in ap (λ p'. p' ∷ queue) same
 
--- others wait, in the same turn
+-- the turn continues with another queue
 pub turn-on : (content after : Content) (tables : Stored) (drafts : Drafts) (place : ℕ) (free : Free) (queue left : List Path) → IsTurn content tables drafts place free queue
     → after ≡ content → AllByRecursion (IsRegisteredPath tables.rows) left → IsTurn after tables drafts place free left
 turn-on content after tables drafts place free queue left turn same clients = record {

@@ -1,4 +1,4 @@
--- What the tables and the sorter hold once an offer is accepted or declined.
+-- What the tables and the sorter hold after an offer is accepted or declined.
 use Rattle.std.proofs.Common.{◌≡◌, ℕ, true, List, [], Some, refl, sym, ap, subst, ◌∙◌}
 use Rattle.std.specs.Prelude.{max}
 use Rattle.std.specs.List.{AllByRecursion}
@@ -26,7 +26,7 @@ use Rattle.drf_content.specs.Content.{content_of}
 use Rattle.drf_content.specs.laws.Ended.{GaveBack, content_of-gave_back, HoldsAt-gave_back}
 use Rattle.drf_core.proofs.effects.Ended.{known-client}
 
--- ---- it is accepted
+-- ---- an offer is accepted
 
 module _ (rows : Rows) (number : ℕ) (o : OfferRow) (starts : List Start) (at refuse_ms : ℕ) (content : Content) (path : Path) (quantities : List Entry)
     (right : IsConsistent rows) (sorted : IsSame content (content_of rows)) (found : offer_at rows number ≡ Some o)
@@ -62,9 +62,9 @@ module _ (rows : Rows) (number : ℕ) (o : OfferRow) (starts : List Start) (at r
       changed (IsSame-with_change content (content_of rows) sorted path (refunded quantities))
       (content_of-gave_back rows new path quantities gave ∙ sym (ap content_of same))
 
--- ---- it is declined
+-- ---- an offer is declined
 
--- the sorter knows neither filters nor the clock
+-- the content of the sorter does not depend on filters or the clock
 pub sorted-declined : (rows tables : Rows) (filters : List FilterRow) (moment : ℕ) (content : Content)
     → IsSame content (content_of rows) → tables ≡ record rows { filters = filters; clock = moment } → IsSame content (content_of tables)
 unfolding content_of

@@ -1,4 +1,4 @@
--- Events that have no answer of their own.
+-- Events whose reply is `Done`.
 use Rattle.std.proofs.Common.{◌≡◌, ℕ, false, refl}
 use Rattle.drf_rows.specs.Step.{answer}
 use Rattle.drf_rows.specs.declared.event.Event.{Event}

@@ -1,4 +1,4 @@
--- What the tables and the sorter hold once something has ended.
+-- What the tables and the sorter hold after offers and tasks end.
 use Rattle.std.proofs.Common.{◌≡◌, Bool, true, false, List, [], ◌∷◌, Some, refl, sym, ap, subst, ◌∙◌, inl, inr}
 use Rattle.std.specs.Prelude.{not, filter, find}
 use Rattle.std.specs.List.{list_any}
@@ -34,7 +34,7 @@ use Rattle.drf_content.specs.laws.Removed.{AreKnown-removing, content_of-framewo
 use Rattle.drf_content.specs.laws.Same.{AreKnown-same, IsSame-without_all}
 use Rattle.drf_laws.specs.laws.Endings.{ended_twice}
 
--- ---- one holding ended
+-- ---- one offer or task ended
 
 module _ (old new : Rows) (ending : Ending) (taken : Taken) (ended : HasEnded old new ending taken) (content : Content) (sorted : IsSame content (content_of old)) where
   abbrev its_path : Path
@@ -63,9 +63,9 @@ module _ (old new : Rows) (ending : Ending) (taken : Taken) (ended : HasEnded ol
       changed (IsSame-with_change content (content_of old) sorted its_path back)
       (content_of-gave_back old new its_path (quantities_of taken.bundle) gave)
 
--- ---- all that ends has ended
+-- ---- all selected offers and tasks have ended
 
--- nothing is left that ends
+-- no selected offer or task is left
 pub nothing_left : (rows middle : Rows) (ending : Ending) → middle ≡ without_ended rows ending → without_ended middle ending ≡ middle
 nothing_left rows middle ending same =
     ap (λ (r : Rows). without_ended r ending) same ∙ ended_twice rows ending ∙ sym same
@@ -111,7 +111,7 @@ sorted-departed middle tables name content after total sorted nothing removed se
 
 -- ---- frameworks
 
--- the one that is found
+-- the element that is found
 pub record IsFound {X : Type 0} (p : X → Bool) (xs : List X) : Type 0 where
   pub one : X
   pub found : find p xs ≡ Some one
@@ -125,7 +125,7 @@ one_found p (x ∷ xs) some = elim (cases_Bool (p x)) [
       record { one = later.one; found = rw past later.found }
 ]
 
--- its clients can be removed from the sorter
+-- the clients of a framework can be removed from the sorter
 pub AreKnown-ended : (middle : Rows) (name : Text) (f : FrameworkRow) (content : Content) (paths : List Path)
     → AreFrameworks middle.frameworks → find (λ f. same_text f.name name) middle.frameworks ≡ Some f
     → IsSame content (content_of middle) → paths ≡ client_paths name f.clients

@@ -1,4 +1,4 @@
--- Clients that are removed from a sorter in order.
+-- Clients that are removed from a sorter one by one.
 use Rattle.std.proofs.Common.{◌≡◌, ℕ, ◌+◌, ◌<◌, true, List, ◌∷◌, Some, drop, length, sym, ap, subst, ◌∙◌}
 use Rattle.std.specs.Prelude.{slice_get}
 use Rattle.drf_role.specs.Path.{Path}
@@ -6,7 +6,7 @@ use Rattle.drf_sorter.specs.Content.{Content, has_client, without_client}
 use Rattle.drf_content.specs.Registering.{AreKnown, without_all}
 use Rattle.drf_core.proofs.drafting.Cycle.{begins_at}
 
--- the next one is known, and the others are when it is removed
+-- the next client is known, and the others are known after it is removed
 pub record IsNextKnown (content : Content) (paths : List Path) (i : ℕ) (path : Path) : Type 0 where
   pub known : has_client content path ≡ true
   pub later : AreKnown (without_client content path) (drop (i + 1) paths)

@@ -1,4 +1,4 @@
--- What the sorter holds once a part of an agent moves, a limit is set, or a total is another; and that cases of refusal come in two parts.
+-- What the sorter holds after a reservation, a limit or a total changes. Also: the cases of refusal are the early ones, then the late ones.
 use Rattle.std.proofs.Common.{◌≡◌, ◌≤◌, true, false, List, ◌++◌, Some, None, refl, sym, ap, ◌∙◌}
 use Rattle.std.specs.Prelude.{not, filter}
 use Rattle.std.proofs.lemmas.Bool.{not-false}
@@ -31,7 +31,7 @@ use Rattle.drf_content.specs.Content.{content_of}
 use Rattle.drf_core.specs.refusal.Cases.{early_cases_of, late_cases_of}
 use Rattle.drf_laws.specs.laws.Welcome.{no_case_of, small_amounts}
 
--- the cases that are told whatever the memory come first
+-- the cases of an event are the early ones, then the late ones
 pub early_and_late : (limits : LimitNumbers) (rows : Rows) (event : Event) → cases_of limits rows event ≡ early_cases_of limits rows event ++ late_cases_of limits rows event
 early_and_late limits rows (SetAgent agent total) = refl
 early_and_late limits rows event = refl
@@ -47,7 +47,7 @@ content_of-exchanged rows name a old new consistent found can =
     let same = cluster_total-exchanged rows name a consistent found old new can in
     λ i. record { clients = (content_of rows).clients; total = same i; weights = rows.weights }
 
--- ---- a part that moves
+-- ---- a reservation is made or ended
 
 module _ (limits : LimitNumbers) (rows : Rows) (agent : Text) (role : Path) (resources : List Resource) where
   module _ (none : refusal_of limits rows (Reserve agent role resources) ≡ None) where
@@ -94,7 +94,7 @@ unfolding effect
 effect-unreserved rows tables agent role resources moved is same =
     same ∙ (λ i. record rows { agents = with_total rows agent (exchanged (is i) resources) })
 
--- ---- another total
+-- ---- a total is replaced
 
 module _ (limits : LimitNumbers) (rows : Rows) (agent : Text) (total : List Resource) (none : refusal_of limits rows (SetAgent agent total) ≡ None) where
   pub small-set_agent : (label : Text) → amount_of (quantities_of total) label ≤ LARGEST_AMOUNT
@@ -133,7 +133,7 @@ pub effect-total : (rows tables : Rows) (agent : Text) (total : List Resource)
 unfolding effect
 effect-total rows tables agent total same = same
 
--- ---- a limit
+-- ---- a limit is set
 
 pub other-set_limit : (limits : LimitNumbers) (rows : Rows) (role : Path) (limit : List Entry) → refusal_of limits rows (SetLimit role limit) ≡ None
     → is_default role ≡ false

@@ -1,4 +1,4 @@
--- An offer of a number and a task of a name end once.
+-- At most one offer has a number, and at most one task of a framework has a name.
 use Rattle.std.specs.Prelude.{◌≡◌, ℕ, ◌+◌, ◌≤◌, ◌==◌, Bool, true, false, not, ◌&&◌, List, [], ◌∷◌, map, count_by, nat_lt}
 use Rattle.std.specs.List.{list_all, list_any, AllByRecursion}
 use Rattle.std.proofs.Common.{refl, ap, subst, ◌∙◌, inl, inr, cond, arith}
@@ -26,7 +26,7 @@ never_counted {X} (x ∷ xs) = count_by-cons (λ (x : X). false) x xs ∙ ap (λ
 counted_none : {X : Type 0} (p : X → Bool) (xs : List X) → count_by p xs ≡ 0 → list_any p xs ≡ false
 counted_none p xs zero = elim (cases_Bool (list_any p xs)) [ inl any ↦ absurd (omega (arith, count_by-any p xs any, zero)) | inr none ↦ none ]
 
--- the first is counted, or one among the others
+-- at most one element passes the test: the first or one of the others
 count_first : {X : Type 0} (p : X → Bool) (x : X) (xs : List X) → (p x ≡ true → count_by p xs ≡ 0) → count_by p xs ≤ 1 → count_by p (x ∷ xs) ≤ 1
 count_first p x xs alone later = elim (cases_Bool (p x)) [
   | inl here ↦ omega (arith, count_by-cons p x xs ∙ ap (λ (b : Bool). cond b 1 0 + count_by p xs) here, alone here)
@@ -61,7 +61,7 @@ offer_once number rows consistent = omega (arith, offers_once number rows.next_o
 pub task_once : (framework name : Text) (rows : Rows) → IsConsistent rows → left_to_end rows (one_task framework name) ≤ 1
 task_once framework name rows consistent = omega (arith, tasks_once framework name rows.tasks consistent.tasks, never_counted rows.offers)
 
--- where one holding ends at most, none is left that ends behind it
+-- if at most one offer or task is selected, none is left after one is removed
 pub all_ended : (old new : Rows) (ending : Ending) (taken : Taken) → HasEnded old new ending taken → left_to_end old ending ≤ 1 → without_ended new ending ≡ new
 all_ended old new ending taken ended once =
     without_ended-none new ending

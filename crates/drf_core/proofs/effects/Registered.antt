@@ -1,4 +1,4 @@
--- What the sorter holds after an event that is not refused.
+-- What the sorter holds after an agent or a framework registers, and after a report.
 use Rattle.std.proofs.Common.{◌≡◌, false, List, [], ◌∷◌, ◌++◌, map, refl, sym, ap, ◌∙◌}
 use Rattle.drf_role.specs.Text.{Text}
 use Rattle.drf_role.specs.Path.{Path}
@@ -21,7 +21,7 @@ use Rattle.drf_content.specs.laws.Members.{content_of-with_agent}
 use Rattle.drf_content.specs.laws.Registered.{content_of-registered}
 use Rattle.drf_content.specs.laws.Same.{IsSame-with_all}
 
--- ---- one more agent
+-- ---- an agent registers
 
 pub sorted-agent : (rows tables : Rows) (agent : Text) (total : List Resource) (before after : Content)
     → IsSame before (content_of rows)
@@ -39,7 +39,7 @@ pub effect-agent : (rows tables : Rows) (agent : Text) (total : List Resource)
 unfolding effect
 effect-agent rows tables agent total same = same
 
--- ---- one more framework
+-- ---- a framework registers
 
 pub effect-framework : (rows tables : Rows) (framework : Text) (roles : List Path) (clients : List ClientRow)
     → clients ≡ map new_client (distinct roles)

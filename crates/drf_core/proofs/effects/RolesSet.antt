@@ -1,4 +1,4 @@
--- What the tables and the sorter hold once the roles of a framework change, and what that costs.
+-- What the tables and the sorter hold after the roles of a framework change, and the work for that.
 use Rattle.std.proofs.Common.{◌≡◌, ℕ, ◌+◌, ◌<◌, ◌≤◌, ◌^◌, Bool, true, false, List, [], ◌∷◌, ◌++◌, None, Some, length, map, refl, sym, ap, subst, ◌∙◌, inl, inr, arith, nat_lt}
 use Rattle.std.specs.Prelude.{not, ◌||◌, filter, find, Option, sum_by, if◌then◌else◌}
 use Rattle.std.proofs.lemmas.Bool.{cases_Bool, and_parts, ltb-false, not-false, not-true, or_parts}
@@ -35,7 +35,7 @@ pub effect-roles : (rows tables : Rows) (framework : Text) (roles : List Path) �
 unfolding effect
 effect-roles rows tables framework roles same = same
 
--- the sorter holds what the tables say, once clients came and went
+-- after clients are added and removed, the sorter holds what the tables say
 pub sorted-roles : (rows tables : Rows) (framework : Text) (roles : List Path) (clients : List ClientRow) (content middle after : Content) (joined left : List Path)
     → FollowsRoles rows content framework roles clients
     → joined ≡ paths_joined framework roles clients → left ≡ paths_left framework roles clients
@@ -47,7 +47,7 @@ sorted-roles rows tables framework roles clients content middle after joined lef
     removed ∙ (λ i. without_all ((added ∙ ap (with_all content) joined_is) i) (left_is i)) in
     subst (λ (k : Content). IsSame k (content_of tables)) (sym is) (subst (IsSame _) (sym (ap content_of same)) follows.same)
 
--- ---- what the event may do
+-- ---- the preconditions of the change
 
 module _ (limits : LimitNumbers) (rows : Rows) (framework : Text) (roles : List Path)
     (none : refusal_of limits rows (SetFramework framework roles) ≡ None) where
@@ -57,7 +57,7 @@ module _ (limits : LimitNumbers) (rows : Rows) (framework : Text) (roles : List 
   pub unused-set : is_role_in_use rows framework roles ≡ false
   unused-set = (no_case_of limits rows (SetFramework framework roles) none).1.1.1.1.0
 
-  -- so few clients that they can be counted
+  -- the number of clients fits in 64 bits
   pub few-set : IsKept limits rows → length (clients_in (with_framework_roles rows framework roles)) < 2 ^ 64
   few-set kept =
       let clients : ℕ = length (clients_in (with_framework_roles rows framework roles)) in
@@ -65,7 +65,7 @@ module _ (limits : LimitNumbers) (rows : Rows) (framework : Text) (roles : List 
       (no_case_of limits rows (SetFramework framework roles) none).1.1.1.0 in
       omega (arith, ltb-false limits.clients clients over.1, kept.few.ceilings.clients.1)
 
--- ---- who is registered
+-- ---- registered clients
 
 none_registered : (name : Text) (role : Path) (fs : List FrameworkRow) → none_has same_text (λ (f : FrameworkRow). f.name) name fs ≡ true
     → is_registered fs (record { role = role; framework = name }) ≡ false
@@ -100,9 +100,9 @@ registered_in name role (g ∷ gs) f found apart =
 pub spends_of : {counted : Bool} {old new : Work} {most : ℕ} → Defers counted old new most → Spends counted old new most
 spends_of so = record { made = omega (arith, so.made); work = so.work }
 
--- ---- what the event costs
+-- ---- the work of the event
 
--- the clients of a framework that go are among those that are left
+-- the removed clients are those in roles that the framework loses
 left_of : (f : FrameworkRow) (framework : Text) (roles : List Path) (cs : List ClientRow) → same_text f.name framework ≡ true
     → sum_by length (paths_left framework roles cs) ≡ nodes_of (filter (is_left framework roles) (map (client_of f) cs))
 left_of f framework roles [] same = refl

@@ -1,4 +1,4 @@
--- What the tables and the sorter hold once a weight is set.
+-- What the tables and the sorter hold after a weight is set.
 use Rattle.std.proofs.Common.{◌≡◌, ℕ, sym, ap}
 use Rattle.drf_role.specs.Path.{Path}
 use Rattle.drf_rows.specs.Step.{effect}

@@ -1,4 +1,4 @@
--- What is tested where there is memory: what is free, and the names of scalars.
+-- The late tests: free resources, and the names of scalars.
 use Rattle.std.proofs.Common.{◌≡◌, true, false, List, Option, Some, None, Result, Ok, Err, length, refl, ap, ◌∙◌, nat_lt}
 use Rattle.std.specs.Prelude.{not, filter}
 use Rattle.std.specs.Option.{option_map, option_map_or}
@@ -23,14 +23,14 @@ use Rattle.drf_rows.specs.declared.rows.Rows.{Rows}
 use Rattle.drf_core.specs.refusal.Cases.{cases_of_total}
 use Rattle.drf_laws.specs.laws.Welcome.{no_case, small_amounts}
 
--- a result of which more is known
+-- a stronger statement about a result implies a weaker one
 pub if_ok : {T F : Type 0} (P Q : T → Type 0) (r : Result T F) → ((x : T) → P x → Q x) → IfOk r P → IfOk r Q
 if_ok P Q (Ok x) more told = more x told
 if_ok P Q (Err fault) more told = tt
 
--- ---- what is free
+-- ---- free resources
 
--- it is asked of what is free on the agent, if it is there
+-- the test reads the free resources of the agent, if it is registered
 pub not_free : (rows : Rows) (name : Text) (resources : List Resource) (free : Option (List Resource))
     → free ≡ option_map (free_of rows) (agent_at rows name)
     → option_map_or (λ f. not (covers f resources)) free false ≡ is_not_free rows name resources

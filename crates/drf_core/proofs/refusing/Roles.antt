@@ -1,4 +1,4 @@
--- The roles of a framework, and the clients of all, once it has other roles.
+-- The numbers of roles and of clients after the roles of a framework change.
 use Rattle.std.specs.Prelude.{◌≡◌, ℕ, ◌+◌, ◌≤◌, Bool, false, ◌||◌, List, [], ◌∷◌, length, map, find, Option, Some, nat_lt, if◌then◌else◌}
 use Rattle.std.proofs.Common.{sym, ap, ◌∙◌, inl, inr, arith, length-append}
 use Rattle.std.proofs.lemmas.Bool.{cases_Bool, le-ltb}
@@ -14,7 +14,7 @@ use Rattle.drf_rows.specs.declared.rows.FrameworkRow.{FrameworkRow}
 use Rattle.drf_rows.specs.declared.rows.Rows.{Rows}
 use Rattle.drf_laws.specs.laws.RoleCounts.{clients-then, frameworks-unknown}
 
--- a framework has no more clients than there are
+-- a framework has at most as many clients as there are in all
 pub clients_within : (fs : List FrameworkRow) (p : FrameworkRow → Bool) (f : FrameworkRow) → find p fs ≡ Some f
     → length f.clients ≤ length (clients_in fs)
 clients_within [] p f found = cc

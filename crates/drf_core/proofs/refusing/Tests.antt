@@ -1,4 +1,4 @@
--- Tests of refusal, and what the code asks in their stead.
+-- The tests of refusals, and what the code computes for them.
 use Rattle.std.proofs.Common.{◌≡◌, ℕ, ◌+◌, Bool, true, false, List, [], ◌∷◌, ◌++◌, Some, None, length, refl, sym, ap, ◌∙◌, arith, nat_lt}
 use Rattle.std.proofs.Math.Dec.{eqb-suc-zero}
 use Rattle.std.specs.Prelude.{not, ◌&&◌, ◌||◌, nat_le, ◌==◌, IsTrue, ◌↔◌}
@@ -32,7 +32,7 @@ any_not p (x ∷ xs) = ap (λ (b : Bool). p x || b) (any_not p xs) ∙ by (p x) 
     by true b = refl
     by false b = refl
 
--- of two lists of cases the first that holds is told, or else that of the second
+-- the first case that holds in a prefix is the first case of the whole list
 pub first_front : (front rest : List (Bool × Refusal)) (refusal : Refusal) → first_case front ≡ Some refusal
     → first_case (front ++ rest) ≡ Some refusal
 first_front [] rest refusal holds = cc
@@ -44,7 +44,7 @@ first_rest [] rest none = refl
 first_rest ((true, r) ∷ front) rest none = cc
 first_rest ((false, r) ∷ front) rest none = first_rest front rest none
 
--- an early case that holds is told
+-- an early refusal is the refusal
 pub told_early : (limits : LimitNumbers) (rows : Rows) (event : Event) (refusal : Refusal) → early_refusal_of limits rows event ≡ Some refusal
     → refusal_of limits rows event ≡ Some refusal
 unfolding early_refusal_of refusal_of
@@ -52,7 +52,7 @@ told_early limits rows event refusal holds =
     ap first_case (early_and_late limits rows event)
     ∙ first_front (early_cases_of limits rows event) (late_cases_of limits rows event) refusal holds
 
--- or else the first late one
+-- without an early refusal, the refusal is the first late case that holds
 pub told_late : (limits : LimitNumbers) (rows : Rows) (event : Event) → early_refusal_of limits rows event ≡ None
     → first_case (late_cases_of limits rows event) ≡ refusal_of limits rows event
 unfolding early_refusal_of refusal_of
@@ -60,7 +60,7 @@ told_late limits rows event none =
     sym (ap first_case (early_and_late limits rows event)
     ∙ first_rest (early_cases_of limits rows event) (late_cases_of limits rows event) none)
 
--- a list without length is empty
+-- a list of length 0 is empty
 pub no_length : {A : Type 0} (xs : List A) → (length xs == 0) ≡ is_empty xs
 no_length [] = refl
 no_length (x ∷ xs) = eqb-suc-zero (length xs)
@@ -71,7 +71,7 @@ default_from role b told =
     both_ways b (is_default role)
     (λ yes. (path_decides role default_role).1 (told.0 yes)) (λ yes. told.1 ((path_decides role default_role).0 yes))
 
--- one row too many, by the number before
+-- one more row would be too many, by the number of rows before
 pub too_many_rows : (empty known more : Bool) (most count : ℕ)
     → (((not empty && not known) && nat_le most count) || more) ≡ ((not empty && (not known && nat_lt most (count + 1))) || more)
 too_many_rows true known more most count = refl

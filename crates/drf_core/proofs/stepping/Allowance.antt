@@ -1,4 +1,4 @@
--- What an event may add to what a sorter owes, from rows that have the same live rows.
+-- The work that an event may add depends only on the rows without expired filters.
 use Rattle.std.proofs.Common.{◌≡◌, ◌+◌, Bool, List, [], ◌∷◌, ◌++◌, Option, Some, None, refl, sym, ap, ◌∙◌, arith}
 use Rattle.std.specs.Option.{option_map_or}
 use Rattle.drf_rows.specs.LimitNumbers.{LimitNumbers}
@@ -65,7 +65,7 @@ allowance_of_all-more limits rows [] event = omega arith
 allowance_of_all-more limits rows (first ∷ events) event =
     omega (arith, allowance_of_all-more limits (rows_after limits rows first) events event)
 
--- what is spent with one event more
+-- the work after one more event
 pub spends-more : {counted : Bool} {first middle last : Work} (limits now : LimitNumbers) (old rows : Rows) (events : List Event) (event : Event)
     → now ≡ limits → live_rows rows ≡ live_rows (rows_after_all limits old events)
     → Spends counted first middle (allowance_of_all limits old events)

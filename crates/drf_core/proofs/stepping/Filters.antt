@@ -1,4 +1,4 @@
--- How many filters stand, those that ran out among them.
+-- How many filters there are, including expired ones.
 use Rattle.std.proofs.Common.{◌≡◌, ℕ, ◌+◌, ◌≤◌, Bool, true, false, List, Option, Some, None, [], ◌∷◌, length, ap, inl, inr, arith}
 use Rattle.std.specs.Prelude.{nat_le, not, filter}
 use Rattle.std.specs.Option.{option_map_or}
@@ -24,7 +24,7 @@ use Rattle.drf_rows.specs.declared.rows.OfferRow.{OfferRow}
 use Rattle.drf_rows.specs.declared.rows.Rows.{Rows}
 use Rattle.drf_laws.specs.BoundLaws.{AreWithin}
 
--- where all are in force as soon as they are many, they are no more than may be in force
+-- if all filters are in force whenever there are 65,536 or more, there are at most 65,536
 pub few_filters : (limits : LimitNumbers) (rows : Rows) → IsWithinCeilings limits → AreWithin limits (live_rows rows)
     → (65536 ≤ length rows.filters → number_in_force rows.clock rows.filters ≡ length rows.filters) → length rows.filters ≤ 65536
 few_filters limits rows ceilings within swept = elim (cases_Bool (nat_le 65536 (length rows.filters))) [
@@ -43,11 +43,11 @@ no_more : (n : ℕ) → n ≤ n + 1
 no_more n = omega arith
 
 module _ (rows : Rows) where
-  -- those that a test leaves
+  -- removing filters adds none
   left : (test : FilterRow → Bool) → length (filter test rows.filters) ≤ length rows.filters + 1
   left test = omega (arith, length-filter_le test rows.filters)
 
-  -- with that of a bundle, if it is filtered
+  -- setting a filter adds at most one
   one_more : (filtered : Bool) (o : OfferRow) (bundle : List Resource) (refuse_ms : ℕ)
       → length (filters_with rows filtered o bundle refuse_ms) ≤ length rows.filters + 1
   one_more true o bundle refuse_ms = omega (arith, length-append rows.filters (filter_of o bundle (filtered_until rows.clock refuse_ms) ∷ []))
@@ -63,7 +63,7 @@ filters-declined : (rows : Rows) (d : declining.Decline) (found : Option OfferRo
 filters-declined rows d None = no_more (length rows.filters)
 filters-declined rows d (Some o) = one_more (at_moment rows d.at) (filters_all d.refuse_ms) o o.bundle d.refuse_ms
 
--- an event adds one at most
+-- an event adds at most one filter
 pub one_filter_more : (rows : Rows) (event : Event) → length (effect rows event).filters ≤ length rows.filters + 1
 unfolding effect
 one_filter_more rows (RemoveAgent agent) = left rows (λ f. not (is_on_agent agent f))

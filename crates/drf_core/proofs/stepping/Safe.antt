@@ -1,4 +1,4 @@
--- What callers see of a core that is kept.
+-- What callers see of an allocator whose rows satisfy the invariants.
 use Rattle.drf_rows.specs.LimitNumbers.{LimitNumbers}
 use Rattle.drf_rows.specs.Step.{live_rows}
 use Rattle.drf_row_laws.specs.ConsistentLaws.{conserved-consistent, conserved-live}

@@ -1,4 +1,4 @@
--- What can be saved of an allocator after an event.
+-- An allocator can be saved after each event.
 use Rattle.std.proofs.Common.{◌≡◌, [], ◌∷◌, sym, subst}
 use Rattle.drf_rows.specs.Consistent.{IsConsistent}
 use Rattle.drf_rows.specs.LimitNumbers.{LimitNumbers, IsWithinCeilings}
@@ -13,7 +13,7 @@ use Rattle.drf_saved_laws.specs.laws.Epochs.{live_saveable}
 use Rattle.drf_saved_laws.specs.laws.Runs.{saveable_rows_stay_so}
 use Rattle.drf_core.specs.Keeping.{IsStanding}
 
--- what can be saved of rows can be after an event
+-- if the current state can be saved, it can be saved after an event
 pub saveable_after : (limits : LimitNumbers) (rows : Rows) (event : Event) → IsWithinCeilings limits → IsGiven event
     → IsSaveable limits (live_rows rows) → IsSaveable limits (live_rows (rows_after limits rows event))
 saveable_after limits rows event ceilings given can =
@@ -21,7 +21,7 @@ saveable_after limits rows event ceilings given can =
     (live_saveable limits (rows_after limits (live_rows rows) event)
     (saveable_rows_stay_so limits (live_rows rows) (event ∷ []) ceilings (given, tt) can))
 
--- rows still stand when filters were forgotten
+-- the invariants still hold after expired filters are removed
 pub standing_forgot : (limits : LimitNumbers) (old forgot : Rows) → IsStanding limits old → live_rows forgot ≡ live_rows old
     → forgot ≡ record old { filters = forgot.filters } → IsConsistent forgot → IsStanding limits forgot
 standing_forgot limits old forgot standing live others right = record {

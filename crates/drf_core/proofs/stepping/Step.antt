@@ -1,4 +1,4 @@
--- Steps and runs of a core.
+-- Steps and runs of an allocator.
 use Rattle.std.proofs.Common.{◌≡◌, ℕ, zero, suc, ◌+◌, ◌<◌, Option, Result, Ok, Err, List, [], ◌∷◌, ◌++◌, Some, None, take, refl, sym, ap, subst, ◌∙◌, add-one}
 use Rattle.std.specs.Prelude.{slice_get}
 use Rattle.std.specs.Result.{OnErr}
@@ -20,12 +20,12 @@ use Rattle.drf_laws.specs.laws.Kept.{countable_after}
 use Rattle.drf_core.proofs.refusing.Tests.{told_early}
 use Rattle.drf_laws.specs.laws.SameLive.{welcome_from}
 
--- what holds however a call ends holds where it fails
+-- what always holds after a call holds if it fails
 pub on_err : {T E P : Type 0} (r : Result T E) → P → OnErr r P
 on_err (Ok x) fact = tt
 on_err (Err fault) fact = fact
 
--- the elements up to one, and that one
+-- the elements before one, and that one
 pub take_one_more : {X : Type 0} (xs : List X) (i : ℕ) (x : X) → slice_get xs i ≡ Some x → take (i + 1) xs ≡ take i xs ++ x ∷ []
 take_one_more [] i x at = cc
 take_one_more (y ∷ xs) zero x at = let same : y ≡ x = cc in ap (λ z. z ∷ []) same
@@ -33,7 +33,7 @@ take_one_more (y ∷ xs) (suc i) x at = rw (add-one (suc i)) (ap (λ zs. y ∷ z
 
 -- ---- a step
 
--- no early case holds of rows with the same live rows
+-- whether there is an early refusal depends only on the rows without expired filters
 pub early_from : (limits : LimitNumbers) (rows old : Rows) (event : Event) → live_rows rows ≡ live_rows old
     → early_refusal_of limits rows event ≡ None → early_refusal_of limits old event ≡ None
 unfolding early_refusal_of refusal_of
@@ -41,7 +41,7 @@ early_from limits rows old (Accept a) live none = welcome_from limits rows old (
 early_from limits rows old (Decline d) live none = welcome_from limits rows old (Decline d) live none
 early_from limits rows old event live none = subst (λ (r : Rows). first_case (early_cases_of limits r event) ≡ None) live none
 
--- nor of an event that is not refused
+-- an accepted event has no early refusal
 pub early_none : (limits : LimitNumbers) (rows : Rows) (event : Event) → refusal_of limits rows event ≡ None → early_refusal_of limits rows event ≡ None
 early_none limits rows event none = by (early_refusal_of limits rows event) refl
   where
@@ -79,7 +79,7 @@ module _ (limits : LimitNumbers) (rows tables counted : Rows) (event : Event) (k
 
 -- ---- a run
 
--- one more event was taken
+-- one more event was applied
 pub IsAfterAll-more : (old middle new : Engine) (events : List Event) (event : Event) → IsAfterAll old middle events → IsAfter middle new event → IsAfterAll old new (events ++ event ∷ [])
 IsAfterAll-more old middle new events event before next = record {
   limits = next.limits ∙ before.limits;
@@ -89,7 +89,7 @@ IsAfterAll-more old middle new events event before next = record {
       ∙ ap live_rows (sym (rows_after_all-append old.limits old.rows events (event ∷ [])));
 }
 
--- and replied to
+-- one more reply was appended
 pub reply-more : (old middle : Engine) (events : List Event) (event : Event) (reply : Reply) → IsAfterAll old middle events → reply ≡ reply_to middle.limits middle.rows event
     → replies_to old.limits old.rows events ++ reply ∷ [] ≡ replies_to old.limits old.rows (events ++ event ∷ [])
 reply-more old middle events event reply before told =
@@ -99,7 +99,7 @@ reply-more old middle events event reply before told =
     ap (λ (r : Reply). replies_to old.limits old.rows events ++ r ∷ []) same
     ∙ sym (replies_to-append old.limits old.rows events (event ∷ []))
 
--- it stopped at the next event, and nothing changed
+-- the run stopped at the next event, which changed nothing
 pub HasStopped-at : (old middle new : Engine) (events : List Event) (number : ℕ) (event : Event) (before told : List Reply) (room : ℕ)
     → slice_get events number ≡ Some event → IsAfterAll old middle (take number events) → IsSame middle new
     → told ≡ before ++ replies_to old.limits old.rows (take number events)

@@ -1,4 +1,4 @@
--- How much of what a sorter may owe more each step takes.
+-- How much of the allowed work each step uses.
 use Rattle.std.proofs.Common.{◌≡◌, ℕ, ◌+◌, ◌≤◌, ◌<◌, Bool, true, List, [], ◌∷◌, ◌++◌, Some, length, map, drop, refl, sym, ap, ◌∙◌, inl, inr, arith}
 use Rattle.std.specs.Prelude.{filter, find, flat_map, slice_get, sum_by}
 use Rattle.std.specs.Cmp.Lexicographic.{bytes_decides}
@@ -36,7 +36,7 @@ nodes_of-append cs ds = sum_by-append (λ (c : Client). length (path_of c)) cs d
 nodes_of-cons : (c : Client) (cs : List Client) → nodes_of (c ∷ cs) ≡ length (path_of c) + nodes_of cs
 nodes_of-cons c cs = sum_by-cons (λ (c : Client). length (path_of c)) c cs
 
--- one more draft
+-- a draft adds the nodes on the path of its client
 pub nodes_of-drafted : (offers : List OfferRow) (offer : OfferRow)
     → nodes_of (offered_to (offers ++ offer ∷ [])) ≡ nodes_of (offered_to offers) + length (path_of (of_offer offer).client)
 nodes_of-drafted offers offer =
@@ -44,7 +44,7 @@ nodes_of-drafted offers offer =
     ∙ nodes_of-append (offered_to offers) (offered_to (offer ∷ []))
     ∙ ap (λ n. nodes_of (offered_to offers) + n) (nodes_of-cons (of_offer offer).client [] ∙ (omega arith))
 
--- one that passes a test is taken out
+-- an element that passes a test is removed
 module _ {X : Type 0} (test : X → Bool) (client : X → Client) where
   nodes_out : (before after : List X) (x : X) → test x ≡ true
       → nodes_of (map client (filter test (before ++ x ∷ after))) ≡ nodes_of (map client (filter test (before ++ after))) + length (path_of (client x))
@@ -60,7 +60,7 @@ module _ {X : Type 0} (test : X → Bool) (client : X → Client) where
     | inr past ↦ rw past (nodes_out before after x passes)
   ]
 
--- what ended is one less of what is to end
+-- after one offer or task ended, the nodes of its client no longer count
 pub losers-ended : (old new : Rows) (ending : Ending) (taken : Taken) → HasEnded old new ending taken
     → nodes_of (losers old ending) ≡ nodes_of (losers new ending) + length (path_of (holding_of taken).client)
 losers-ended old new ending taken ended =
@@ -107,7 +107,7 @@ sum_at f paths i path below at =
     let same : b.first ≡ path = cc in
     ap (λ (ps : List Path). sum_by f ps) b.rest ∙ sum_by-cons f b.first (drop (i + 1) paths) ∙ ap (λ (p : Path). f p + sum_by f (drop (i + 1) paths)) same
 
--- the clients of a framework that registers
+-- the nodes of the clients of a framework that registers
 pub nodes_of-new : (framework : Text) (roles : List Path)
     → sum_by length (client_paths framework (map new_client roles)) ≡ nodes_of (map (λ role. record { role = role; framework = framework }) roles)
 nodes_of-new framework [] = refl
@@ -120,7 +120,7 @@ nodes_of-new framework (role ∷ roles) =
     = nodes_of-cons (record { role = role; framework = framework }) (Clients roles) in
     omega (arith, later, paths, clients)
 
--- the clients of a framework are among those with its name
+-- the nodes of the clients of a framework are those of the clients with its name
 kept_clients : (f : FrameworkRow) (name : Text) (cs : List ClientRow) → same_text f.name name ≡ true
     → sum_by length (client_paths name cs) ≡ nodes_of (filter (λ (c : Client). same_text c.framework name) (map (client_of f) cs))
 kept_clients f name [] same = refl
@@ -152,7 +152,7 @@ nodes_of-leaving name f (g ∷ gs) found =
       | inr past ↦ omega (arith, both, nodes_of-leaving name f gs (rw past at found))
     ]
 
--- the client of an offer that ends
+-- the nodes of the client of an offer that ends are counted
 found_nodes : {X : Type 0} (test : X → Bool) (client : X → Client) (xs : List X) (x : X) → find test xs ≡ Some x
     → length (path_of (client x)) ≤ nodes_of (map client (filter test xs))
 found_nodes test client [] x found = cc
@@ -172,8 +172,8 @@ nodes_of-offer rows number o found =
     let both = nodes_of-append (offered_to (filter (ends_offer (one_offer number)) rows.offers)) (map (λ t. (of_task t).client) (filter (ends_task (one_offer number)) rows.tasks)) in
     omega (arith, first, both)
 
--- ---- another total
+-- ---- the cluster's total changes
 
--- each node of a sorter of the rows is one of a report
+-- each node of the sorter is a node of a report
 pub has_nodes : (rows : Rows) (content : Content) → IsSame content (content_of rows) → HasNodes content (report.nodes_of rows)
 has_nodes rows content sorted = nodes_of_rows rows content sorted

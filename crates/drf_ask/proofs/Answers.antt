@@ -14,7 +14,7 @@ use Rattle.drf_ask.specs.Question.{Question, question_of, kind_of, has_right_wor
 use Rattle.drf_ask.specs.declared.question.Kind.{Kind}
 use Rattle.drf_ask.specs.declared.question.Kind.TheVariants.{Report, Explain, Offers, Tasks, State, Tables}
 
--- an object whose first key tells what was asked
+-- an object whose first key is `asked`
 record IsAnswer (value : Data) : Type 0 where
   pub word : Text
   pub others : Members

@@ -1,4 +1,4 @@
--- How many clients some frameworks have.
+-- The number of clients of frameworks.
 use Rattle.std.proofs.Common.{◌≡◌, ℕ, ◌+◌, ◌<◌, ◌≤◌, List, ◌∷◌, drop, get_or, length, sym, ap, ◌∙◌}
 use Rattle.std.proofs.lemmas.List.{at_drop_more, at_drop_all, length-append, length-map}
 use Rattle.drf_rows.specs.Held.{clients_in, client_of}

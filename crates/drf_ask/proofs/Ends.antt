@@ -1,4 +1,4 @@
--- How a run ends that is asked.
+-- How a run with questions ends.
 use Rattle.std.proofs.Common.{◌≡◌, ℕ, ◌-◌, ◌≤◌, Bool, false, List, [], ◌∷◌, ◌++◌, length, take, drop, Option, Ok, Err, ⊎_elim, inl, inr, refl, sym, ap, ◌∙◌, subst, append_assoc, append-nil, take-append-drop, if◌then◌else◌, ◌==◌, arith}
 use Rattle.std.specs.Prelude.{⊤}
 use Rattle.std.proofs.Math.Seq.{take-append_seam}
@@ -19,7 +19,7 @@ use Rattle.drf_ask.specs.Asking.{Asking, IsNotAsked, IsAskedTo, HasGone, HasStop
 use Rattle.drf_ask.specs.Ended.{HasAsked}
 use Rattle.drf_ask.proofs.Steps.{asked-append, begins, begins_before}
 
--- what stands between the reader and the writer when the run reads again
+-- the state of reader, writer and run before the next read
 pub record IsServing (old : Asking) (unread_first unread written_first written : Option (List ℕ)) (asking : Asking) : Type 0 where
   pub read : List ℕ
   pub consumed : Consumes unread_first unread read
@@ -46,7 +46,7 @@ few_lines : (all answered more : List (List ℕ)) → all ≡ answered ++ more �
 few_lines all answered more whole =
     let same = ap length whole in let sum = length-append answered more in omega arith
 
--- where memory ran out, all lines that count had ended
+-- if memory ran out, all counted lines had ended
 abbrev EndsAt : RunFault → List ℕ → List (List ℕ) → Type 0
 EndsAt Read read all = ⊤
 EndsAt Write read all = ⊤
@@ -58,7 +58,7 @@ ends_there Write read = tt
 ends_there Memory read = refl
 
 module _ (stay : EndedLinesStay) (machine : Machine) (echo : Bool) where
-  -- the text for the lines of a front comes first
+  -- the text begins with that for the lines of a prefix
   earlier : (written read : List ℕ) (count : ℕ) → StartsWith written (asked_of machine echo (ended_lines_of read))
       → StartsWith written (asked_of machine echo (ended_lines_of (take count read)))
   earlier written read count whole =
@@ -68,7 +68,7 @@ module _ (stay : EndedLinesStay) (machine : Machine) (echo : Bool) where
       begins_before written (asked_of machine echo first) _
       (subst (λ (t : List ℕ). StartsWith written t) (ap (asked_of machine echo) parted ∙ asked-append machine echo first others.0) whole)
 
-  -- the text for all lines begins with that for those that had ended
+  -- the text for all lines begins with that for the lines that had ended
   whole_first : (read : List ℕ) → StartsWith (asked_of machine echo (lines_of read)) (asked_of machine echo (ended_lines_of read))
   whole_first read =
       let last = all_lines read in
@@ -81,7 +81,7 @@ module _ (stay : EndedLinesStay) (machine : Machine) (echo : Bool) where
 
   module _ (unread_first unread_after written_first written_after : Option (List ℕ)) (read : List ℕ)
       (consumed : Consumes unread_first unread_after read) where
-    -- it stopped
+    -- the run stopped
     stopped_with : (fault : RunFault) (before : List (List ℕ)) (all : List (List ℕ)) (rest : List (List ℕ))
         → HasStoppedIn fault machine echo before all written_first written_after
         → EndsAt fault read all × (lines_of read ≡ all ++ rest)
@@ -226,7 +226,7 @@ module _ (stay : EndedLinesStay) (old : Asking) (unread_first unread unread_next
       (λ text whole. subst (λ (l : List ℕ). StartsWith text (asked_of old.machine old.echo (ended_lines_of l))) (sym front)
       (earlier stay old.machine old.echo text serving.read (length read - 65536) whole))
 
--- ---- the cause of a fault
+-- ---- the cause of an error
 
 pub cause-stopped : (fault : RunFault) (reader_failed : Bool) (reads : ℕ) (writer_failed : Bool) → reader_failed ≡ false
     → HasCause {T = Unit {0}} (Err fault) false 0 writer_failed → HasCause {T = ℕ} (Err fault) reader_failed reads writer_failed

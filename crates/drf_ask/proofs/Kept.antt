@@ -1,4 +1,4 @@
--- What is kept of a line is answered as the line.
+-- The kept bytes of a line have the answer of the line.
 use Rattle.std.proofs.Common.{◌≡◌, ℕ, ◌+◌, ◌≤◌, ◌<◌, Bool, if◌then◌else◌, List, [], ◌∷◌, ◌++◌, length, ⊎_elim, refl, sym, ap, ◌∙◌, None, arith}
 use Rattle.std.proofs.lemmas.Bool.{lt-ltb, cases_lt}
 use Rattle.std.proofs.lemmas.List.{take_all, length-take-le}
@@ -14,7 +14,7 @@ use Rattle.drf_ask.specs.Asking.{count_of}
 use Rattle.drf_ask.specs.Question.{is_question, word_at, fault_name}
 use Rattle.drf_ask.specs.declared.question.Fault.TheVariants.{LineTooLong}
 
--- what `line_law` tells
+-- the statements of `line_law`
 pub record Laws : Type 0 where
   pub feed : LineFeedEndsLine
   pub within : LineGoesOn

@@ -1,4 +1,4 @@
--- The limits of an allocator stay.
+-- An event does not change the capacities of an allocator.
 use Rattle.std.proofs.Common.{◌≡◌, List, ℕ, Result, Ok, Err, ⊎_elim, refl, ap, ◌∙◌}
 use Rattle.drf_core.specs.Machine.{Machine, after}
 use Rattle.drf_lines.specs.Meaning.{meaning_of}

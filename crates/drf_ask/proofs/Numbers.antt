@@ -1,9 +1,9 @@
--- The number that digits write.
+-- The number that digits represent.
 use Rattle.std.proofs.Common.{◌≡◌, ℕ, ◌+◌, ◌-◌, ◌*◌, ◌^◌, ◌<◌, ◌≤◌, min, List, ◌∷◌, drop, get_or, length, refl, sym, ap, ◌∙◌, arith}
 use Rattle.std.proofs.lemmas.List.{at_drop_more, at_drop_all}
 use Rattle.drf_ask.specs.Question.{number_from}
 
--- a number is what was written so far, if it is below 2^64, and with the digits that are left what all write
+-- `number` is the value so far, or 2^64 - 1 if `exact` is greater; the remaining digits continue `exact`
 pub record IsNumberTo (all left : List ℕ) (number : ℕ) : Type 0 where
   pub exact : ℕ
   pub is : number ≡ min exact (2 ^ 64 - 1)

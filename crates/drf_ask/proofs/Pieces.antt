@@ -1,4 +1,4 @@
--- A run that is asked, over a piece of its input.
+-- A run with questions after a chunk of its input.
 use Rattle.std.proofs.Common.{◌≡◌, ℕ, ◌+◌, ◌≤◌, ◌<◌, Bool, false, true, List, [], ◌∷◌, ◌++◌, length, take, drop, get_or, Option, refl, sym, ap, ◌∙◌, subst, append_assoc, append-nil, arith, if◌then◌else◌, ◌==◌}
 use Rattle.std.proofs.lemmas.Bool.{ne_eqb}
 use Rattle.std.specs.Io.KnownBytes.{Appends}
@@ -14,7 +14,7 @@ use Rattle.drf_ask.specs.Question.{is_question}
 use Rattle.drf_ask.proofs.Kept.{Laws}
 use Rattle.drf_ask.proofs.Steps.{cut_at, line_answered, line_goes_on, stopped_at, stopped_between, text_after, events_after}
 
--- a run stands behind the front of a piece, of which the rest is left
+-- a run has processed a prefix of a chunk, and the rest remains
 pub record WentOver (old now : Asking) (piece rest : List ℕ) (written_old written : Option (List ℕ)) : Type 0 where
   pub front : List ℕ
   pub whole : piece ≡ front ++ rest
@@ -46,7 +46,7 @@ module _ (laws : Laws) (old now : Asking) (piece rest : List ℕ) (written_old w
             next written_next within is told);
       }
 
-  -- the rest is of one line
+  -- the rest is part of one line
   pub went-all : (next : Asking) → IsWithinLine rest → next ≡ record now { pending = kept_of (now.pending ++ rest) }
       → HasGone piece old next written_old written
   went-all next within is = λ start echo read first so_far.
@@ -54,7 +54,7 @@ module _ (laws : Laws) (old now : Asking) (piece rest : List ℕ) (written_old w
       subst (λ r. IsAskedTo start echo r first written next)
       (append_assoc read went.front rest ∙ ap (λ l. read ++ l) (sym went.whole)) here
 
-  -- it stops at the next line of the rest
+  -- the run stops at the next line of the rest
   pub went-stops : (fault : RunFault) (written_next : Option (List ℕ)) (at : ℕ) → at < length rest → get_or rest at 0 ≡ 10
       → IsWithinLine (take at rest)
       → HasPart fault written written_next (text_for now.echo now.machine (kept_of (now.pending ++ take at rest)))
@@ -75,7 +75,7 @@ module _ (laws : Laws) (old now : Asking) (piece rest : List ℕ) (written_old w
       (stopped_at laws start echo here first written now (went.gone start echo read first so_far) end fault written_next
       (ended_lines_of read) stay.0 later.0 later.1 part)
 
-  -- or before the rest
+  -- the run stops before the rest
   pub went-forgotten : HasStopped Memory piece old written_old written
   went-forgotten = λ start echo read first so_far.
       let here = read ++ went.front in
@@ -102,7 +102,7 @@ kept-some (b ∷ line) some = ne_eqb (length (b ∷ line)) 0 (λ e. omega arith)
 
 module _ (laws : Laws) (start : Machine) (echo : Bool) (read : List ℕ) (first now : Option (List ℕ)) (asking : Asking)
     (so_far : IsAskedTo start echo read first now asking) where
-  -- nothing stands behind the last line feed
+  -- there are no bytes after the last line feed
   pub closed-none : length asking.pending ≡ 0 → HasClosed start echo read first now asking
   closed-none none =
       let all : lines_of read ≡ ended_lines_of read = lines-ended read (kept-none (open_line_of read) (ap length (sym so_far.pending) ∙ none)) in
@@ -111,7 +111,7 @@ module _ (laws : Laws) (start : Machine) (echo : Bool) (read : List ℕ) (first 
         events = so_far.events ∙ ap (λ ls. length (event_lines_of ls)) (sym all);
       }
 
-  -- a line stands there
+  -- there are bytes after the last line feed
   last-line : 0 < length asking.pending → lines_of read ≡ ended_lines_of read ++ (open_line_of read ++ []) ∷ []
   unfolding lines_of
   last-line some =
@@ -153,7 +153,7 @@ module _ (laws : Laws) (start : Machine) (echo : Bool) (read : List ℕ) (first 
           events = so_far.events;
         }) (ended_lines_of read) [] [] (sym (append-nil _)))
 
--- ---- how many event lines
+-- ---- the number of event lines
 
 pub counted : (line : List ℕ) → count_of line ≤ 1
 counted line = at (is_question line)

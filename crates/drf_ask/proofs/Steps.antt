@@ -1,4 +1,4 @@
--- A run that is asked, line by line.
+-- A run with questions, line by line.
 use Rattle.std.proofs.Common.{◌≡◌, ℕ, suc, ◌+◌, ◌<◌, Bool, true, false, not, cond, if◌then◌else◌, List, [], ◌∷◌, ◌++◌, length, take, drop, get_or, Option, refl, sym, ap, ◌∙◌, subst, append_assoc, append-nil, add-one, take-append-drop, arith}
 use Rattle.std.proofs.Math.Seq.{drop-cons, take-append_seam, take-append-add}
 use Rattle.std.proofs.lemmas.List.{length-append, take-take}
@@ -15,7 +15,7 @@ use Rattle.drf_ask.specs.Asking.{Asking, after_line, count_of, IsAskedTo, HasPar
 use Rattle.drf_ask.specs.Question.{is_question}
 use Rattle.drf_ask.proofs.Kept.{Laws, text-kept, after-kept, count-kept}
 
--- ---- some lines and then others
+-- ---- lines in two parts
 
 pub asked-append : (machine : Machine) (echo : Bool) (front more : List (List ℕ))
     → asked_of machine echo (front ++ more) ≡ asked_of machine echo front ++ asked_of (after_all_asked machine front) echo more
@@ -60,9 +60,9 @@ cut_at rest at inside feed =
     ∙ ap (λ n. 10 ∷ drop n rest) (sym (add-one at)))
     ∙ sym (append_assoc (take at rest) (10 ∷ []) (drop (at + 1) rest))
 
--- ---- fronts of texts
+-- ---- prefixes of texts
 
--- a front of the second of two texts behind all of the first
+-- a prefix of the second text after the whole first text
 pub behind : (first second : List ℕ) (count : ℕ) → first ++ take count second ≡ take (length first + count) (first ++ second)
 behind first second count = sym (take-append-add first second count)
 
@@ -75,7 +75,7 @@ begins_before written first second whole =
     take-take (length first) (length (first ++ second)) written (let sum = length-append first second in omega arith) in
     sym cut ∙ ap (take (length first)) whole ∙ take-append_seam first second
 
--- ---- what is seen of a run
+-- ---- the parts of a run that its view shows
 
 pub part_of_view : (fault : RunFault) (before after : Option (List ℕ)) (end kept : List ℕ) (old view : Asking)
     → kept ≡ kept_of (old.pending ++ end) → old ≡ view
@@ -93,7 +93,7 @@ module _ (laws : Laws) where
     abbrev ended : List (List ℕ)
     ended = ended_lines_of read
 
-    -- the line at hand, which these bytes end
+    -- the current line, which these bytes end
     abbrev line : List ℕ
     line = open_line_of read ++ end
 
@@ -118,7 +118,7 @@ module _ (laws : Laws) where
         ∙ ap (λ n. length (event_lines_of ended) + n) (count-kept line)
         ∙ sym (events-one ended line)
 
-    -- the line at hand was answered
+    -- the current line was answered
     pub line_answered : (next : Asking) (written_next : Option (List ℕ)) → IsWithinLine end → next ≡ after_line asking (kept_of (asking.pending ++ end))
         → Appends now written_next (text_for asking.echo asking.machine (kept_of (asking.pending ++ end)))
         → IsAskedTo start echo (read ++ (end ++ 10 ∷ [])) first written_next next
@@ -133,7 +133,7 @@ module _ (laws : Laws) where
           events = ap (λ (a : Asking). a.events) is ∙ events_after ∙ ap (λ ls. length (event_lines_of ls)) (sym cut.0);
         }
 
-    -- bytes of the line at hand were kept
+    -- bytes of the current line were kept
     pub line_goes_on : (next : Asking) → IsWithinLine end → next ≡ record asking { pending = kept_of (asking.pending ++ end) }
         → IsAskedTo start echo (read ++ end) first now next
     line_goes_on next within is =
@@ -146,7 +146,7 @@ module _ (laws : Laws) where
           events = ap (λ (a : Asking). a.events) is ∙ so_far.events ∙ ap (λ ls. length (event_lines_of ls)) (sym on.0);
         }
 
-    -- the run stops at the line at hand, which is the next one of all these
+    -- the run stops at the current line, which is the next one of all these
     pub stopped_at : (fault : RunFault) (written_next : Option (List ℕ)) (before others : List (List ℕ)) (later : List (List ℕ))
         → ended ≡ before ++ later
         → HasPart fault now written_next (text_for asking.echo asking.machine (kept_of (asking.pending ++ end)))
@@ -185,7 +185,7 @@ module _ (laws : Laws) where
               (subst (λ (t : List ℕ). StartsWith t text) (append-nil text) (begins text [])));
         }
 
-  -- memory ran out before a line was at its end
+  -- memory ran out within a line
   pub stopped_between : (start : Machine) (echo : Bool) (read : List ℕ) (first now : Option (List ℕ)) (asking : Asking)
       → IsAskedTo start echo read first now asking
       → (before later others : List (List ℕ)) → ended_lines_of read ≡ before ++ later

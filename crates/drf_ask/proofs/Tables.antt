@@ -1,4 +1,4 @@
--- How full the tables are, as text.
+-- The text of the answer to `?tables`.
 use Rattle.std.proofs.Common.{◌≡◌, ℕ, List, [], ◌∷◌, ◌++◌, length, refl, ap, ◌∙◌, codes}
 use Rattle.json.specs.Print.{escape_byte, quoted}
 use Rattle.serde_json.specs.Written.{compact_text}
@@ -28,7 +28,7 @@ tables_text limits rows =
     (compact_text (table_value (length (without_zeros (cluster_total rows.agents))) limits.scalar_names))
     (compact_text (table_value (length rows.weights) limits.weights))
 
--- the tables were added, one after another, of which so much is known
+-- the tables were appended one after another
 pub tables_added : (limits : LimitNumbers) (rows : Rows) (t0 t1 t2 t3 t4 t5 t6 t7 t8 t9 : List ℕ) (r0 r1 r2 r3 r4 r5 r6 r7 l0 l1 l2 l3 l4 l5 l6 l7 : ℕ)
     → t1 ≡ t0 ++ (codes "{\"agents\":" ++ compact_text (table_value r0 l0))
     → t2 ≡ t1 ++ (codes ",\"clients\":" ++ compact_text (table_value r1 l1))

@@ -1,4 +1,4 @@
--- Texts that are added, one after another.
+-- Texts that are appended one after another.
 use Rattle.std.proofs.Common.{◌≡◌, ℕ, ◌+◌, ◌-◌, ◌<◌, ◌≤◌, Bool, true, false, cond, List, [], ◌∷◌, ◌++◌, map, filter, take, drop, get_or, length, refl, sym, ap, ◌∙◌, append_assoc, codes, arith}
 use Rattle.std.proofs.Math.Seq.{take-append_seam}
 use Rattle.std.proofs.lemmas.List.{at_drop_more, at_drop_all, length-append}
@@ -10,15 +10,15 @@ use Rattle.drf_lines.specs.ReplyLine.{line_of}
 use Rattle.drf_role.specs.Text.{Text}
 use Rattle.drf_ask.specs.Answer.{opening, told, list_value, listed}
 
--- some bytes and then others
+-- two texts that are appended one after another
 pub then : (old first second : List ℕ) {mid new : List ℕ} → mid ≡ old ++ first → new ≡ mid ++ second → new ≡ old ++ (first ++ second)
 then old first second a b =
     b ∙ ap (λ (bytes : List ℕ). bytes ++ second) a ∙ append_assoc old first second
 
--- ---- the items of a list that pass
+-- ---- the items of a list that pass a test
 
 module _ {A : Type 0} (value : A → Data) (test : A → Bool) where
-  -- the text of those that are left
+  -- the text of the remaining items
   abbrev pub left_text : Bool → List A → List ℕ
   left_text later left = items_text later (items_of (map value (filter test left)))
 
@@ -92,14 +92,14 @@ whole_answer : (word : Text) (value : Data) → opening word ++ (compact_text va
 unfolding escape_byte
 whole_answer word value = parts (quoted word) (compact_text value)
 
--- its parts: what stands before, what is told, and what closes it
+-- an answer consists of its beginning, its value and its end
 pub answer_whole : (old : List ℕ) (word : Text) (value : Data) (opened said new : List ℕ) → opened ≡ old ++ opening word
     → said ≡ opened ++ compact_text value → new ≡ said ++ 125 ∷ 10 ∷ [] → new ≡ old ++ line_of (told word value)
 answer_whole old word value opened said new a b end =
     then old (opening word) (compact_text value ++ 125 ∷ 10 ∷ []) a (then opened (compact_text value) (125 ∷ 10 ∷ []) b end)
     ∙ ap (λ text. old ++ text) (whole_answer word value)
 
--- a text behind which a line stood, whose line feed was taken away
+-- a line that was appended, and whose line feed was removed
 pub unfed : (front line fed new : List ℕ) → fed ≡ front ++ (line ++ 10 ∷ []) → new ≡ take (length fed - 1) fed → new ≡ front ++ line
 unfed front line fed new is cut =
     let whole : fed ≡ (front ++ line) ++ 10 ∷ [] = is ∙ sym (append_assoc front line (10 ∷ [])) in
@@ -107,7 +107,7 @@ unfed front line fed new is cut =
     let all = ap length whole in let sum = length-append (front ++ line) (10 ∷ []) in omega arith in
     cut ∙ (λ i. take (count i) (whole i)) ∙ take-append_seam (front ++ line) (10 ∷ [])
 
--- where no framework is named all are listed
+-- if no framework is named, all items are listed
 pub all_listed : {A : Type 0} (is_of : Text → A → Bool) (xs : List A) → listed is_of [] xs ≡ xs
 all_listed is_of [] = refl
 all_listed is_of (x ∷ xs) = ap (λ ys. x ∷ ys) (all_listed is_of xs)

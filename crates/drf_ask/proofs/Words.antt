@@ -1,4 +1,4 @@
--- Words of answers, which need no escapes.
+-- The words of answers need no escapes.
 use Rattle.std.proofs.Common.{◌≡◌, ℕ, List, [], ◌∷◌, ◌++◌, Option, Some, None, refl, sym, ap, ◌∙◌, append_assoc, codes}
 use Rattle.json.specs.Print.{escape, escape_byte}
 use Rattle.drf_lines.specs.ReplyLine.{line_of}
@@ -45,7 +45,7 @@ pub opening_is : (kind : Kind)
     → codes "{\"asked\":\"" ++ (word_of kind ++ (codes "\",\"" ++ (word_of kind ++ codes "\":"))) ≡ opening (word_of kind)
 opening_is kind = opened (word_of kind) (word_plain kind)
 
--- what stands between the word and the fault, behind the first `"`
+-- the bytes between the word and the error, after the opening quote
 between : List ℕ
 between = 44 ∷ 34 ∷ 102 ∷ 97 ∷ 117 ∷ 108 ∷ 116 ∷ 34 ∷ 58 ∷ 34 ∷ []
 

@@ -1,4 +1,4 @@
--- The lines that are written, and which of them are answers.
+-- The lines of the output, and which of them are answers.
 use Rattle.std.proofs.Common.{◌≡◌, ℕ, zero, suc, Bool, true, false, not, cond, if◌then◌else◌, All, List, [], ◌∷◌, ◌++◌, map, take, Ok, Err, Result, refl, sym, ap, ◌∙◌, append_assoc}
 use Rattle.std.proofs.lemmas.List.Elements.{All-nil, All-cons, All-head, All-tail}
 use Rattle.json.specs.Print.{escape_byte}
@@ -23,7 +23,7 @@ use Rattle.drf_ask.specs.Asked.{after_asked, after_all_asked, event_lines_of, Wr
 use Rattle.drf_ask.specs.Question.{is_question}
 use Rattle.drf_ask.proofs.Answers.{answer_begins}
 
--- ---- these lines are what is written
+-- ---- these lines are the output
 
 event_text : (echo : Bool) (machine : Machine) (line rest : List ℕ) (others : List Written)
     → text_of_all others ≡ rest → text_of_all (event_written echo machine line ++ others) ≡ answer_to echo machine line ++ rest
@@ -46,7 +46,7 @@ in_lines machine echo (line ∷ lines) =
     line_text (is_question line) echo machine line _ (written_of (after_asked machine line) echo lines)
     (in_lines (after_asked machine line) echo lines)
 
--- ---- each of them is one line
+-- ---- each output line is one line
 
 within_take : (n : ℕ) (line : List ℕ) → IsWithinLine line → IsWithinLine (take n line)
 within_take zero line is = All-nil (λ b. is_line_feed b ≡ false)
@@ -103,7 +103,7 @@ each_is_line machine echo (line ∷ lines) are =
     each_written (is_question line) echo machine line _ (All-head IsWithinLine line lines are)
     (each_is_line (after_asked machine line) echo lines (All-tail IsWithinLine line lines are))
 
--- ---- what is left without the answers
+-- ---- the output without the answers
 
 nothing_written : (machine : Machine) (echo : Bool) → output_of machine echo [] ≡ []
 unfolding output_of

@@ -1,4 +1,4 @@
--- The allocator that is handed out after all lines.
+-- The allocator that is returned after all lines.
 use Rattle.std.proofs.Common.{◌≡◌, ℕ, false, List, Option, Ok, Err, sym, ap, ◌∙◌, subst}
 use Rattle.drf_core.specs.Machine.{Machine, Engine, live}
 use Rattle.drf_row_laws.specs.LiveLaws.{live_rows-twice}

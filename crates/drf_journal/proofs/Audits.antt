@@ -1,4 +1,4 @@
--- An audit and an explanation: the lines that were taken, and the text that was written.
+-- Audits and explanations: the lines that were taken, and the text that was written.
 use Rattle.std.proofs.Common.{◌≡◌, ℕ, ◌+◌, ◌<◌, ◌≤◌, Bool, true, false, List, [], ◌∷◌, ◌++◌, length, get_or, map, take, drop, Option, None, Result, Ok, Err, IfErr, is_err, OnErr, OnOk, ⊎_elim, refl, sym, ap, ◌∙◌, subst, append_assoc, append-nil, take-append-drop, arith}
 use Rattle.std.specs.List.{flat_map}
 use Rattle.std.specs.Io.KnownBytes.{Appends, Consumes, Keeps, IsAtEnd}
@@ -25,7 +25,7 @@ use Rattle.drf_journal.proofs.Devices.{WroteFront, wrote-front}
 use Rattle.drf_journal.proofs.Resumes.{rows-stand}
 use Rattle.drf_journal.proofs.Served.{IsServing, consumed_all, machine_at_end}
 
--- agents are told by live rows as by all
+-- the audit depends only on the current state
 pub agents-live : (rows : Rows) → agents_text (live_rows rows) ≡ agents_text rows
 unfolding free_of
 agents-live rows = refl
@@ -34,16 +34,16 @@ flat_map-map : {X Y : Type 0} (f : Y → List ℕ) (g : X → Y) (xs : List X) �
 flat_map-map f g [] = refl
 flat_map-map f g (x ∷ xs) = ap (λ l. f (g x) ++ l) (flat_map-map f g xs)
 
--- the lines of the agents come to the text that tells of them
+-- the lines of the agents together are the text of the audit
 pub agents_told : (rows : Rows) (lines : List AuditLine) → lines ≡ map (line_of rows) rows.agents → flat_map audit_text lines ≡ agents_text rows
 agents_told rows lines told = ap (flat_map audit_text) told ∙ flat_map-map audit_text (line_of rows) rows.agents
 
--- a cycle is told by live rows as by all
+-- the explanation depends only on the current state
 pub cycle-live : (at : ℕ) (rows : Rows) → cycle_text at (live_rows rows) ≡ cycle_text at rows
 cycle-live at rows = ap explained_text (live_rows_are_explained rows at)
 
 module _ (tell : Rows → List ℕ) (live : (rows : Rows) → tell (live_rows rows) ≡ tell rows) where
-  -- what is told of the rows at which an allocator stands is the text that is due
+  -- the text computed from the final rows is the expected one
   text_due : (old : Machine) (read : List ℕ) (new : Machine) (text : List ℕ)
       → new ≡ machine_after_lines old (lines_of read)
       → text ≡ tell new.rows → text ≡ told_of_lines tell old (lines_of read)
@@ -54,7 +54,7 @@ module _ (tell : Rows → List ℕ) (live : (rows : Rows) → tell (live_rows ro
       ap (λ (m : Machine). live_rows m.rows) is ∙ rows-stand old old.rows (lines_of read) refl in
       told ∙ sym (live new.rows) ∙ ap tell stands ∙ live rows
 
-  -- the text was written, or a front of it
+  -- the whole text was written, or a prefix of it
   pub told-ends : (old : Machine) (unread_before unread_after written written_next : Option (List ℕ)) (new : Machine)
       (text : List ℕ) (r : Result (Unit {0}) RunFault) (failed : Bool)
       → HasTakenLines old unread_before unread_after new (Ok tt)
@@ -118,7 +118,7 @@ module _ (old : State) (begins : IsBegun old) (unread_first unread unread_next :
     whole = end;
   }
 
--- ---- text that is written part by part
+-- ---- a text that is written part by part
 
 pub wrote-begins : (written : Option (List ℕ)) (text : List ℕ) → WroteFront written written text text
 wrote-begins written text = record { front = []; whole = refl; appended = Appends-nil written }
@@ -136,11 +136,11 @@ module _ {X : Type 0} (f : X → List ℕ) (xs : List X) (i : ℕ) (x : X) (insi
   first : flat_map f (drop i xs) ≡ f x ++ flat_map f (drop (i + 1) xs)
   first = at_drop_more (flat_map f) xs i x inside ∙ ap (λ y. flat_map f (y ∷ drop (i + 1) xs)) (sym is)
 
-  -- the text of one element more
+  -- the text of one more element was written
   pub wrote-element : Appends now next (f x) → WroteFront old next text (flat_map f (drop (i + 1) xs))
   wrote-element appended = wrote-part old now next text _ (f x) _ wrote first appended
 
-  -- or a front of it
+  -- a prefix of it was written
   pub wrote-element-front : AppendsFrontOf now next (f x) → AppendsFrontOf old next text
   wrote-element-front appended =
       let count = appended.0 in
@@ -156,16 +156,16 @@ wrote-all f xs i old now text past wrote =
     sym (append-nil wrote.front) ∙ ap (λ l. wrote.front ++ flat_map f l) (sym (drop_all i xs past)) ∙ sym wrote.whole in
     subst (Appends old now) all wrote.appended
 
--- ---- the cause of a fault
+-- ---- the cause of an error
 
 pub cause-written : {T : Type 0} (r : Result T RunFault) (failed : Bool) → failed ≡ is_err r → IfErr r (λ fault. fault ≡ Write)
     → HasCause r false 0 failed
 cause-written (Ok done) failed same fault = (refl, same)
 cause-written {T} (Err e) failed same fault = subst (λ (e : RunFault). HasCause {T = T} (Err e) false 0 failed) (sym fault) (refl, same)
 
--- ---- how it ends
+-- ---- the result
 
--- nothing is written where not all lines were taken
+-- nothing is written if not all lines were taken
 pub told-unread : (tell : Rows → List ℕ) (unread_before unread_after written : Option (List ℕ)) (fault : RunFault) (reads : ℕ)
     (reader_failed : Bool) (old new : Machine) → HasCause {T = Unit {0}} (Err fault) reader_failed reads false
     → HasTakenLines old unread_before unread_after new (Err fault)
@@ -191,7 +191,7 @@ told-unread tell unread_before unread_after written Memory reads reader_failed o
   late = λ some. absurd (omega arith);
 }
 
--- nor where memory ran out while the rows were looked at
+-- nothing is written if memory ran out before the text was complete
 pub told-forgotten : (tell : Rows → List ℕ) (unread_before unread_after written : Option (List ℕ)) (old new : Machine)
     → HasTakenLines old unread_before unread_after new (Ok tt)
     → HasToldOfRows tell old unread_before unread_after written written (Err Memory)
@@ -205,7 +205,7 @@ told-forgotten tell unread_before unread_after written old new taken = record {
   late = λ some. absurd (omega arith);
 }
 
--- a fault of the writer is none of the reader
+-- an error of the writer is not an error of the reader
 pub cause-ended : (r : Result (Unit {0}) RunFault) (reader_failed : Bool) (reads : ℕ) (writer_failed : Bool) → reader_failed ≡ false
     → HasCause r false 0 writer_failed → HasCause r reader_failed reads writer_failed
 cause-ended (Ok done) reader_failed reads writer_failed sound cause = (sound, cause.1)
@@ -213,14 +213,14 @@ cause-ended (Err Read) reader_failed reads writer_failed sound cause = absurd (�
 cause-ended (Err Write) reader_failed reads writer_failed sound cause = (sound, cause.1)
 cause-ended (Err Memory) reader_failed reads writer_failed sound cause = (sound, cause.1)
 
--- what was flushed stays so
+-- flushed output stays flushed
 pub flushed-still : {T : Type 0} (r : Result T RunFault) (flushed : Bool) → flushed ≡ true → HasFlushed r flushed
 flushed-still (Ok done) flushed is = is
 flushed-still (Err Read) flushed is = is
 flushed-still (Err Write) flushed is = tt
 flushed-still (Err Memory) flushed is = is
 
--- a text that was written whole has been flushed
+-- a text that was written as a whole has been flushed
 pub flushed-written : {T : Type 0} (r : Result T RunFault) (flushed : Bool) → IfErr r (λ fault. fault ≡ Write) → OnOk r (flushed ≡ true)
     → HasFlushed r flushed
 flushed-written (Ok done) flushed fault is = is

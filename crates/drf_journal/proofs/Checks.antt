@@ -1,4 +1,4 @@
--- A check goes over bytes of a journal.
+-- A check processes bytes of a journal.
 use Rattle.std.proofs.Common.{◌≡◌, ℕ, ◌+◌, ◌*◌, ◌≤◌, ◌<◌, Bool, true, false, List, [], ◌∷◌, ◌++◌, length, take, drop, get_or, Option, Some, None, Result, Ok, Err, ⊎_elim, refl, sym, ap, ◌∙◌, subst, append_assoc, append-nil, arith}
 use Rattle.std.specs.Prelude.{IfSome}
 use Rattle.std.specs.Io.KnownBytes.{Consumes, IsAtEnd}
@@ -23,7 +23,7 @@ use Rattle.drf_journal.proofs.Cuts.{ended-within, open-within, within-nil, ended
 use Rattle.drf_journal.proofs.Kept.{kept-append, meaning-kept}
 use Rattle.drf_journal.proofs.Pairs.{ended, event-more, reply-more, reply-wrong, reply-missing}
 
--- ---- where the bytes stand among the lines
+-- ---- how the bytes extend the lines
 
 within-append : (front more : List ℕ) → IsWithinLine front → IsWithinLine more → IsWithinLine (front ++ more)
 within-append front more a b = All-append (λ b. is_line_feed b ≡ false) front more a b
@@ -32,7 +32,7 @@ module _ (read end : List ℕ) (within : IsWithinLine end) where
   joined : IsWithinLine (open_line_of read ++ end)
   joined = within-append (open_line_of read) end (goes_on read []).within within
 
-  -- the line at hand goes on
+  -- the current line continues
   same_lines : ended_lines_of (read ++ end) ≡ ended_lines_of read
   same_lines =
       (goes_on read end).lines ∙ ap (λ ls. ended_lines_of read ++ ls) (ended-within (open_line_of read ++ end) joined)
@@ -41,7 +41,7 @@ module _ (read end : List ℕ) (within : IsWithinLine end) where
   longer_line : open_line_of (read ++ end) ≡ open_line_of read ++ end
   longer_line = (goes_on read end).line ∙ open-within (open_line_of read ++ end) joined
 
-  -- it ends
+  -- the current line ends
   one_line_more : ended_lines_of (read ++ (end ++ 10 ∷ [])) ≡ ended_lines_of read ++ (open_line_of read ++ end) ∷ []
   one_line_more =
       (goes_on read (end ++ 10 ∷ [])).lines
@@ -66,7 +66,7 @@ module _ (read end : List ℕ) (within : IsWithinLine end) where
       ∙ lines-goes_on read ((end ++ 10 ∷ []) ++ more)
       ∙ ap (λ ls. ended_lines_of read ++ ls) (ap lines_of bytes ∙ lines-feed (open_line_of read ++ end) more joined)
 
--- ---- a reply line is some text
+-- ---- a reply line is not empty
 
 reply-some : (machine : Machine) (meaning : Result Event LineFault)
     → 0 < length (reply_line_after machine.limits machine.rows meaning)
@@ -74,7 +74,7 @@ unfolding reply_line fault_line
 reply-some machine (Ok event) = simp length-append (omega arith)
 reply-some machine (Err fault) = simp length-append (omega arith)
 
--- ---- of a reply line more has come
+-- ---- more bytes of a reply line have arrived
 
 pub come-more : (text line bytes rest : List ℕ) (come : ℕ) → HasCome (record { text = text; come = come }) line
     → drop come text ≡ bytes ++ rest → HasCome (record { text = text; come = come + length bytes }) (line ++ bytes)
@@ -92,7 +92,7 @@ pub come-next : (text line bytes rest : List ℕ) (come : ℕ) → HasCome (reco
     → text ≡ line ++ (bytes ++ rest) → drop come text ≡ bytes ++ rest
 come-next text line bytes rest come has same = append_cancel_left line _ _ (sym has.text ∙ same)
 
--- ---- one step each
+-- ---- single steps
 
 abbrev begun_check : Machine → Check
 begun_check start = record { machine = start; line = []; due = record { text = []; come = 0 }; events = 0 }
@@ -173,7 +173,7 @@ module _ (old : Check) (end : List ℕ) (within : IsWithinLine end) where
       true_is_false : true ≡ false → ⊥
       true_is_false e = cc
 
-  -- the reply that is due
+  -- the expected reply arrives
   pub checked-reply : (new : Check) → 0 < length old.due.text
       → ((line : List ℕ) → HasCome old.due line → old.due.text ≡ line ++ (end ++ 10 ∷ []))
       → new ≡ record old { due = record { text = []; come = 0 } }
@@ -207,7 +207,7 @@ module _ (old : Check) (end : List ℕ) (within : IsWithinLine end) where
             reply = λ some. absurd (omega arith);
           }
 
-  -- another line
+  -- another line arrives
   pub checked-other : (new : Check) → 0 < length old.due.text
       → ((line : List ℕ) → HasCome old.due line → ¬ (old.due.text ≡ line ++ (end ++ 10 ∷ [])))
       → new.events ≡ old.events
@@ -317,13 +317,13 @@ module _ (old : Check) (more : List ℕ) (within : IsWithinLine more) where
           let some_more = not_none more (open_line_of read) (at.reply some).come strange in
           let sum = length-append (open_line_of read) more in omega arith
 
--- either way
+-- whether the bytes are right or wrong
 pub checked-by : (piece : List ℕ) (old new : Check) (right : Bool) → (right ≡ true → HasChecked piece old new true)
     → (right ≡ false → HasChecked piece old new false) → HasChecked piece old new right
 checked-by piece old new true passed failed = passed refl
 checked-by piece old new false passed failed = failed refl
 
--- ---- one after another
+-- ---- one step after another
 
 pub checked-nothing : (check : Check) → HasChecked [] check check true
 checked-nothing check = record {
@@ -358,7 +358,7 @@ checked-stop front rest old now first = record {
     false_is_true : false ≡ true → ⊥
     false_is_true e = cc
 
--- the check went over the front of a piece, and the rest is left
+-- the check has processed a prefix of a chunk, and the rest remains
 pub record CheckedFront (old now : Check) (piece rest : List ℕ) : Type 0 where
   pub front : List ℕ
   pub whole : piece ≡ front ++ rest
@@ -407,7 +407,7 @@ length-kept [] none = refl
 length-kept (b ∷ line) none = absurd (omega arith)
 
 module _ (start : Machine) (read : List ℕ) (check : Check) (at : IsCheckedTo start read check) where
-  -- an event line was at hand: it is the last line, and its reply is missing
+  -- the current line is an event line: it is the last line, and its reply is missing
   pub ends-open : 0 < length check.line → IsVerdict start read (Bad (2 * (check.events + 1)))
   ends-open some =
       ⊎_elim (λ (due : 0 < length check.due.text). absurd (let none = ap length (at.reply due).line in omega arith))
@@ -424,21 +424,21 @@ module _ (start : Machine) (read : List ℕ) (check : Check) (at : IsCheckedTo s
       some_line [] some = some
       some_line (b ∷ line) some = omega arith
 
-  -- nothing was at hand
+  -- there is no current line
   pub ends-good : length check.line ≡ 0 → length check.due.text ≡ 0 → IsVerdict start read (Good check.events)
   ends-good empty none =
       let was = at.event none in
       let nothing = length-kept (open_line_of read) (ap length (sym was.line) ∙ empty) in
       rw (lines-none read nothing) (was.replies, at.events)
 
-  -- the last reply has not begun
+  -- no byte of the last reply has arrived
   pub ends-missing : 0 < length check.due.text → check.due.come ≡ 0 → IsVerdict start read (Bad (2 * check.events))
   ends-missing some none =
       let was = at.reply some in
       let nothing : length (open_line_of read) ≡ 0 = sym was.come.count ∙ none in
       rw (lines-none read nothing, at.events) (reply-missing start (ended_lines_of read) check.due.text was.replies)
 
-  -- it is right but for its line feed
+  -- the last reply is right except for its line feed
   pub ends-whole : 0 < length check.due.text → 0 < check.due.come
       → ((line : List ℕ) → HasCome check.due line → check.due.text ≡ line ++ 10 ∷ [])
       → IsVerdict start read (Good check.events)
@@ -449,7 +449,7 @@ module _ (start : Machine) (read : List ℕ) (check : Check) (at : IsCheckedTo s
       let one = reply-more start (ended_lines_of read) check.due.text was.replies line (whole line was.come) in
       rw (lines-last read last) (one.0, at.events ∙ ap length (sym one.1))
 
-  -- it is another
+  -- the last reply is wrong
   pub ends-wrong : 0 < length check.due.text → 0 < check.due.come
       → ((line : List ℕ) → HasCome check.due line → ¬ (check.due.text ≡ line ++ 10 ∷ []))
       → IsVerdict start read (Bad (2 * check.events))
@@ -462,7 +462,7 @@ module _ (start : Machine) (read : List ℕ) (check : Check) (at : IsCheckedTo s
 
 -- ---- between two reads
 
--- whatever follows
+-- for every continuation of the input
 journal_of : (unread_first unread : Option (List ℕ)) (read : List ℕ) (verdict : Verdict) (start : Machine)
     → Consumes unread_first unread read → ((more : List ℕ) → IsVerdict start (read ++ more) verdict)
     → IfSome unread_first (λ journal. IsVerdict start journal verdict)
@@ -471,7 +471,7 @@ journal_of (Some all) None read verdict start consumed is = absurd consumed
 journal_of (Some all) (Some more) read verdict start consumed is =
     subst (λ (l : List ℕ). IsVerdict start l verdict) (sym consumed) (is more)
 
--- nothing follows
+-- at the end of the input
 whole_of : (unread_first unread : Option (List ℕ)) (read : List ℕ) (verdict : Verdict) (start : Machine)
     → Consumes unread_first unread read → IsAtEnd unread → IsVerdict start read verdict
     → IfSome unread_first (λ journal. IsVerdict start journal verdict)

@@ -1,4 +1,4 @@
--- Where an input is cut.
+-- Inputs that are cut in two.
 use Rattle.std.proofs.Common.{◌≡◌, ◌==◌, if◌then◌else◌, ℕ, ◌+◌, ◌<◌, Bool, true, false, List, [], ◌∷◌, ◌++◌, length, get_or, take, drop, refl, sym, ap, ◌∙◌, subst, append_assoc, append-nil, suc, add-one, take-append-drop, arith}
 use Rattle.std.proofs.Math.Seq.{drop-cons}
 use Rattle.std.specs.List.{slice_split}
@@ -64,9 +64,9 @@ cut_at rest at inside feed =
     ∙ ap (λ n. 10 ∷ drop n rest) (sym (add-one at)))
     ∙ sym (append_assoc (take at rest) (10 ∷ []) (drop (at + 1) rest))
 
--- ---- the lines of the front of an input come first among its lines
+-- ---- the lines of a prefix of an input come first among its lines
 
--- those that end in the front stand before those of the rest and what is open of the front
+-- the lines of the prefix are followed by those of its open line with the rest
 pub record GoesOn (front more : List ℕ) (whole : List ℕ) : Type 0 where
   pub lines : ended_lines_of whole ≡ ended_lines_of front ++ ended_lines_of (open_line_of front ++ more)
   pub line : open_line_of whole ≡ open_line_of (open_line_of front ++ more)
@@ -133,7 +133,7 @@ pub lines-none : (read : List ℕ) → length (open_line_of read) ≡ 0 → line
 unfolding lines_of
 lines-none read none = rw none (append-nil (ended_lines_of read))
 
--- where something has come of a line it is the first, and goes on
+-- if the open line is not empty, it is the beginning of the first line
 pub lines-begun : (line more : List ℕ) → IsWithinLine line → 0 < length line
     → (rest : List ℕ) × ((others : List (List ℕ)) × (lines_of (line ++ more) ≡ (line ++ rest) ∷ others))
 unfolding lines_of

@@ -1,11 +1,11 @@
--- Bytes that a writer takes in several calls.
+-- Bytes that are written in several calls.
 use Rattle.std.proofs.Common.{◌≡◌, ℕ, List, ◌++◌, length, take, drop, Option, sym, ap, ◌∙◌, subst, append_assoc, take-append-drop}
 use Rattle.std.proofs.Math.Seq.{take-append_seam}
 use Rattle.std.specs.Io.KnownBytes.{Appends, Keeps}
 use Rattle.std.proofs.KnownBytes.{Appends-trans, Appends-kept}
 use Rattle.drf_journal.specs.Device.{AppendsFrontOf}
 
--- the front of the bytes was written, and the rest is left
+-- a prefix of the bytes was written, and the rest remains
 pub record WroteFront (old now : Option (List ℕ)) (bytes rest : List ℕ) : Type 0 where
   pub front : List ℕ
   pub whole : bytes ≡ front ++ rest

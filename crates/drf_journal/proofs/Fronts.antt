@@ -1,4 +1,4 @@
--- A run in the middle of a piece.
+-- A run within a chunk.
 use Rattle.std.proofs.Common.{◌≡◌, ℕ, ◌+◌, ◌-◌, ◌<◌, List, [], ◌∷◌, ◌++◌, length, take, drop, get_or, ⊎_elim, inl, inr, refl, sym, ap, ◌∙◌, append_assoc, append-nil, arith}
 use Rattle.std.proofs.Math.Seq.{take-append_seam}
 use Rattle.std.proofs.lemmas.List.{length-append}
@@ -8,7 +8,7 @@ use Rattle.drf_journal.specs.State.{State, machine_after, after_piece, HasTakenA
 use Rattle.drf_journal.proofs.Cuts.{cut_at}
 use Rattle.drf_journal.proofs.Pieces.{piece-append, piece-nil, with_line, piece-line}
 
--- the run has taken the front of the piece, and the rest is left
+-- the run has taken a prefix of the chunk, and the rest remains
 pub record TookFront (old now : State) (piece rest : List ℕ) : Type 0 where
   pub front : List ℕ
   pub whole : piece ≡ front ++ rest
@@ -17,7 +17,7 @@ pub record TookFront (old now : State) (piece rest : List ℕ) : Type 0 where
 pub front-begins : (old : State) (piece : List ℕ) → TookFront old old piece piece
 front-begins old piece = record { front = []; whole = refl; state = sym (piece-nil old) }
 
--- where it stands is told by how much is left
+-- the length of the rest determines the state of the run
 pub front-count : (old now : State) (piece rest : List ℕ) → TookFront old now piece rest
     → now ≡ after_piece old (take (length piece - length rest) piece)
 front-count old now piece rest took =
@@ -27,7 +27,7 @@ front-count old now piece rest took =
     ∙ ap (after_piece old)
     (sym (ap (λ (n : ℕ). take n piece) counted ∙ ap (take (length took.front)) took.whole ∙ take-append_seam took.front rest))
 
--- it takes what stands up to the next line feed
+-- it takes the bytes up to the next line feed
 pub front-line : (old now next : State) (piece rest : List ℕ) (at : ℕ) → TookFront old now piece rest → at < length rest
     → get_or rest at 0 ≡ 10
     → next ≡ after_piece now (take at rest ++ 10 ∷ []) → TookFront old next piece (drop (at + 1) rest)
@@ -39,7 +39,7 @@ front-line old now next piece rest at took inside feed step = record {
       ∙ sym (piece-append old took.front (take at rest ++ 10 ∷ []));
 }
 
--- what it answered so far are the lines of a front, and the allocator has taken these
+-- the run has answered the lines of a prefix, and the allocator has taken them
 pub front-answers : (old now next : State) (piece rest : List ℕ) → TookFront old now piece rest
     → next.unsent ≡ now.unsent → next.lines ≡ now.lines → next.machine ≡ now.machine
     → AnswersFrontOf old piece next
@@ -56,7 +56,7 @@ front-answers old now next piece rest took same counted still =
       ahead = inl refl;
     }
 
--- the allocator may have taken the line at hand too
+-- the allocator can have taken the current line too
 pub front-ahead : (old now next : State) (piece rest : List ℕ) (at : ℕ) → TookFront old now piece rest
     → at < length rest → get_or rest at 0 ≡ 10 → IsWithinLine (take at rest)
     → next.unsent ≡ now.unsent → next.lines ≡ now.lines
@@ -85,14 +85,14 @@ front-ahead old now next piece rest at took inside feed within same counted take
     })
     taken
 
--- the rest is of one line
+-- the rest is part of one line
 pub front-keeps : (old now : State) (piece rest : List ℕ) → TookFront old now piece rest
     → after_piece now rest ≡ after_piece old piece
 front-keeps old now piece rest took =
     ap (λ (t : State). after_piece t rest) took.state ∙ sym (piece-append old took.front rest)
     ∙ ap (after_piece old) (sym took.whole)
 
--- nothing is left
+-- nothing remains
 pub front-all : (old now : State) (piece rest : List ℕ) → TookFront old now piece rest → length rest ≡ 0
     → now ≡ after_piece old piece
 front-all old now piece [] took none =

@@ -1,4 +1,4 @@
--- A journal that is cut behind a whole pair of lines.
+-- A journal that is cut after a whole pair of lines.
 use Rattle.std.proofs.Common.{◌≡◌, ℕ, ◌+◌, true, List, [], ◌∷◌, ◌++◌, length, map, take, is_err, Result, Ok, Err, refl, sym, ap, ◌∙◌, arith}
 use Rattle.std.proofs.Math.Seq.{take-append_seam}
 use Rattle.std.proofs.lemmas.Bool.{false≢true}
@@ -22,15 +22,15 @@ use Rattle.drf_journal.proofs.Pairs.{ended, events-even, replies-even, replies-s
 use Rattle.drf_journal.proofs.ReplyLines.{replies_no_events, faults_no_events}
 use Rattle.drf_journal.proofs.Resumes.{lines-in-two}
 
--- ---- reply lines are passed over
+-- ---- reply lines are skipped
 
--- a line that is answered so is no event
+-- a line that is a reply is not an event
 answer_is_no_event : (limits : LimitNumbers) (rows : Rows) (meaning : Result Event LineFault) (line : List ℕ)
     → reply_line_after limits rows meaning ≡ line ++ 10 ∷ [] → is_err (meaning_of line) ≡ true
 answer_is_no_event limits rows (Ok event) line told = replies_no_events (reply_to limits rows event) line told
 answer_is_no_event limits rows (Err fault) line told = faults_no_events fault line told
 
--- and changes no row
+-- such a line changes no rows
 no_event_changes : (limits : LimitNumbers) (rows : Rows) (meaning : Result Event LineFault) → is_err meaning ≡ true
     → rows_after_line limits rows meaning ≡ rows
 no_event_changes limits rows (Ok event) none = absurd (false≢true none)
@@ -55,7 +55,7 @@ pub replies-passed : RepliesArePassedOver
 unfolding replies_due replies_there
 replies-passed machine journal events verdict = passed_over machine.limits machine.rows (lines_of journal) verdict.0
 
--- ---- two parts
+-- ---- lines in two parts
 
 replies-append : (limits : LimitNumbers) (rows : Rows) (front more : List (List ℕ))
     → replies_from limits rows (front ++ more) ≡ replies_from limits rows front ++ replies_from limits (rows_after_lines limits rows front) more
@@ -63,7 +63,7 @@ replies-append limits rows [] more = refl
 replies-append limits rows (line ∷ front) more =
     ap (λ l. reply_line_after limits rows (meaning_of line) ∷ l) (replies-append limits (rows_after_line limits rows (meaning_of line)) front more)
 
--- two texts of which the fronts are of one length
+-- equal texts whose prefixes have the same length have the same prefixes
 fronts_same : {A : Type 0} (a b c d : List A) → length a ≡ length c → a ++ b ≡ c ++ d → (a ≡ c) × (b ≡ d)
 fronts_same a b c d long same =
     let front : a ≡ c = sym (take-append_seam a b) ∙ (λ i. take (long i) (same i)) ∙ take-append_seam c d in

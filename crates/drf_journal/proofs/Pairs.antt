@@ -27,7 +27,7 @@ pub replies-cons : (x : List ℕ) (ys : List (List ℕ)) → reply_lines (x ∷ 
 replies-cons x [] = refl
 replies-cons x (y ∷ ys) = sym (events-cons y ys)
 
--- as many event lines as reply lines, or one more
+-- there are as many event lines as reply lines, or one more
 abbrev pub IsEven : List (List ℕ) → Type 0
 IsEven lines = length (event_lines lines) ≡ length (reply_lines lines)
 
@@ -54,14 +54,14 @@ replies-odd [] ys odd = absurd (omega arith)
 replies-odd (e ∷ []) ys odd = replies-cons e ys
 replies-odd (e ∷ r ∷ xs) ys odd = ap (λ l. r ∷ l) (replies-odd xs ys (omega arith))
 
--- ---- replies, by the allocator as it is seen
+-- ---- replies, computed from the view of the allocator
 
 abbrev pub replies_by : Machine → List (List ℕ) → List (List ℕ)
 replies_by machine [] = []
 replies_by machine (line ∷ lines) =
     reply_line_after machine.limits machine.rows (meaning_of line) ∷ replies_by (machine_after machine (meaning_of line)) lines
 
--- rows that have the same live rows give the same replies
+-- rows with the same current state give the same replies
 pub replies-same_live : (limits : LimitNumbers) (a b : Rows) (lines : List (List ℕ)) → live_rows a ≡ live_rows b
     → replies_from limits a lines ≡ replies_from limits b lines
 replies-same_live limits a b [] same = refl
@@ -113,7 +113,7 @@ machine-append : (machine : Machine) (front : List (List ℕ)) (line : List ℕ)
 machine-append machine [] line = refl
 machine-append machine (first ∷ front) line = machine-append (machine_after machine (meaning_of first)) front line
 
--- ---- where two lists differ first
+-- ---- the first difference of two lists
 
 get_seam : (front : List (List ℕ)) (x : List ℕ) (xs : List (List ℕ)) → slice_get (front ++ x ∷ xs) (length front) ≡ Some x
 get_seam [] x xs = refl
@@ -180,7 +180,7 @@ due_more start lines more others e =
     ∙ replies_by-append start (event_lines lines) others
     ∙ ap (λ l. l ++ replies_by (machine_after_lines start (event_lines lines)) others) (sym (due_by start lines))
 
--- an event line: its reply is due
+-- an event line was added: its reply is expected
 pub record HasOneDue (start : Machine) (lines : List (List ℕ)) (line : List ℕ) (more : List (List ℕ)) (before : Machine)
     : Type 0 where
   pub replies : replies_due start more
@@ -212,7 +212,7 @@ event-more start lines line machine right is =
 
 module _ (start : Machine) (lines : List (List ℕ)) (due : List ℕ)
     (right : replies_due start lines ≡ replies_there lines ++ due ∷ []) where
-  -- the reply that is due comes
+  -- the expected reply arrives
   pub reply-more : (line : List ℕ) → due ≡ ended line
       → (replies_due start (lines ++ line ∷ []) ≡ replies_there (lines ++ line ∷ []))
       × (event_lines (lines ++ line ∷ []) ≡ event_lines lines)
@@ -227,11 +227,11 @@ module _ (start : Machine) (lines : List (List ℕ)) (due : List ℕ)
         events ∙ append-nil (event_lines lines),
       )
 
-  -- its number, from 1
+  -- the number of the reply line, counted from 1
   reply-number : 2 * (length (replies_there lines) + 1) ≡ 2 * length (event_lines lines)
   reply-number = let odd = is_odd start lines due right in let there = length_there start lines in omega arith
 
-  -- another line comes
+  -- another line arrives
   pub reply-wrong : (line : List ℕ) (others : List (List ℕ)) → ¬ (due ≡ ended line)
       → (place : ℕ) × IsFirstDifference (replies_due start (lines ++ line ∷ others)) (replies_there (lines ++ line ∷ others)) place
       × (2 * length (event_lines lines) ≡ 2 * (place + 1))
@@ -253,7 +253,7 @@ module _ (start : Machine) (lines : List (List ℕ)) (due : List ℕ)
         sym reply-number,
       )
 
-  -- no line comes
+  -- no line arrives
   pub reply-missing : (place : ℕ) × IsFirstDifference (replies_due start lines) (replies_there lines) place
       × (2 * length (event_lines lines) ≡ 2 * (place + 1))
   reply-missing =

@@ -1,4 +1,4 @@
--- A piece of the input that is answered in parts, each of which is sent before the next.
+-- A chunk of the input that is answered in parts, each of which is sent before the next.
 use Rattle.std.proofs.Common.{◌≡◌, ℕ, ◌+◌, List, [], ◌∷◌, ◌++◌, length, take, drop, Option, ⊎_elim, inl, inr, refl, sym, ap, ◌∙◌, subst, append_assoc, append-nil, take-append-drop, arith}
 use Rattle.std.proofs.Math.Seq.{take-append_seam}
 use Rattle.std.specs.Io.KnownBytes.{Appends}
@@ -10,7 +10,7 @@ use Rattle.drf_journal.specs.State.{State, after_piece, AnswersFrontOf}
 use Rattle.drf_journal.specs.Ended.{HasStopped}
 use Rattle.drf_journal.proofs.Pieces.{piece-nil, piece-append, piece-sent}
 
--- a front is written of what was written and is to be written
+-- a prefix of the text to be written, after the text that was written
 pub front_of : (told more : List ℕ) (count : ℕ) (text : List ℕ) → told ++ more ≡ text
     → (all : ℕ) × (told ++ take count more ≡ take all text)
 front_of told more count text e =
@@ -20,7 +20,7 @@ front_of told more count text e =
     ∙ sym (append_assoc told (take count more) (drop count more)) in
     (length front, sym (ap (take (length front)) whole ∙ take-append_seam front (drop count more)))
 
--- what was told stands before the text for more of the input
+-- the text that was sent comes before the text for more of the input
 pub told-before : (old now : State) (told front more : List ℕ)
     → record now { unsent = told ++ now.unsent } ≡ after_piece old front
     → record (after_piece now more) { unsent = told ++ (after_piece now more).unsent } ≡ after_piece old (front ++ more)
@@ -36,7 +36,7 @@ told-more old now next told front more state is =
     ∙ ap (λ (l : List ℕ). record (after_piece now more) { unsent = l }) (append-nil (told ++ (after_piece now more).unsent))
     ∙ told-before old now told front more state
 
--- the text for the front of a piece was written, and the rest is left
+-- the text for a prefix of a chunk was written, and the rest remains
 pub record SentFront (old now : State) (piece rest : List ℕ) (written_first written : Option (List ℕ)) : Type 0 where
   pub front : List ℕ
   pub told : List ℕ
@@ -75,7 +75,7 @@ module _ (old now : State) (piece rest : List ℕ) (written_first written writte
     appended = Appends-trans _ _ _ _ _ so_far.appended appended;
   }
 
-  -- how far into the piece so many bytes of the rest reach
+  -- how far into the chunk the first `count` bytes of the rest reach
   abbrev far : ℕ → ℕ
   far count = length (so_far.front ++ take count rest)
 
@@ -126,7 +126,7 @@ nothing : (xs : List ℕ) → length xs ≡ 0 → xs ≡ []
 nothing [] none = refl
 nothing (x ∷ xs) none = absurd (omega arith)
 
--- nothing is left
+-- nothing remains
 pub sent-whole : (old now : State) (piece rest : List ℕ) (written_first written : Option (List ℕ))
     → SentFront old now piece rest written_first written → length rest ≡ 0
     → (now ≡ record (after_piece old piece) { unsent = [] }) × Appends written_first written (after_piece old piece).unsent

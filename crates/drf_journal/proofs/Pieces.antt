@@ -1,4 +1,4 @@
--- A run after a piece of its input.
+-- A run after a chunk of its input.
 use Rattle.std.proofs.Common.{◌≡◌, ℕ, ◌+◌, ◌≤◌, ◌<◌, Bool, true, false, eqb, List, [], ◌∷◌, ◌++◌, length, refl, sym, ap, ◌∙◌, append_assoc, append-nil, ◌⊎◌, ⊎_elim, inl, inr, arith}
 use Rattle.std.proofs.lemmas.List.Sums.{fold-append}
 use Rattle.std.proofs.lemmas.Bool.{ne_eqb}
@@ -16,7 +16,7 @@ answers_from echo machine [] = []
 answers_from echo machine (line ∷ lines) =
     answer_to echo machine line ++ answers_from echo (machine_after machine (meaning_of line)) lines
 
--- a run after some lines, and what is kept of the next one
+-- a run after some lines, with the kept bytes of the next one
 abbrev pub after_lines : State → List (List ℕ) → List ℕ → State
 after_lines s lines next = record {
   machine = machine_after_lines s.machine lines;
@@ -72,7 +72,7 @@ pending-nil : (s : State) → (after_line s).pending ≡ kept_of []
 unfolding after_line
 pending-nil s = refl
 
--- of the line at hand `line` has come before the piece
+-- `line` is the part of the current line that came before the chunk
 pub after_piece-lines : (s : State) (line bytes : List ℕ) → IsWithinLine line → s.pending ≡ kept_of line
     → after_piece s bytes ≡ after_lines s (ended_lines_of (line ++ bytes)) (open_line_of (line ++ bytes))
 after_piece-lines s line [] within kept =
@@ -128,7 +128,7 @@ pub piece-some : (s : State) (bytes : List ℕ) → IsWithinLine bytes → 0 < l
 piece-some s [] within some = absurd (omega arith)
 piece-some s (b ∷ bytes) within some = piece-within s b bytes within
 
--- a line that these bytes end, of which some came before
+-- the run after a line that these bytes end
 abbrev pub with_line : State → List ℕ → State
 with_line s line = record {
   machine = machine_after s.machine (meaning_of line);
@@ -159,7 +159,7 @@ piece-line s (b ∷ bytes) within =
     piece-append s (b ∷ bytes) (10 ∷ []) ∙ ap (λ (t : State). after_piece t (10 ∷ [])) (piece-within s b bytes within)
     ∙ piece-feed _ 10 [] refl ∙ piece-nil _ ∙ line-kept s (s.pending ++ b ∷ bytes)
 
--- ---- what was not written yet stands behind what was
+-- ---- unsent text comes after the text that was sent
 
 line-sent : (s : State) (sent : List ℕ)
     → after_line (record s { unsent = sent ++ s.unsent })
@@ -236,7 +236,7 @@ pub end-line : (s : State) → 0 < length s.pending → at_end s ≡ after_line 
 unfolding at_end
 end-line s some = rw (ne_eqb (length s.pending) 0 (λ e. omega arith))
 
--- the allocator may have taken the last line
+-- the allocator can have taken the last line
 pub end-taken : (s : State) (machine : Machine) → 0 < length s.pending
     → HasTakenAtMost s.machine (s.pending ++ []) machine → (machine ≡ s.machine) ⊎ (machine ≡ (at_end s).machine)
 end-taken s machine some taken =

@@ -1,4 +1,4 @@
--- No reply line is an event: of its JSON no key begins with an `e`, as `event` does.
+-- No reply line is an event: no key of its JSON begins with `e`, as `event` does.
 use Rattle.std.proofs.Common.{◌≡◌, ℕ, zero, suc, ◌/◌, ◌%◌, ◌<◌, Bool, true, false, cond, ◌&&◌, ◌==◌, List, [], ◌∷◌, ◌++◌, length, get_or, map, Option, Some, None, option_and_then, option_map, is_err, Err, refl, sym, ap, ◌∙◌, subst, append_assoc, append-nil, codes, decimal, arith}
 use Rattle.std.specs.Prelude.{⊤, ◌-◌, if◌then◌else◌, nat_eq, nat_lt, take, drop}
 use Rattle.std.specs.List.{starts_with}
@@ -40,7 +40,7 @@ use Rattle.drf_journal.specs.JournalLaws.{RepliesAreNoEvents, FaultsAreNoEvents}
 abbrev begins_with_e : List ℕ → Bool
 begins_with_e text = get_or text 0 0 == 101
 
--- ---- tokens, no key of which begins so
+-- ---- tokens without a key that begins with `e`
 
 abbrev is_e_key : Token → Bool
 is_e_key (key text) = begins_with_e text
@@ -54,7 +54,7 @@ no_e-right : (ts us : List Token) → HaveNoEKeys (ts ++ us) → HaveNoEKeys us
 no_e-right [] us none = none
 no_e-right (t ∷ ts) us none = no_e-right ts us none.1
 
--- ---- lexemes, no text of which begins so before a colon
+-- ---- lexemes without a text before a colon that begins with `e`
 
 abbrev is_e_text : Token → Bool
 is_e_text (string text) = begins_with_e text
@@ -113,7 +113,7 @@ punctuated after_value (colon ∷ ls) none = (refl, tt)
 punctuated after_comma (colon ∷ ls) none = (refl, tt)
 punctuated after_key (colon ∷ ls) none = punctuated fresh ls none
 
--- ---- what is printed: a number may be any bytes of a word, so that one too long to be read back is none of a text
+-- ---- the printed form; a number can be any bytes of a word, because a number that is too long cannot be read back
 
 abbrev IsOfWord : List ℕ → Type 0
 IsOfWord [] = ⊤
@@ -127,7 +127,7 @@ abbrev AreTold : List Token → Type 0
 AreTold [] = ⊤
 AreTold (t ∷ ts) = IsTold t × AreTold ts
 
--- behind a value stands no byte of a word, and no colon
+-- after a value there is no byte of a word, and no colon
 value_ends : (ts : List Token) → (ends_word (print_from true ts) ≡ true) × (begins_colon (lex between (print_from true ts)) ≡ false)
 unfolding print_from lex
 value_ends [] = (refl, refl)
@@ -227,7 +227,7 @@ printed_lexed after (t ∷ ts) told =
     (λ e. ap (λ b. begins_colon (lex between (print_from b ts))) e ∙ (value_ends ts).1)
     (printed_lexed (ends t) ts told.1))
 
--- ---- what is read of it
+-- ---- reading the printed form
 
 abbrev event_key : List ℕ
 event_key = codes "event"
@@ -284,7 +284,7 @@ value_read value told =
     (subst (λ (text : List ℕ). HaveNoEKeys (tokens text)) (print-outline value)
     (punctuated fresh (lex between (print (json_tokens (outline value)))) (printed_lexed false (json_tokens (outline value)) told)))
 
--- a text of which no event is read means none
+-- a text in which no event is read means no event
 means_none : (line : List ℕ) → HasNoEvent (read line) → is_err (meaning_of line) ≡ true
 unfolding meaning_of value_in event_in text_at
 means_none line none = by_tests (nat_lt longest_line (length line)) (is_utf8 line) (read line) none

@@ -1,4 +1,4 @@
--- A run that is cut in two: what comes of some lines, and then of others.
+-- Runs that are cut in two: the results of some lines and then of others.
 use Rattle.std.proofs.Common.{◌≡◌, ℕ, Bool, List, [], ◌∷◌, ◌++◌, length, Result, Ok, Err, ⊎_elim, refl, sym, ap, ◌∙◌, append_assoc}
 use Rattle.drf_core.specs.Machine.{Machine, after}
 use Rattle.drf_lines.specs.Meaning.{meaning_of}
@@ -19,7 +19,7 @@ use Rattle.drf_journal.proofs.Texts.{text-same_live}
 
 -- ---- the rows after lines
 
--- an allocator whose live rows are those of these stands so after lines too
+-- an allocator with the same current state has it after lines too
 pub rows-stand : (machine : Machine) (rows : Rows) (lines : List (List ℕ)) → live_rows machine.rows ≡ live_rows rows
     → live_rows (machine_after_lines machine lines).rows ≡ live_rows (rows_after_lines machine.limits rows lines)
 unfolding after
@@ -36,7 +36,7 @@ rows-stand machine rows (line ∷ lines) same = by_meaning (meaning_of line) (λ
         (live_rows-twice (rows_after machine.limits machine.rows event) ∙ rows_after-same_live machine.limits machine.rows rows same event)
     by_meaning (Err fault) rest = rest machine rows same
 
--- one that keeps the live rows alone goes on so, with the same limits
+-- an allocator that removes expired filters keeps doing so, with the same capacities
 steps-live : (machine : Machine) (lines : List (List ℕ)) → machine.rows ≡ live_rows machine.rows
     → ((machine_after_lines machine lines).limits ≡ machine.limits)
     × ((machine_after_lines machine lines).rows ≡ live_rows (machine_after_lines machine lines).rows)
@@ -60,14 +60,14 @@ steps-leave machine lines is =
     live.1 ∙ rows-stand machine machine.rows lines refl in
     λ i. record { limits = live.0 i; rows = rows i }
 
--- rows that have the same live rows have them after lines too
+-- rows with the same current state have the same one after lines
 pub rows-same_live : (limits : LimitNumbers) (a b : Rows) (lines : List (List ℕ)) → live_rows a ≡ live_rows b
     → live_rows (rows_after_lines limits a lines) ≡ live_rows (rows_after_lines limits b lines)
 rows-same_live limits a b lines same =
     let machine : Machine = record { limits = limits; rows = a } in
     sym (rows-stand machine a lines refl) ∙ rows-stand machine b lines same
 
--- ---- some lines, and then others
+-- ---- lines in two parts
 
 pub rows-append : (limits : LimitNumbers) (rows : Rows) (front more : List (List ℕ))
     → rows_after_lines limits rows (front ++ more) ≡ rows_after_lines limits (rows_after_lines limits rows front) more
@@ -85,7 +85,7 @@ output-append limits echo rows (line ∷ front) more =
     ∙ sym (append_assoc (echo_of echo line) (told ++ output_from limits echo next front) _
     ∙ ap (λ l. echo_of echo line ++ l) (append_assoc told (output_from limits echo next front) _))
 
--- ---- an input that is cut behind a line
+-- ---- an input that is cut after a line
 
 nothing_open : (bytes : List ℕ) → IsCutBehindLine bytes → open_line_of bytes ≡ []
 nothing_open bytes cut =
@@ -110,7 +110,7 @@ output-in-two machine echo a b cut =
     ∙ ap (λ l. output_from machine.limits echo machine.rows (lines_of a) ++ l)
     (text-same_live machine.limits echo rows (live_rows rows) (lines_of b) (sym (live_rows-twice rows)))
 
--- the live rows after all of it
+-- the current state after the whole input
 rows-in-two : (machine : Machine) (a b : List ℕ) → IsCutBehindLine a
     → live_rows (rows_after_lines machine.limits machine.rows (lines_of (a ++ b)))
     ≡ live_rows (rows_after_lines machine.limits (live_rows (rows_after_lines machine.limits machine.rows (lines_of a))) (lines_of b))
@@ -124,7 +124,7 @@ pub allocator-in-two : AllocatorInTwo
 allocator-in-two machine a b cut =
     ap (λ (rows : Rows). record { limits = machine.limits; rows = rows }) (rows-in-two machine a b cut)
 
--- what is told of live rows as of all
+-- a text that depends only on the current state
 pub told-in-two : (tell : Rows → List ℕ) → ((rows : Rows) → tell (live_rows rows) ≡ tell rows)
     → (machine : Machine) (a b : List ℕ) → IsCutBehindLine a
     → told_of_lines tell machine (lines_of (a ++ b)) ≡ told_of_lines tell (resumed machine (lines_of a)) (lines_of b)

@@ -21,7 +21,7 @@ use Rattle.drf_journal.proofs.Pieces.{answers_from, after_lines, after_piece-lin
 use Rattle.drf_journal.proofs.Parts.{front_of, told-before, told-more}
 use Rattle.drf_journal.proofs.Texts.{text-lines, text-append, answers-append}
 
--- ---- the end of the input, where these lines had ended, and this much has come of the next
+-- ---- the end of the input, given the lines that had ended and the open line
 
 line_last : (s : State) (lines : List (List ℕ)) (next : List ℕ)
     → (after_line (after_lines s lines next)).unsent ≡ s.unsent ++ answers_from s.echo s.machine (lines ++ next ∷ [])
@@ -48,7 +48,7 @@ unfolding after_line
 machine_last s lines next =
     ap (machine_after (machine_after_lines s.machine lines)) (meaning-kept next) ∙ machine_more s.machine lines next
 
--- the lines, and the next one if anything has come of it
+-- the lines, and the open line if it is not empty
 abbrev lines_with : List (List ℕ) → List ℕ → List (List ℕ)
 lines_with lines next = lines ++ (if length next == 0 then [] else next ∷ [])
 
@@ -74,7 +74,7 @@ at_end_all s lines (b ∷ next) =
       ap (λ (t : State). t.machine) ended ∙ machine_last s lines (b ∷ next),
     )
 
--- ---- a front of an input
+-- ---- a prefix of an input
 
 module _ (front more read : List ℕ) (whole : read ≡ front ++ more) where
   others : List (List ℕ)
@@ -90,7 +90,7 @@ module _ (front more read : List ℕ) (whole : read ≡ front ++ more) where
       let last = if length (open_line_of read) == 0 then [] else open_line_of read ∷ [] in
       (others ++ last, ap (λ l. l ++ last) parted ∙ append_assoc (ended_lines_of front) others last)
 
-  -- its lines come first
+  -- the lines of the prefix come first
   ended_first : take (length (ended_lines_of front)) (ended_lines_of read) ≡ ended_lines_of front
   ended_first = ap (take (length (ended_lines_of front))) parted ∙ take-append_seam (ended_lines_of front) others
 
@@ -104,19 +104,19 @@ module _ (front more read : List ℕ) (whole : read ≡ front ++ more) where
       let sum = length-append (ended_lines_of front) others in
       omega arith
 
--- what was read before the last 65,536 bytes was read before the last piece
+-- the bytes before the last 65,536 were read before the last chunk
 early_count : (before piece : List ℕ) → length piece ≤ 65536
     → take (length (before ++ piece) - 65536) (before ++ piece) ≡ take (length (before ++ piece) - 65536) before
 early_count before piece short =
     take-append-le _ before piece (let sum = length-append before piece in omega arith)
 
--- the line at hand may be past the last
+-- one line more than those of the prefix: the last line, if there is one
 take_past : {A : Type 0} (front : List A) (last : Bool) (x : A)
     → take (length front + 1) (front ++ (if last then [] else x ∷ [])) ≡ front ++ (if last then [] else x ∷ [])
 take_past front true x = let sum = length-append front [] in take_all _ _ (omega arith)
 take_past front false x = let sum = length-append front (x ∷ []) in take_all _ _ (omega arith)
 
--- what stands between the reader and the writer when the run reads again
+-- the state of reader, writer and run before the next read
 pub record IsServing (old : State) (unread_first unread written_first written : Option (List ℕ)) (session : State)
     : Type 0 where
   pub read : List ℕ
@@ -138,7 +138,7 @@ module _ (old : State) (begins : IsBegun old) where
       ap (λ (s : State). s.unsent ++ answers_from old.echo old.machine lines) begins
       ∙ sym (text-lines old.machine old.echo lines)
 
-  -- the text for the lines of a front comes first
+  -- the text begins with that for the lines of a prefix
   text_rest : (front more read : List ℕ) → read ≡ front ++ more
       → (rest : List ℕ) × (text (ended_lines_of read) ≡ text (ended_lines_of front) ++ rest)
   text_rest front more read whole = (
@@ -150,7 +150,7 @@ module _ (old : State) (begins : IsBegun old) where
   number_from : (number : ℕ) → old.lines + number ≡ number
   number_from number = let none = ap (λ (s : State). s.lines) begins in omega arith
 
-  -- the text so far, the number of lines and the allocator
+  -- the text so far, the number of lines, and the allocator
   text_ended : (read : List ℕ) → (after_piece old read).unsent ≡ text (ended_lines_of read)
   text_ended read = ap (λ (s : State). s.unsent) (read_lines read) ∙ text_begun (ended_lines_of read)
 
@@ -160,7 +160,7 @@ module _ (old : State) (begins : IsBegun old) where
   machine_ended : (read : List ℕ) → (after_piece old read).machine ≡ machine_after_lines old.machine (ended_lines_of read)
   machine_ended read = ap (λ (s : State). s.machine) (read_lines read)
 
-  -- those of the whole input
+  -- the text for the whole input
   text_whole : (read : List ℕ) → (at_end (after_piece old read)).unsent ≡ text (lines_of read)
   unfolding lines_of
   text_whole read =
@@ -207,7 +207,7 @@ module _ (old : State) (begins : IsBegun old) where
     all_ended : (unread_after : Option (List ℕ)) → HaveEnded (length (ended_lines_of serving.read)) serving.read unread_after
     all_ended unread_after = inl (omega arith)
 
-    -- the text for the lines of a front of what was read stands at the front of what was written
+    -- the written text begins with the text for the lines of a prefix of the bytes read
     prompt_so_far : (count : ℕ) (more : List ℕ)
         → StartsWith (serving.told ++ more) (text (ended_lines_of (take count serving.read)))
     prompt_so_far count more =
@@ -372,7 +372,7 @@ module _ (old : State) (begins : IsBegun old) where
             taken = taken_at_end next end (ap (λ (s : State). s.machine) is);
           }
 
-    -- ---- in the middle of a piece
+    -- ---- within a chunk
 
     module _ (piece : List ℕ) (next : State) (text_now : List ℕ) (short : length piece ≤ 65536)
         (consumed : Consumes unread unread_next piece)
@@ -380,7 +380,7 @@ module _ (old : State) (begins : IsBegun old) where
       abbrev read_now : List ℕ
       read_now = serving.read ++ piece
 
-      -- what was answered of the input, and what the allocator has taken
+      -- the answered part of the input, and the part that the allocator has taken
       abbrev front : ℕ → List ℕ
       front count = serving.read ++ take count piece
 
@@ -485,7 +485,7 @@ module _ (old : State) (begins : IsBegun old) where
         taken = record { taken = 0; machine = refl; ahead = inl refl; ended = inl (omega arith) };
       }
 
--- ---- within a piece
+-- ---- the run stops within a chunk
 
 pub run-stops : (old : State) (begins : IsBegun old)
     (unread_first unread unread_next written_first written written_next : Option (List ℕ)) (session : State)
@@ -500,7 +500,7 @@ run-stops old begins _ _ _ _ _ _ session serving Write piece next short consumed
 run-stops old begins _ _ _ _ _ _ session serving Memory piece next short consumed stopped =
     run-forgets old begins _ _ _ _ _ _ session serving piece next stopped.text short consumed stopped.answers stopped.sent
 
--- a fault within a piece is none of the reader
+-- an error within a chunk is not an error of the reader
 pub cause-stopped : (fault : RunFault) (reader_failed : Bool) (reads : ℕ) (writer_failed : Bool) → reader_failed ≡ false
     → HasCause {T = Unit {0}} (Err fault) false 0 writer_failed → HasCause {T = ℕ} (Err fault) reader_failed reads writer_failed
 cause-stopped Read reader_failed reads writer_failed sound cause = absurd (⊎_elim (λ e. cc) (λ e. omega arith) cause.0)

@@ -13,7 +13,7 @@ use Rattle.drf_journal.specs.Output.{echo_of, reply_line_after, rows_after_line,
 use Rattle.drf_journal.specs.State.{machine_after, machine_after_lines, answer_to}
 use Rattle.drf_journal.proofs.Pieces.{answers_from}
 
--- rows that have the same live rows give the same text
+-- rows with the same current state give the same text
 pub text-same_live : (limits : LimitNumbers) (echo : Bool) (a b : Rows) (lines : List (List ℕ)) → live_rows a ≡ live_rows b
     → output_from limits echo a lines ≡ output_from limits echo b lines
 text-same_live limits echo a b [] same = refl
@@ -63,7 +63,7 @@ answers-append echo machine (line ∷ front) more =
     ap (λ l. answer_to echo machine line ++ l) (answers-append echo (machine_after machine (meaning_of line)) front more)
     ∙ sym (append_assoc (answer_to echo machine line) _ _)
 
--- the text for the first lines comes first
+-- the text begins with that for the first lines
 pub text-append : (machine : Machine) (echo : Bool) (front more : List (List ℕ))
     → output_of machine echo (front ++ more) ≡ output_of machine echo front ++ answers_from echo (machine_after_lines machine front) more
 text-append machine echo front more =

@@ -1,4 +1,4 @@
--- A journal has one verdict.
+-- A journal has at most one verdict.
 use Rattle.std.proofs.Common.{◌≡◌, ℕ, zero, suc, ◌≤◌, ◌<◌, List, [], ◌∷◌, take, ⊎_elim, refl, sym, ap, ◌∙◌, arith}
 use Rattle.std.specs.Prelude.{slice_get}
 use Rattle.std.proofs.lemmas.Bool.{cases_lt}
@@ -12,7 +12,7 @@ get_take (suc n) [] i before = refl
 get_take (suc n) (x ∷ xs) zero before = refl
 get_take (suc n) (x ∷ xs) (suc i) before = get_take n xs i (omega arith)
 
--- no list differs before the first difference
+-- two lists do not differ before their first difference
 not_before : (xs ys : List (List ℕ)) (first place : ℕ) → IsFirstDifference xs ys first → IsFirstDifference xs ys place → ¬ (place < first)
 not_before xs ys first place one other before =
     other.there (sym (get_take first xs place before) ∙ ap (λ (l : List (List ℕ)). slice_get l place) one.before ∙ get_take first ys place before)

@@ -1,4 +1,4 @@
--- How much text waits while a piece is taken.
+-- How much text waits while a chunk is taken.
 use Rattle.std.proofs.Common.{◌≡◌, ℕ, ◌+◌, ◌-◌, ◌≤◌, ◌<◌, false, List, [], ◌∷◌, ◌++◌, length, take, ⊎_elim, sym, ap, ◌∙◌, subst, arith}
 use Rattle.std.proofs.Math.Seq.{take-append-add}
 use Rattle.std.proofs.lemmas.Bool.{cases_lt}
@@ -15,17 +15,17 @@ waits-begins most old piece below k first =
     subst (λ (n : ℕ). length (after_piece old (take n piece)).unsent < most) none
     (subst (λ (t : State). length t.unsent < most) (sym (piece-nil old)) below)
 
--- bytes of one line bring no text
+-- bytes within a line add no text
 within-unsent : (s : State) (bytes : List ℕ) → IsWithinLine bytes → (after_piece s bytes).unsent ≡ s.unsent
 within-unsent s [] within = ap (λ (t : State). t.unsent) (piece-nil s)
 within-unsent s (b ∷ bytes) within = ap (λ (t : State). t.unsent) (piece-within s b bytes within)
 
 module _ (most : ℕ) (old now : State) (piece rest : List ℕ) (took : TookFront old now piece rest) where
-  -- how many bytes it has taken
+  -- the number of bytes that were taken
   abbrev taken : ℕ
   taken = length piece - length rest
 
-  -- so much text waits as at its last line feed
+  -- as much text waits as after the last line feed
   text_in_line : (at : ℕ) → IsWithinLine (take at rest)
       → (after_piece old (take (taken + at) piece)).unsent ≡ (after_piece old (take taken piece)).unsent
   text_in_line at within =
@@ -40,7 +40,7 @@ module _ (most : ℕ) (old now : State) (piece rest : List ℕ) (took : TookFron
       ap (λ (t : State). t.unsent) state ∙ within-unsent now (take at rest) within
       ∙ ap (λ (t : State). t.unsent) (front-count old now piece rest took)
 
-  -- bytes of one line may come
+  -- bytes within a line can follow
   pub waits-within : (count : ℕ) → IsWithinLine (take count rest)
       → WaitsBelow most old piece (length piece - length rest + 1)
       → WaitsBelow most old piece (length piece - length rest + 1 + count)
@@ -55,7 +55,7 @@ module _ (most : ℕ) (old now : State) (piece rest : List ℕ) (took : TookFron
       (subst (λ (text : List ℕ). length text < most) (sym (text_in_line (k - taken) line)) (waits taken (omega arith))))
       (cases_lt k (taken + 1))
 
-  -- one more byte may come
+  -- one more byte can follow
   pub waits-on : length now.unsent < most → WaitsBelow most old piece (length piece - length rest)
       → WaitsBelow most old piece (length piece - length rest + 1)
   waits-on below waits k inside =

@@ -62,7 +62,7 @@ pub record StoppedWriting (old : State) (piece : List ℕ) (new : State) (writte
   pub answers : AnswersFrontOf old piece (record new { unsent = text })
   pub front_sent : AppendsFrontOf written_before written_after text
 
--- out of memory: all of that text was written
+-- out of memory: the text for all answered lines of the chunk was written
 pub record RanOutOfMemory (old : State) (piece : List ℕ) (new : State) (written_before written_after : Option (List ℕ)) : Type 0 where
   pub text : List ℕ
   pub answers : AnswersFrontOf old piece (record new { unsent = text })

@@ -14,7 +14,7 @@ use Rattle.drf_lines.proofs.ReplyTexts.{then, added_utf8, left_text, items_begun
 still_begins : (old added front : List ℕ) → StartsWith old front → StartsWith (old ++ added) front
 still_begins old added front begins = grind (arith, common_steps)
 
--- what a vector was extended by
+-- a vector that was extended
 pub appended : {T E : Type 0} (r : Result T E) (old added : List ℕ) {new more : List ℕ} → new ≡ cond (is_ok r) (old ++ more) old → more ≡ added → IsUtf8 added
     → AppendsText r old new added
 appended (Ok done) old added is same right =
@@ -30,7 +30,7 @@ appended (Err error) old added is same right = record {
   utf8 = tt;
 }
 
--- nothing is a text
+-- appending nothing
 pub nothing : {T E : Type 0} {done : T} {old : List ℕ} → AppendsText {T = T} {E = E} (Ok done) old old []
 nothing {old = old} = record {
   ok = sym (append-nil old);
@@ -39,7 +39,7 @@ nothing {old = old} = record {
 }
 
 module _ {T U E F : Type 0} {done : T} {r : Result U F} {old mid new : List ℕ} where
-  -- a text, and then another
+  -- a text, and then another one
   pub and_then : {first second : List ℕ} → AppendsText {T = T} {E = E} (Ok done) old mid first → AppendsText r mid new second
       → AppendsText r old new (first ++ second)
   and_then {first = first} {second = second} a b = record {
@@ -48,7 +48,7 @@ module _ {T U E F : Type 0} {done : T} {r : Result U F} {old mid new : List ℕ}
     utf8 = on_ok_weaker r (λ keeps right. keeps (a.utf8 right)) b.utf8;
   }
 
-  -- members, and those that come after them
+  -- members, and the members after them
   pub and_more : {members : Members → Members} (more : Members) → AppendsMembers {T = T} {E = E} (Ok done) old mid members
       → AppendsText r mid new (members_text true more) → AppendsText r old new (members_text true (members more))
   and_more more a b = record {
@@ -68,7 +68,7 @@ module _ {T U E F : Type 0} {done : T} {r : Result U F} {old mid new : List ℕ}
   }
 
 module _ {T E : Type 0} {r : Result T E} {old new : List ℕ} where
-  -- a text in two parts, the first of which has two
+  -- three texts, grouped in another way
   pub regrouped : (first second third : List ℕ) → AppendsText r old new ((first ++ second) ++ third) → AppendsText r old new (first ++ (second ++ third))
   regrouped first second third = subst (λ (text : List ℕ). AppendsText r old new text) (append_assoc first second third)
 
@@ -85,7 +85,7 @@ module _ {T E : Type 0} {r : Result T E} {old new : List ℕ} where
 
 -- ---- the items of an array, one after another
 
--- these are written, and with those that are left the text is that of all
+-- these items were written, and with the remaining ones the text is complete
 pub record AppendsItems {A : Type 0} (value : A → Data) (all : List A) (i : ℕ) (old now : List ℕ) : Type 0 where
   pub text : now ++ left_text value i (drop i all) ≡ old ++ compact_text (array (items_of (map value all)))
   pub front : KeepsFront old now

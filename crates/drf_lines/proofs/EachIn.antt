@@ -1,4 +1,4 @@
--- What a step finds in each of a list, one after another.
+-- The results of a step on each element of a list.
 use Rattle.std.proofs.Common.{◌≡◌, ℕ, ◌+◌, ◌<◌, ◌≤◌, List, [], ◌∷◌, ◌++◌, map, drop, length, get_or, Result, Ok, Err, refl, sym, ap, ◌∙◌, subst, append_assoc}
 use Rattle.std.proofs.lemmas.List.{append-nil, at_drop_more, at_drop_all}
 use Rattle.drf_lines.specs.declared.fault.LineFault.{LineFault}
@@ -8,7 +8,7 @@ use Rattle.drf_lines.specs.Fault.{◌>>=◌, IsReadAs}
 use Rattle.drf_lines.specs.TaskTexts.{each_in}
 
 module _ {X Y : Type 0} (step : X → Result Y LineFault) where
-  -- some were read, and these are left
+  -- the results so far, followed by those of the remaining elements
   abbrev pub each_after : List Y → List X → Result (List Y) LineFault
   each_after ys xs = each_in step xs >>= λ more. Ok (ys ++ more)
 
@@ -25,7 +25,7 @@ module _ {X Y : Type 0} (step : X → Result Y LineFault) where
   one_refused one all (Fault fault) ys x xs is = rw is refl
   one_refused one all Memory ys x xs is = tt
 
-  -- those before a place were read
+  -- the elements before an index were read
   module _ {A : Type 0} (of : A → X) (ys : List Y) (all : List A) (i : ℕ) (so_far : each_after ys (map of (drop i all)) ≡ each_in step (map of all)) where
     module _ (a d : A) (inside : i < length all) (is : a ≡ get_or all i d) where
       left : each_after ys (of a ∷ map of (drop (i + 1) all)) ≡ each_in step (map of all)
@@ -33,17 +33,17 @@ module _ {X Y : Type 0} (step : X → Result Y LineFault) where
           ap (λ (first : A). each_after ys (of first ∷ map of (drop (i + 1) all))) is
           ∙ sym (at_drop_more (λ (rest : List A). each_after ys (map of rest)) all i d inside) ∙ so_far
 
-      -- an error at the one there is that of the list
+      -- an error at this element is the error of the list
       pub each_after-refused : {B C : Type 0} (one : B → Y) (whole : C → List Y) (error : LineError)
           → IsReadAs one (Err error) (step (of a)) → IsReadAs whole (Err error) (each_in step (map of all))
       each_after-refused {C = C} one whole error refused =
           subst (IsReadAs {A = C} {B = List Y} whole (Err error)) left (one_refused one whole error ys (of a) _ refused)
 
-      -- the one there is read too
+      -- this element is read too
       pub each_after-one : (y : Y) → step (of a) ≡ Ok y → each_after (ys ++ y ∷ []) (map of (drop (i + 1) all)) ≡ each_in step (map of all)
       each_after-one y read = sym (one_read ys (of a) (map of (drop (i + 1) all)) y read) ∙ left
 
-    -- behind the last one all are
+    -- after the last element all were read
     pub each_after-all : length all ≤ i → each_in step (map of all) ≡ Ok ys
     each_after-all past =
         sym so_far ∙ at_drop_all (λ (rest : List A). each_after ys (map of rest)) all i past ∙ ap Ok (append-nil ys)

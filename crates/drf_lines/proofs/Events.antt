@@ -1,4 +1,4 @@
--- The lines of events mean those events.
+-- Reading the written line of an event gives the event.
 use Rattle.std.proofs.Common.{◌≡◌, ℕ, ◌<◌, ◌≤◌, ◌^◌, ◌==◌, Bool, true, false, List, [], ◌∷◌, map, length, get_or, All, Some, Ok, refl, sym, ap, ◌∙◌, codes, arith}
 use Rattle.std.proofs.lemmas.Bool.{le-ltb, le-leb, eqb-true, and_from, false≢true}
 use Rattle.std.proofs.lemmas.List.Elements.{All-head, All-tail}
@@ -34,7 +34,7 @@ use Rattle.drf_lines.proofs.Spellings.{IsPrinted, text_read, total_printed, agen
 use Rattle.drf_lines.proofs.Texts.{IsRoleRead}
 use Rattle.drf_lines.proofs.Values.{value_read}
 
--- a value that is read as it is printed, and that means the event
+-- a value that is printed and read back, and that means the event
 spelled : (event : Event) → IsPrinted (event_value event) → event_in (event_value event) ≡ Ok event → IsSpelled event
 unfolding event_line
 spelled event printed means = record { value = text_read (event_value event) printed; meaning = means }
@@ -106,7 +106,7 @@ revive_read framework role name is =
 
 -- ---- events of offers and tasks
 
--- what is written of a task is read
+-- the written form of a task can be read
 abbrev pub IsStartRead : Start → Type 0
 IsStartRead start = start_in (start_text start) ≡ Ok start
 
@@ -114,7 +114,7 @@ pub start_read : (start : Start) → name_in start.0 ≡ Ok start.0 → bundle_i
 unfolding start_in
 start_read start name bundle = rw (name, bundle) refl
 
--- and of each
+-- the written form of each task can be read
 pub starts_read : (starts : List Start) → All IsStartRead starts
     → each_in start_in (map start_text starts) ≡ Ok starts
 starts_read [] each = refl
@@ -136,7 +136,7 @@ values_few starts = ap is_few (count starts)
 few_read : {X : Type 0} (xs : List X) → 1 ≤ length xs → length xs ≤ 16 → is_few (length xs) ≡ true
 few_read xs some few = and_from _ _ (le-leb 1 (length xs) some) (le-leb (length xs) 16 few)
 
--- a list of one is its first
+-- a list of length 1 consists of its first element
 pub only_one : (tasks : List Start) (task : Start) → 1 ≤ length tasks → length tasks < 2 → task ≡ get_or tasks 0 task → tasks ≡ task ∷ []
 only_one [] task some few is = absurd (omega (arith, some))
 only_one (s ∷ []) task some few is = ap (λ (t : Start). t ∷ []) (sym is)

@@ -1,4 +1,4 @@
--- What a reader tells where a name or a role is refused.
+-- The error that a reader returns for an invalid name or role.
 use Rattle.std.proofs.Common.{◌≡◌, Bool, false, cond, Option, Some, None, Result, Ok, Err, refl}
 use Rattle.std.specs.Option.{ok_or}
 use Rattle.drf_role.specs.declared.name.NameFault.{NameFault}
@@ -19,7 +19,7 @@ pub role_refused : {A : Type 0} (fault : RoleFault) (b : Bool) (x : A) → (faul
 role_refused role_faults.BadRole b x h = rw (h refl)
 role_refused role_faults.Memory b x h = tt
 
--- the fault that the exit after `ok_or` tells
+-- the error after a failed `ok_or`
 pub fault_of_none : {T : Type 0} (o : Option T) (fault other : LineFault) → o ≡ None
     → ◌≡◌ {A = Result T LineFault} (Err fault) (ok_or o other) → fault ≡ other
 fault_of_none None fault other e h = cc

@@ -1,4 +1,4 @@
--- The text of each node lies where it was written, also where more is written behind it.
+-- The text of each node is where it was written, even after more is appended.
 use Rattle.std.proofs.Common.{◌≡◌, ℕ, zero, suc, ◌+◌, ◌-◌, ◌<◌, ◌≤◌, List, [], ◌∷◌, ◌++◌, Some, take, drop, length, refl, sym, ap, ◌∙◌, subst, inl, inr, length-append, arith}
 use Rattle.std.specs.Prelude.{slice_get, slice_index_or, nat_lt, true}
 use Rattle.std.proofs.lemmas.Bool.{cases_lt, ltb-true}
@@ -73,7 +73,7 @@ texts_pushed text spans span nodes node here are is i s n at its =
 pub no_texts : (text : List ℕ) (spans : List Span) (nodes : List NodeLine) → spans ≡ [] → AreTexts text spans nodes
 no_texts text spans nodes none i span node at its = absurd (omega (arith, slice_get_within spans i span at, ap length none))
 
--- what was found at a place
+-- the element that was found at an index
 found_at : {A : Type 0} (xs its : List A) (i : ℕ) (x : A) → its ≡ xs → true ≡ nat_lt i (length its) → x ≡ slice_index_or its i x → slice_get xs i ≡ Some x
 found_at {A} xs its i x same few here =
     subst (λ (l : List A). slice_get l i ≡ Some x) same (slice_get_read its (length its) i x refl (ltb-true i (length its) (sym few)) here)

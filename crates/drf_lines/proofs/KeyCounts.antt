@@ -1,4 +1,4 @@
--- How many different keys members have.
+-- The number of different keys of members.
 use Rattle.std.proofs.Common.{◌≡◌, ℕ, suc, ◌+◌, ◌<◌, ◌≤◌, Bool, true, false, cond, List, [], ◌∷◌, ◌++◌, length, Bor, map, take, drop, get_or, Ordering, Less, Equal, Greater, is_eq, nat_cmp, refl, sym, ap, subst, ◌∙◌, arith, length-append}
 use Rattle.std.specs.Prelude.{◌||◌}
 use Rattle.std.specs.Cmp.Lexicographic.{slice_cmp}
@@ -19,7 +19,7 @@ use Rattle.drf_lines.specs.Object.{member_count}
 abbrev cmp : List ℕ → List ℕ → Ordering
 cmp = slice_cmp nat_cmp
 
--- the key stands where `put` looks for it
+-- the key is where `put` looks for it
 abbrev has : List ℕ → Members → Bool
 has key no_members = false
 has key (member k d ms) = match_ordering (cmp key k) false true (has key ms)
@@ -41,7 +41,7 @@ count_put : (k : List ℕ) (d : Data) (ms : Members) → member_count (put k d m
 count_put k d no_members = refl
 count_put k d (member l e ms) = count_at (cmp k l) k l d e ms (count_put k d ms)
 
--- ---- which keys stand there
+-- ---- the keys that are there
 
 below : (x y : List ℕ) → cmp x y ≡ Greater → cmp y x ≡ Less
 below x y e = nat_list_cmp_total.antisymm y x ∙ ap ordering_reverse e
@@ -102,9 +102,9 @@ has_put : (q k : List ℕ) (d : Data) (ms : Members) → has q (put k d ms) ≡ 
 has_put q k d no_members = alone q k (cmp k q) refl
 has_put q k d (member l e ms) = has_at q k l d e ms (cmp k l) (cmp k q) (cmp q l) refl refl refl (has_put q k d ms)
 
--- ---- names that were found
+-- ---- the names found so far
 
--- how many names there are after some keys
+-- the number of names after some keys
 abbrev pub count_after : List (List ℕ) → List (List ℕ) → ℕ
 count_after names [] = length names
 count_after names (key ∷ keys) = cond (is_among names key) (count_after names keys) (count_after (names ++ key ∷ []) keys)
@@ -175,7 +175,7 @@ counted (json.member k j ms) names found are =
 pub keys_counted : (ms : json.Members) → member_count (members_of ms no_members) ≡ count_after [] (keys ms)
 keys_counted ms = counted ms [] no_members (record { count = refl; each = λ q. refl })
 
--- the count goes on with the key of the member at a place
+-- the count after the key of the member at an index
 pub next_key : {A : Type 0} (names : List (List ℕ)) (all : List (Bor (List ℕ) × Value A)) (i : ℕ) (m : Bor (List ℕ) × Value A) (b : Bool)
     → i < length all → m ≡ get_or all i m → is_among names m.0.now ≡ b
     → count_after names (keys (members_view (drop i all)))
@@ -189,7 +189,7 @@ pub last_key : {A : Type 0} (names : List (List ℕ)) (all : List (Bor (List ℕ
     → count_after names (keys (members_view (drop i all))) ≡ length names
 last_key {A} names all i past = at_drop_all (λ (left : List (Bor (List ℕ) × Value A)). count_after names (keys (members_view left))) all i past
 
--- the first of some names, as texts
+-- the names as texts
 abbrev pub texts : List (Bor (List ℕ)) → List (List ℕ)
 texts names = map (λ name. name.now) names
 

@@ -13,11 +13,11 @@ use Rattle.drf_lines.specs.LineValue.{members_of, is_among}
 use Rattle.drf_lines.specs.Object.{member_count}
 use Rattle.drf_lines.proofs.KeyCounts.{count_after, keys_counted, next_key, last_key}
 
--- the byte that a key begins with
+-- the first byte of a key
 abbrev pub first : List ℕ → ℕ
 first key = get_or key 0 0
 
--- the first byte of each key was seen
+-- the first byte of each key is marked as seen
 abbrev pub AllSeen : List Bool → List (List ℕ) → Type 0
 AllSeen seen [] = ⊤
 AllSeen seen (key ∷ keys) = (get_or seen (first key) false ≡ true) × AllSeen seen keys
@@ -52,7 +52,7 @@ module _ {A : Type 0} (members : List (Bor (List ℕ) × Value A)) where
   abbrev pub names : ℕ → List (List ℕ)
   names i = map (λ m. m.0.now) (take i members)
 
-  -- the keys before a place are different, and their first bytes were seen
+  -- the keys before an index differ, and their first bytes are marked as seen
   pub record BeginApart (seen : List Bool) (i : ℕ) : Type 0 where
     pub room : length seen ≡ 256
     pub all : AllSeen seen (names i)

@@ -1,4 +1,4 @@
--- What a text says that is the text of a name, a role or a bundle that was read before.
+-- The meaning of a text that equals the text of a name, role or bundle that was read before.
 use Rattle.std.proofs.Common.{◌≡◌, ℕ, true, List, Result, Ok, Err, sym, ap, subst, ◌∙◌}
 use Rattle.std.specs.Prelude.{IfOk, IfSome}
 use Rattle.std.specs.Result.{result_ok}
@@ -23,7 +23,7 @@ role_known known said text right parts same =
     let is : parts_of text ≡ known = ap parts_of (sym ((bytes_decides said text).0 same)) ∙ parts in
     rw ((role_decides text).1 (subst IsRole (sym is) right)) (ap Ok is)
 
--- a copy is as good
+-- a copy has the same meaning
 pub copied : {A E : Type 0} (r : Result A E) (meaning : Result A LineFault) (known : A) → IfOk r (λ copy. copy ≡ known) → meaning ≡ Ok known
     → IfSome (result_ok r) (λ copy. meaning ≡ Ok copy)
 copied (Ok copy) meaning known same is = is ∙ ap Ok (sym same)

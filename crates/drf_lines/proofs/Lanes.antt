@@ -1,4 +1,4 @@
--- Which bytes need an escape, many at once.
+-- Which bytes need an escape, for many bytes at once.
 use Rattle.std.proofs.Common.{◌≡◌, ℕ, zero, suc, ◌+◌, ◌*◌, ◌%◌, ◌^◌, ◌<◌, ◌≤◌, ltb, Bool, true, false, not, cond, eqb, T, get_or, List, [], ◌∷◌, ◌&&◌, map, length, drop, ◌⊎◌, inl, inr, refl, sym, ap, ap₂, ◌∙◌, subst, arith, w8, Fits, not-suc-le-zero}
 use Rattle.std.proofs.lemmas.Simd.{mask_l-mod, chunk-drop, none_from_empty_mask, run_in_chunk_le, run_in_chunk_fails, trailing_mask_l, length-chunk}
 use Rattle.std.proofs.lemmas.List.{length-map}
@@ -11,7 +11,7 @@ use lib.Lanes.{zip2, mask_l, top, Each1, chunk}
 use Rattle.json.specs.Run.{is_stop}
 use Rattle.drf_lines.specs.Written.{is_plain_byte, ArePlainFrom}
 
--- ---- a fact of each of the 256 bytes, by computation
+-- ---- a property of each of the 256 bytes, by computation
 
 abbrev pub upto : (ℕ → Bool) → ℕ → Bool
 upto p zero = true
@@ -68,7 +68,7 @@ pub stops_in : (n : ℕ) (v : List ℕ) → n ≤ 64 → length v ≡ n → Each
 stops_in n v few long fits e =
     ap (λ l. mask_l l % 2 ^ 64) (ap (map (top 7)) e ∙ each_byte v fits) ∙ mask_l-mod (map is_stop v) 64 (omega (arith, few, long, length-map v is_stop))
 
--- ---- what the mask tells
+-- ---- what the mask means
 
 plain_is : (x : ℕ) → is_plain_byte x ≡ not (is_stop x)
 plain_is x = grind arith
@@ -89,15 +89,15 @@ module _ (i n : ℕ) (bytes : List ℕ) where
       ap (list_all is_plain_byte) (chunk-drop i n bytes) ∙ list_all-append is_plain_byte (chunk i n bytes) (drop (i + n) bytes)
       ∙ ap (λ b. b && list_all is_plain_byte (drop (i + n) bytes)) (plain_by_mask (chunk i n bytes))
 
-  -- no bit: the others decide
+  -- without a set bit the later bytes decide
   pub none_stop : mask_l (map is_stop (chunk i n bytes)) ≡ 0 → list_all is_plain_byte (drop i bytes) ≡ list_all is_plain_byte (drop (i + n) bytes)
   none_stop none = parts ∙ ap (λ b. b && list_all is_plain_byte (drop (i + n) bytes)) (eq-eqb _ 0 none)
 
-  -- a bit: they are not plain
+  -- with a set bit the bytes are not all plain
   pub one_stops : 0 < mask_l (map is_stop (chunk i n bytes)) → list_all is_plain_byte (drop i bytes) ≡ false
   one_stops some = parts ∙ ap (λ b. b && list_all is_plain_byte (drop (i + n) bytes)) (ne_eqb _ 0 (λ e. omega (arith, some, e)))
 
--- ---- what holds of each place from one up to another
+-- ---- a property of each index from one up to another
 
 module _ (P : ℕ → Type 0) (from : ℕ) where
   pub none_between : (k : ℕ) → from ≤ k → k < from → P k
@@ -114,7 +114,7 @@ module _ (P : ℕ → Type 0) (from : ℕ) where
   pub one_more_between : (i : ℕ) → ((k : ℕ) → from ≤ k → k < i → P k) → P i → (k : ℕ) → from ≤ k → k < i + 1 → P k
   one_more_between i first here = more_between i (i + 1) first (λ k after before. let e : i ≡ k = omega (arith, after, before) in subst P e here)
 
--- the bytes of a load without a bit are plain, and so are those before its first bit
+-- the bytes of a load are plain if no bit is set, and otherwise those before the first set bit are
 module _ (bytes : List ℕ) (i n : ℕ) (room : i + n ≤ length bytes) where
   pub plain_where_none : mask_l (map is_stop (chunk i n bytes)) ≡ 0 → ArePlainFrom bytes i (i + n)
   plain_where_none none k after before = plain_is (get_or bytes k 0) ∙ ap not (none_from_empty_mask is_stop bytes i n 0 room none k after before)

@@ -1,4 +1,4 @@
--- Quantities as they are written: none of their bytes needs an escape, and each is written behind those before it.
+-- The written form of quantities: none of its bytes needs an escape, and each entry is appended to those before it.
 use Rattle.std.proofs.Common.{◌≡◌, ℕ, ◌<◌, ◌^◌, Bool, true, false, not, cond, T, List, [], ◌∷◌, ◌++◌, map, ◌⊎◌, inl, inr, refl, sym, ap, subst, ◌∙◌, append-nil, arith}
 use Rattle.std.proofs.lemmas.Bool.{cases_order, le-leb, not-false}
 use Rattle.std.proofs.lemmas.Grind.{flat_map-append}
@@ -19,7 +19,7 @@ use Rattle.drf_lines.specs.Written.{is_plain_byte}
 use Rattle.drf_lines.proofs.Lanes.{upto, upto_sound}
 use Rattle.drf_lines.proofs.ReplyTexts.{plain_byte}
 
--- ---- what needs no escape
+-- ---- bytes that need no escape
 
 abbrev needs_escape : ℕ → Bool
 needs_escape b = not (is_plain_byte b)
@@ -29,7 +29,7 @@ kept [] none = refl
 kept (b ∷ bs) none =
     λ i. plain_byte b (not-false _ (All-head (λ x. needs_escape x ≡ false) b bs none)) i ++ kept bs (All-tail (λ x. needs_escape x ≡ false) b bs none) i
 
--- a class without control bytes, `"` and `\`
+-- a class of bytes without control bytes, `"` and `\`
 plain_in : (class : ℕ → Bool) → T (upto (λ x. not (class x)) 32) → class 34 ≡ false → class 92 ≡ false
     → (b : ℕ) → class b ≡ true → needs_escape b ≡ false
 plain_in class control quote slash b is =
@@ -46,9 +46,9 @@ entry_is_kept e is small =
     (All-append (λ b. needs_escape b ≡ false) e.label (58 ∷ amount_text e.amount) (label_has_none needs_escape e.label is (plain_in is_label_byte tt refl refl))
     (All-cons (λ b. needs_escape b ≡ false) 58 (amount_text e.amount) refl (amount_has_none needs_escape e.amount small (plain_in is_amount_byte tt refl refl))))
 
--- ---- what is left
+-- ---- the remaining entries
 
--- texts behind another one
+-- texts with `;` before each
 abbrev behind : List Text → Text
 behind [] = []
 behind (x ∷ xs) = 59 ∷ join_with_byte 59 (x ∷ xs)

@@ -1,4 +1,4 @@
--- The numbers of a line, above and below 0.
+-- The numbers of a line, with and without a minus sign.
 use Rattle.std.proofs.Common.{◌≡◌, ℕ, suc, ◌+◌, ◌<◌, ◌≤◌, ◌^◌, Bool, true, false, cond, ◌==◌, List, [], ◌∷◌, ◌++◌, length, get_or, take, drop, Option, Some, None, refl, sym, ap, ◌∙◌, arith, append-nil, ne_eqb}
 use Rattle.std.specs.Prelude.{◌&&◌, nat_lt, nat_le}
 use Rattle.std.specs.Option.{SomeIff}
@@ -50,7 +50,7 @@ pub whole_read : (p : Parts) (r : Option ℕ) → SomeIff r (IsInteger p × (dig
 whole_read p None h = sym (ap (λ o. as_u64 (known_number o)) (above_none p h) ∙ float_is_none p (float_is_finite (nearest binary64 false p)))
 whole_read p (Some n) h = sym (ap (λ o. as_u64 (known_number o)) (above_some p h.0) ∙ ap Some (sym h.1))
 
--- ---- a text of digits alone
+-- ---- a text that consists of digits
 
 abbrev digits : List ℕ → Parts
 digits ds = record { whole = ds; point = false; fraction = []; exponent_negative = false; exponent = []; len = length (ds ++ []) }
@@ -82,11 +82,11 @@ digits_below ds n all few =
 pub number_of-few : (ds : List ℕ) → AllDigits 10 ds → 0 < length ds → length ds ≤ 19 → number_of ds ≡ Some (unsigned (digits_value 10 ds))
 number_of-few ds all some few = let small : digits_value 10 ds < 10 ^ 19 = digits_below ds 19 all few in number_of-digits ds all some (omega (arith, small))
 
--- before the last of 19 digits there is room for it
+-- the digits before the last of at most 19 are a number below 10^18
 pub front_below : (bytes : List ℕ) (i : ℕ) → i < length bytes → length bytes ≤ 19 → AllDigits 10 (take i bytes) → digits_value 10 (take i bytes) < 10 ^ 18
 front_below bytes i inside few all = digits_below (take i bytes) 18 all (omega (arith, length-take-le i bytes (omega arith)))
 
--- a byte that is a digit stands for its distance from `0`
+-- a digit has the value of its distance from `0`
 pub digit_is : (byte : ℕ) → is_ascii_digit byte ≡ true → (digit_value byte + 48 ≡ byte) × (digit_value byte < 10)
 digit_is byte e =
     let inside : IsInRange 48 57 byte = grind arith in
@@ -97,7 +97,7 @@ pub all_digits : (s : List ℕ) → ((k : ℕ) → k < length s → is_ascii_dig
 all_digits [] each = tt
 all_digits (x ∷ xs) each = ((digit_is x (each 0 (omega arith))).1, all_digits xs (λ k short. each (suc k) (omega arith)))
 
--- ---- what is known of a number that was read
+-- ---- the value of a number that was read
 
 pub whole_known : (text : List ℕ) (n : ℕ) → number_of text ≡ Some (unsigned n) → Some n ≡ as_u64 (known_number (number_of text))
 whole_known text n e = sym (ap (λ o. as_u64 (known_number o)) e)

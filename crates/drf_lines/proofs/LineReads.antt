@@ -12,7 +12,7 @@ use Rattle.drf_lines.specs.LineValue.{data_of, is_in_range}
 use Rattle.drf_lines.specs.Meaning.{value_in}
 use Rattle.drf_lines.proofs.LineValues.{read_in_range}
 
--- what is read of a whole text, of which a value and what follows it were
+-- the meaning of a whole text, given its first value and the tokens after it
 abbrev pub whole : Option (Json × List Token) → Option Data
 whole o = option_and_then of_json (option_and_then (λ p. if_last p.0 p.1) o)
 

@@ -1,4 +1,4 @@
--- The data that the JSON value of a line stands for: when it is read, and what stands in it.
+-- The data that the JSON value of a line represents: when it is read, and what it contains.
 use Rattle.std.proofs.Common.{◌≡◌, ℕ, Bool, true, false, cond, ◌&&◌, List, Option, Some, None, option_map, option_and_then, is_some, refl, sym, ap, subst, ◌∙◌}
 use Rattle.std.specs.Prelude.{unwrap_or}
 use Rattle.std.specs.Str.{bytes_eq}
@@ -11,7 +11,7 @@ use Rattle.serde_json.specs.Read.{of_json, of_items, of_members, number_of}
 use Rattle.serde_json.proofs.Views.{get_member-put, get_member-put_other}
 use Rattle.drf_lines.specs.LineValue.{number_in, data_of, items_of, members_of, is_in_range, items_in_range, members_in_range}
 
--- ---- it is read where its numbers are in range, and else there is none
+-- ---- it is read if its numbers are in range, and otherwise there is none
 
 one_number : (o : Option Num) (other : Num) → option_map number o ≡ cond (is_some o) (Some (number (unwrap_or o other))) None
 one_number None other = refl
@@ -50,7 +50,7 @@ mutual
       ∙ both_read (λ d. of_members ms (put key d found)) (is_in_range j) (members_in_range ms) (data_of j) (members_of ms (put key (data_of j) found))
       (members_read ms (put key (data_of j) found))
 
--- ---- of equal keys the last is found
+-- ---- of equal keys the last one is found
 
 abbrev or_before : Option Data → Option Data → Option Data
 or_before None before = before

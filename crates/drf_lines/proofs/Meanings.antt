@@ -1,4 +1,4 @@
--- What lines mean.
+-- The meaning of lines.
 use Rattle.std.proofs.Common.{◌≡◌, ℕ, true, false, nat_lt, length, List, Result, Ok, Err, Global, ap}
 use Rattle.serde_json.specs.Data.{Data}
 use Rattle.json.specs.declared.value.Value.{Value}
@@ -16,14 +16,14 @@ refused_at : {A : Type 0} (next : Data → Result A LineFault) (error : LineErro
 refused_at next (Fault fault) r h = ap (λ r. r >>= next) h
 refused_at next Memory r h = tt
 
--- a line that is no JSON has that fault
+-- a line that is not JSON has this error
 pub meaning_refused : (error : LineError) (line : List ℕ) → nat_lt longest_line (length line) ≡ false
     → IsReadAs {A = Value Global} line_view (Err error) (value_in line)
     → IsReadOf (Err error) (meaning_of line)
 unfolding meaning_of
 meaning_refused error line short h = rw short (refused_at event_in error (value_in line) h)
 
--- another means what its value does
+-- any other line means what its value means
 pub meaning_read : (line : List ℕ) (value : Data) → nat_lt longest_line (length line) ≡ false → value_in line ≡ Ok value
     → meaning_of line ≡ event_in value
 unfolding meaning_of

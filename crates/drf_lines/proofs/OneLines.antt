@@ -1,4 +1,4 @@
--- What is written of a value stands on one line: a line feed in a text is escaped.
+-- The written form of a value has no line feed: a line feed in a text is escaped.
 use Rattle.std.proofs.Common.{◌≡◌, ℕ, zero, suc, ◌+◌, ◌==◌, ◌/◌, ◌%◌, pos, negsuc, Bool, true, false, not, cond, T, List, [], ◌∷◌, ◌++◌, decimal, inl, inr, refl, sym, subst, arith, ne_eqb}
 use Rattle.std.specs.Prelude.{nat_lt}
 use Rattle.std.specs.Fmt.{digit_glyph, digits_onto, digits}
@@ -15,7 +15,7 @@ use Rattle.drf_lines.proofs.Lanes.{upto, upto_sound}
 abbrev is_one_line : List ℕ → Bool
 is_one_line text = list_all (λ b. not (b == 10)) text
 
--- a text that is known, as its test tells
+-- a given text has no line feed if its test says so
 known : (text : List ℕ) → is_one_line text ≡ true → IsOneLine text
 known [] is = All-nil (λ b. (b == 10) ≡ false)
 known (b ∷ bs) is =

@@ -1,4 +1,4 @@
--- Whether the numbers of items and members are in range, one after another.
+-- Whether the numbers of items and members are in range, item by item.
 use Rattle.std.proofs.Common.{◌≡◌, ℕ, ◌+◌, ◌<◌, true, false, Bool, ◌&&◌, List, [], ◌∷◌, ◌++◌, drop, get_or, length, Bor, refl, sym, ap, ◌∙◌}
 use Rattle.std.proofs.lemmas.Bool.{and_parts, and_from}
 use Rattle.std.proofs.lemmas.List.{at_drop_more}
@@ -36,7 +36,7 @@ module _ {A : Type 0} (all : List (Bor (List ℕ) × Value A)) (i : ℕ) (x : Bo
   pub member_in : is_in_range (value_view x.1) ≡ true → members_in_range (members_view (drop (i + 1) all)) ≡ members_in_range (members_view all)
   member_in e = member_first true e
 
--- ---- one more behind those so far
+-- ---- one more after those so far
 
 pub items_one_more : {A : Type 0} (vs : List (Value A)) (v : Value A) → items_in_range (items_view vs) ≡ true → is_in_range (value_view v) ≡ true → items_in_range (items_view (vs ++ v ∷ [])) ≡ true
 items_one_more [] v so_far is = and_from (is_in_range (value_view v)) true is refl

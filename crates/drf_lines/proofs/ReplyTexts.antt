@@ -1,4 +1,4 @@
--- The texts of replies, one after another.
+-- The texts of replies, part by part.
 use Rattle.std.proofs.Common.{◌≡◌, ℕ, ◌+◌, ◌<◌, ◌≤◌, ◌^◌, true, List, [], ◌∷◌, ◌++◌, map, drop, get_or, length, decimal, refl, sym, ap, ◌∙◌, append_assoc, append-nil, subst, IsUtf8, arith}
 use Rattle.std.specs.Prelude.{nat_lt, All}
 use Rattle.std.specs.List.{list_all}
@@ -20,7 +20,7 @@ use Rattle.serde_json.specs.Written.{compact_text, items_text, comma_if}
 use Rattle.drf_role.specs.Name.{IsNameByte}
 use Rattle.drf_lines.specs.Written.{is_plain_byte, KeepsUtf8}
 
--- some bytes and then others
+-- two texts that are appended one after another
 pub then : (old first second : List ℕ) {mid new : List ℕ} → mid ≡ old ++ first → new ≡ mid ++ second → new ≡ old ++ (first ++ second)
 then old first second a b =
     b ∙ ap (λ (bytes : List ℕ). bytes ++ second) a ∙ append_assoc old first second
@@ -46,12 +46,12 @@ plain_is_kept (x ∷ xs) e =
 name_byte_is_plain : (x : ℕ) → IsNameByte x → is_plain_byte x ≡ true
 name_byte_is_plain x is = grind arith
 
--- names need no escape
+-- names need no escapes
 pub name_is_plain : (text : List ℕ) → All IsNameByte text → list_all is_plain_byte text ≡ true
 name_is_plain [] all = refl
 name_is_plain (x ∷ xs) all = rw (name_byte_is_plain x (all 0 x (omega arith)), name_is_plain xs (All-tail IsNameByte x xs all)) refl
 
--- digits need no escape
+-- digits need no escapes
 digits_are_plain : (digits : List ℕ) → AllDigits 10 digits → list_all is_plain_byte digits ≡ true
 digits_are_plain [] are = refl
 digits_are_plain (x ∷ xs) are =
@@ -91,7 +91,7 @@ fraction_utf8 part whole small small_too =
 
 -- ---- the items of an array, one after another
 
--- the text of those that are left
+-- the text of the remaining items
 abbrev pub left_text : {A : Type 0} → (A → Data) → ℕ → List A → List ℕ
 left_text value place left = items_text (nat_lt 0 place) (items_of (map value left))
 

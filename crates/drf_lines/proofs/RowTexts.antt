@@ -56,12 +56,12 @@ mutual
       (IsUtf8-append (58 ∷ []) (compact_text d ++ members_text true ms) (IsUtf8-are_ascii (58 ∷ []) refl)
       (IsUtf8-append (compact_text d) (members_text true ms) (written_utf8 d has.0.1) (members_utf8 true ms has.1))))
 
--- a number of 64 bits is written as a text
+-- a number below 2^64 is written as UTF-8
 pub small_text : (n : ℕ) → n < 2 ^ 64 → IsText (decimal n)
 unfolding IsText
 small_text n small = IsUtf8-from_ascii (decimal n) (IsAscii-decimal n small)
 
--- a text that is known
+-- a given ASCII text is UTF-8
 pub known_text : (text : List ℕ) → are_ascii text ≡ true → IsText text
 unfolding IsText
 known_text = IsUtf8-are_ascii

@@ -1,4 +1,4 @@
--- The lines of a state mean what they were written of.
+-- Reading a written line of a state gives the value from which it was written.
 use Rattle.std.proofs.Common.{◌≡◌, ℕ, ◌<◌, ◌≤◌, ◌^◌, List, [], ◌∷◌, map, All, Some, Ok, refl, codes, arith}
 use Rattle.std.proofs.lemmas.List.Elements.{All-head, All-tail}
 use Rattle.json.specs.Tree.{ItemsHaveNumbers}
@@ -41,14 +41,14 @@ use Rattle.drf_lines.proofs.Spellings.{IsPrinted, text_read}
 use Rattle.drf_lines.proofs.Texts.{IsRoleRead}
 use Rattle.drf_lines.proofs.Values.{value_read}
 
--- a value that is read as it is printed, and that means that line
+-- a value that is printed and read back, and that means this line
 said : (value : Data) (meant : StateLine) → IsPrinted value → HasTexts value → state_line_in value ≡ Ok meant
     → state_line_meaning (compact_text value) ≡ Ok meant
 unfolding state_line_meaning
 said value meant printed texts means =
     rw (value_read (compact_text value) value (written_utf8 value texts) (text_read value printed)) means
 
--- ---- what is written of a name, a role or a bundle is a text, and read
+-- ---- the written form of a name, a role or a bundle is UTF-8 and can be read
 
 abbrev pub IsNameTold : List ℕ → Type 0
 IsNameTold name = (name_in name ≡ Ok name) × IsText name
@@ -59,7 +59,7 @@ IsRoleTold role = IsRoleRead role × IsText (text_of role)
 abbrev pub IsBundleTold : List Resource → Type 0
 IsBundleTold bundle = (bundle_in (bundle_text bundle) ≡ Ok bundle) × IsText (bundle_text bundle)
 
--- ---- numbers, and the end
+-- ---- the head and the end
 
 pub head_read : (head : Head) → head.clock < 2 ^ 64 → head.events < 2 ^ 64 → head.next_offer < 2 ^ 64
     → state_line_meaning (head_line head) ≡ Ok (line.Head head)
@@ -95,7 +95,7 @@ agent_read a name total =
 
 -- ---- frameworks
 
--- a client as it stands in its line
+-- a client as it is in its line
 abbrev client_told : ClientRow → ClientText
 client_told c = (text_of c.role, c.count, c.suppressed)
 

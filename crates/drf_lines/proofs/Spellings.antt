@@ -1,4 +1,4 @@
--- The text of a value is read as this value.
+-- Reading the printed text of a value gives this value.
 use Rattle.std.proofs.Common.{◌≡◌, ℕ, ◌<◌, ◌≤◌, ◌^◌, ◌==◌, Bool, true, false, cond, List, [], ◌∷◌, map, Some, option_and_then, refl, sym, ap, ◌∙◌, append-nil, codes, decimal, arith}
 use Rattle.json.specs.Lex.{tokens}
 use Rattle.json.specs.Print.{IsNumber}
@@ -26,7 +26,7 @@ use Rattle.drf_lines.specs.WeightEvents.{weight_value}
 use Rattle.drf_lines.specs.LimitEvents.{limit_value}
 use Rattle.drf_lines.specs.EventLine.{cycle_value, report_request}
 
--- the value is that of the JSON that is printed for it: its numbers are numbers of JSON, and it is not deep
+-- the value can be printed and read back: its numbers are JSON numbers, and it has few levels
 pub record IsPrinted (value : Data) : Type 0 where
   pub numbers : HasNumbers (outline value)
   pub shallow : tree.depth (outline value) ≤ max_depth
@@ -119,7 +119,7 @@ tasks_are_same (s ∷ starts) = rw (tasks_are_same starts) refl
 
 module _ (event framework : List ℕ) (offer at refuse_ms : ℕ) (small_offer : offer < 2 ^ 64) (small_at : at < 2 ^ 64)
     (small_time : refuse_ms < 2 ^ 64) where
-  -- with the time of the refusal, unless it is the usual one
+  -- `refuse_ms` is printed unless it is the default
   abbrev answer : Bool → Members → Data
   answer usual more = object (
       member (codes "at") (number (unsigned at))

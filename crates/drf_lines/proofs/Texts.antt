@@ -1,4 +1,4 @@
--- Texts are read as what they were written of.
+-- Reading a written text gives the value from which it was written.
 use Rattle.std.proofs.Common.{◌≡◌, ℕ, ◌<◌, ◌^◌, List, [], ◌∷◌, map, All, Result, Ok, Err, OnOk, refl, sym, ap, subst}
 use Rattle.std.proofs.lemmas.List.Elements.{All-head, All-tail}
 use Rattle.drf_role.specs.Name.{IsName}
@@ -14,7 +14,7 @@ use Rattle.drf_text.specs.Written.{bundle_text, quantities_text, amount_text}
 use Rattle.drf_lines.specs.Words.{name_in, role_in, roles_in}
 use Rattle.drf_lines.specs.Resources.{bundle_in, quantities_in, weight_in}
 
--- what holds in any case holds where there is a value
+-- what holds in any case holds if there is a value
 pub holds_at_ok : {T E : Type 0} (r : Result T E) (P : Type 0) → P → OnOk r P
 holds_at_ok (Ok x) P holds = holds
 holds_at_ok (Err error) P holds = tt
@@ -23,7 +23,7 @@ pub name_read : (name : List ℕ) → IsName name → name_in name ≡ Ok name
 unfolding name_in
 name_read name is = rw ((name_decides name).1 is) refl
 
--- the text of a role says the role
+-- reading the text of a role gives the role
 abbrev pub IsRoleRead : List (List ℕ) → Type 0
 IsRoleRead role = role_in (text_of role) ≡ Ok role
 

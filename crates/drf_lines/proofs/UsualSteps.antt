@@ -1,4 +1,4 @@
--- What stands at a place of a text, a step at a time.
+-- What is at an index of a text, one step at a time.
 use Rattle.std.proofs.Common.{◌≡◌, ℕ, suc, ◌+◌, ◌-◌, ◌<◌, ◌≤◌, Bool, true, false, cond, ◌||◌, ◌==◌, List, [], ◌∷◌, ◌++◌, length, take, drop, get_or, Option, Some, None, option_and_then, is_some, ◌⊎◌, inl, inr, refl, sym, ap, ap₂, ◌∙◌, subst, arith, lt_of_not-le, add-zero}
 use Rattle.std.proofs.lemmas.Bool.{or_cases, eqb-true, ne_eqb}
 use Rattle.std.proofs.lemmas.List.{drop_more, drop-drop, take-append-drop, length-take-le, length-drop, drop_all, get_or-take, get_or-drop, get_or_past}
@@ -23,15 +23,15 @@ use Rattle.drf_lines.specs.Written.{is_plain_byte, ArePlainFrom}
 use Rattle.drf_lines.proofs.LineNumbers.{number_of-few, all_digits}
 use Rattle.drf_lines.proofs.ReplyTexts.{plain_is_kept}
 
--- a byte that is no space stands within the text
+-- an index whose byte is not a space is within the text
 pub within : (text : List ℕ) (at byte : ℕ) → get_or text at 32 ≡ byte → (byte ≡ 32 → ⊥) → at < length text
 within text at byte is differs = lt_of_not-le (λ past. differs (sym is ∙ get_or_past text at 32 past))
 
--- what stands from a place on, where its byte is known
+-- the text from an index on, if its byte is known
 pub from_byte : (text : List ℕ) (at byte : ℕ) → get_or text at 32 ≡ byte → (byte ≡ 32 → ⊥) → drop at text ≡ byte ∷ drop (at + 1) text
 from_byte text at byte is differs = drop_more text at 32 (within text at byte is differs) ∙ ap (λ x. x ∷ drop (at + 1) text) is
 
--- ---- the bytes from a place up to another
+-- ---- the bytes from one index up to another
 
 module _ (text : List ℕ) (from to : ℕ) (order : from ≤ to) (room : to ≤ length text) where
   abbrev pub part : List ℕ
@@ -216,7 +216,7 @@ pub array_value : (text : List ℕ) (at next depth : ℕ) (found : Items) → ge
 array_value text at next depth found is deep items_are before begins =
     ap (value depth) (array_opens text at is before begins) ∙ value-begin_array depth _ deep ∙ ap (parse_map Json.array) items_are
 
--- where a value begins, no array ends
+-- an array does not end where a value begins
 no_end : (arrays : Parse Items) (objects : Parse Members) (ts r : List Token) (j : Json) → value_with arrays objects ts ≡ Some (j, r) → after_end_array ts ≡ None
 no_end arrays objects [] r j e = refl
 no_end arrays objects (Token.begin_object ∷ ts) r j e = refl
@@ -237,7 +237,7 @@ abbrev all_members : ℕ → List ℕ → ℕ → Option (Members × List Token)
 all_members depth text from = members (value depth) (length (tokens_from fresh text from)) (tokens_from fresh text from)
 
 module _ {A : Type 0} (depth : ℕ) (text : List ℕ) (from : ℕ) where
-  -- what was found, and what is left from a place on, of so many tokens at most
+  -- the items so far, and those that remain from an index on, in at most n tokens
   abbrev pub HasItems : List (Value A) → Place → ℕ → ℕ → Type 0
   HasItems found before at n = (length (tokens_from before text at) ≤ n) × (all_items depth text from ≡ parse_map (items_before found) (items (value depth) n (tokens_from before text at)))
 

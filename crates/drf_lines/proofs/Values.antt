@@ -14,9 +14,9 @@ pub value_read : (line : List ℕ) (value : Data) → IsUtf8 line → read line 
 unfolding value_in
 value_read line value utf8 e = rw (is_utf8-from_IsUtf8 line utf8, e)
 
--- ---- the texts of an array, one after another
+-- ---- the texts of an array, item by item
 
--- the texts so far, and those of the items that are left
+-- the texts so far, followed by those of the remaining items
 abbrev pub texts_after : {A : Type 0} → List (List ℕ) → List (Value A) → Option (List (List ℕ))
 texts_after texts values = option_map (λ more. texts ++ more) (texts_of (items_seen values))
 

@@ -1,4 +1,4 @@
--- Why a row may not stand behind others, case by case.
+-- Why a row is not allowed after others, case by case.
 use Rattle.std.proofs.Common.{◌≡◌, Bool, true, false, not, ◌&&◌, List, [], ◌∷◌, ◌++◌, map, Some, None, refl, ap}
 use Rattle.std.specs.Prelude.{◌↔◌, IsTrue}
 use Rattle.std.specs.List.{list_all}
@@ -14,13 +14,13 @@ use Rattle.drf_saved.specs.declared.fault.RowFault.{RowFault}
 
 -- ---- cases
 
--- a case that holds is told before all later ones
+-- a case that holds is returned before all later ones
 pub first_front : (front rest : List (Bool × RowFault)) (fault : RowFault) → first_fault front ≡ Some fault → first_fault (front ++ rest) ≡ Some fault
 first_front [] rest fault is = cc
 first_front ((true, case) ∷ front) rest fault is = is
 first_front ((false, case) ∷ front) rest fault is = first_front front rest fault is
 
--- and those are told where none holds
+-- if none of the first cases holds, the later ones decide
 pub first_rest : (front rest : List (Bool × RowFault)) → first_fault front ≡ None → first_fault (front ++ rest) ≡ first_fault rest
 first_rest [] rest is = refl
 first_rest ((true, case) ∷ front) rest is = let none : ⊥ = cc in absurd none
@@ -38,7 +38,7 @@ apart_each : (role : Path) (clients : List ClientRow)
 apart_each role [] = refl
 apart_each role (c ∷ clients) = ap (λ b. not (same_path role c.role) && b) (apart_each role clients)
 
--- the first of some clients is in no role of the others, and these are distinct
+-- the first client is in none of the roles of the others, and these roles differ
 pub distinct_first : (first : ClientRow) (rest : List ClientRow)
     → (list_all (λ (c : ClientRow). not (same_path first.role c.role)) rest && are_distinct_roles (map (λ (c : ClientRow). c.role) rest))
     ≡ are_distinct_roles (map (λ (c : ClientRow). c.role) (first ∷ rest))

@@ -1,4 +1,4 @@
--- What a text says, line by line.
+-- The meaning of a text, line by line.
 use Rattle.std.proofs.Common.{◌≡◌, ℕ, ◌+◌, ◌<◌, ◌≤◌, Bool, true, false, List, [], ◌∷◌, ◌++◌, length, take, drop, Option, Result, Ok, Err, refl, sym, ap, subst, ◌∙◌, take-append-drop, arith}
 use Rattle.std.specs.List.{join_with_byte}
 use Rattle.std.specs.Prelude.{IfErr, IsErrAnd}
@@ -40,7 +40,7 @@ ends_there bytes read past = ap (λ (bs : List ℕ). is_at_end (parts_of_text bs
 
 -- ---- the next line
 
--- a line that ends so far behind what was read
+-- a line that ends at this offset after the bytes read so far
 pub record NextLine (bytes rest : List ℕ) (read at : ℕ) (text line : List ℕ) : Type 0 where
   pub rest_is : rest ≡ drop read bytes
   pub text_is : text ≡ take read bytes
@@ -76,7 +76,7 @@ says_next limits bytes rest read at lines rows text line next =
     ∙ (λ i. says_behind (lines + 1) rows (is_at_end more) (λ new. rest_says limits (take (read + (at + 1)) bytes) (lines + 1) new more)
     (rows_behind limits (sym next.text_is i) lines rows (sym next.line_is i) (said_by (sym next.line_is i))))
 
--- ---- what comes of it
+-- ---- the result of the line
 
 pub stopped_behind : (said : Said) (line : ℕ) (rows : Rows) (last : Bool) (more : Rows → Said) (told : Result (Option Rows) StateFault) (stopped : LineStop)
     → said ≡ says_behind line rows last more told → IsStop told stopped → IsFaultOf said (stopped_at line stopped)
@@ -106,7 +106,7 @@ pub says_nothing : (limits : LimitNumbers) (bytes : List ℕ) → parts_of_text 
 unfolding state_in
 says_nothing limits bytes none = ap (parts_say limits) none
 
--- a fault that is passed on
+-- an error that is returned unchanged
 pub passed_on : {A : Type 0} (said : Said) (e : StateError) (r : Result A StateError) → IsFaultOf said e → IsErrAnd r (λ f. f ≡ e) → IfErr r (IsFaultOf said)
 passed_on said e (Ok a) told is = absurd is
 passed_on said e (Err f) told is = subst (IsFaultOf said) (sym is) told

@@ -1,4 +1,4 @@
--- Texts that get more lines.
+-- Adding lines to a text.
 use Rattle.std.proofs.Common.{◌≡◌, ◌+◌, List, [], ◌∷◌, ◌++◌, length, refl, sym, ap, ◌∙◌, append_assoc, append-nil, arith}
 use Rattle.std.proofs.lemmas.List.{length-append}
 use Rattle.drf_bundle.specs.ListLaws.{each_append}

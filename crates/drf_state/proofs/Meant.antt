@@ -1,4 +1,4 @@
--- What texts of resources mean is valid: bundles are bundles, and quantities are quantities.
+-- The meanings of texts of resources are valid: they are bundles and quantities.
 use Rattle.std.proofs.Common.{◌≡◌, ℕ, ◌+◌, ◌^◌, ◌<◌, Bool, true, false, cond, List, [], ◌∷◌, ◌&&◌, map, All, Option, Some, None, Result, Ok, Err, inl, inr, refl, sym, ap, subst, ◌∙◌, arith}
 use Rattle.std.specs.Prelude.{if◌then◌else◌, not, ◌||◌, nat_le, nat_lt, option_map}
 use Rattle.std.specs.List.{list_all, list_any, flat_map}
@@ -44,9 +44,9 @@ use Rattle.drf_text.specs.declared.fault.TextFault.TheVariants.{Syntax, BadName,
 use Rattle.drf_text.proofs.Parts.{flat_map-map, pair_of}
 use Rattle.drf_state.specs.Valid.{AreQuantities}
 
--- ---- a piece without a fault
+-- ---- a piece without an error
 
--- what it passes
+-- the checks that it passes
 record HasPassed (piece : Text) (bad_role : Bool) : Type 0 where
   form : has_form piece ≡ true
   labels : has_labels piece ≡ true
@@ -118,7 +118,7 @@ ranges_are parts all = record {
     same : members intervals ≡ set.from_list (flat_map numbers_of parts)
     same = ap set.from_list (flat_map-map numbers (λ part. interval_of (pair_of part)) parts)
 
--- members are labels
+-- members are names
 equal_by : (t x : Text) (o : Ordering) → text_cmp t x ≡ o → is_eq o ≡ true → t ≡ x
 equal_by t x Less test eq = absurd (false≢true eq)
 equal_by t x Equal test eq = same_from_cmp t x test
@@ -140,7 +140,7 @@ items_are parts all = record {
   each = λ t found. label_among parts t all (sym (set.contains-from_list nat_list_cmp_total parts t) ∙ found);
 }
 
--- a scalar is one where it is below 2^64
+-- a scalar is valid if it is below 2^64
 given_by : (body : Text) (ranges items : Bool)
     → cond ranges (list_all is_range (parts_inside body)) (cond items true (is_number body)) ≡ true
     → cond items (list_all is_label (parts_inside body)) true ≡ true
@@ -150,7 +150,7 @@ given_by body true items numbers members small = ranges_are (parts_inside body) 
 given_by body false true numbers members small = items_are (parts_inside body) members
 given_by body false false numbers members small = small
 
--- ---- a resource that is put to others
+-- ---- a resource that is added to others
 
 not_refused : (a b c : Bool) → (if a then Some refusal.Kind else if b then Some refusal.Overlap else if c then Some refusal.TooLarge else None) ≡ None → c ≡ false
 not_refused true b c is = let none : ⊥ = cc in absurd none
@@ -201,7 +201,7 @@ bundle_from (piece ∷ pieces) earlier whole bundle is =
     by None fault true (Err refused) put_now is rest = let none : ⊥ = cc in absurd none
     by None fault true (Ok next) put_now is rest = rest next (put_is earlier next piece bundle fault put_now) is
 
--- the meaning of a text is a bundle
+-- the meaning of a text of a bundle is a bundle
 pub bundle_is : (text : Text) (bundle : List Resource) → meaning_of text ≡ Ok bundle → IsBundle bundle
 bundle_is text bundle is = bundle_from (pieces_of text) [] bundle bundle-empty is
 
@@ -247,6 +247,6 @@ quantities_by (piece ∷ pieces) earlier whole are is =
         let label = label_is piece (is_reserved (head_of piece)) (passed piece (is_reserved (head_of piece)) fault) in
         rest next (counted_is earlier next (name_of (head_of piece)) (value_of (body_of piece)) label are put_now) is
 
--- the meaning of a text is quantities
+-- the meaning of a text of quantities is quantities
 pub quantities_are : (text : Text) (entries : List Entry) → quantities_meant text ≡ Ok entries → AreQuantities entries
 quantities_are text entries is = quantities_by (pieces_of text) [] entries (record { in_order = refl; each = All-nil IsEntry }) is

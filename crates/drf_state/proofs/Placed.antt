@@ -1,4 +1,4 @@
--- What a row that may stand behind others brings, and that the parts agree once it is put.
+-- What an allowed row requires, and that the parts agree after it is added.
 use Rattle.std.proofs.Common.{◌≡◌, ℕ, ◌+◌, ◌*◌, ◌^◌, ◌<◌, ◌≤◌, Bool, true, false, List, [], ◌∷◌, ◌++◌, None, length, map, refl, sym, ap, subst, ◌∙◌, nat_lt, nat_le, arith}
 use Rattle.std.specs.Prelude.{not, ◌&&◌, filter, sum_by}
 use Rattle.std.specs.List.{list_all, list_any, AllByRecursion}
@@ -48,7 +48,7 @@ use Rattle.drf_state.specs.Placing.{FitsBehind, IsApart, IsPlaced}
 use Rattle.drf_state.specs.Restored.{IsRestored, PartsAgree}
 use Rattle.drf_tables.specs.Stored.{Stored}
 
--- ---- a row without a fault
+-- ---- a row without an error
 
 apart_of : (limits : LimitNumbers) (rows : Rows) (row : SavedRow) → NoneHolds (row_cases limits rows row) → IsApart rows row
 apart_of limits rows (Agent a) none = none.1.0
@@ -84,9 +84,9 @@ fits_behind limits tables content counted row restored typed stands =
       apart = apart_of limits rows row (no_row_case limits rows row stands);
     }
 
--- ---- the parts once it is put
+-- ---- the parts after a row is added
 
--- no filter has run out
+-- no filter has expired
 live_with : (rows : Rows) (row : SavedRow) → live_rows rows ≡ rows → IsApart rows row → live_rows (with_row rows row) ≡ with_row rows row
 live_with rows (Agent a) live apart = λ i. record (with_row rows (Agent a)) { filters = (live i).filters }
 live_with rows (Framework f) live apart = λ i. record (with_row rows (Framework f)) { filters = (live i).filters }
@@ -109,7 +109,7 @@ new_of rows (Offer o) apart = tt
 new_of rows (Task t) apart = tt
 new_of rows (Filter f) apart = tt
 
--- the offers that were made to the clients once a row is put
+-- the sum of the counts after a row is added
 abbrev pub counted_with : ℕ → SavedRow → ℕ
 counted_with counted (Framework f) = counted + sum_by (λ c. c.count) f.clients
 counted_with counted row = counted
@@ -125,7 +125,7 @@ counts_with rows (Offer o) counted counts = counts
 counts_with rows (Task t) counted counts = counts
 counts_with rows (Filter f) counted counts = counts
 
--- the tables and the sorter hold the row, and the numbers count it
+-- the tables and the sorter have the row, and the sum of the counts includes it
 pub record HasRow (old : Stored) (before : Content) (row : SavedRow) (new : Stored) (after : Content) : Type 0 where
   pub rows : new.rows ≡ with_row old.rows row
   pub settled : new.settled ≡ old.settled
@@ -151,7 +151,7 @@ placed old before counted row new after agree fits has = record {
 
 -- ---- agents
 
--- an agent that registers last, and is then made inactive
+-- an agent that is registered last and then deactivated
 pub inactive_last : (agents : List AgentRow) (name : Text) (total : List Resource) → list_any (λ a. same_text a.name name) agents ≡ false
     → map (active_at name false) (agents ++ record { name = name; total = total; active = true } ∷ [])
     ≡ agents ++ record { name = name; total = total; active = false } ∷ []
@@ -160,13 +160,13 @@ inactive_last (a ∷ agents) name total new =
     let parts = or_parts (same_text a.name name) (list_any (λ a. same_text a.name name) agents) new in
     rw (parts.0) (ap (λ (rest : List AgentRow). a ∷ rest) (inactive_last agents name total parts.1))
 
--- an agent that was put is as agents are
+-- an agent of a consistent state is a valid agent
 pub agent_is : (rows : Rows) (a : AgentRow) → IsConsistent (with_row rows (Agent a)) → IsAgent a
 agent_is rows a together = (each_parts IsAgent rows.agents (a ∷ []) together.agents.each).1.0
 
 -- ---- limits
 
--- a role without a limit gets its own behind the others
+-- the limit of a role without a limit is added after the others
 pub limits_last : (limits : List LimitRow) (l : LimitRow) → list_any (λ m. same_path m.role l.role) limits ≡ false → 1 ≤ length l.limit
     → limits_with limits l.role l.limit ≡ limits ++ l ∷ []
 limits_last limits l new some = by l.limit some ∙ put limits new
@@ -203,7 +203,7 @@ task_held rows t together =
     let tasks = (each_parts P (map of_offer rows.offers) (map of_task (rows.tasks ++ t ∷ [])) together.holdings).1 in
     (each_parts P (map of_task rows.tasks) (of_task t ∷ []) (subst (AllByRecursion P) (map-append of_task rows.tasks (t ∷ [])) tasks)).1.0
 
--- the sorter is to know the client of a holding, and is sound with the holding
+-- the sorter knows the client of a holding, and stays sound with the holding
 pub known_client : (rows : Rows) (h : Holding) (content : Content) (path : Path) → content ≡ content_of rows → path ≡ path_of h.client
     → IsHeld rows.agents rows.frameworks h → has_client content path ≡ true
 known_client rows h content path sorted is held =
@@ -230,9 +230,9 @@ pub apart_roles : (rows : Rows) (f : FrameworkRow) → IsConsistent (with_row ro
 apart_roles rows f together =
     (each_parts (λ g. are_distinct_roles (map (λ c. c.role) g.clients) ≡ true) rows.frameworks (f ∷ []) together.frameworks.roles).1.0
 
--- ---- an allocator that is put together
+-- ---- an allocator that is being restored
 
--- with no rows yet
+-- without rows
 pub restored_begun : (limits : LimitNumbers) (head : Head) (tables : Stored) (content : Content) (counted : ℕ)
     → IsWithinCeilings limits → head_fault limits head ≡ None → tables.rows ≡ begun head → PartsAgree tables content counted
     → IsRestored limits tables content counted
@@ -252,7 +252,7 @@ restored_with limits old before counted row new after more restored typed fits i
   agree = is.agree;
 }
 
--- what stands at all times of the allocator that goes on
+-- the invariant of the restored allocator
 pub standing : (limits : LimitNumbers) (tables : Stored) (content : Content) (counted : ℕ) → IsRestored limits tables content counted
     → IsStanding limits tables.rows
 standing limits tables content counted restored = record {
@@ -271,7 +271,7 @@ standing limits tables content counted restored = record {
   saveable = subst (IsSaveable limits) (sym restored.agree.live) restored.saveable;
 }
 
--- numbers that may stand at the head fit the tables
+-- the numbers of an allowed head are in range
 pub head_fits : (limits : LimitNumbers) (head : Head) → head_fault limits head ≡ None → (head.clock ≤ LATEST_MOMENT) × (1 ≤ head.next_offer)
 head_fits limits head fits =
     let none = no_head_case limits head fits in

@@ -1,4 +1,4 @@
--- Texts that are written of names, roles, bundles and quantities are ASCII, and so UTF-8.
+-- The written forms of names, roles, bundles and quantities are ASCII, and so UTF-8.
 use Rattle.std.proofs.Common.{◌≡◌, ℕ, ◌+◌, ◌^◌, ◌<◌, Bool, true, false, cond, List, [], ◌∷◌, ◌++◌, map, All, decimal, sym, ap, ◌∙◌, arith}
 use Rattle.std.specs.Prelude.{nat_le}
 use Rattle.std.specs.List.{join_with_byte, list_any}
@@ -88,7 +88,7 @@ plain_intervals low (i ∷ is) maximal =
     (behind 45 (decimal i.last) (omega arith) (plain_number i.last (omega (arith, maximal.2)))))
     (plain_intervals (i.last + 2) is maximal.3)
 
--- what stands in a list of names is plain where each of them is a label
+-- the elements of a set of names are ASCII
 plain_labels : (names : List (List ℕ)) → ((t : List ℕ) → list_any (eq_by_cmp text_cmp t) names ≡ true → IsLabel t) → All IsPlain names
 plain_labels [] labels = All-nil IsPlain
 plain_labels (x ∷ xs) labels =

@@ -1,4 +1,4 @@
--- Which rows are read back from their lines: just the valid ones, whose numbers are of 64 bits.
+-- Which rows can be read back from their lines: exactly the valid ones whose numbers are below 2^64.
 use Rattle.std.proofs.Common.{◌≡◌, ℕ, Bool, true, false, cond, List, [], ◌∷◌, map, Result, Ok, Err, refl, ap, subst, codes}
 use Rattle.std.specs.List.{AllByRecursion}
 use Rattle.serde_json.specs.Data.{Data}
@@ -44,7 +44,7 @@ use Rattle.drf_state.proofs.Meant.{bundle_is, quantities_are}
 
 -- ---- steps
 
--- a step that found something, and what the next one made of it
+-- a step that succeeded, and the result of the next one
 record HasFound {A B : Type 0} (step : Result A LineFault) (next : A → Result B LineFault) (made : B) : Type 0 where
   found : A
   is : step ≡ Ok found
@@ -214,7 +214,7 @@ filter_valid value f is =
 
 -- ---- lines
 
--- whatever a line of a kind says, a row of it is valid
+-- every row that a line of this kind means is valid
 SaysValid : List ℕ × (Data → Result StateLine LineFault) → Type 0
 SaysValid kind = (value : Data) (row : SavedRow) → kind.1 value ≡ Ok (says.Row row) → IsValidRow row
 
@@ -282,7 +282,7 @@ all_kinds = (
   ),
 )
 
--- a row that is read of its line is valid
+-- a row that can be read from its line is valid
 pub read_is_valid : (row : SavedRow) → IsRead row → IsValidRow row
 unfolding state_line_meaning state_line_in
 read_is_valid row is =

@@ -1,4 +1,4 @@
--- Rows that can be saved are read back from their lines.
+-- Rows that can be saved can be read back from their lines.
 use Rattle.std.proofs.Common.{◌≡◌, ℕ, ◌/◌, ◌%◌, ◌^◌, ◌<◌, true, List, [], ◌∷◌, map, All, refl, arith}
 use Rattle.std.specs.Prelude.{⊤, ◌&&◌, nat_le, nat_lt, slice_index, sum_by}
 use Rattle.std.specs.List.{AllByRecursion, list_all}
@@ -57,7 +57,7 @@ role_told role is = (role_read role is (parts_of_role role is), is_text (text_of
 bundle_told : BundleIsRead → (bundle : List Resource) → IsBundle bundle → IsBundleTold bundle
 bundle_told law bundle is = (bundle_said bundle law is, is_text (bundle_text bundle) (plain_bundle bundle is))
 
--- the digits of a digest are plain
+-- the digits of a digest are ASCII
 digits_are : IsAscii lower_digits
 digits_are =
     IsAscii-from_all lower_digits
@@ -70,7 +70,7 @@ digest_plain (b ∷ bytes) =
     behind (slice_index lower_digits (b / 16)) (slice_index lower_digits (b % 16) ∷ encode_lower bytes) (digits_are (b / 16))
     (behind (slice_index lower_digits (b % 16)) (encode_lower bytes) (digits_are (b % 16)) (digest_plain bytes))
 
--- ---- a row whose numbers are of 64 bits
+-- ---- a row whose numbers are below 2^64
 
 abbrev HasSmallNumbers : SavedRow → Type 0
 HasSmallNumbers (Agent a) = ⊤
@@ -81,7 +81,7 @@ HasSmallNumbers (Offer o) = o.number < 2 ^ 64
 HasSmallNumbers (Task t) = ⊤
 HasSmallNumbers (Filter f) = f.until < 2 ^ 64
 
--- what is written of values is read
+-- written values can be read
 pub record TextsAreRead : Type 0 where
   pub bundle : BundleIsRead
   pub quantities : QuantitiesAreRead
@@ -112,7 +112,7 @@ rows_read : TextsAreRead → (rows : List SavedRow) → AllByRecursion IsValidRo
 rows_read law [] valid small = tt
 rows_read law (row ∷ rows) valid small = (row_read law row valid.0 small.0, rows_read law rows valid.1 small.1)
 
--- ---- rows that can be saved have such numbers
+-- ---- the numbers of rows that can be saved are below 2^64
 
 clients_small : (clients : List ClientRow) → sum_by (λ c. c.count) clients < 2 ^ 64 → AllByRecursion (λ c. c.count < 2 ^ 64) clients
 clients_small [] small = tt
@@ -159,7 +159,7 @@ all_small limits rows ceilings can =
     (each_map HasSmallNumbers Filter (in_force rows.clock rows.filters)
     (each_filter (λ f. f.until < 2 ^ 64) (is_in_force rows.clock) rows.filters (each_from (IsFilter rows.agents rows.frameworks) (λ f. f.until < 2 ^ 64) rows.filters (λ f held. omega (arith, held.until)) is.filters))))))))
 
--- what is written of rows that can be saved is read
+-- the text of rows that can be saved can be read
 pub read_back : TextsAreRead → (limits : LimitNumbers) (rows : Rows) → IsWithinCeilings limits → IsSaveable limits rows → AreValid rows → lines_before rows < 2 ^ 64
     → IsReadBack rows
 read_back law limits rows ceilings can valid few = record {

@@ -1,4 +1,4 @@
--- What is read of the lines of a text.
+-- Reading the lines of a text.
 use Rattle.std.proofs.Common.{◌≡◌, ℕ, Bool, List, Result, Ok, Err, sym, ap, subst, ◌∙◌}
 use Rattle.std.specs.Prelude.{IsErrAnd, MatchResult, if◌then◌else◌}
 use Rattle.drf_saved.specs.declared.saved.StateLine.{StateLine}
@@ -12,7 +12,7 @@ use Rattle.drf_state.specs.State.{is_written, said_by, said_or}
 use Rattle.drf_state.specs.declared.fault.LineStop.{LineStop}
 use Rattle.drf_state.specs.declared.fault.StateFault.TheVariants.{NotWritten}
 
--- a line that says something, by whether that is its written form
+-- the content of a line, given whether it is in normal form
 pub said_as : (line : List ℕ) (said : StateLine) (is : Bool) → state_line_meaning line ≡ Ok said → is ≡ is_written line said
     → said_by line ≡ (if is then Ok said else Err NotWritten)
 unfolding said_by

@@ -1,4 +1,4 @@
--- What is written of a state.
+-- The text that is written for a state.
 use Rattle.std.proofs.Common.{◌≡◌, ℕ, List, [], ◌∷◌, ◌++◌, ap, ◌∙◌, append_assoc}
 use Rattle.hex.specs.Hex.{encode_lower}
 use Rattle.sha2.specs.Sha256.{sha256}
@@ -6,7 +6,7 @@ use Rattle.drf_rows.specs.declared.rows.Rows.{Rows}
 use Rattle.drf_lines.specs.StateLine.{end_line}
 use Rattle.drf_state.specs.State.{body_text, ended, lines_before, state_text}
 
--- the lines of a text, and the last one with its line feed
+-- the lines of a text, and its last line with a line feed
 pub text_of : (rows : Rows) (bytes : List ℕ) (lines : ℕ) (digest : List ℕ)
     → bytes ≡ body_text rows → lines ≡ lines_before rows → digest ≡ encode_lower (sha256 bytes)
     → (bytes ++ end_line lines digest) ++ 10 ∷ [] ≡ state_text rows

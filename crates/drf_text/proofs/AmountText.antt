@@ -1,4 +1,4 @@
--- What is written of an amount is read as that amount.
+-- Reading the written form of an amount gives that amount.
 use Rattle.std.proofs.Common.{◌≡◌, ℕ, ◌+◌, ◌*◌, ◌/◌, ◌%◌, ◌^◌, ◌<◌, zero, suc, true, cond, ◌∷◌, ◌++◌, ◌&&◌, length, decimal, refl, sym, ap, subst, ◌∙◌, append-nil, arith}
 use Rattle.std.proofs.lemmas.Bool.{and_from, lt-ltb}
 use Rattle.std.proofs.lemmas.Fmt.{digits_value-decimal, decimal_nonempty}
@@ -19,7 +19,7 @@ value_of_digits n small = digits_value-decimal numerals n small
 
 -- ---- amounts
 
--- the text is a number, and says so many thousandths
+-- the text is a number, and its value is this amount
 pub record SaysAmount (amount : ℕ) (text : Text) : Type 0 where
   pub number : is_number text ≡ true
   pub value : thousandths_of text ≡ amount

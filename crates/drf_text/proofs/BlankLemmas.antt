@@ -1,4 +1,4 @@
--- Spaces and tabs at the ends of a text.
+-- Removing spaces and tabs at the ends of a text.
 use Rattle.std.specs.Bool.{OnTrue}
 use Rattle.std.specs.List.{list_all}
 use Rattle.std.proofs.Common.{zero, suc, get_or, refl, sym, ap, ◌∙◌, inl, inr, cond, arith, ◌≡◌, ◌≢◌, ℕ, ◌+◌, ◌<◌, ◌&&◌, Bool, true, false, [], ◌∷◌, ◌++◌, length, not, IsTrue, ne_eqb}
@@ -7,7 +7,7 @@ use Rattle.drf_text.proofs.Names.{Text, is_blank, IsOneLastLess, without_first_b
 no_blank : (b : ℕ) → b ≢ 32 → b ≢ 9 → is_blank b ≡ false
 no_blank b space tab = rw (ne_eqb b 32 space, ne_eqb b 9 tab) refl
 
--- ---- at the front
+-- ---- at the beginning
 
 pub stays_first : (text : Text) → ((rest : Text) → text ≢ 32 ∷ rest) → ((rest : Text) → text ≢ 9 ∷ rest)
     → without_first_blanks text ≡ text
@@ -51,7 +51,7 @@ pub last_more : (text rest : Text) → length rest < length text → IsOneLastLe
 last_more text rest shorter (inl less) = sym (ap without_last_blanks less.2 ∙ push_dropped rest less.0 less.1)
 last_more text rest shorter (inr all) = ap without_last_blanks all.0
 
--- ---- a text that neither begins nor ends with one
+-- ---- a text whose ends are not blank
 
 bare_first : (text : Text) (d : ℕ) → is_blank (get_or text 0 d) ≡ false → without_first_blanks text ≡ text
 bare_first [] d bare = refl

@@ -1,4 +1,4 @@
--- What is written of a bundle means that bundle.
+-- Reading the written form of a bundle gives that bundle.
 use Rattle.std.proofs.Common.{map, ◌≡◌, ◌+◌, ◌^◌, ◌≤◌, Bool, true, false, cond, List, [], ◌∷◌, ◌++◌, ◌&&◌, All, Ok, Some, None, inl, inr, refl, sym, ap, subst, ◌∙◌, append_assoc, append-nil, arith, ◌||◌, Option, IsTrue, not, nat_lt}
 use Rattle.std.proofs.lemmas.Bool.{true≢false, and_parts, or_parts, lt-ltb, lt-leb}
 use Rattle.std.proofs.lemmas.List.Elements.{All-head, All-tail, All-nil, All-cons}
@@ -21,9 +21,9 @@ use Rattle.drf_text.specs.Written.{resource_text, bundle_text}
 use Rattle.drf_text.proofs.CutLemmas.{IsPart, pieces_found}
 use Rattle.drf_text.proofs.ResourceText.{resource_found}
 
--- ---- a resource that stands behind all others
+-- ---- a resource that comes after all others
 
--- it is put behind them
+-- it is added after them
 put_behind : (earlier : List Resource) (r : Resource) (later : List Resource) → IsTrue (is_in_order (earlier ++ r ∷ later))
     → merged earlier (r ∷ []) ≡ earlier ++ r ∷ []
 put_behind [] r later ordered = refl
@@ -77,16 +77,16 @@ module _ (earlier : List Resource) (r : Resource) (bundle : IsBundle earlier) (o
   not_refused : union_refusal earlier r ≡ None
   not_refused = λ i. cond (one_kind i) (Some refused.Kind) (cond (no_member_twice i) (Some refused.Overlap) (cond (not_too_much i) (Some refused.TooLarge) None))
 
--- ---- resources put together
+-- ---- resources that are combined
 
--- the stocks of both are no more than those of the whole
+-- the stocks of both together are at most those of the whole
 stocks_within : (earlier : List Resource) (r : Resource) (later : List Resource) (name : Text) (p : Point)
     → stock earlier name p + stock (r ∷ []) name p ≤ stock (earlier ++ r ∷ later) name p
 stocks_within earlier r later name p =
     let of_name = λ (key : Key). same_text name key.0 in
     omega (arith, sum_by-append (unit_of of_name p) earlier (r ∷ later), where-cons of_name p r later, where-cons of_name p r [])
 
--- the resources so far are a bundle with the next one, which is put behind them
+-- the resources so far with the next one are a bundle, and the next one is added after them
 record IsNext (earlier : List Resource) (r : Resource) : Type 0 where
   pub bundle : IsBundle (earlier ++ r ∷ [])
   pub put_is : put earlier r ≡ Ok (earlier ++ r ∷ [])

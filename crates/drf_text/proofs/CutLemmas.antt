@@ -1,4 +1,4 @@
--- Texts without blanks, and texts cut where they were joined.
+-- Texts without blanks, and texts that are cut where they were joined.
 use Rattle.std.proofs.Common.{◌≡◌, ℕ, ◌+◌, ◌-◌, ◌<◌, Bool, true, false, cond, eqb, List, [], ◌∷◌, ◌++◌, length, map, take, drop, All, refl, ap, ◌∙◌, arith, length-append, ◌||◌, filter, nat_lt}
 use Rattle.std.proofs.Math.Seq.{take-append_seam, drop-append-add}
 use Rattle.std.proofs.lemmas.Bool.{and_from, or_parts, eq-eqb, lt-ltb}
@@ -59,14 +59,14 @@ all_stay : (xs : List Text) → All (HasNone is_blank) xs → map trimmed xs ≡
 all_stay [] none = refl
 all_stay (x ∷ xs) none = λ i. trimmed_stays x (All-head (HasNone is_blank) x xs none) i ∷ all_stay xs (All-tail (HasNone is_blank) x xs none) i
 
--- a blank, or the mark between parts
+-- a blank, or the separator between parts
 abbrev pub is_between : ℕ → ℕ → Bool
 is_between mark b = is_blank b || eqb b mark
 
 pub not_between : (class : ℕ → Bool) (mark : ℕ) → class 32 ≡ false → class 9 ≡ false → class mark ≡ false → (b : ℕ) → class b ≡ true → is_between mark b ≡ false
 not_between class mark space tab out b inside = rw (not_blank class space tab b inside, not_that class mark out b inside) refl
 
--- a text that is one part where texts are joined by the mark
+-- a text that is a single part when texts are joined by the separator
 pub record IsPart (mark : ℕ) (text : Text) : Type 0 where
   pub some : 0 < length text
   pub whole : HasNone (is_between mark) text
@@ -88,13 +88,13 @@ filled_stay [] are = refl
 filled_stay (x ∷ xs) are =
     rw (lt-ltb 0 (length x) (All-head (IsPart 59) x xs are).some) (ap (λ (parts : List Text). x ∷ parts) (filled_stay xs (All-tail (IsPart 59) x xs are)))
 
--- pieces are found again in the text that they make
+-- cutting the joined text gives the pieces again
 pub pieces_found : (xs : List Text) → All (IsPart 59) xs → pieces_of (join_with_byte 59 xs) ≡ xs
 pieces_found [] are = refl
 pieces_found (x ∷ xs) are =
     ap (λ (parts : List Text). filter (λ piece. nat_lt 0 (length piece)) parts) (parts_stay 59 x xs are) ∙ filled_stay (x ∷ xs) are
 
--- ---- what stands between brackets
+-- ---- the text between brackets
 
 pub take_all_but_last : (front : Text) (c : ℕ) → take (length (front ++ c ∷ []) - 1) (front ++ c ∷ []) ≡ front
 take_all_but_last front c =
@@ -117,7 +117,7 @@ not_all_blank mark [] xs is = absurd (omega (arith, is.some))
 not_all_blank mark (b ∷ bs) [] is = rw (All-head (λ c. is_blank c ≡ false) b bs (no_blanks mark (b ∷ bs) is.whole)) refl
 not_all_blank mark (b ∷ bs) (y ∷ ys) is = rw (All-head (λ c. is_blank c ≡ false) b bs (no_blanks mark (b ∷ bs) is.whole)) refl
 
--- so are the parts that stand between brackets
+-- the parts between brackets are found again
 pub parts_found : (o c : ℕ) (xs : List Text) → All (IsPart 44) xs → parts_inside (o ∷ join_with_byte 44 xs ++ c ∷ []) ≡ xs
 parts_found o c [] are = refl
 parts_found o c (x ∷ xs) are =
@@ -125,7 +125,7 @@ parts_found o c (x ∷ xs) are =
     ∙ ap (λ (t : Bool). cond t [] (map trimmed (slice_split (λ b. eqb b 44) (join_with_byte 44 (x ∷ xs))))) (not_all_blank 44 x xs (All-head (IsPart 44) x xs are))
     ∙ parts_stay 44 x xs are
 
--- what neither the mark nor any part has, the joined text has not
+-- a byte that is neither the separator nor in any part is not in the joined text
 pub joined_has_none : (p : ℕ → Bool) (c : ℕ) (xs : List Text) → p c ≡ false → All (HasNone p) xs → HasNone p (join_with_byte c xs)
 joined_has_none p c [] mark none = All-nil (λ b. p b ≡ false)
 joined_has_none p c (x ∷ []) mark none = All-head (HasNone p) x [] none

@@ -1,4 +1,4 @@
--- Heads and bodies cut at their marks.
+-- Cutting heads at `(` and bodies at their brackets.
 use Rattle.std.proofs.Common.{◌≡◌, ◌≢◌, ℕ, suc, ◌+◌, ◌-◌, ◌<◌, Bool, true, false, cond, eqb, ltb, List, [], ◌∷◌, ◌++◌, ◌&&◌, length, take, get_or, Option, Some, None, Result, Ok, Err, refl, sym, ap, ◌∙◌, arith, sub-one, lt-ltb, ne_eqb, eqb-true, not}
 use Rattle.std.proofs.lemmas.List.Sums.{split_at_first}
 use Rattle.std.specs.List.{list_all, list_any, position_or_len, before_first, after_first}
@@ -10,7 +10,7 @@ use Rattle.drf_text.proofs.Numbers.{any_at, all_before}
 
 -- ---- last bytes
 
--- a byte before others changes nothing of their end
+-- bytes before the last one do not change with which byte a text ends
 ends_more : (c b d : ℕ) (bs : Text) → ends c (b ∷ d ∷ bs) ≡ ends c (d ∷ bs)
 ends_more c b d bs =
     let some : ltb 0 (length (b ∷ d ∷ bs)) ≡ ltb 0 (length (d ∷ bs)) = lt-ltb 0 (length (b ∷ d ∷ bs)) (omega arith) ∙ sym (lt-ltb 0 (length (d ∷ bs)) (omega arith)) in
@@ -22,7 +22,7 @@ ends_behind c b [] bs = refl
 ends_behind c b (d ∷ []) bs = ends_more c d b bs
 ends_behind c b (d ∷ e ∷ front) bs = ends_more c d e (front ++ b ∷ bs) ∙ ends_behind c b (e ∷ front) bs
 
--- a text that is not something and that byte does not end with it
+-- a text ends with a byte only if it is another text followed by this byte
 ends_not : (c : ℕ) (text : Text) → ((front : Text) → text ≢ front ++ c ∷ []) → ends c text ≡ false
 ends_not c [] none = refl
 ends_not c (b ∷ []) none = ne_eqb b c (λ e. none [] (ap (λ (x : ℕ). x ∷ []) e))
@@ -54,12 +54,12 @@ passes_here p x xs false e some more =
     let next : 1 + position_or_len p xs ≡ suc (position_or_len p xs) = omega arith in
     rw (e, next) (more (omega arith))
 
--- what stands at the first place that passes
+-- the element at the first index that passes a test passes it
 passes_first : (p : ℕ → Bool) (xs : List ℕ) → position_or_len p xs < length xs → p (get_or xs (position_or_len p xs) 0) ≡ true
 passes_first p [] some = absurd (omega arith)
 passes_first p (x ∷ xs) some = passes_here p x xs (p x) refl some (passes_first p xs)
 
--- the head from its first `(` on
+-- the part of a head after its first `(`
 head_split : (head rest : Text) → position_or_len is_open head < length head → rest ≡ after_first is_open head
     → (c : ℕ) → ends c head ≡ ends c (40 ∷ rest)
 head_split head rest some is c =
@@ -94,7 +94,7 @@ head_open head rest some is none =
 
 -- ---- bodies
 
--- a bracket that is not the one that closes
+-- an opening bracket that differs from the closing one is not the end
 bracket_ends : (o c : ℕ) (rest : Text) → o ≢ c → ((front : Text) → rest ≢ front ++ c ∷ []) → ends c (o ∷ rest) ≡ false
 bracket_ends o c rest apart none = ends_not c (o ∷ rest) by
   where

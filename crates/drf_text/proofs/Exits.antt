@@ -1,4 +1,4 @@
--- What a reader tells where a name, a role or a number is refused.
+-- The error that a reader returns for an invalid name, role or number.
 use Rattle.std.proofs.Common.{◌≡◌, ◌≢◌, ℕ, ◌^◌, ◌<◌, Bool, true, false, cond, ltb, [], length, Option, Some, None, Result, Ok, Err, refl, ap, ◌∙◌, inl, inr, IsOk}
 use Rattle.std.proofs.lemmas.Bool.{cases_Bool, lt-ltb, ltb-true, and_right}
 use Rattle.std.specs.Option.{ok_or}

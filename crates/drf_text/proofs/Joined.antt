@@ -1,9 +1,9 @@
--- Texts joined by a mark, one more at a time.
+-- Texts that are joined by a separator, one after another.
 use Rattle.std.proofs.Common.{◌≡◌, ℕ, ◌+◌, ◌<◌, cond, eqb, List, [], ◌∷◌, ◌++◌, length, map, take, get_or, refl, sym, ap, ◌∙◌, append_assoc, arith, ne_eqb}
 use Rattle.std.specs.List.{join_with_byte}
 use Rattle.std.proofs.lemmas.List.{take_more, map-append, length-take, length-map}
 
--- the mark, but not before the first
+-- the separator, unless the place is 0
 abbrev pub mark_before : ℕ → ℕ → List ℕ
 mark_before place mark = cond (eqb place 0) [] (mark ∷ [])
 
@@ -23,7 +23,7 @@ join_more c (x ∷ xs) y =
     ∙ sym (append_assoc (join_with_byte c (x ∷ xs)) (c ∷ []) y)
     ∙ ap (λ (m : List ℕ). (join_with_byte c (x ∷ xs) ++ m) ++ y) (sym (mark_some (length (x ∷ xs)) c (omega arith)))
 
--- one more text behind those that were joined, after what stands before them
+-- one more text is added to the joined texts
 joined_more : (front : List ℕ) (c : ℕ) (xs : List (List ℕ)) (y : List ℕ) (i : ℕ) (before now : List ℕ) → length xs ≡ i
     → before ≡ front ++ join_with_byte c xs
     → now ≡ (before ++ mark_before i c) ++ y → now ≡ front ++ join_with_byte c (xs ++ y ∷ [])

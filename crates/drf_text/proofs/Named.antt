@@ -1,4 +1,4 @@
--- A piece that could be read has a name.
+-- A piece that was read has a valid name.
 use Rattle.std.proofs.Common.{◌≡◌, Result, Ok, Err, refl, ap, IsOk}
 use Rattle.std.specs.Result.{is_ok}
 use Rattle.drf_text.proofs.Names.{Text, trimmed, TextFault}
@@ -7,7 +7,7 @@ use Rattle.drf_text.specs.declared.said.Said.{Said}
 use Rattle.drf_text.specs.declared.said.Counted.{Counted}
 use Rattle.drf_text.proofs.Reading.{StepsAreNamed}
 
--- what is found has a first step that found something
+-- if two steps succeed, the first one does
 first_ok : {A B : Type 0} (r : Result A TextFault) (next : A → Result B TextFault) → IsOk (r >>= next) → IsOk r
 first_ok (Ok x) next is = refl
 first_ok (Err fault) next is = is

@@ -1,4 +1,4 @@
--- Words of specs that proofs of this crate cite, most of them in more than one file, passed on from one place.
+-- Names that many proofs of this crate use, re-exported from one place.
 pub use Rattle.drf_bundle.specs.declared.resource.Resource.{Resource}
 pub use Rattle.drf_role.specs.Tests.{is_label, is_label_byte, is_role}
 pub use Rattle.drf_role.specs.Text.{Text, same_text, text_below}

@@ -1,4 +1,4 @@
--- Numbers in digits.
+-- Numbers as digits.
 use Rattle.std.proofs.Common.{◌≡◌, ◌⊎◌, ℕ, ◌+◌, ◌*◌, ◌^◌, ◌<◌, ◌≤◌, Bool, true, false, cond, ltb, List, [], ◌∷◌, ◌&&◌, length, Result, Err, inl, inr, refl, sym, subst, ◌∙◌, arith, take_all}
 use Rattle.std.proofs.lemmas.Bool.{cases_Bool, lt-ltb, ltb-true}
 use Rattle.std.proofs.lemmas.Bool.Decides.{nat_tests}
@@ -9,7 +9,7 @@ use Rattle.std.specs.Str.Parse.{digits_value}
 use Rattle.drf_text.specs.Number.{is_point, are_digits, is_number, rounded, thousandths_of, whole_of, decimals_of, small_or_fault, number_of}
 use Rattle.drf_text.proofs.Names.{TextFault, BadNumber, TooLarge}
 
--- what is not below 2^64 is too large
+-- a number that is not below 2^64 is too large
 pub too_large : (n : ℕ) → 2 ^ 64 ≤ n → Err TooLarge ≡ small_or_fault n
 too_large n large = elim (cases_Bool (ltb n (2 ^ 64))) [
   | inl small ↦ absurd (omega (arith, ltb-true n (2 ^ 64) small))
@@ -24,7 +24,7 @@ large_from_parse {E} {P} r e v is parsed fits = by (cases_Bool (ltb v (2 ^ 64)))
     by (inl small) none = absurd (none (fits (ltb-true v (2 ^ 64) small)))
     by (inr large) none = grind (arith, nat_tests, large)
 
--- whether some element passes, by the place of the first that does
+-- whether some element passes the test, given the first index that does
 any_at_cases : {X : Type 0} (p : X → Bool) (x : X) (xs : List X) (b : Bool) → p x ≡ b
     → list_any p xs ≡ ltb (position_or_len p xs) (length xs)
     → list_any p (x ∷ xs) ≡ ltb (position_or_len p (x ∷ xs)) (length (x ∷ xs))
@@ -35,7 +35,7 @@ pub any_at : {X : Type 0} (p : X → Bool) (xs : List X) → list_any p xs ≡ l
 any_at p [] = refl
 any_at p (x ∷ xs) = any_at_cases p x xs (p x) refl (any_at p xs)
 
--- where nothing passes, all stands before the first that does
+-- if no element passes, all elements come before the first that does
 pub all_before : {X : Type 0} (p : X → Bool) (xs : List X) → position_or_len p xs ≡ length xs
     → (list_any p xs ≡ false) × (before_first p xs ≡ xs) × (after_first p xs ≡ [])
 all_before p xs none =

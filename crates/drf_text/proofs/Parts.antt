@@ -1,4 +1,4 @@
--- Steps on each of some parts.
+-- Steps on each part of a list.
 use Rattle.std.proofs.Common.{◌≡◌, ℕ, Bool, true, false, cond, List, [], ◌∷◌, ◌++◌, ◌&&◌, map, Result, Ok, Err, refl, sym, ap, append_assoc, append-nil}
 use Rattle.std.specs.List.{list_all, flat_map}
 use Rattle.std.specs.Str.Parse.{digits_value}
@@ -16,7 +16,7 @@ pub each_of-map : {A B C : Type 0} (step : B → Result C TextFault) (f : A → 
 each_of-map step f [] = refl
 each_of-map {A} {B} {C} step f (x ∷ xs) = ap (λ (r : Result (List C) TextFault). step (f x) >>= λ y. r >>= λ ys. Ok (y ∷ ys)) (each_of-map step f xs)
 
--- what was found so far, and what is found of those that are left
+-- the results so far, followed by those of the remaining parts
 abbrev pub each_after : {A B : Type 0} → (A → Result B TextFault) → List B → List A → Result (List B) TextFault
 each_after step found xs = each_of step xs >>= λ more. Ok (found ++ more)
 

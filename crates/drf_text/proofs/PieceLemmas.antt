@@ -1,4 +1,4 @@
--- A head and a body with `:` between them, and when they have no fault.
+-- Pieces made of a head and a body with `:` between them, and when they have no errors.
 use Rattle.std.proofs.Common.{◌≡◌, ℕ, Bool, true, false, cond, eqb, [], ◌∷◌, ◌++◌, ◌&&◌, Some, None, refl, sym, ap, subst, ◌∙◌, not}
 use Rattle.std.proofs.lemmas.List.Elements.{All-head}
 use Rattle.std.proofs.lemmas.List.Folds.{list_any_none}
@@ -25,14 +25,14 @@ head_found head body no_colon no_blank = ap trimmed (before_at (λ b. eqb b 58) 
 pub body_found : (head body : Text) → HasNone (λ b. eqb b 58) head → HasNone is_blank body → body_of (head ++ 58 ∷ body) ≡ body
 body_found head body no_colon no_blank = ap trimmed (after_at (λ b. eqb b 58) head 58 body no_colon refl) ∙ trimmed_stays body no_blank
 
--- a name alone is the name of a head
+-- a name is the name of a head that consists of it
 pub name_alone : (label : Text) → IsLabel label → name_of label ≡ label
 name_alone label is =
     let none = label_without 40 label is refl in
     ap trimmed (all_before (λ b. eqb b 40) label (position_none (λ b. eqb b 40) label none)).1
     ∙ trimmed_stays label (label_has_none is_blank label is (not_blank is_label_byte refl refl))
 
--- a head without a fault
+-- a head without errors
 pub record IsRightHead (is_bad_role : Text → Bool) (head : Text) : Type 0 where
   pub shape : is_head head ≡ true
   pub name : is_label (name_of head) ≡ true
@@ -41,7 +41,7 @@ pub record IsRightHead (is_bad_role : Text → Bool) (head : Text) : Type 0 wher
 pub not_reserved : (label : Text) → IsLabel label → is_reserved label ≡ false
 not_reserved label is = list_any_none (λ b. eqb b 40) label (label_without 40 label is refl)
 
--- a name alone is such a head
+-- a head that consists of a name has no errors
 pub label_head : (is_bad_role : Text → Bool) (label : Text) → IsLabel label → is_bad_role label ≡ false → IsRightHead is_bad_role label
 label_head is_bad_role label is role = record {
   shape = rw (not_reserved label is, list_any_none (λ b. eqb b 41) label (label_without 41 label is refl)) refl;
@@ -49,7 +49,7 @@ label_head is_bad_role label is role = record {
   role = role;
 }
 
--- a body without a fault
+-- a body without errors
 pub record IsRightBody (body : Text) : Type 0 where
   pub shape : is_body body ≡ true
   pub members : members_are_labels body ≡ true

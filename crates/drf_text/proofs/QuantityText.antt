@@ -1,4 +1,4 @@
--- What is written of quantities means those quantities.
+-- Reading the written form of quantities gives those quantities.
 use Rattle.std.proofs.Common.{◌≡◌, ◌+◌, ◌^◌, ◌<◌, true, false, cond, eqb, List, [], ◌∷◌, ◌++◌, map, All, Ok, Err, None, refl, sym, ap, ◌∙◌, append_assoc, append-nil, length-append, arith, IsTrue, nat_lt}
 use Rattle.std.proofs.lemmas.Bool.{and_parts, lt-ltb}
 use Rattle.std.proofs.lemmas.List.Elements.{All-head, All-tail, All-append, All-cons, All-map, All-weaker}
@@ -50,9 +50,9 @@ module _ (e : Entry) (is : IsEntry e) where
         (All-cons (λ b. is_between 59 b ≡ false) 58 (amount_text e.amount) refl amount.whole);
   }
 
--- ---- entries put together
+-- ---- entries that are combined
 
--- what stands behind all others is put behind them
+-- an entry that comes after all others is added after them
 record IsLast (earlier : List Entry) (e : Entry) : Type 0 where
   pub none_yet : amount_of earlier e.label ≡ 0
   pub behind : with_amount earlier e.label e.amount ≡ earlier ++ e ∷ []

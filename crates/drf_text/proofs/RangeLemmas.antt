@@ -21,7 +21,7 @@ same_test true false to from = sym (to refl)
 same_test false true to from = from refl
 same_test false false to from = refl
 
--- the set of the numbers of some pairs
+-- the set of the numbers of these pairs
 pub numbers_of_pairs : (pairs : List (ℕ × ℕ)) (found : set.FinSet nat_cmp)
     → ((n : ℕ) → IsTrue (set.contains found n) ↔ Any (λ pair. (pair.0 ≤ n) × (n ≤ pair.1)) pairs)
     → found ≡ set.from_list (flat_map numbers_between pairs)
@@ -75,7 +75,7 @@ in_order_at parts pairs false none read some = absurd (true≢false (apart read)
     apart : ◌≡◌ {A = Result (List (ℕ × ℕ)) TextFault} (Err BadNumber) (Ok pairs) → true ≡ false
     apart e = cc
 
--- no pair that was read is backwards
+-- no pair that was read has its ends in the wrong order
 pub in_order : (parts : List Text) (pairs : List (ℕ × ℕ)) → each_of pair_in parts ≡ Ok pairs → Any (λ pair. pair.1 < pair.0) pairs → ⊥
 in_order parts pairs read = in_order_at parts pairs (list_all is_range parts) refl (sym (pairs_tested parts) ∙ read)
 

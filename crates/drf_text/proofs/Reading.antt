@@ -1,4 +1,4 @@
--- Texts read one after another, each put to what those before it gave.
+-- Reading texts one after another, each added to the result of those before it.
 use Rattle.std.proofs.Common.{◌≡◌, ℕ, ◌+◌, ◌<◌, ◌≤◌, Bool, true, false, ltb, List, [], ◌∷◌, length, drop, get_or, Result, Ok, Err, refl, sym, ap, subst, ◌∙◌, arith, IsOk, lt-ltb}
 use Rattle.std.proofs.lemmas.List.{at_drop_more, at_drop_all}
 use Rattle.drf_text.proofs.Names.{Text, trimmed, TextFault}
@@ -15,14 +15,15 @@ named_some (b ∷ bs) is = lt-ltb 0 (length (b ∷ bs)) (omega arith)
 first_named : (text : Text) (texts : List Text) → IsOk (named_in (trimmed text)) → IsFirstNamed (filled (text ∷ texts))
 first_named text texts is = rw (named_some (trimmed text) is) is
 
--- a step that goes well is of a blank text, or of a piece with a name
+-- if a step succeeds on a text that is not blank, this text has a valid name
 abbrev pub StepsAreNamed : {T : Type 0} → (Text → T → Result T TextFault) → Type 0
 StepsAreNamed {T} step = (text : Text) (earlier now : T) → ltb 0 (length (trimmed text)) ≡ true → step text earlier ≡ Ok now → IsOk (named_in (trimmed text))
 
 -- ---- reading
 
 module _ {T : Type 0} (step : Text → T → Result T TextFault) (empty : T) (texts : List Text) where
-  -- the texts from that place on, put to what there is, are all of them put together; where they begin with a name, so does all
+  -- the remaining texts, added to the result so far, give the result of all texts; if the remaining texts begin with a
+  -- name, so do all texts
   pub record IsReadTo (n : ℕ) (now : T) : Type 0 where
     pub meaning : steps_of step now (drop n texts) ≡ steps_of step empty texts
     pub first : IsFirstNamed (filled (drop n texts)) → IsFirstNamed (filled texts)

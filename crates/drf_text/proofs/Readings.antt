@@ -1,4 +1,4 @@
--- The steps of a reader together are the meaning of a piece.
+-- The steps of the reader together give the meaning of a piece.
 use Rattle.std.proofs.Common.{◌≡◌, ℕ, Bool, true, false, cond, eqb, List, [], ◌∷◌, ◌&&◌, map, Option, Some, None, Result, Ok, Err, refl, ap, ◌∙◌, arith, get_or, not, eqb-true, ne_eqb}
 use Rattle.std.specs.List.{list_all, list_any, flat_map}
 use Rattle.std.specs.FinSet as set
@@ -15,7 +15,7 @@ use Rattle.drf_text.specs.declared.said.Counted.{Counted}
 use Rattle.drf_text.proofs.Parts.{pair_of, each_tested, flat_map-map}
 use Rattle.drf_text.proofs.RangeLemmas.{pairs_tested}
 
--- a fault, or else what there is
+-- the error, or the value if there is no error
 abbrev pub told : {A : Type 0} → Option TextFault → A → Result A TextFault
 told (Some fault) x = Err fault
 told None x = Ok x
@@ -39,7 +39,7 @@ labels_tested parts =
     map_same [] = refl
     map_same (x ∷ xs) = ap (λ (rest : List Text). x ∷ rest) (map_same xs)
 
--- the members that a body names
+-- the members that a body lists
 abbrev members_of : Text → List Text
 members_of body = cond (begins 91 body) [] (cond (begins 123 body) (parts_inside body) [])
 
@@ -165,7 +165,7 @@ no_role_tested head = by (is_reserved head)
     by true = refl
     by false = refl
 
--- the role and the value behind a draft
+-- the role and the value, which are read after the draft
 behind : {D R V S : Type 0} (syntax name role number : Bool) (draft : D) (r : R) (v : V) (make : R → V → S)
     → (told (cond syntax (Some Syntax) (cond name (Some BadName) None)) draft >>= λ _.
     cond {A = Result R TextFault} role (Err BadRole) (Ok r) >>= λ r. cond {A = Result V TextFault} number (Ok v) (Err BadNumber) >>= λ v. Ok (make r v))
@@ -176,7 +176,7 @@ behind false false true number draft r v make = refl
 behind false false false true draft r v make = refl
 behind false false false false draft r v make = refl
 
--- what a piece of a bundle says, where a scalar that is too large says no value
+-- the resource that a piece of a bundle describes; a scalar that is too large gives no value
 abbrev pub said_of : Text → Said
 said_of piece = record { label = name_of (head_of piece); role = role_of (head_of piece); value = fitting (value_of (body_of piece)) }
 

@@ -1,4 +1,4 @@
--- What is written of a resource is a piece without a fault that says this resource.
+-- The written form of a resource is a piece without errors that describes this resource.
 use Rattle.std.proofs.Common.{◌≡◌, ℕ, ◌-◌, Bool, true, false, cond, take, eqb, [], ◌∷◌, ◌++◌, ◌&&◌, length, None, inl, inr, refl, sym, ap, ◌∙◌, append_assoc, arith, length-append, not}
 use Rattle.std.proofs.lemmas.Bool.{cases_Bool}
 use Rattle.std.proofs.lemmas.List.Elements.{All-nil, All-cons, All-append}
@@ -13,7 +13,7 @@ use Rattle.drf_text.proofs.PieceLemmas.{label_test, label_without, head_found, b
 use Rattle.drf_text.proofs.RoleText.{component_no_colon, component_no_blank, component_not_between, role_test, role_has_none, reserved_path}
 use Rattle.drf_text.proofs.ValueText.{IsTextOf, value_found}
 
--- the text is a head without a fault, and says the name and the role
+-- the text is a head without errors, and has this name and role
 record IsHeadOf (r : Resource) (head : Text) : Type 0 where
   pub right : IsRightHead has_bad_role head
   pub name : name_of head ≡ r.label
@@ -93,7 +93,7 @@ module _ (r : Resource) (is : IsResource r) where
     | inr other ↦ rw other (reserved_head other)
   ]
 
--- the text is a piece without a fault, and says the resource
+-- the text is a piece without errors, and describes this resource
 pub record IsPieceOf (r : Resource) (text : Text) : Type 0 where
   pub fault : fault_of text ≡ None
   pub says : resource_of text ≡ r

@@ -1,4 +1,4 @@
--- The text of a role that reserves something: its bytes, and that it passes the test of a role.
+-- The text of a role other than `*`: its bytes, and that it is accepted as a role.
 use Rattle.std.proofs.Common.{◌≡◌, ℕ, Bool, true, false, eqb, sym, ap, subst, ◌∙◌, inl, inr, refl, arith, true≢false, ne_eqb}
 use Rattle.std.proofs.lemmas.List.Elements.{All-weaker}
 use Rattle.drf_role.specs.Parts.{parts_of, text_of}
@@ -19,7 +19,7 @@ component_no_blank b is = rw (ne_eqb b 32 (λ e. omega (arith, e, is.visible.0))
 pub component_not_between : (b : ℕ) → IsComponentByte b → is_between 59 b ≡ false
 component_not_between b is = rw (component_no_blank b is, ne_eqb b 59 is.no_semicolon) refl
 
--- what is no byte of a component, nor `/`, is not in the text of a role
+-- a byte that is neither in a component nor `/` is not in the text of a role
 pub role_has_none : (p : ℕ → Bool) (role : Path) → IsRolePath role → p 47 ≡ false → ((b : ℕ) → IsComponentByte b → p b ≡ false)
     → HasNone p (text_of role)
 role_has_none p role is slash apart =
@@ -29,7 +29,7 @@ role_has_none p role is slash apart =
 pub role_test : (role : Path) → IsRole role → parts_of (text_of role) ≡ role → is_role (text_of role) ≡ true
 role_test role is read = (role_decides (text_of role)).1 (subst IsRole (sym read) is)
 
--- a role that is not the default one is a path
+-- a role other than `*` is a path
 pub reserved_path : (role : Path) → IsRole role → is_default role ≡ false → IsRolePath role
 reserved_path role (inl default) other = absurd (true≢false (sym (ap is_default default ∙ same_path_itself default_role) ∙ other))
 reserved_path role (inr path) other = path

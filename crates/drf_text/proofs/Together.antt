@@ -1,4 +1,4 @@
--- Pieces put together one after another.
+-- Pieces that are combined one after another.
 use Rattle.std.proofs.Common.{◌≡◌, ℕ, ◌^◌, ◌+◌, ◌≤◌, Bool, true, false, cond, ltb, List, [], ◌∷◌, ◌||◌, ◌&&◌, length, map, filter, Option, Some, None, Result, Ok, Err, refl, sym, ap, ◌∙◌, arith, not, le-leb, lt-ltb}
 use Rattle.std.specs.Option.{option_map}
 use Rattle.std.proofs.lemmas.Bool.Decides.{nat_tests}
@@ -17,12 +17,12 @@ use Rattle.drf_text.specs.declared.said.Said.{Said}
 use Rattle.drf_text.specs.declared.said.Counted.{Counted}
 use Rattle.drf_text.proofs.Readings.{told, said_of, counted_of, said_tested, counted_tested}
 
--- steps from the left, each from what the one before gave
+-- steps from the left, each on the result of the one before
 abbrev pub steps_of : {T : Type 0} → (Text → T → Result T TextFault) → T → List Text → Result T TextFault
 steps_of step earlier [] = Ok earlier
 steps_of step earlier (text ∷ texts) = step text earlier >>= λ now. steps_of step now texts
 
--- the pieces of some texts
+-- the trimmed texts that are not blank
 abbrev pub filled : List Text → List Text
 filled texts = filter (λ piece. ltb 0 (length piece)) (map trimmed texts)
 
@@ -30,7 +30,7 @@ next_same : {A B : Type 0} (r : Result A TextFault) (f g : A → Result B TextFa
 next_same (Ok x) f g same = same x
 next_same (Err fault) f g same = refl
 
--- a definition that goes from piece to piece is met by steps that go from text to text
+-- steps on texts have the result of a definition on pieces
 pub record IsByPieces {T : Type 0} (step : Text → T → Result T TextFault) (from : List Text → T → Result T TextFault) : Type 0 where
   pub none : (earlier : T) → from [] earlier ≡ Ok earlier
   pub piece : (text : Text) (earlier : T) (pieces : List Text) → ltb 0 (length (trimmed text)) ≡ true
@@ -182,7 +182,7 @@ quantities_by_pieces = record {
 pub quantities_by_steps : (texts : List Text) → quantities_from (filled texts) [] ≡ steps_of quantities_step [] texts
 quantities_by_steps texts = by_steps quantities_step quantities_from quantities_by_pieces texts []
 
--- ---- a step by its text without blanks
+-- ---- a step on a text, given its trimmed form
 
 pub bundle_step_blank : (text piece : Text) (earlier : List Resource) → piece ≡ trimmed text → ltb 0 (length piece) ≡ false → bundle_step text earlier ≡ Ok earlier
 unfolding bundle_step

@@ -1,4 +1,4 @@
--- What is written of a value is read as that value.
+-- Reading the written form of a value gives that value.
 use Rattle.std.proofs.Common.{◌≡◌, ℕ, ◌+◌, ◌-◌, ◌^◌, ◌<◌, ◌≤◌, Bool, true, false, eqb, List, [], ◌∷◌, ◌++◌, length, map, All, decimal, refl, sym, ap, subst, ◌∙◌, arith, length-append, nat_le, nat_lt}
 use Rattle.std.proofs.lemmas.Bool.{and_from, or_left, or_right, eq-eqb, le-leb, lt-ltb}
 use Rattle.std.proofs.lemmas.List.Elements.{All-head, All-tail, All-nil, All-cons, All-append, All-map, All-weaker}
@@ -25,7 +25,7 @@ use Rattle.drf_text.proofs.AmountText.{are_digits_of, value_of_digits, amount_re
 use Rattle.drf_text.proofs.CutLemmas.{not_blank, is_between, not_between, IsPart, trimmed_stays, before_at, after_at, ends_closed, parts_found, joined_has_none}
 use Rattle.drf_text.proofs.PieceLemmas.{label_test, IsRightBody, begins_not}
 
--- the text is a body without a fault, and says the value
+-- the text is a body without errors, and has this value
 pub record IsTextOf (value : Value) (text : Text) : Type 0 where
   pub body : IsRightBody text
   pub says : value_of text ≡ value
@@ -49,7 +49,7 @@ scalar_text amount small =
 
 -- ---- brackets
 
--- what stands in brackets has no blank and no `;` where none of the parts has
+-- a text in brackets has no blank and no `;` if none of its parts has
 bracketed : (o c : ℕ) (texts : List Text) → is_between 59 o ≡ false → is_between 59 c ≡ false → All (HasNone (is_between 59)) texts
     → HasNone (is_between 59) (o ∷ join_with_byte 44 texts ++ c ∷ [])
 bracketed o c texts no_open no_close none =
@@ -62,7 +62,7 @@ bracketed o c texts no_open no_close none =
 digits_have_none : (p : ℕ → Bool) (n : ℕ) → n < 2 ^ 32 → ((b : ℕ) → is_ascii_digit b ≡ true → p b ≡ false) → HasNone p (decimal n)
 digits_have_none p n small apart = none_of p is_ascii_digit (decimal n) apart (digits_of n (omega arith))
 
--- its ends are in order, and below 2^32
+-- the ends of an interval are in order and below 2^32
 record IsSpan (i : Interval) : Type 0 where
   pub up : i.first ≤ i.last
   pub small : i.last < 2 ^ 32
@@ -170,7 +170,7 @@ ranges_found numbers text is = subst (IsTextOf (Ranges numbers)) (sym is.written
 
 -- ---- sets of labels
 
--- what is found in a set of labels is one
+-- an element of a set of names is a name
 each_label : (names : List Text) → ((t : Text) → list_any (eq_by_cmp text_cmp t) names ≡ true → IsLabel t) → All IsLabel names
 each_label [] found = All-nil IsLabel
 each_label (x ∷ xs) found =
@@ -184,7 +184,7 @@ labels_of labels names same given =
 label_part : (label : Text) → IsLabel label → IsPart 44 label
 label_part label is = record { some = is.not_empty; whole = label_has_none (is_between 44) label is (not_between is_label_byte 44 refl refl refl) }
 
--- the text is that of the members of the set, in order of bytes
+-- the text is that of the members of the set, in byte order
 record IsItemsText (labels : set.FinSet text_cmp) (text : Text) : Type 0 where
   pub names : List Text
   pub ascending : AreAscending names

@@ -6,7 +6,7 @@ use Rattle.drf_journal.specs.State.{answer_to, machine_after}
 use Rattle.drf_journal.proofs.Kept.{answer-kept, meaning-kept}
 use Rattle.drf_journal.proofs.answer.answer_end.Goals as goal
 
--- what follows from what holds at Ok
+-- a consequence of what holds at `Ok`
 at_ok : {T E A B : Type 0} (r : Result T E) → (A → B) → OnOk r A → OnOk r B
 at_ok (Ok x) f h = f h
 at_ok (Err e) f h = h

@@ -6,7 +6,7 @@ use Rattle.drf_core.specs.Machine.{Engine, live, IsSame}
 use Rattle.drf_core.specs.MachineLaws.{live-after, reply_to-seen}
 use Rattle.drf_journal.proofs.answer.take_event.Goals as goal
 
--- what follows from what holds at Ok
+-- a consequence of what holds at `Ok`
 at_ok : {T E A B : Type 0} (r : Result T E) → (A → B) → OnOk r A → OnOk r B
 at_ok (Ok x) f h = f h
 at_ok (Err e) f h = h
@@ -20,7 +20,7 @@ returns-clause-told g c =
 pub returns-clause-ok : goal.returns-clause-ok
 returns-clause-ok g c = at_ok c.step.result (live-after c.args.core.now c.step.new.self c.args.event) c.step.ensures.ok
 
--- what follows from what holds at Err
+-- a consequence of what holds at `Err`
 at_err : {T E A B : Type 0} (r : Result T E) → (A → B) → OnErr r A → OnErr r B
 at_err (Ok x) f h = h
 at_err (Err e) f h = f h

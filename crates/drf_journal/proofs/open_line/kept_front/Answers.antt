@@ -3,7 +3,7 @@ use Rattle.std.proofs.lemmas.Bool.{cases_lt}
 use Rattle.std.proofs.lemmas.List.{take_all}
 use Rattle.drf_journal.proofs.open_line.kept_front.Goals as goal
 
--- no more can be taken than there is
+-- taking more elements than there are gives all
 take_within : (n : ℕ) (xs : List ℕ) → take (min (length xs) n) xs ≡ take n xs
 take_within n xs =
     ⊎_elim

@@ -5,7 +5,7 @@ use Rattle.drf_lines.specs.ReportLine.{amounts_text}
 use Rattle.drf_lines.specs.Written.{KeepsFront, KeepsUtf8}
 use Rattle.drf_lines.proofs.amounts.put_entries.Given as goal
 
--- with the text of those that are left the line is that of all
+-- the line so far, followed by the text of the remaining entries, is the whole line
 abbrev pub invariant-loop-entry : goal.invariant-loop-entry
 invariant-loop-entry l = record {
   text : l.line.items ++ left_amounts l.has_any (drop l.entry-index l.entries) ≡ l.fn.line.items ++ escape (amounts_text l.entries);

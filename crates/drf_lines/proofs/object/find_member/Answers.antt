@@ -7,7 +7,7 @@ use Rattle.json.specs.declared.value.Value.{Value}
 use Rattle.json.proofs.Trees.{get_member-push}
 use Rattle.drf_lines.proofs.object.find_member.Goals as goal
 
--- the member is the last one of those that are left, or that one is looked for before it
+-- the member is the last of the remaining ones, or the search continues before it
 last_left : {A : Type 0} (name : List ℕ) (all : List (Bor (List ℕ) × Value A)) (left : ℕ) (m : Bor (List ℕ) × Value A) (b : Bool)
     → 0 < left → left ≤ length all → m ≡ get_or all (left - 1) m → bytes_eq m.0.now name ≡ b
     → get_member name (members_view (take left all)) ≡ cond b (Some (value_view m.1)) (get_member name (members_view (take (left - 1) all)))

@@ -6,7 +6,7 @@ use Rattle.std.proofs.lemmas.List.{at_drop_more}
 use Rattle.drf_lines.specs.LineValue.{is_among}
 use Rattle.drf_lines.proofs.object.is_among.Goals as goal
 
--- the name at a place is the first of those that are left
+-- the name at an index is the first of the remaining names
 first_left : (names : List (Bor (List ℕ))) (key : List ℕ) (i : ℕ) (d : Bor (List ℕ)) → i < length names
     → is_among (map (λ name. name.now) (drop i names)) key
     ≡ (bytes_eq (slice_index_or names i d).now key || is_among (map (λ name. name.now) (drop (i + 1) names)) key)

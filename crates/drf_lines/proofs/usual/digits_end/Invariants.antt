@@ -2,7 +2,7 @@ use Rattle.std.proofs.Common.{◌-◌, ◌≤◌, length}
 use Rattle.drf_lines.specs.Usual.{AreDigitsFrom}
 use Rattle.drf_lines.proofs.usual.digits_end.Given as goal
 
--- those so far are digits
+-- the bytes so far are digits
 abbrev pub invariant-loop-i : goal.invariant-loop-i
 invariant-loop-i l = (l.from ≤ l.i) × (l.i ≤ length l.bytes) × AreDigitsFrom l.bytes l.from l.i
 

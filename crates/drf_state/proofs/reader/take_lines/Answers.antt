@@ -12,7 +12,7 @@ use Rattle.drf_state.proofs.reader.take_lines.Given as given
 use Rattle.drf_state.proofs.reader.take_lines.Goals.{After-front-text}
 use Rattle.drf_state.proofs.reader.take_lines.Goals as goal
 
--- what all of it says, what the rest says by the rows that a line left, and whether there is a rest
+-- the meaning of all bytes, that of the rest after the rows of a line, and whether there is a rest
 abbrev whole_of : (g : given.Over) → After-front-text g → Said
 whole_of g c = rest_says c.args.begun.limits (take c.args.start c.args.bytes.now) 1 c.args.begun.rows (parts_of_text (drop c.args.start c.args.bytes.now))
 

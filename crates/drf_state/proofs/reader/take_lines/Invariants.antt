@@ -3,7 +3,7 @@ use Rattle.drf_state.specs.State.{rest_says}
 use Rattle.drf_state.specs.laws.Parts.{parts_of_text}
 use Rattle.drf_state.proofs.reader.take_lines.Given as goal
 
--- what the bytes say is what is left of them says, behind the lines so far
+-- the meaning of the bytes is that of the remaining bytes after the lines so far
 abbrev pub invariant-loop-at : goal.invariant-loop-at
 invariant-loop-at g l =
     (1 ≤ l.lines) × (l.lines ≤ l.read) × (l.read ≤ length l.bytes) × (l.restoring.limits ≡ l.fn.begun.limits)

@@ -20,7 +20,7 @@ returns-in_err-said-clause-fault c =
     bundle_step_piece c.args.text.now c.trim-piece.result.now c.args.bundle.now c.trim-piece.ensures (grind (arith, nat_tests))
     ∙ ap (λ (r : Result Said TextFault). r >>= put_said c.args.bundle.now) (c.in_err-said.ensures.read known))
 
--- what the piece says is put to what there is
+-- the content of the piece is added to the resources so far
 step : (c : In_ok-said) → bundle_step c.args.text.now c.args.bundle.now ≡ put_said c.args.bundle.now c.in_ok-said.said
 step c =
     bundle_step_piece c.args.text.now c.trim-piece.result.now c.args.bundle.now c.trim-piece.ensures (grind (arith, nat_tests))

@@ -20,7 +20,7 @@ returns-in_err-said-clause-fault c =
     quantities_step_piece c.args.text.now c.trim-piece.result.now c.args.quantities.now c.trim-piece.ensures (grind (arith, nat_tests))
     ∙ ap (λ (r : Result Counted TextFault). r >>= put_counted c.args.quantities.now) (c.in_err-said.ensures.read known))
 
--- what the piece says is put to what there is
+-- the content of the piece is added to the quantities so far
 step : (c : In_ok-said) → quantities_step c.args.text.now c.args.quantities.now ≡ put_counted c.args.quantities.now c.in_ok-said.said
 step c =
     quantities_step_piece c.args.text.now c.trim-piece.result.now c.args.quantities.now c.trim-piece.ensures (grind (arith, nat_tests))

@@ -12,14 +12,14 @@ use Rattle.drf_text.proofs.Together.{bundle_by_steps}
 use Rattle.drf_text.proofs.read.read_bundle.Goals as goal
 use Rattle.drf_text.proofs.read.read_bundle.Goals.{In-Some, In-None}
 
--- the piece stands at its place
+-- the piece is the one at its index
 here : (c : In-Some) → let pieces = slice_split (λ b. eqb b 59) c.args.text.now in
     (length c.loop-piece.yielded < length pieces) × (c.in-Some.piece.now ≡ get_or pieces (length c.loop-piece.yielded) c.in-Some.piece.now)
 here c =
     YieldsList-turn (YieldsList-from_str_split 59 c.args.text.now (lit< tt) (cc) (cc)
     (cc)) c.loop-piece.yielded _ c.loop-piece.yielded_by _ _ c.in-Some.piece c.in-Some.is c.next.ensures.steps
 
--- and all were read
+-- all pieces were read
 over : (c : In-None) → length (slice_split (λ b. eqb b 59) c.args.text.now) ≤ length c.loop-piece.yielded
 over c =
     let t = YieldsList-end (YieldsList-from_str_split 59 c.args.text.now (lit< tt) (cc) (cc)

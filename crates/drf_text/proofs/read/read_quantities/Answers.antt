@@ -11,14 +11,14 @@ use Rattle.drf_text.proofs.Together.{quantities_by_steps}
 use Rattle.drf_text.proofs.read.read_quantities.Goals as goal
 use Rattle.drf_text.proofs.read.read_quantities.Goals.{In-Some, In-None}
 
--- the entry stands at its place
+-- the entry is the one at its index
 here : (c : In-Some) → let pieces = slice_split (λ b. eqb b 59) c.args.text.now in
     (length c.loop-entry.yielded < length pieces) × (c.in-Some.entry.now ≡ get_or pieces (length c.loop-entry.yielded) c.in-Some.entry.now)
 here c =
     YieldsList-turn (YieldsList-from_str_split 59 c.args.text.now (lit< tt) (cc) (cc)
     (cc)) c.loop-entry.yielded _ c.loop-entry.yielded_by _ _ c.in-Some.entry c.in-Some.is c.next.ensures.steps
 
--- and all were read
+-- all entries were read
 over : (c : In-None) → length (slice_split (λ b. eqb b 59) c.args.text.now) ≤ length c.loop-entry.yielded
 over c =
     let t = YieldsList-end (YieldsList-from_str_split 59 c.args.text.now (lit< tt) (cc) (cc)

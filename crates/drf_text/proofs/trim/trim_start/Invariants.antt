@@ -3,7 +3,7 @@ use Rattle.std.specs.Str.{IsUtf8}
 use Rattle.drf_text.specs.Blanks.{without_first_blanks, IsOneFirstLess}
 use Rattle.drf_text.proofs.trim.trim_start.Given as goal
 
--- what is left is the same without them
+-- trimming the rest gives the same as trimming the text
 abbrev pub invariant-loop-more : goal.invariant-loop-more
 invariant-loop-more l = record {
   same : without_first_blanks l.rest ≡ without_first_blanks l.text;

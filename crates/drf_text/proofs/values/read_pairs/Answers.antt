@@ -13,7 +13,7 @@ use Rattle.drf_text.proofs.values.read_pairs.Goals.{In-Some}
 abbrev step : Text → Result (ℕ × ℕ) TextFault
 step part = pair_in (trimmed part)
 
--- this part, and those behind it, are left
+-- this part and those after it remain
 left : (c : In-Some) → each_after step c.loop-part.pairs.items
     (c.in-Some.part.now ∷ drop (length c.loop-part.yielded + 1) (slice_split (λ b. eqb b 44) c.args.text.now))
     ≡ each_of step (slice_split (λ b. eqb b 44) c.args.text.now)

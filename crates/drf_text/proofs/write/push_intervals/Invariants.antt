@@ -3,6 +3,6 @@ use Rattle.std.specs.List.{join_with_byte}
 use Rattle.drf_text.specs.Written.{interval_text}
 use Rattle.drf_text.proofs.write.push_intervals.Given as goal
 
--- the text of those so far
+-- the text is that of the intervals so far
 abbrev pub invariant-loop-i : goal.invariant-loop-i
 invariant-loop-i l = string_bytes l.text ≡ string_bytes l.fn.text ++ join_with_byte 44 (map interval_text (take l.i l.intervals))

@@ -6,7 +6,7 @@ use Rattle.drf_ask.specs.Asking.{Asking}
 use Rattle.drf_ask.proofs.Pieces.{went-begins, went-line, went-all, went-stops, went-forgotten, counted}
 use Rattle.drf_ask.proofs.asking.Asking.take.Goals as goal
 
--- what is left behind a byte is all of it
+-- the rest after a byte
 tail_of : (rest : List ℕ) (at : ℕ) → at < length rest → take (length rest - (at + 1)) (drop (at + 1) rest) ≡ drop (at + 1) rest
 tail_of rest at inside = take_all _ _ (simp length-drop (omega arith))
 

@@ -5,7 +5,7 @@ use Rattle.drf_journal.specs.Checking.{HasChecked}
 use Rattle.drf_journal.proofs.Checks.{front-begins, front-line, front-wrong, front-rest}
 use Rattle.drf_journal.proofs.checker.Checker.take.Goals as goal
 
--- what is left behind a byte is all of it
+-- the rest after a byte
 tail_of : (rest : List ℕ) (at : ℕ) → at < length rest → take (length rest - (at + 1)) (drop (at + 1) rest) ≡ drop (at + 1) rest
 tail_of rest at inside = take_all _ _ (simp length-drop (omega arith))
 

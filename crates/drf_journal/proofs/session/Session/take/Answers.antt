@@ -10,7 +10,7 @@ use Rattle.drf_journal.proofs.Pieces.{few_lines, piece-some}
 use Rattle.drf_journal.proofs.Waits.{waits-begins, waits-within, waits-on}
 use Rattle.drf_journal.proofs.session.Session.take.Goals as goal
 
--- what is left behind a byte is all of it
+-- the rest after a byte
 tail_of : (rest : List ℕ) (at : ℕ) → at < length rest → take (length rest - (at + 1)) (drop (at + 1) rest) ≡ drop (at + 1) rest
 tail_of rest at inside = take_all _ _ (simp length-drop (omega arith))
 
@@ -63,7 +63,7 @@ returns-in_err-end_line-clause-answers g c =
     c.loop-at.invariant.front found.0 found.1 found.2 c.in_err-end_line.ensures.err.0 c.in_err-end_line.ensures.err.1
     c.in_err-end_line.ensures.taken
 
--- ---- much text waits
+-- ---- at least 64 KiB of text waits
 
 pub returns-then-len-ge-MOST_UNSENT-clause-ok : goal.returns-then-len-ge-MOST_UNSENT-clause-ok
 returns-then-len-ge-MOST_UNSENT-clause-ok g c =
@@ -96,7 +96,7 @@ returns-then-len-ge-MOST_UNSENT-clause-answers g c =
     (front-line c.args.self.now c.loop-at.self next c.args.piece.now rest at c.loop-at.invariant.front found.0 found.1
     c.in_ok-end_line.ensures.ok) refl refl refl
 
--- ---- no line feed is left
+-- ---- no line feed remains
 
 pub returns-then-is_empty-clause-ok : goal.returns-then-is_empty-clause-ok
 returns-then-is_empty-clause-ok g c =

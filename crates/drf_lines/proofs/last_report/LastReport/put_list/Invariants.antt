@@ -7,7 +7,8 @@ use Rattle.drf_lines.specs.ReportLine.{node_value}
 use Rattle.drf_lines.proofs.ReplyTexts.{left_text}
 use Rattle.drf_lines.proofs.last_report.LastReport.put_list.Given as goal
 
--- with the text of those that are left it is that of all, and the text of each one so far lies where its span says
+-- the text so far, followed by that of the remaining nodes, is the whole text, and each span so far is the range of its
+-- node's text
 abbrev pub invariant-loop-i : goal.invariant-loop-i
 invariant-loop-i l = record {
   told : l.text.items ++ left_text node_value l.i (drop l.i l.nodes) ≡ l.fn.text.items ++ compact_text (array (items_of (map node_value l.nodes)));

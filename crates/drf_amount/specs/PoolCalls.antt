@@ -1,4 +1,4 @@
--- What the calls of a pool do, and when they refuse.
+-- What the methods of a pool do, and when they return which error.
 use Rattle.std.specs.Prelude.{◌≡◌, ℕ, ◌+◌, ◌-◌, ◌<◌, ◌≤◌, ◌^◌, List, [], ◌∷◌, ◌++◌, length, Option, Some, None, IsSome, IsSomeAnd}
 use Rattle.std.specs.Map.{keys_of}
 use Rattle.drf_amount.specs.declared.algebra.AlgebraFault.{AlgebraFault}
@@ -8,7 +8,7 @@ use Rattle.drf_amount.specs.declared.pool.PoolFault.TheVariants.{UnknownPart, No
 use Rattle.drf_amount.specs.Algebra.{IsRest, Covers}
 use Rattle.drf_amount.specs.Pool.{PoolContent, joined_all, numbered, part_at, parts_without, parts_with}
 
--- the fault of a pool for a fault of an amount
+-- the error of a pool for an error of an amount
 abbrev pub pool_fault : AlgebraFault → PoolFault
 pool_fault algebra.Kind = Kind
 pool_fault algebra.Overlap = Overlap
@@ -16,7 +16,7 @@ pool_fault algebra.TooLarge = TooLarge
 pool_fault algebra.NotCovered = NotCovered
 pool_fault algebra.Memory = Memory
 
--- the first amount, from the left, that has no join with those before it, has none for that fault
+-- the first amount, from the left, that has no join with those before it is refused for this reason
 pub record StopsAt {A : Type 0} (join : A → A → Option A) (refusal : A → A → Option AlgebraFault) (empty : A) (amounts : List A) (fault : AlgebraFault) : Type 0 where
   pub before : List A
   pub amount : A
@@ -26,7 +26,7 @@ pub record StopsAt {A : Type 0} (join : A → A → Option A) (refusal : A → A
   pub joined_is : joined_all join empty before ≡ Some joined
   pub refused : refusal joined amount ≡ Some fault
 
--- what may be answered in place of the join of all
+-- the errors that joining all amounts can return
 abbrev pub IsJoinAllFault : {A : Type 0} → (A → A → Option A) → (A → A → Option AlgebraFault) → A → List A → AlgebraFault → Type 0
 IsJoinAllFault join refusal empty amounts algebra.Kind = StopsAt join refusal empty amounts algebra.Kind
 IsJoinAllFault join refusal empty amounts algebra.Overlap = StopsAt join refusal empty amounts algebra.Overlap
@@ -34,14 +34,14 @@ IsJoinAllFault join refusal empty amounts algebra.TooLarge = StopsAt join refusa
 IsJoinAllFault join refusal empty amounts algebra.NotCovered = ⊥
 IsJoinAllFault join refusal empty amounts algebra.Memory = Unit {0}
 
--- when `give_back` answers each fault
+-- when `give_back` returns which error
 abbrev pub IsGiveBackFault : {A : Type 0} → PoolContent A → ℕ → PoolFault → Type 0
 IsGiveBackFault pool number UnknownPart = part_at pool.parts number ≡ None
 IsGiveBackFault pool number Memory = IsSome (part_at pool.parts number)
 IsGiveBackFault pool number _ = ⊥
 
 module _ {A : Type 0} (is_given : A → Type 0) (join : A → A → Option A) where
-  -- wanted is out under the next number, and was free; 2^64 - 1 is the number of no part
+  -- the amount was free and is now a part with the next number; no part has the number 2^64 - 1
   pub record Takes (old new : PoolContent A) (wanted : A) (number : ℕ) : Type 0 where
     pub number_is : number ≡ old.next
     pub number_left : old.next < 2 ^ 64 - 1
@@ -58,7 +58,7 @@ module _ {A : Type 0} (is_given : A → Type 0) (join : A → A → Option A) wh
     pub next : new.next ≡ old.next
     pub total : new.total ≡ old.total
 
-  -- of the part with that number, smaller is still out, and the rest of it is free
+  -- the part with that number is now `smaller`, and the rest of it is free
   pub record Shrinks (old new : PoolContent A) (number : ℕ) (smaller : A) : Type 0 where
     pub part : A
     pub part_is : part_at old.parts number ≡ Some part
@@ -69,7 +69,7 @@ module _ {A : Type 0} (is_given : A → Type 0) (join : A → A → Option A) wh
     pub next : new.next ≡ old.next
     pub total : new.total ≡ old.total
 
-  -- in place of the part with that number all that are wanted are out, under the next numbers, and the rest of it is free
+  -- the part with that number is replaced by the wanted parts with the next numbers, and the rest of it is free
   pub record Splits (empty : A) (old new : PoolContent A) (number : ℕ) (wanted : List A) (numbers : List ℕ) : Type 0 where
     pub part : A
     pub part_is : part_at old.parts number ≡ Some part
@@ -84,41 +84,41 @@ module _ {A : Type 0} (is_given : A → Type 0) (join : A → A → Option A) wh
     pub next : new.next ≡ old.next + length wanted
     pub total : new.total ≡ old.total
 
-  -- after is before, with new in the place of old
+  -- `after` is `before` with `old` replaced by `new`
   pub record IsReplaced (before after old new : A) : Type 0 where
     pub rest : A
     pub of_before : IsRest is_given join before old rest
     pub of_after : IsRest is_given join after new rest
 
-  -- new is in the place of old in the free part and in the total
+  -- `old` is replaced by `new` in the free amount and in the total
   pub record Replaces (before after : PoolContent A) (old new : A) : Type 0 where
     pub free : IsReplaced before.free after.free old new
     pub total : IsReplaced before.total after.total old new
     pub parts : after.parts ≡ before.parts
     pub next : after.next ≡ before.next
 
-  -- there is a part with that number, and it covers smaller, or it does not
+  -- there is a part with that number, and it covers `smaller` (or it does not: `PartLacks`)
   abbrev pub PartCovers : PoolContent A → ℕ → A → Type 0
   PartCovers pool number smaller = IsSomeAnd (part_at pool.parts number) (λ part. Covers is_given join part smaller)
 
   abbrev pub PartLacks : PoolContent A → ℕ → A → Type 0
   PartLacks pool number smaller = IsSomeAnd (part_at pool.parts number) (λ part. ¬ Covers is_given join part smaller)
 
-  -- when `take` answers each fault
+  -- when `take` returns which error
   abbrev pub IsTakeFault : PoolContent A → A → PoolFault → Type 0
   IsTakeFault pool wanted NotCovered = ¬ Covers is_given join pool.free wanted
   IsTakeFault pool wanted Full = Covers is_given join pool.free wanted × (pool.next ≡ 2 ^ 64 - 1)
   IsTakeFault pool wanted Memory = Covers is_given join pool.free wanted × (pool.next < 2 ^ 64 - 1)
   IsTakeFault pool wanted _ = ⊥
 
-  -- when `shrink` answers each fault
+  -- when `shrink` returns which error
   abbrev pub IsShrinkFault : PoolContent A → ℕ → A → PoolFault → Type 0
   IsShrinkFault pool number smaller UnknownPart = part_at pool.parts number ≡ None
   IsShrinkFault pool number smaller NotCovered = PartLacks pool number smaller
   IsShrinkFault pool number smaller Memory = PartCovers pool number smaller
   IsShrinkFault pool number smaller _ = ⊥
 
-  -- when `split` answers each fault: want of memory may come before all but an unknown part
+  -- when `split` returns which error: `Memory` can come before every other one except `UnknownPart`
   abbrev pub IsSplitFault : (A → A → Option AlgebraFault) → A → PoolContent A → ℕ → List A → PoolFault → Type 0
   IsSplitFault refusal empty pool number wanted UnknownPart = part_at pool.parts number ≡ None
   IsSplitFault refusal empty pool number wanted Kind = IsSome (part_at pool.parts number) × StopsAt join refusal empty wanted algebra.Kind
@@ -128,14 +128,14 @@ module _ {A : Type 0} (is_given : A → Type 0) (join : A → A → Option A) wh
   IsSplitFault refusal empty pool number wanted Full = IsSomeAnd (joined_all join empty wanted) (PartCovers pool number) × (2 ^ 64 - 1 < pool.next + length wanted)
   IsSplitFault refusal empty pool number wanted Memory = IsSome (part_at pool.parts number)
 
-  -- the free part covers old, and the rest of the total has no join with new, for that fault
+  -- the free amount covers `old`, and the rest of the total has no join with `new`, for this reason
   pub record Refuses (refusal : A → A → Option AlgebraFault) (pool : PoolContent A) (old new : A) (fault : AlgebraFault) : Type 0 where
     pub covers : Covers is_given join pool.free old
     pub rest : A
     pub rest_is : IsRest is_given join pool.total old rest
     pub refused : refusal rest new ≡ Some fault
 
-  -- when `replace_free` answers each fault: want of memory may come before a refusal of the join
+  -- when `replace_free` returns which error: `Memory` can come before the errors of the join
   abbrev pub IsReplaceFault : (A → A → Option AlgebraFault) → PoolContent A → A → A → PoolFault → Type 0
   IsReplaceFault refusal pool old new NotCovered = ¬ Covers is_given join pool.free old
   IsReplaceFault refusal pool old new Kind = Refuses refusal pool old new algebra.Kind

@@ -1,4 +1,4 @@
--- Thousandths keep the laws of amounts.
+-- Thousandths satisfy what a type of amounts must satisfy.
 use Rattle.std.proofs.Common.{arith}
 use Rattle.std.proofs.lemmas.Grind.{common_steps}
 use Rattle.drf_amount.specs.Algebra.{AlgebraLaws}

@@ -1,1 +1,2 @@
+-- Lemmas for the theorem about what events leave unchanged.
 mod Standing

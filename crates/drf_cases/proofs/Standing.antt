@@ -1,4 +1,4 @@
--- Tables stand, event by event, and all of them once the history is full.
+-- Tables that an event leaves unchanged, event by event; and all tables once the history is full.
 use Rattle.std.specs.Prelude.{◌≡◌}
 use Rattle.std.proofs.Common.{refl, ap}
 use Rattle.drf_rows.specs.Step.{refusal_of, effect, reply_to}

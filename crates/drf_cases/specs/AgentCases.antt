@@ -1,4 +1,4 @@
--- Agents: each case in which they are refused.
+-- Agents: a run with each of their refusals.
 use Rattle.std.specs.Prelude.{[], ◌∷◌, codes}
 use Rattle.drf_rows.specs.declared.event.Event.TheVariants.{AddAgent, RemoveAgent, ActivateAgent, DeactivateAgent, SetAgent, Rescind, Cycle}
 use Rattle.drf_rows.specs.declared.reply.Refusal.TheVariants.{UnknownAgent, KnownAgent, UnknownOffer, NotCovered, TooLarge, TooMany}
@@ -7,7 +7,7 @@ use Rattle.drf_worked.specs.Examples.{cpus, mem, gpus, framework_in, offer}
 use Rattle.drf_worked.specs.LifeExamples.{one}
 use Rattle.drf_cases.specs.Told.{Told, too_large}
 
--- who registers, is activated or is not, is so again, gets another total, and leaves with its offer
+-- an agent registers, is activated and deactivated (each also twice), gets another total, and is removed with its offer
 abbrev pub agents_told : Told
 agents_told =
     (RemoveAgent (codes "n1"), Refused UnknownAgent)

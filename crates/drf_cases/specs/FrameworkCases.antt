@@ -1,4 +1,4 @@
--- Frameworks and their clients: each case in which they are refused.
+-- Frameworks and their clients: a run with each of their refusals.
 use Rattle.std.specs.Prelude.{List, [], ◌∷◌, codes}
 use Rattle.drf_role.specs.Path.{Path}
 use Rattle.drf_rows.specs.declared.event.Event.{Event}
@@ -16,7 +16,8 @@ role_c = codes "c" ∷ []
 abbrev role_d : Path
 role_d = codes "d" ∷ []
 
--- who registers, is suppressed and revived, is so again, and leaves; of three bounds, roles, frameworks and clients, each is passed alone
+-- a framework registers, is suppressed and revived (each also twice), and is removed; the capacities for roles,
+-- frameworks and clients are each exceeded alone
 abbrev pub frameworks_told : Told
 frameworks_told =
     (RemoveFramework (codes "f1"), Refused UnknownFramework)
@@ -42,8 +43,9 @@ frameworks_told =
     ∷ (RemoveFramework (codes "f1"), Refused UnknownFramework)
     ∷ []
 
--- whose roles change: without roles, to too many roles or clients, each bound passed alone, and while an offer or a task is in a role that is left.
--- The same list again is taken, and so is a list without a role in which another framework holds something
+-- a framework's roles change: to no roles, to too many roles or clients (each capacity is exceeded alone), and while an
+-- offer or a task is in a role to be left. The same list again is accepted, and so is a list without a role in which
+-- only another framework holds something
 abbrev roles_set : List Path → Event
 roles_set roles = SetFramework (codes "f1") roles
 

@@ -1,4 +1,4 @@
--- A history that is full: each event is refused for that, whatever else is wrong with it.
+-- A full history: each event is refused with `HistoryFull`, whatever else is wrong with it.
 use Rattle.std.specs.Prelude.{◌≡◌, true, [], ◌∷◌, codes}
 use Rattle.drf_rows.specs.LimitNumbers.{LimitNumbers}
 use Rattle.drf_rows.specs.Step.{is_full, reply_to}
@@ -15,11 +15,11 @@ abbrev pub FullRefusesAll : Type 0
 FullRefusesAll =
     (limits : LimitNumbers) (rows : Rows) (event : Event) → is_full limits rows ≡ true → reply_to limits rows event ≡ Refused HistoryFull
 
--- one event more than none is one too many
+-- the capacity is one event
 abbrev pub one_event : LimitNumbers
 one_event = record few { events = 1 }
 
--- an event that would be done, one that is wrong besides, and the first again
+-- an event that would be accepted, one that is wrong in another way too, and the first event again
 abbrev pub full_told : Told
 full_told =
     (AddAgent (codes "n1") (cpus 1000 ∷ []), Done)

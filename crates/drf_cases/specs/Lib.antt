@@ -1,3 +1,4 @@
+-- Runs with the expected replies, which contain each refusal.
 pub mod Told
 pub mod AgentCases
 pub mod FrameworkCases

@@ -1,4 +1,4 @@
--- Offers, tasks and cycles: each case in which they are refused.
+-- Offers, tasks and cycles: a run with each of their refusals.
 use Rattle.std.specs.Prelude.{ℕ, [], ◌∷◌, ◌++◌, codes}
 use Rattle.drf_rows.specs.declared.event.Event.TheVariants.{AddAgent, Rescind, Finish, Cycle}
 use Rattle.drf_rows.specs.declared.reply.Refusal.TheVariants.{BadMoment, UnknownFramework, UnknownOffer, NotYours, UnknownTask, KnownTask, Empty, NotCovered, TooMany}
@@ -23,11 +23,12 @@ two_offers =
     )
     ∷ []
 
--- the most that one bundle may have of a scalar: twice as much has no join
+-- the greatest amount of a scalar in a bundle: twice as much has no join
 abbrev all_there_is : ℕ
 all_there_is = 18446744073709551615
 
--- an offer is accepted, one that is left is accepted whole, one is declined, and a task finishes; while filters are too many, what sets none is taken
+-- an offer is accepted, what is left is offered and accepted as a whole, an offer is declined, and a task finishes;
+-- while there are too many filters, accepts and declines that set none are accepted
 abbrev pub offers_told : Told
 offers_told =
     two_offers

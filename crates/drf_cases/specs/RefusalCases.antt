@@ -1,11 +1,11 @@
--- The number and the name by which each refusal is told.
+-- The number and the name of each refusal.
 use Rattle.std.specs.Prelude.{ℕ, List, [], ◌∷◌, codes, map}
 use Rattle.drf_role.specs.Text.{Text}
 use Rattle.drf_rows.specs.Refusal.{refusal_name, refusal_number}
 use Rattle.drf_rows.specs.declared.reply.Refusal.{Refusal}
 use Rattle.drf_rows.specs.declared.reply.Refusal.TheVariants.{HistoryFull, BadMoment, UnknownAgent, KnownAgent, UnknownFramework, KnownFramework, UnknownOffer, NotYours, UnknownTask, KnownTask, NotInRole, DefaultRole, Empty, NotUnreserved, NotCovered, OverLimit, BadWeight, TooLarge, TooMany, RoleInUse}
 
--- each of them once
+-- all refusals
 abbrev every_refusal : List Refusal
 every_refusal =
     HistoryFull
@@ -30,11 +30,11 @@ every_refusal =
     ∷ RoleInUse
     ∷ []
 
--- as the definition has them
+-- their numbers and names in the definition
 abbrev pub refusals_told : List (ℕ × Text)
 refusals_told = map (λ r. (refusal_number r, refusal_name r)) every_refusal
 
--- as the documents have them
+-- their numbers and names in the documents
 abbrev pub refusals_documented : List (ℕ × Text)
 refusals_documented =
     (1, codes "HistoryFull")

@@ -1,4 +1,4 @@
--- Reservations, weights and limits of roles: each case in which they are refused.
+-- Reservations, weights and limits of roles: runs with each of their refusals.
 use Rattle.std.specs.Prelude.{List, [], ◌∷◌, ◌++◌, codes}
 use Rattle.drf_role.specs.Role.{default_role}
 use Rattle.drf_bundle.specs.declared.quantities.Entry.{Entry}
@@ -11,7 +11,7 @@ use Rattle.drf_worked.specs.QuotaExamples.{cpus_limit}
 use Rattle.drf_worked.specs.ReportExamples.{told_cpus}
 use Rattle.drf_cases.specs.Told.{Told}
 
--- a part of an agent that takes no part is reserved, and is for everyone again
+-- a part of an inactive agent is reserved and unreserved
 abbrev pub reservations_told : Told
 reservations_told =
     (Reserve (codes "n1") eng (cpus 1000 ∷ []), Refused UnknownAgent)
@@ -35,11 +35,11 @@ reservations_told =
     ∷ (Reserve (codes "n1") ops (cpus 2000 ∷ []), Done)
     ∷ []
 
--- a name more than there may be
+-- one name of a scalar more than the capacity
 abbrev three_scalars : List Entry
 three_scalars = told_cpus 0 ++ record { label = codes "gpus"; amount = 0 } ∷ record { label = codes "mem"; amount = 0 } ∷ []
 
--- one role has a weight, which is set anew, and one a limit, which is set anew and taken away
+-- one role has a weight, which is replaced, and one has a limit, which is replaced and removed
 abbrev pub roles_told : Told
 roles_told =
     (SetWeight role_a 0, Refused BadWeight)

@@ -1,4 +1,4 @@
--- Who is served, where a part of what stands is easily left out of the count.
+-- The order of clients in states in which a wrong definition could easily leave something out.
 use Rattle.std.specs.Prelude.{ℕ, true, false, [], ◌∷◌, codes}
 use Rattle.drf_role.specs.Text.{Text}
 use Rattle.drf_bundle.specs.declared.resource.Resource.{Resource}
@@ -10,15 +10,15 @@ use Rattle.drf_rows.specs.declared.rows.TaskRow.{TaskRow}
 use Rattle.drf_worked.specs.Examples.{cpus}
 use Rattle.drf_worked.specs.OrderExamples.{agent_with, eng, framework_row, holding, ops, rows_with}
 
--- so many thousandths, for a role of one component
+-- so many thousandths of `mem`, reserved for a role of one component
 abbrev pub mem_for : Text → ℕ → Resource
 mem_for role amount = record { label = codes "mem"; role = role ∷ []; value = Scalar amount }
 
--- a framework that wants no offers
+-- a suppressed framework
 abbrev suppressed_in_eng : FrameworkRow
 suppressed_in_eng = record { name = codes "f1"; clients = record { role = eng; count = 1; suppressed = true } ∷ [] }
 
--- two frameworks share a role, of which one wants no offers and holds more than a third, of another role, does
+-- one of two frameworks in a role is suppressed and holds more than a third one in another role
 abbrev pub one_suppressed : Rows
 one_suppressed = rows_with
     (agent_with (cpus 8000 ∷ []) ∷ [])
@@ -26,7 +26,7 @@ one_suppressed = rows_with
     (holding (codes "f1") eng (cpus 2000 ∷ []) ∷ holding (codes "f3") ops (cpus 1000 ∷ []) ∷ [])
     []
 
--- two frameworks share a role, of which one wants no offers and got one
+-- one of two frameworks in a role is suppressed and has received an offer
 abbrev pub one_counted : Rows
 one_counted = rows_with
     (agent_with (cpus 8000 ∷ []) ∷ [])
@@ -34,15 +34,15 @@ one_counted = rows_with
     []
     []
 
--- an agent that takes no part
+-- an inactive agent
 abbrev idle : AgentRow
 idle = record { name = codes "n2"; total = cpus 8000 ∷ []; active = false }
 
--- what runs there
+-- a task on it
 abbrev runs_there : TaskRow
 runs_there = record { name = codes "t"; agent = codes "n2"; framework = codes "f2"; role = eng; bundle = cpus 2000 ∷ [] }
 
--- one framework has a task of it, and another, of another role, is offered half as much of another agent
+-- one framework has this task, and another in another role is offered half as much on the other agent
 abbrev pub one_idle : Rows
 one_idle = record (rows_with
     (agent_with (cpus 8000 ∷ []) ∷ idle ∷ [])

@@ -1,4 +1,4 @@
--- A run told event by event, each with its reply.
+-- Runs written down as events, each with its reply.
 use Rattle.std.specs.Prelude.{◌≡◌, ℕ, List, map}
 use Rattle.drf_rows.specs.LimitNumbers.{LimitNumbers}
 use Rattle.drf_rows.specs.Step.{opening, replies_to}
@@ -14,11 +14,11 @@ events_told told = map (λ t. t.0) told
 abbrev pub replies_told : Told → List Reply
 replies_told told = map (λ t. t.1) told
 
--- the replies are those of an allocator that was just opened, to these events
+-- a new allocator gives these replies to these events
 abbrev pub IsRun : LimitNumbers → Told → Type 0
 IsRun limits told = replies_to limits opening (events_told told) ≡ replies_told told
 
--- tables of which each is soon full
+-- capacities that are soon reached
 abbrev pub few : LimitNumbers
 few = record {
   agents = 2;
@@ -32,10 +32,10 @@ few = record {
   events = 4294967295;
 }
 
--- a moment later than the latest
+-- one more than the greatest timestamp
 abbrev pub too_late : ℕ
 too_late = 4611686018427387905
 
--- a thousandth more of a scalar than an agent may have
+-- one thousandth more than the greatest amount of a scalar on an agent
 abbrev pub too_large : ℕ
 too_large = 1099511627776

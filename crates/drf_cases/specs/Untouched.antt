@@ -1,4 +1,4 @@
--- What events leave alone that do not set it.
+-- What is unchanged by events that do not set it.
 use Rattle.std.specs.Prelude.{◌≡◌, ⊤}
 use Rattle.drf_rows.specs.LimitNumbers.{LimitNumbers}
 use Rattle.drf_rows.specs.Step.{rows_after}
@@ -14,17 +14,18 @@ abbrev pub SetsNoLimit : Event → Type 0
 SetsNoLimit (SetLimit role limit) = ⊥
 SetsNoLimit event = ⊤
 
--- a role keeps its weight, and its place, until it is set anew, whoever registers or leaves
+-- the weights of roles, and the order of their rows, stay until a weight is set
 abbrev pub WeightsStand : Type 0
 WeightsStand = (limits : LimitNumbers) (rows : Rows) (event : Event) → SetsNoWeight event → (rows_after limits rows event).weights ≡ rows.weights
 
--- and its limit
+-- so do the limits
 abbrev pub LimitsStand : Type 0
 LimitsStand = (limits : LimitNumbers) (rows : Rows) (event : Event) → SetsNoLimit event → (rows_after limits rows event).limits ≡ rows.limits
 
--- ---- filters, the clock and the next number
+-- ---- filters, the clock and the next offer number
 
--- it neither sets a filter, as an accept or a decline may, nor ends some, as a revival, other roles and the removal of an agent or a framework do
+-- the event neither can add a filter (accept, decline) nor removes some (revive, change of roles, removal of an agent
+-- or framework)
 abbrev pub TouchesNoFilter : Event → Type 0
 TouchesNoFilter (RemoveAgent agent) = ⊥
 TouchesNoFilter (SetFramework framework roles) = ⊥
@@ -44,14 +45,14 @@ abbrev pub IsNoCycle : Event → Type 0
 IsNoCycle (Cycle at) = ⊥
 IsNoCycle event = ⊤
 
--- then filters stand
+-- during such events filters stay
 abbrev pub FiltersStand : Type 0
 FiltersStand = (limits : LimitNumbers) (rows : Rows) (event : Event) → TouchesNoFilter event → (rows_after limits rows event).filters ≡ rows.filters
 
--- the clock stands over events that tell no moment
+-- the clock stays during events without a timestamp
 abbrev pub ClockStands : Type 0
 ClockStands = (limits : LimitNumbers) (rows : Rows) (event : Event) → HasNoMoment event → (rows_after limits rows event).clock ≡ rows.clock
 
--- and the number of the next offer between cycles
+-- the next offer number stays between cycles
 abbrev pub NumberStands : Type 0
 NumberStands = (limits : LimitNumbers) (rows : Rows) (event : Event) → IsNoCycle event → (rows_after limits rows event).next_offer ≡ rows.next_offer

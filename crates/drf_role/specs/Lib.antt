@@ -1,3 +1,4 @@
+-- Texts, names, roles and paths: what they are, and theorems about them.
 pub mod Text
 pub mod TextLaws
 pub mod Name

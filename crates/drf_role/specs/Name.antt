@@ -1,4 +1,4 @@
--- Which texts are names and labels, by their bytes.
+-- Which texts are names and which are labels.
 use Rattle.std.specs.Prelude.{◌≡◌, ℕ, ◌≤◌, ◌⊎◌, List, length, All}
 use Rattle.std.specs.Char.{IsAsciiAlphanumeric}
 
@@ -6,17 +6,17 @@ use Rattle.std.specs.Char.{IsAsciiAlphanumeric}
 abbrev pub IsNameByte : ℕ → Type 0
 IsNameByte b = IsAsciiAlphanumeric b ⊎ ((b ≡ 95) ⊎ ((b ≡ 45) ⊎ (b ≡ 46)))
 
--- one of those, or `/`
+-- one of these, or `/`
 abbrev pub IsLabelByte : ℕ → Type 0
 IsLabelByte b = IsNameByte b ⊎ (b ≡ 47)
 
--- the text of an agent, a framework or a task
+-- the name of an agent, a framework or a task
 pub record IsName (text : List ℕ) : Type 0 where
   pub not_empty : 1 ≤ length text
   pub short : length text ≤ 64
   pub alphabet : All IsNameByte text
 
--- the text of a resource's name, or of a member of a set
+-- the name of a resource, or of a member of a set
 pub record IsLabel (text : List ℕ) : Type 0 where
   pub not_empty : 1 ≤ length text
   pub short : length text ≤ 64

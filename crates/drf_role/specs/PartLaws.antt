@@ -1,4 +1,4 @@
--- The parts of a text, and the text of parts.
+-- Cutting a text into parts, and joining parts to a text.
 use Rattle.std.proofs.Common.{subst, ◌↔◌, IsTrue, inl, inr, ⊎_elim, append_assoc, Decides, ◌≡◌, ℕ, ◌≤◌, Bool, true, false, eqb, List, [], ◌∷◌, ◌++◌, length, refl, sym, ◌∙◌, ap, arith}
 use Rattle.std.specs.List.{onto_first, All}
 use Rattle.std.proofs.lemmas.List.Splits.{slice_split-cons_yes, slice_split-cons_no, slice_split_none, slice_split_at, length-slice_split, join_with_byte-slice_split}
@@ -8,7 +8,7 @@ use Rattle.std.proofs.lemmas.Bool.Decides.{same_from_decides}
 use Rattle.std.proofs.lemmas.List.{append-nil}
 use Rattle.drf_role.specs.Parts.{parts_of, text_of, BeginsWith, GoesOn}
 
--- a text has a first part
+-- the list of parts is not empty
 abbrev pub HasFirst : List (List ℕ) → Type 0
 HasFirst parts = (p : List ℕ) × (ps : List (List ℕ)) × (parts ≡ p ∷ ps)
 
@@ -26,7 +26,7 @@ text_of-parts_of bs = join_with_byte-slice_split 47 bs
 abbrev pub HasNoSlash : List ℕ → Type 0
 HasNoSlash part = All (λ b. eqb b 47 ≡ false) part
 
--- parts without `/` are found again in their text
+-- parts without `/` are the parts of their text
 pub parts_of-text_of : (p : List ℕ) (ps : List (List ℕ)) → All HasNoSlash (p ∷ ps) → parts_of (text_of (p ∷ ps)) ≡ p ∷ ps
 parts_of-text_of p [] h = slice_split_none (λ b. eqb b 47) p (All-head HasNoSlash p [] h)
 parts_of-text_of p (q ∷ qs) h =
@@ -80,7 +80,7 @@ text_from_begins text front h = by (parts_of front) h.0 (first_part front) (text
 pub paths_decided : (ps qs : List (List ℕ)) → Decides (pointwise (pointwise eqb) ps qs) (ps ≡ qs)
 paths_decided = pointwise_decides bytes_decides
 
--- texts are equal where their parts are
+-- two texts are equal exactly if their parts are
 pub same_parts : (t u : List ℕ) → pointwise eqb t u ≡ pointwise (pointwise eqb) (parts_of t) (parts_of u)
 same_parts t u =
     let by_parts = paths_decided (parts_of t) (parts_of u) in

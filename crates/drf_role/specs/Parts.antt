@@ -1,4 +1,4 @@
--- A text in parts, which `/` separates.
+-- A text in parts that are separated by `/`.
 use Rattle.std.specs.Prelude.{◌==◌, ◌≡◌, ℕ, List, ◌∷◌, ◌++◌, ◌⊎◌}
 use Rattle.std.specs.List.{slice_split, join_with_byte}
 
@@ -10,10 +10,10 @@ parts_of text = slice_split (λ b. b == 47) text
 abbrev pub text_of : List (List ℕ) → List ℕ
 text_of parts = join_with_byte 47 parts
 
--- the path begins with the other path's parts
+-- the parts of `front` are a prefix of the path
 abbrev pub BeginsWith : List (List ℕ) → List (List ℕ) → Type 0
 BeginsWith path front = (rest : List (List ℕ)) × (front ++ rest ≡ path)
 
--- the text is the other one, or goes on after it with `/`
+-- the text is equal to the other one, or continues it with `/`
 abbrev pub GoesOn : List ℕ → List ℕ → Type 0
 GoesOn text front = (text ≡ front) ⊎ ((more : List ℕ) × (text ≡ front ++ 47 ∷ more))

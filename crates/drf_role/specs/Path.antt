@@ -1,4 +1,4 @@
--- The paths of clients and of nodes, each the list of its parts.
+-- The paths of clients and nodes, as lists of parts.
 use Rattle.std.specs.Prelude.{◌≡◌, ◌≢◌, ◌-◌, Bool, List, [], ◌∷◌, ◌++◌, length, slice_index_or, take, codes}
 use Rattle.std.specs.List.{starts_with}
 use Rattle.std.specs.Cmp.Lexicographic.{pointwise}
@@ -7,7 +7,7 @@ use Rattle.drf_role.specs.Name.{IsName}
 use Rattle.drf_role.specs.Parts.{BeginsWith}
 use Rattle.drf_role.specs.Role.{IsRole}
 
--- a path, or a role, is the list of its parts
+-- a path or a role is the list of its parts
 abbrev pub Path : Type 0
 Path = List Text
 
@@ -19,11 +19,11 @@ same_path = pointwise same_text
 abbrev pub begins_with : Path → Path → Bool
 begins_with path node = starts_with same_text path node
 
--- the parts of a client's path: those of its role, `.` for the clients of the role itself, and its framework
+-- the path of a client: the parts of its role, then `.`, then its framework
 abbrev pub client_path : Path → Text → Path
 client_path role framework = role ++ codes "." ∷ framework ∷ []
 
--- a role and the name of a framework, of which a client's path consists
+-- a valid role and a valid name of a framework, from which a client path is made
 pub record IsNamed (role : Path) (framework : Text) : Type 0 where
   pub right_role : IsRole role
   pub right_name : IsName framework
@@ -36,7 +36,7 @@ pub record IsClientPath (path : Path) : Type 0 where
   pub right_name : IsName framework
   pub joined : path ≡ client_path role framework
 
--- a non-empty prefix of some client's path
+-- a non-empty prefix of some client path
 pub record IsNodePath (node : Path) : Type 0 where
   pub path : Path
   pub right_path : IsClientPath path

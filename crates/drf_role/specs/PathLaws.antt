@@ -1,4 +1,4 @@
--- What comparing paths gives, and that no client path begins with another.
+-- Properties of comparing paths, and that no client path is a prefix of another.
 use Rattle.std.specs.Prelude.{◌-◌, ◌&&◌, slice_index_or, take, codes}
 use Rattle.std.proofs.Math.Seq.{take-append_seam}
 use Rattle.std.specs.Bool.{Decides}
@@ -27,7 +27,7 @@ same_path-swap a b =
     same_from_decides (same_path a b) (same_path b a) (path_decides a b)
     (Decides-like (same_path b a) sym sym (path_decides b a))
 
--- ---- a client's path tells its framework and its role
+-- ---- a client path determines its framework and its role
 
 same_ends : (r s : Path) (f g : Text) → client_path r f ≡ client_path s g → (f ≡ g) × (r ≡ s)
 same_ends r s f g same =
@@ -47,7 +47,7 @@ same_path-client_path r s f g =
     (same_ends r s f g)
     (Decides-and (same_text f g) (same_path r s) (bytes_decides f g) (path_decides r s)))
 
--- a client path gives back its role and its framework
+-- the role can be recovered from a client path
 role_at : (r : Path) (a b : Text) → take (length (r ++ a ∷ b ∷ []) - 2) (r ++ a ∷ b ∷ []) ≡ r
 role_at r a b =
     let e : length (r ++ a ∷ b ∷ []) - 2 ≡ length r = omega (arith, length-append r (a ∷ b ∷ [])) in
@@ -64,7 +64,7 @@ role_part-client_path role framework = role_at role _ framework
 pub framework_part-client_path : (role : Path) (framework : Text) → framework_part (client_path role framework) ≡ framework
 framework_part-client_path role framework = framework_at role _ framework
 
--- ---- no client path begins with another
+-- ---- no client path is a prefix of another
 
 -- no part is `.`
 abbrev pub NoDots : Path → Type 0
@@ -82,7 +82,7 @@ pub no_dots-role : (role : Path) → IsRole role → NoDots role
 no_dots-role role (inl default) = subst NoDots (sym default) (star_no_dot, tt)
 no_dots-role role (inr path) = no_dots-components role path.each
 
--- the first `.` is where the role ends
+-- the first `.` shows where the role ends
 ends_there : (first second : Path) (f g : Text) (rest : Path) → NoDots first → NoDots second → client_path first f ≡ client_path second g ++ rest → rest ≡ []
 ends_there [] [] f g rest p q e = cc
 ends_there [] (y ∷ ys) f g rest p q e = absurd (q.0 cc)

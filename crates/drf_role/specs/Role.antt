@@ -1,4 +1,4 @@
--- Which texts are roles, and which roles stand below others. A role is the list of its components.
+-- Which texts are roles, and which roles are below others. A role is the list of its components.
 use Rattle.std.specs.Prelude.{◌≡◌, ◌≢◌, ℕ, ◌≤◌, ◌⊎◌, List, [], ◌∷◌, ◌++◌, length, All, Some, slice_get, codes}
 use Rattle.std.specs.Char.{IsAsciiGraphic}
 use Rattle.drf_role.specs.Parts.{text_of}
@@ -24,7 +24,7 @@ pub record IsComponent (component : List ℕ) : Type 0 where
 abbrev pub default_role : List (List ℕ)
 default_role = codes "*" ∷ []
 
--- 1 to 8 components, whose text has at most 64 bytes
+-- 1 to 8 valid components, whose text has at most 64 bytes
 pub record IsRolePath (components : List (List ℕ)) : Type 0 where
   pub some : 1 ≤ length components
   pub few : length components ≤ 8
@@ -34,7 +34,7 @@ pub record IsRolePath (components : List (List ℕ)) : Type 0 where
 abbrev pub IsRole : List (List ℕ) → Type 0
 IsRole components = (components ≡ default_role) ⊎ IsRolePath components
 
--- some role is written so
+-- it is the text of some role
 abbrev pub IsRoleText : List ℕ → Type 0
 IsRoleText text = (components : List (List ℕ)) × IsRole components × (text_of components ≡ text)
 

@@ -26,7 +26,7 @@ parts_of_role role h = ⊎_elim (λ e. ap (λ r. parts_of (text_of r)) e ∙ sym
     path [] p = absurd (let h = p.some in omega arith)
     path (c ∷ cs) p = parts_of-text_of c cs (no_slashes (c ∷ cs) p.each)
 
--- a text is a role's where its parts are a role
+-- a text is that of a role exactly if its parts are a role
 pub role_from_text : (text : List ℕ) → IsRoleText text → IsRole (parts_of text)
 role_from_text text h =
     subst IsRole (sym (parts_of_role h.0 h.1) ∙ ap parts_of h.2) h.1

@@ -1,4 +1,4 @@
--- The tests on names, labels and roles are exact.
+-- The tests for names, labels and roles are exact.
 use Rattle.std.proofs.Common.{◌≡◌, ◌≢◌, ℕ, ◌≤◌, Bool, true, eqb, leb, List, [], ◌∷◌, length, All, Decides, Some, codes, refl, sym, ap, subst, ◌∙◌, inl, inr, ⊎_elim, arith, get_or}
 use Rattle.std.specs.Prelude.{◌&&◌}
 use Rattle.std.specs.Int.{IsInRange, is_in_range}
@@ -109,7 +109,7 @@ default_decides text = (
   λ e. test_from_same text (codes "*") (sym (text_again text) ∙ ap text_of e),
 )
 
--- what passes the test is cut into the parts of a role
+-- a text passes the test exactly if its parts are a role
 pub role_decides : (text : Text) → Decides (is_role text) (IsRole (parts_of text))
 role_decides text = Decides-or _ _ (default_decides text) (path_decides text)
 

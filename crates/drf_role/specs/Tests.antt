@@ -1,4 +1,4 @@
--- Which texts are names, labels and roles, as tests.
+-- Tests for names, labels and roles.
 use Rattle.std.specs.Prelude.{ℕ, Bool, not, ◌&&◌, ◌||◌, ◌==◌, length, nat_le, nat_lt, codes, slice_index_or}
 use Rattle.std.specs.List.{list_all}
 use Rattle.std.specs.Char.{is_ascii_alphanumeric, is_ascii_graphic}
@@ -9,7 +9,7 @@ use Rattle.drf_role.specs.Parts.{parts_of}
 abbrev pub is_name_byte : ℕ → Bool
 is_name_byte b = is_ascii_alphanumeric b || (b == 95 || (b == 45 || b == 46))
 
--- one of those, or `/`
+-- one of these, or `/`
 abbrev pub is_label_byte : ℕ → Bool
 is_label_byte b = is_name_byte b || b == 47
 
@@ -23,7 +23,7 @@ is_label text = nat_lt 0 (length text) && (nat_le (length text) 64 && list_all i
 abbrev pub is_component_byte : ℕ → Bool
 is_component_byte b = is_ascii_graphic b && not (b == 47 || (b == 40 || (b == 41 || (b == 58 || b == 59))))
 
--- neither `.`, `..` nor `*`, and no `-` stands first
+-- a component is not `.`, `..` or `*`, and does not begin with `-`
 abbrev pub is_component : Text → Bool
 is_component text =
     nat_lt 0 (length text) && not (slice_index_or text 0 0 == 45)

@@ -1,4 +1,4 @@
--- What comparing texts by their bytes gives.
+-- Properties of comparing texts byte by byte.
 use Rattle.std.specs.Prelude.{◌≡◌, ◌≢◌, ◌⊎◌, ℕ, false, List, IsTrue}
 use Rattle.std.specs.Cmp.Lexicographic.{slice_cmp, bytes_decides, nat_list_cmp_total, texts_ties}
 use Rattle.std.specs.Ordering.{nat_cmp, is_lt, is_eq, ordering_reverse}
@@ -19,7 +19,7 @@ same_itself a = test_from_same a a refl
 pub test_from_other : (a b : List ℕ) → a ≢ b → same_text a b ≡ false
 test_from_other a b other = false_from_ne_true (same_text a b) (λ same. other (same_from_test a b same))
 
--- the two texts are one, or they are not
+-- the two texts are equal, or they are not
 pub cases_same : (a b : List ℕ) → (IsTrue (same_text a b) × (a ≡ b)) ⊎ ((same_text a b ≡ false) × (a ≢ b))
 cases_same a b = elim (cases_Bool (same_text a b)) [
   | inl same ↦ inl (same, same_from_test a b same)
@@ -49,7 +49,7 @@ above_from_cmp a b greater = ap is_lt (nat_list_cmp_total.antisymm b a ∙ ap or
 pub same_from_cmp : (a b : List ℕ) → slice_cmp nat_cmp a b ≡ Equal → a ≡ b
 same_from_cmp a b equal = same_from_test a b (texts_ties a b ∙ ap is_eq equal)
 
--- the three answers of a comparison, with what each says
+-- the three results of a comparison
 pub cases_cmp : (a b : List ℕ) → (slice_cmp nat_cmp a b ≡ Less) ⊎ ((slice_cmp nat_cmp a b ≡ Equal) ⊎ (slice_cmp nat_cmp a b ≡ Greater))
 cases_cmp a b = of (slice_cmp nat_cmp a b)
   where
@@ -58,7 +58,7 @@ cases_cmp a b = of (slice_cmp nat_cmp a b)
     of Equal = inr (inl refl)
     of Greater = inr (inr refl)
 
--- what stands before a text is not that text
+-- a text that comes before another is not equal to it
 pub below_other : (a b : List ℕ) → IsTrue (text_below a b) → same_text a b ≡ false
 below_other a b below = test_from_other a b (λ e. false≢true (ap is_lt (sym (cmp_itself b)) ∙ subst (λ (t : List ℕ). IsTrue (text_below t b)) e below))
 

@@ -1,4 +1,4 @@
--- Some runs, with the replies that they are to have.
+-- Runs with their expected replies: cycles, reservations and capacities.
 use Rattle.std.specs.Prelude.{ℕ, List, [], ◌∷◌, ◌++◌, codes}
 use Rattle.drf_role.specs.Text.{Text}
 use Rattle.drf_role.specs.Role.{default_role}
@@ -13,11 +13,11 @@ use Rattle.drf_rows.specs.declared.reply.Reply.{Reply}
 use Rattle.drf_rows.specs.declared.reply.Reply.TheVariants.{Done, Offers, Refused}
 use Rattle.drf_rows.specs.Step.{opening, replies_to}
 
--- so many thousandths, for everyone
+-- so many thousandths of a scalar, unreserved
 abbrev pub scalar : Text → ℕ → Resource
 scalar label amount = record { label = label; role = default_role; value = Scalar amount }
 
--- so many thousandths, for a role of one component
+-- so many thousandths of `cpus`, reserved for a role of one component
 abbrev pub cpus_for : Text → ℕ → Resource
 cpus_for role amount = record { label = codes "cpus"; role = role ∷ []; value = Scalar amount }
 
@@ -30,7 +30,7 @@ mem amount = scalar (codes "mem") amount
 abbrev pub gpus : ℕ → Resource
 gpus amount = scalar (codes "gpus") amount
 
--- a framework that registers in one role of one component
+-- a framework registers in one role of one component
 abbrev pub framework_in : Text → Text → Event
 framework_in framework role = AddFramework framework ((role ∷ []) ∷ [])
 
@@ -52,7 +52,7 @@ one_cycle =
     ∷ Cycle 0
     ∷ []
 
--- what is offered is not offered again
+-- offered resources are not offered again
 abbrev pub two_cycles : List Event
 two_cycles = one_cycle ++ Cycle 0 ∷ []
 
@@ -93,7 +93,7 @@ two_frameworks_replies =
     ∷ Offers []
     ∷ []
 
--- what is reserved for a role is offered to it and below it, and to no other
+-- reserved resources are offered to their role and the roles below it, and to no other
 abbrev pub reserved_for_eng : List Event
 reserved_for_eng =
     AddAgent (codes "n1") (cpus_for (codes "eng") 4000 ∷ mem 64000 ∷ [])
@@ -118,7 +118,7 @@ reserved_for_eng_replies =
     } ∷ [])
     ∷ []
 
--- the replies to a framework, an agent and a cycle
+-- the replies when a framework and then an agent with this total register, and a cycle follows
 abbrev pub replies_with : List Resource → List Reply
 replies_with total =
     replies_to ceilings opening (framework_in (codes "f1") (codes "a") ∷ AddAgent (codes "n1") total ∷ Cycle 0 ∷ [])
@@ -127,7 +127,7 @@ replies_with total =
 abbrev pub not_offered : List Reply
 not_offered = Done ∷ Done ∷ Offers [] ∷ []
 
--- the agent is offered whole
+-- everything on the agent is offered
 abbrev pub offered_whole : List Resource → List Reply
 offered_whole total =
     Done ∷ Done ∷ Offers (offer 1 (codes "f1") (codes "a") (codes "n1") total ∷ []) ∷ []
@@ -136,18 +136,18 @@ offered_whole total =
 abbrev pub refused_as_too_large : List Reply
 refused_as_too_large = Done ∷ Refused TooLarge ∷ Offers [] ∷ []
 
--- one agent more than the limit of one
+-- the capacity is one agent, and two register
 abbrev pub one_agent : LimitNumbers
 one_agent = record ceilings { agents = 1 }
 
 abbrev pub two_agents : List Event
 two_agents = AddAgent (codes "n1") (cpus 1000 ∷ []) ∷ AddAgent (codes "n2") (cpus 1000 ∷ []) ∷ []
 
--- one event more than the limit of two
+-- the capacity is two events, and there are three
 abbrev pub two_events : LimitNumbers
 two_events = record ceilings { events = 2 }
 
--- a name of a scalar more than the limit of two
+-- the capacity is two names of scalars, and there are three
 abbrev pub two_names : LimitNumbers
 two_names = record ceilings { scalar_names = 2 }
 
@@ -158,7 +158,7 @@ three_names =
     ∷ AddAgent (codes "n3") (mem 1000 ∷ [])
     ∷ []
 
--- the names of an agent that is not active count too
+-- the names of an inactive agent count too
 abbrev pub names_kept : List Event
 names_kept =
     AddAgent (codes "n1") (cpus 1000 ∷ mem 1000 ∷ [])
@@ -171,7 +171,7 @@ names_kept =
 abbrev pub names_kept_replies : List Reply
 names_kept_replies = Done ∷ Done ∷ Refused TooMany ∷ Done ∷ Refused TooMany ∷ []
 
--- one framework, or one client, more than the limit of one
+-- the capacity is one framework, or one client, and there are two
 abbrev pub one_framework : LimitNumbers
 one_framework = record ceilings { frameworks = 1 }
 
@@ -181,7 +181,7 @@ one_client = record ceilings { clients = 1 }
 abbrev pub two_registrations : List Event
 two_registrations = framework_in (codes "f1") (codes "a") ∷ framework_in (codes "f2") (codes "a") ∷ []
 
--- a role listed twice is one role, and one client; one more is over the limit of one
+-- the capacity is one role: a role listed twice is one role and one client, and another role is too many
 abbrev pub one_role : LimitNumbers
 one_role = record ceilings { roles = 1 }
 

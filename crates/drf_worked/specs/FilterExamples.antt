@@ -1,4 +1,4 @@
--- Runs that tell whom a filter, a suppression and a removal concern, and whom not.
+-- Runs that show which clients and agents are affected by filters, suppression and removals.
 use Rattle.std.specs.Prelude.{ℕ, List, [], ◌∷◌, codes}
 use Rattle.drf_role.specs.Text.{Text}
 use Rattle.drf_worked.specs.Examples.{cpus, mem, framework_in, offer}
@@ -10,18 +10,18 @@ use Rattle.drf_rows.specs.declared.reply.Refusal.TheVariants.{UnknownAgent}
 use Rattle.drf_rows.specs.declared.reply.Reply.{Reply}
 use Rattle.drf_rows.specs.declared.reply.Reply.TheVariants.{Done, Offers, Refused}
 
--- an agent that has one of `cpus`, and an offer of all of it
+-- an agent with 1 `cpus`, and an offer of all of it
 abbrev one_cpu : Text → Event
 one_cpu agent = AddAgent agent (cpus 1000 ∷ [])
 
 abbrev cpu_of : Text → ℕ → Text → Text → OfferLine
 cpu_of agent number framework role = offer number framework role agent (cpus 1000 ∷ [])
 
--- a framework that registers in two roles
+-- a framework registers in two roles
 abbrev in_both : Text → Event
 in_both framework = AddFramework framework ((codes "a" ∷ []) ∷ (codes "b" ∷ []) ∷ [])
 
--- declined at moment 0, for five seconds
+-- a decline at time 0, with a filter for five seconds
 abbrev refuse : Text → ℕ → Event
 refuse framework number = decline_for framework number 0 5000
 
@@ -31,7 +31,7 @@ suppress framework role = Suppress framework (role ∷ [])
 abbrev revive : Text → Text → Event
 revive framework role = Revive framework (role ∷ [])
 
--- a filter is one client's on one agent, and the suppression of a client that client's alone
+-- a filter affects one client on one agent, and suppression affects one client
 abbrev pub whose_filter : List Event
 whose_filter =
     one_cpu (codes "n1")
@@ -68,11 +68,11 @@ whose_filter_replies =
     ∷ Offers (cpu_of (codes "n1") 5 (codes "f2") (codes "a") ∷ cpu_of (codes "n2") 6 (codes "f1") (codes "a") ∷ [])
     ∷ []
 
--- an offer of all of an agent that has `mem` too
+-- an offer of everything on an agent that also has `mem`
 abbrev whole : ℕ → OfferLine
 whole number = offer number (codes "f1") (codes "a") (codes "n1") (cpus 1000 ∷ mem 64000 ∷ [])
 
--- the rest of an accepted offer is refused from the moment of the accept on, and a bundle that it does not cover is not
+-- from the accept on, the rest of the offer is not offered again, but a bundle that the filter does not cover is
 abbrev pub a_rest : List Event
 a_rest =
     AddAgent (codes "n1") (cpus 1000 ∷ mem 64000 ∷ [])
@@ -107,7 +107,7 @@ a_rest_replies =
     ∷ one (offer 4 (codes "f1") (codes "a") (codes "n1") (mem 64000 ∷ []))
     ∷ []
 
--- a decline moves the clock, and its filter counts from there
+-- a decline moves the clock, and its filter begins then
 abbrev pub a_later_decline : List Event
 a_later_decline =
     one_cpu (codes "n1")
@@ -128,7 +128,7 @@ a_later_decline_replies =
     ∷ one (cpu_of (codes "n1") 2 (codes "f1") (codes "a"))
     ∷ []
 
--- where one filter may be in force and is, what sets none is not refused; the latest moment is accepted
+-- the capacity is one filter, and one is in force: what sets no filter is accepted; so is the greatest timestamp
 abbrev pub at_the_limit : List Event
 at_the_limit =
     one_cpu (codes "n1")
@@ -159,7 +159,8 @@ at_the_limit_replies =
     ∷ Offers (cpu_of (codes "n1") 4 (codes "f1") (codes "a") ∷ cpu_of (codes "n2") 5 (codes "f1") (codes "a") ∷ [])
     ∷ []
 
--- a client revives in its role alone: its framework's other client and its role's stay as they are
+-- a client revives only in its role: the other client of its framework and the other client in its role stay as they
+-- are
 abbrev pub two_roles : List Event
 two_roles =
     one_cpu (codes "n1")
@@ -212,7 +213,7 @@ two_roles_replies =
     ∷ one (cpu_of (codes "n1") 5 (codes "f1") (codes "b"))
     ∷ []
 
--- filters outlast a deactivation, and the revival of another framework in the same role
+-- filters stay when their agent is deactivated, and when another framework revives in the same role
 abbrev pub one_role_revives : List Event
 one_role_revives =
     one_cpu (codes "n1")
@@ -253,7 +254,8 @@ one_role_revives_replies =
     ∷ none
     ∷ []
 
--- who leaves takes along what is theirs alone; tasks outlast a deactivation, and each framework names its own
+-- removals affect only what belongs to the removed; tasks stay when their agent is deactivated, and each framework has
+-- its own task names
 abbrev pub who_leaves : List Event
 who_leaves =
     one_cpu (codes "n1")

@@ -1,3 +1,4 @@
+-- Runs with their expected replies, and definitions for writing such runs.
 pub mod Examples
 pub mod OrderExamples
 pub mod WeightExamples

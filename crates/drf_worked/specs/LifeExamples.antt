@@ -1,4 +1,4 @@
--- Runs in which offers are accepted and declined, tasks finish, and agents and frameworks leave.
+-- Runs in which offers are accepted and declined, tasks finish, and agents and frameworks are removed.
 use Rattle.std.specs.Prelude.{ℕ, List, [], ◌∷◌, ◌++◌, codes}
 use Rattle.drf_role.specs.Text.{Text}
 use Rattle.drf_bundle.specs.declared.resource.Resource.{Resource}
@@ -17,14 +17,14 @@ use Rattle.drf_rows.specs.declared.reply.Reply.{Reply}
 use Rattle.drf_rows.specs.declared.reply.Reply.TheVariants as reply
 use Rattle.drf_rows.specs.declared.reply.Reply.TheVariants.{Done, Offers, Refused}
 
--- one offer is all that a cycle makes, or none is
+-- the reply to a cycle that makes one offer, or none
 abbrev pub one : OfferLine → Reply
 one line = Offers (line ∷ [])
 
 abbrev pub none : Reply
 none = Offers []
 
--- at a moment, and for a time
+-- an accept at a time, with a filter for a time
 abbrev pub accept_for : Text → ℕ → List Start → ℕ → ℕ → Event
 accept_for framework number tasks at refuse_ms =
     Accept (record { framework = framework; offer = number; tasks = tasks; at = at; refuse_ms = refuse_ms })
@@ -33,18 +33,18 @@ abbrev pub decline_for : Text → ℕ → ℕ → ℕ → Event
 decline_for framework number at refuse_ms =
     Decline (record { framework = framework; offer = number; at = at; refuse_ms = refuse_ms })
 
--- at moment 0, and for no time
+-- an accept at time 0, without a filter
 abbrev pub accept : Text → ℕ → Text → List Resource → Event
 accept framework number task used = accept_for framework number ((task, used) ∷ []) 0 0
 
 abbrev pub decline : Text → ℕ → Event
 decline framework number = decline_for framework number 0 0
 
--- an offer of all of an agent that has one of `cpus`
+-- an offer of everything on an agent that has 1 `cpus`
 abbrev pub offer_of_n1 : ℕ → OfferLine
 offer_of_n1 number = offer number (codes "f1") (codes "a") (codes "n1") (cpus 1000 ∷ [])
 
--- what a task uses is offered again when it has finished
+-- what a task uses is offered again after it has finished
 abbrev pub a_task : List Event
 a_task =
     AddAgent (codes "n1") (cpus 1000 ∷ mem 64000 ∷ [])
@@ -73,7 +73,7 @@ a_task_replies =
     ∷ Refused KnownAgent
     ∷ []
 
--- several tasks are started with one offer, all or none
+-- an offer starts several tasks, or none
 abbrev pub accept_two : List Resource → List Resource → Event
 accept_two first second =
     accept_for (codes "f1") 1 ((codes "t1", first) ∷ (codes "t2", second) ∷ []) 0 0
@@ -108,7 +108,7 @@ two_tasks_replies =
     ∷ one (offer 3 (codes "f1") (codes "a") (codes "n1") (cpus 2000 ∷ []))
     ∷ []
 
--- what is declined is offered to another, and again to the first from the end of its filter on
+-- declined resources are offered to another client, and again to the first when its filter ends
 abbrev pub a_filter : List Event
 a_filter =
     AddAgent (codes "n1") (cpus 2000 ∷ mem 512000 ∷ [])
@@ -137,7 +137,7 @@ a_filter_replies =
     ∷ one (offer 4 (codes "fa") (codes "a") (codes "n1") (cpus 1000 ∷ mem 512000 ∷ []))
     ∷ []
 
--- a filter's time counts from the clock, which a cycle at an earlier moment does not set back
+-- the time of a filter begins at the clock, which a cycle with an earlier timestamp does not move back
 abbrev pub a_clock : List Event
 a_clock =
     AddAgent (codes "n1") (cpus 1000 ∷ [])
@@ -152,7 +152,7 @@ a_clock =
 abbrev pub a_clock_replies : List Reply
 a_clock_replies = Done ∷ Done ∷ one (offer_of_n1 1) ∷ Done ∷ none ∷ none ∷ one (offer_of_n1 2) ∷ []
 
--- nothing is refused for longer than 365 days
+-- no filter lasts longer than 365 days
 abbrev pub a_year : List Event
 a_year =
     AddAgent (codes "n1") (cpus 1000 ∷ [])
@@ -166,7 +166,7 @@ a_year =
 abbrev pub a_year_replies : List Reply
 a_year_replies = Done ∷ Done ∷ one (offer_of_n1 1) ∷ Done ∷ none ∷ one (offer_of_n1 2) ∷ []
 
--- agents and clients take part or do not, and leave
+-- agents and clients become inactive and active again, and are removed
 abbrev pub taking_part : List Event
 taking_part =
     AddAgent (codes "n1") (cpus 1000 ∷ [])
@@ -191,7 +191,7 @@ taking_part =
     ∷ event.Report
     ∷ []
 
--- a framework with three offers behind it, where nothing is
+-- the report about a framework that has received three offers, when there are no resources
 abbrev all_gone : Report
 all_gone = record {
   total = [];
@@ -226,7 +226,7 @@ taking_part_replies =
     ∷ reply.Report none_reported
     ∷ []
 
--- what is refused, one case at a time
+-- each refusal, one at a time
 abbrev pub refused : List Event
 refused =
     AddAgent (codes "n1") (cpus 2000 ∷ mem 64000 ∷ [])
@@ -271,7 +271,7 @@ refused_replies =
     ∷ Refused KnownTask
     ∷ []
 
--- the limit of filters counts those in force
+-- only filters in force count for the capacity
 abbrev pub one_filter : LimitNumbers
 one_filter = record ceilings { filters = 1 }
 

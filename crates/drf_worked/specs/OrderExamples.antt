@@ -1,4 +1,4 @@
--- Some rows, and the frameworks in the order in which they are served.
+-- States, with the frameworks in the order in which they are served.
 use Rattle.std.specs.Prelude.{ℕ, true, false, List, [], ◌∷◌, map, codes}
 use Rattle.drf_role.specs.Path.{Path}
 use Rattle.drf_role.specs.Text.{Text}
@@ -14,12 +14,12 @@ use Rattle.drf_rows.specs.declared.rows.Rows.{Rows}
 abbrev pub agent_with : List Resource → AgentRow
 agent_with total = record { name = codes "n1"; total = total; active = true }
 
--- a framework in one role, to which so many offers were made
+-- a framework in one role that has received so many offers
 abbrev pub framework_row : Text → Path → ℕ → FrameworkRow
 framework_row name role count =
     record { name = name; clients = record { role = role; count = count; suppressed = false } ∷ [] }
 
--- what it holds
+-- an offer that the framework holds
 abbrev pub holding : Text → Path → List Resource → OfferRow
 holding name role bundle =
     record { number = 1; agent = codes "n1"; framework = name; role = role; bundle = bundle }
@@ -56,7 +56,7 @@ close_shares = rows_with
     (holding (codes "fa") role_a (cpus 1000 ∷ []) ∷ holding (codes "fb") role_b (mem 333000 ∷ []) ∷ [])
     []
 
--- 12288/18432 is 6/9, and the second framework was made fewer offers
+-- 12288/18432 is 6/9, and the second framework has received fewer offers
 abbrev pub equal_shares : Rows
 equal_shares = rows_with
     (agent_with (cpus 9000 ∷ mem 18432000 ∷ []) ∷ [])
@@ -64,7 +64,7 @@ equal_shares = rows_with
     (holding (codes "fa") role_a (cpus 3000 ∷ mem 12288000 ∷ []) ∷ holding (codes "fb") role_b (cpus 6000 ∷ mem 2048000 ∷ []) ∷ [])
     []
 
--- 3/9 by a weight of 3 is 1/9, the counts are equal, and the names decide
+-- 3/9 divided by the weight 3 is 1/9, the counts are equal, and the names decide
 abbrev pub weighted_shares : Rows
 weighted_shares = rows_with
     (agent_with (cpus 9000 ∷ []) ∷ [])
@@ -72,7 +72,7 @@ weighted_shares = rows_with
     (holding (codes "fa") role_a (cpus 1000 ∷ []) ∷ holding (codes "fb") role_b (cpus 3000 ∷ []) ∷ [])
     (record { role = role_b; weight = 3000 } ∷ [])
 
--- 3/9 against 8192/18432, and 3/10 against 8192/55296 once there is a second agent
+-- 3/9 against 8192/18432; with a second agent 3/10 against 8192/55296
 abbrev pub shares_of : List AgentRow → Rows
 shares_of agents = rows_with agents
     (framework_row (codes "fa") role_a 1 ∷ framework_row (codes "fb") role_b 1 ∷ [])
@@ -85,7 +85,7 @@ first_agent = agent_with (cpus 9000 ∷ mem 18432000 ∷ [])
 abbrev pub second_agent : AgentRow
 second_agent = record { name = codes "n2"; total = cpus 1000 ∷ mem 36864000 ∷ []; active = true }
 
--- what it has counts in the totals though it takes no turn
+-- its resources count in the total, although it has no turn
 abbrev pub idle_agent : AgentRow
 idle_agent = record second_agent { active = false }
 
@@ -98,7 +98,7 @@ eng_web = codes "eng" ∷ codes "web" ∷ []
 abbrev pub ops : Path
 ops = codes "ops" ∷ []
 
--- three roles, of which one stands below another
+-- three roles, one of them below another
 abbrev pub role_tree : ℕ → List OfferRow → List WeightRow → Rows
 role_tree count_of_f3 more_for_f3 weights = rows_with
     (agent_with (cpus 8000 ∷ []) ∷ [])
@@ -115,7 +115,7 @@ more_for_ops = holding (codes "f3") ops (cpus 2000 ∷ []) ∷ []
 abbrev pub half_weight_of_eng : List WeightRow
 half_weight_of_eng = record { role = eng; weight = 500 } ∷ []
 
--- a role below may stand before the role's own clients
+-- a role below can come before the clients of the role itself
 abbrev pub nothing_held : Rows
 nothing_held = rows_with
     (agent_with (cpus 8000 ∷ []) ∷ [])
@@ -131,6 +131,6 @@ half_at_work = rows_with
     []
     []
 
--- the agents and the frameworks of what a cycle offers
+-- the agents and frameworks of the offers of a cycle
 abbrev pub offered : Rows → List (Text × Text)
 offered rows = map (λ o. (o.agent, o.framework)) (cycle rows 0).offers

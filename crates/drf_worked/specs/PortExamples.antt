@@ -1,4 +1,5 @@
--- Runs over numbers of ports, which are no scalars: limits leave them whole, and tasks and reservations share no number.
+-- Runs with any sets of ports. They are not scalars: limits do not cut them, and tasks and reservations share no
+-- number.
 use Rattle.std.specs.Prelude.{◌≡◌, ℕ, eqb, ◌<◌, ◌==◌, Bool, true, false, not, ◌&&◌, IsTrue, List, [], ◌∷◌, ◌++◌, codes, nat_lt, ◌||◌}
 use Rattle.std.specs.Ordering.{nat_cmp}
 use Rattle.std.specs.FinSet as set
@@ -35,14 +36,14 @@ use Rattle.drf_rows.specs.declared.reply.Reply.TheVariants.{Done, Offers, Refuse
 abbrev pub Numbers : Type 0
 Numbers = set.FinSet nat_cmp
 
--- ports of those numbers, for everyone and for a role
+-- ports with these numbers, unreserved or reserved for a role
 abbrev pub ports : Numbers → Resource
 ports numbers = record { label = codes "ports"; role = default_role; value = Ranges numbers }
 
 abbrev pub ports_in : Path → Numbers → Resource
 ports_in role numbers = record { label = codes "ports"; role = role; value = Ranges numbers }
 
--- a limit of nothing holds all `cpus` back, and no ports
+-- a limit of 0 keeps all `cpus` from being offered, but no ports
 abbrev pub no_cpus_but_ports : Numbers → List Event
 no_cpus_but_ports all =
     AddAgent (codes "n1") (cpus 4000 ∷ mem 1024000 ∷ ports all ∷ [])
@@ -63,7 +64,7 @@ no_cpus_but_ports_replies all =
     ∷ one (offer 2 (codes "f1") (codes "a") (codes "n1") (cpus 4000 ∷ []))
     ∷ []
 
--- a limit is cut by what is reserved below the role and by tasks, is used up, and cuts no ports
+-- reservations below the role and tasks use up its limit, which cuts no ports
 abbrev pub used_up : Numbers → List Event
 used_up all =
     AddAgent (codes "n1") (cpus 6000 ∷ cpus_in eng_web 2000 ∷ mem 64000 ∷ ports all ∷ [])
@@ -101,7 +102,7 @@ used_up_replies all =
     ∷ one (offer 5 (codes "f1") (codes "eng") (codes "n1") (mem 64000 ∷ ports all ∷ []))
     ∷ []
 
--- some of the numbers are reserved, and the others are for everyone
+-- some of the numbers are reserved, and the others are not
 abbrev pub some_reserved : Numbers → Numbers → List Event
 some_reserved all part =
     AddAgent (codes "n1") (cpus 1000 ∷ mem 64000 ∷ ports all ∷ [])
@@ -122,7 +123,7 @@ some_reserved_replies others =
     ∷ Done
     ∷ []
 
--- several tasks share no number of one offer, and each gives back its own
+-- several tasks share no number of an offer, and each frees its own
 abbrev pub accept_two : List Resource → List Resource → Event
 accept_two first second = accept_for (codes "f1") 1 ((codes "t1", first) ∷ (codes "t2", second) ∷ []) 0 0
 
@@ -158,7 +159,7 @@ ports_shared_replies all others =
     ∷ one (offer 3 (codes "f1") (codes "a") (codes "n1") (cpus 2000 ∷ mem 256000 ∷ ports all ∷ []))
     ∷ []
 
--- ---- the same runs, over any numbers of which is known what these runs ask
+-- ---- the same runs with any sets of numbers that satisfy what the runs need
 
 abbrev IsSome : Numbers → Type 0
 IsSome numbers = nat_lt 0 (set.len numbers) ≡ true
@@ -168,7 +169,7 @@ module _ (all : Numbers) (some : IsSome all) (none : nat_lt 0 (set.len (set.diff
   unfolding is_ahead standing_of free_of with_offer turn cycle refusal_of effect rows_after reply_to
   no_cpus_run = rw (some, none) refl
 
--- rows of one agent
+-- a state with one agent
 abbrev standing : List Resource → List FrameworkRow → List OfferRow → List TaskRow → List LimitRow → ℕ → ℕ → Rows
 standing total frameworks offers tasks limits next_offer events = record {
   agents = record { name = codes "n1"; total = total; active = true } ∷ [];
@@ -259,7 +260,7 @@ module _ (all : Numbers) (some : IsSome all) (none : nat_lt 0 (set.len (set.diff
   unfolding is_ahead standing_of free_of with_offer turn cycle
   last_cycle = rw some (rw some (rw some (rw some (rw some (rw none refl)))))
 
-  -- the run, from each cycle on
+  -- the rest of the run, from each cycle on
   abbrev from_last : List Event
   from_last = Cycle 0 ∷ []
 
@@ -551,7 +552,7 @@ module _ (all first second others : Numbers) (some : IsSome all) (left_some : Is
       rest_told at_end
       ∙ ap (λ rs. one other_told ∷ rs) (one_ends (Cycle 0 ∷ []) ∙ ap (λ rs. Done ∷ Done ∷ rs) back_told))))))
 
--- ---- what is known of sets of numbers
+-- ---- facts about sets of numbers
 
 same_members : (a b : Numbers) → ((n : ℕ) → set.contains a n ≡ set.contains b n) → a ≡ b
 same_members a b each = set.same_set nat_cmp_total set.nat_cmp-IsAntisymmetric a b each
@@ -576,22 +577,22 @@ without_itself : (a : Numbers) → nat_lt 0 (set.len (set.difference a a)) ≡ f
 without_itself a =
     ap (nat_lt 0) (none_in (set.difference a a) (λ n. set.contains-difference nat_cmp_total a a n ∙ either (set.contains a n)))
 
--- ---- the runs, as laws
+-- ---- the runs, as theorems
 
--- limits leave the numbers of ports whole, and tell what they cut of `cpus` by what was used
+-- limits do not cut ports; `cpus` are cut by what is consumed
 abbrev pub PortsAreNotLimited : Type 0
 PortsAreNotLimited =
     (all : Numbers) → 0 < set.len all
     → (replies_to ceilings opening (no_cpus_but_ports all) ≡ no_cpus_but_ports_replies all)
     × (replies_to ceilings opening (used_up all) ≡ used_up_replies all)
 
--- some of the numbers, but not all, are reserved and given back
+-- some of the numbers, but not all, are reserved and unreserved
 abbrev pub SomePortsAreReserved : Type 0
 SomePortsAreReserved =
     (all part : Numbers) → IsTrue (set.is_subset part all) → 0 < set.len part → 0 < set.len (set.difference all part)
     → replies_to ceilings opening (some_reserved all part) ≡ some_reserved_replies (set.difference all part)
 
--- two tasks cannot use one number of an offer
+-- two tasks cannot use the same number of an offer
 abbrev pub NoPortIsShared : Type 0
 NoPortIsShared =
     (all first second : Numbers) → IsTrue (set.is_subset first all) → 0 < set.len (set.difference all first)
@@ -619,7 +620,7 @@ no_port_is_shared all first second within left shared some =
     ports_shared_run all first second (set.difference all first) (is_some all some) (is_some (set.difference all first) left) within refl
     (ne_eqb (set.len (set.intersection first second)) 0 (λ none. omega (arith, shared, none)))
 
--- ---- some numbers
+-- ---- particular numbers
 
 abbrev pub four_ports : List ℕ
 four_ports = 31000 ∷ 31001 ∷ 31002 ∷ 31003 ∷ []
@@ -627,14 +628,14 @@ four_ports = 31000 ∷ 31001 ∷ 31002 ∷ 31003 ∷ []
 abbrev pub numbered : List ℕ → Numbers
 numbered ns = set.from_list ns
 
--- of 31000 to 31003 two tasks cannot both use 31001, and one that uses the first two leaves the last two
+-- of the ports 31000 to 31003 two tasks cannot both use 31001, and a task that uses the first two leaves the last two
 abbrev pub SomePortIsShared : Type 0
 SomePortIsShared =
     replies_to ceilings opening
     (ports_shared (numbered four_ports) (numbered (31000 ∷ 31001 ∷ [])) (numbered (31001 ∷ 31002 ∷ [])))
     ≡ ports_shared_replies (numbered four_ports) (numbered (31002 ∷ 31003 ∷ []))
 
--- what has a member is not empty
+-- a set with a member is not empty
 has_some : (a : Numbers) (n : ℕ) → set.contains a n ≡ true → 0 < set.len a
 has_some a n has = by (set.len a) refl
   where

@@ -1,4 +1,4 @@
--- Runs in which roles have limits, resources are reserved, and agents change.
+-- Runs with limits, reservations and changed totals.
 use Rattle.std.specs.Prelude.{ℕ, List, [], ◌∷◌, ◌++◌, codes}
 use Rattle.drf_role.specs.Text.{Text}
 use Rattle.drf_role.specs.Path.{Path}
@@ -21,23 +21,23 @@ use Rattle.drf_rows.specs.declared.reply.Reply.{Reply}
 use Rattle.drf_rows.specs.declared.reply.Reply.TheVariants as reply
 use Rattle.drf_rows.specs.declared.reply.Reply.TheVariants.{Done, Offers, Refused}
 
--- a limit to so many thousandths of `cpus`
+-- a limit of so many thousandths of `cpus`
 abbrev pub cpus_limit : Path → ℕ → Event
 cpus_limit role amount = SetLimit role (told_cpus amount)
 
--- an offer to a framework in a role of any depth
+-- an offer to a framework in any role
 abbrev pub offer_in : ℕ → Text → Path → Text → List Resource → OfferLine
 offer_in number framework role agent resources =
     record { number = number; agent = agent; framework = framework; role = role; resources = resources }
 
--- so many thousandths of `cpus`, for a role of any depth
+-- so many thousandths of `cpus`, reserved for any role
 abbrev pub cpus_in : Path → ℕ → Resource
 cpus_in role amount = record { label = codes "cpus"; role = role; value = Scalar amount }
 
 abbrev pub mem_in : Path → ℕ → Resource
 mem_in role amount = record { label = codes "mem"; role = role; value = Scalar amount }
 
--- a limit of nothing holds all `cpus` back, until it is taken away
+-- a limit of 0 keeps all `cpus` from being offered, until it is removed
 abbrev pub no_cpus : List Event
 no_cpus =
     AddAgent (codes "n1") (cpus 4000 ∷ mem 1024000 ∷ [])
@@ -58,7 +58,7 @@ no_cpus_replies =
     ∷ one (offer 2 (codes "f1") (codes "a") (codes "n1") (cpus 4000 ∷ []))
     ∷ []
 
--- what is granted on one agent counts on the next one, in the same cycle
+-- a grant on one agent counts for the next agent of the same cycle
 abbrev pub limit_in_cycle : List Event
 limit_in_cycle =
     AddAgent (codes "n0") (cpus 4000 ∷ mem 1024000 ∷ [])
@@ -89,7 +89,7 @@ limit_in_cycle_replies =
     ∷ [])
     ∷ []
 
--- what is reserved below a role counts against its limit, and is given back only while it is free
+-- reservations below a role count against its limit, and can be undone only while they are free
 abbrev pub reserved_below : List Event
 reserved_below =
     AddAgent (codes "n1") (cpus_for (codes "eng") 4000 ∷ mem 64000 ∷ [])
@@ -127,7 +127,7 @@ reserved_below_replies =
     ∷ Done
     ∷ []
 
--- the least of the limits of a role and of the one above it counts; one below the consumption takes nothing away
+-- the least of the limits of a role and of the one above it decides; a limit below the consumption takes nothing away
 abbrev pub two_limits : List Event
 two_limits =
     cpus_limit eng 4000
@@ -160,7 +160,7 @@ two_limits_replies =
     ∷ [])
     ∷ []
 
--- what is for everyone again may be reserved again, within the limit
+-- unreserved resources can be reserved again, within the limit
 abbrev pub moved_twice : List Event
 moved_twice =
     AddAgent (codes "n1") (cpus_for (codes "eng") 4000 ∷ [])
@@ -187,8 +187,8 @@ moved_twice_replies =
     ∷ one (offer_in 1 (codes "f1") eng_web (codes "n1") (cpus_for (codes "eng") 4000 ∷ []))
     ∷ []
 
--- an agent's total is never too much for a limit, as it registers or later; limits above a role bind what is reserved for it, and
--- limits below it do not
+-- limits never refuse an agent's total, neither when it registers nor later; the limits of roles above restrict a
+-- reservation, and those of roles below do not
 abbrev pub beyond_limit : List Event
 beyond_limit =
     cpus_limit eng 1000
@@ -211,7 +211,7 @@ beyond_limit_replies =
     ∷ one (offer 1 (codes "f1") (codes "eng") (codes "n1") (cpus_for (codes "eng") 4000 ∷ mem 64000 ∷ mem_in eng 64000 ∷ []))
     ∷ []
 
--- a filter of what was cut holds back what is cut again
+-- a filter of a cut offer covers the same cut offer
 abbrev pub cut_and_declined : List Event
 cut_and_declined =
     AddAgent (codes "n1") (cpus 4000 ∷ [])
@@ -226,7 +226,7 @@ cut_and_declined =
 abbrev pub cut_and_declined_replies : List Reply
 cut_and_declined_replies = Done ∷ Done ∷ Done ∷ one (offer_of_n1 1) ∷ Done ∷ none ∷ one (offer_of_n1 2) ∷ []
 
--- an agent's total changes round what is held there, and shares with it
+-- an agent's total changes while resources are held there, and the shares change with it
 abbrev pub other_totals : List Event
 other_totals =
     AddAgent (codes "n1") (cpus 4000 ∷ mem 1024000 ∷ [])
@@ -245,7 +245,7 @@ other_totals =
     ∷ SetAgent (codes "n1") (cpus 1099511627776 ∷ [])
     ∷ []
 
--- what two frameworks hold, and their shares
+-- a report about two frameworks
 abbrev pub two_told : List Entry → List Entry → ℕ × ℕ → List Entry → ℕ × ℕ → ℕ → Report
 two_told total held_a share_a held_b share_b count_b = record {
   total = total;
@@ -280,7 +280,7 @@ other_totals_replies =
     ∷ Refused TooLarge
     ∷ []
 
--- what is refused, one case at a time
+-- each refusal, one at a time
 abbrev pub limits_refused : List Event
 limits_refused =
     AddAgent (codes "n1") (cpus 2000 ∷ mem 64000 ∷ [])
@@ -313,7 +313,7 @@ limits_refused_replies =
     ∷ Refused NotCovered
     ∷ []
 
--- one row of a limit, and two names of scalars: a limit that is replaced or taken away is not one more
+-- the capacity is one limit and two names of scalars: replacing or removing a limit needs no other row
 abbrev pub one_limit : LimitNumbers
 one_limit = record ceilings { limits = 1; scalar_names = 2 }
 

@@ -1,4 +1,4 @@
--- Some rows, and what is reported of them.
+-- States, with their reports.
 use Rattle.std.specs.Prelude.{ℕ, true, List, [], ◌∷◌, ◌++◌, codes}
 use Rattle.drf_role.specs.Path.{Path}
 use Rattle.drf_role.specs.Text.{Text}
@@ -16,16 +16,16 @@ use Rattle.drf_rows.specs.declared.reply.Reply.TheVariants.{Done, Offers}
 use Rattle.drf_rows.specs.declared.rows.TaskRow.{TaskRow}
 use Rattle.drf_rows.specs.declared.rows.Rows.{Rows}
 
--- so many thousandths of cpus, as they are told
+-- so many thousandths of `cpus`, as a list of quantities
 abbrev pub told_cpus : ℕ → List Entry
 told_cpus amount = record { label = codes "cpus"; amount = amount } ∷ []
 
--- a node of weight 1
+-- the line of a node with weight 1
 abbrev pub line : Path → List Entry → ℕ × ℕ → ℕ → NodeLine
 line path held share count =
     record { path = path; held = held; share = share; weighted = share; count = count }
 
--- what a framework has in a task
+-- a task of a framework
 abbrev pub running : Text → Path → List Resource → TaskRow
 running name role bundle =
     record { name = codes "t"; agent = codes "n1"; framework = name; role = role; bundle = bundle }
@@ -33,7 +33,7 @@ running name role bundle =
 abbrev pub dot : Path
 dot = codes "." ∷ []
 
--- three roles, of which one stands below another, with tasks of all and an offer to the first
+-- three roles, one of them below another; all have tasks, and the first one an offer
 abbrev pub tree_at_work : Rows
 tree_at_work =
     record
@@ -49,7 +49,7 @@ tree_at_work =
           ∷ [];
     }
 
--- what a role holds counts what the roles below it hold
+-- what a role holds includes what the roles below it hold
 abbrev pub tree_report : Report
 tree_report = record {
   total = told_cpus 8000;
@@ -66,7 +66,7 @@ tree_report = record {
       ∷ [];
 }
 
--- one of two roles has a weight of 3, which its clients have not
+-- one of two roles has weight 3; its clients have weight 1
 abbrev pub one_weighted : Rows
 one_weighted = rows_with
     (agent_with (cpus 9000 ∷ []) ∷ [])
@@ -87,7 +87,7 @@ weighted_report = record {
       ∷ [];
 }
 
--- a suppressed client that holds nothing, where nothing is; two clients share a role
+-- a suppressed client that holds nothing, when there are no resources; two clients share a role
 abbrev pub nothing_there : Rows
 nothing_there = rows_with []
     (record { name = codes "fb"; clients = record { role = role_a; count = 2; suppressed = true } ∷ [] }
@@ -125,7 +125,7 @@ reserved_report = record {
       ∷ [];
 }
 
--- a report at the beginning, and one after a cycle that offered all there is
+-- a report at the beginning, and one after a cycle that offered everything
 abbrev pub two_reports : List Event
 two_reports = event.Report ∷ one_cycle ++ event.Report ∷ []
 

@@ -1,4 +1,4 @@
--- Runs in which the roles of a framework change, with the replies and the rows that they are to have.
+-- Runs in which the roles of a framework change, with their expected replies and rows.
 use Rattle.std.specs.Prelude.{ℕ, Bool, true, false, List, [], ◌∷◌, ◌++◌, codes}
 use Rattle.drf_role.specs.Path.{Path}
 use Rattle.drf_bundle.specs.declared.quantities.Entry.{Entry}
@@ -19,8 +19,9 @@ use Rattle.drf_rows.specs.declared.reply.Reply.TheVariants.{Done, Offers, Refuse
 use Rattle.drf_rows.specs.declared.rows.ClientRow.{ClientRow}
 use Rattle.drf_rows.specs.declared.rows.FrameworkRow.{FrameworkRow}
 
--- a role is added, and is offered what is reserved for it. It cannot be left while an offer or a task is in it. Another role is left,
--- with a filter in force, and taken again: there is no filter then, and its offers are counted anew. At last it is left for good
+-- a role is added, and the framework is offered what is reserved for it. It cannot leave the role while it has an offer
+-- or a task there. It leaves another role with a filter in force, and takes it again: then there is no filter, and the
+-- count is 0. At last it leaves this role for good
 abbrev pub roles_set : List Path → Event
 roles_set roles = SetFramework (codes "f1") roles
 
@@ -49,7 +50,7 @@ roles_change =
 abbrev told_mem : ℕ → List Entry
 told_mem amount = record { label = codes "mem"; amount = amount } ∷ []
 
--- the nodes of a framework's client
+-- the lines of the nodes of a framework's client
 abbrev nodes_of : Path → List Entry → ℕ → List NodeLine
 nodes_of role held count =
     line role held (1, 1) count
@@ -85,8 +86,8 @@ roles_change_replies =
     ∷ told_when (nodes_of eng (told_cpus 4000) 2)
     ∷ []
 
--- clients of roles that stay are first, in their old order and suppressed as they were; those of new roles follow, in the order of the
--- list, each once. The framework keeps its place before another
+-- clients whose roles stay come first, in the old order and with their suppression; those of new roles follow, in the
+-- order of the list and without repetitions. The framework keeps its place before another one
 abbrev role_c : Path
 role_c = codes "c" ∷ []
 

@@ -1,4 +1,4 @@
--- Some runs in which roles get weights, with the replies that they are to have.
+-- Runs in which roles get weights, with their expected replies.
 use Rattle.std.specs.Prelude.{ℕ, List, [], ◌∷◌, map, codes}
 use Rattle.drf_role.specs.Text.{Text}
 use Rattle.drf_rows.specs.LimitNumbers.{LimitNumbers, ceilings}
@@ -15,14 +15,14 @@ use Rattle.drf_rows.specs.declared.rows.WeightRow.{WeightRow}
 abbrev pub weighing : Text → ℕ → Event
 weighing role weight = SetWeight (role ∷ []) weight
 
--- the least weight and the greatest, and those next to them
+-- the least and the greatest weight, and the numbers next to them
 abbrev pub bounds : List Event
 bounds = map (weighing (codes "a")) (0 ∷ 1 ∷ 1000000 ∷ 1000001 ∷ [])
 
 abbrev pub bounds_replies : List Reply
 bounds_replies = Refused BadWeight ∷ Done ∷ Done ∷ Refused BadWeight ∷ []
 
--- a row that is replaced keeps its place, also by a weight of 1
+-- a row that is replaced keeps its place, also if the weight is 1
 abbrev pub replaced : List Event
 replaced = weighing (codes "a") 500 ∷ weighing (codes "b") 3000 ∷ weighing (codes "a") 1000 ∷ []
 
@@ -33,14 +33,14 @@ abbrev pub replaced_rows : List WeightRow
 replaced_rows =
     record { role = codes "a" ∷ []; weight = 1000 } ∷ record { role = codes "b" ∷ []; weight = 3000 } ∷ []
 
--- one row more than the limit of one; the row that is there may be replaced
+-- the capacity is one weight: a second row is refused, but the row can be replaced
 abbrev pub one_weight : LimitNumbers
 one_weight = record ceilings { weights = 1 }
 
 abbrev pub one_weight_replies : List Reply
 one_weight_replies = Done ∷ Refused TooMany ∷ Done ∷ []
 
--- three agents of one size are shared by two frameworks, of which the second has a weight
+-- three equal agents are shared by two frameworks; the role of the second has a weight
 abbrev pub replies_by_weight : ℕ → List Reply
 replies_by_weight weight = replies_to ceilings opening (
     framework_in (codes "fa") (codes "a")
@@ -52,7 +52,7 @@ replies_by_weight weight = replies_to ceilings opening (
     ∷ Cycle 0
     ∷ [])
 
--- each gets one, and one of them the third
+-- each gets one agent, and one of them the third
 abbrev pub third_to : Text → Text → List Reply
 third_to framework role =
     Done

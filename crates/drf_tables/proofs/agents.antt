@@ -1,4 +1,4 @@
--- Agents and frameworks that come, take part or not, and leave.
+-- Lemmas on agents and frameworks that are added, changed or removed.
 pub mod Registered
 pub mod Changes
 pub mod Roles

@@ -1,3 +1,3 @@
--- The offers of a cycle.
+-- Lemmas on the offers of a cycle.
 pub mod Appended
 pub mod Counted

@@ -1,2 +1,2 @@
--- Filters that ran out.
+-- Lemmas on expired filters.
 pub mod Spent

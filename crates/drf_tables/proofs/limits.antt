@@ -1,4 +1,4 @@
--- What roles consume, kept through changes.
+-- Lemmas on what roles consume.
 pub mod Counts
 pub mod Recounted
 pub mod Running

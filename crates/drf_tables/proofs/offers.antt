@@ -1,3 +1,3 @@
--- Offers and tasks that end.
+-- Lemmas on offers and tasks that end.
 pub mod Ended
 pub mod Accepted

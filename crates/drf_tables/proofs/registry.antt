@@ -1,4 +1,4 @@
--- The registered agents, and what is free on each.
+-- Lemmas on registries, and on the free resources of agents.
 pub mod Entries
 pub mod Known
 pub mod Freed

@@ -1,2 +1,2 @@
--- Agents whose totals change.
+-- Lemmas on agents whose totals change.
 pub mod Moved

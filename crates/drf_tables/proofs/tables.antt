@@ -1,4 +1,4 @@
--- The rows that the fields of tables stand for.
+-- Lemmas on the rows that the fields of the tables mean.
 pub mod Names
 pub mod Standing
 pub mod PutBack

@@ -38,7 +38,7 @@ use Rattle.drf_core.specs.cycle.Explaining.{IsOutcomeOf, left_to_tell, left_told
 use Rattle.drf_core.proofs.drafting.Cycle.{begins_at}
 use Rattle.drf_core.proofs.drafting.Turn.{element_at, queue_begins, turn_at-closed}
 
--- ---- drafts do not change what decides an outcome, except free resources
+-- ---- drafts do not change filters, clock and limits, which decide an outcome together with the free resources
 
 kept-with_offers : (rows : Rows) (offers : List OfferRow)
     → ((with_offers rows offers).filters ≡ rows.filters) × ((with_offers rows offers).clock ≡ rows.clock) × ((with_offers rows offers).limits ≡ rows.limits)

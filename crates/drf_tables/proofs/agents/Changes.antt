@@ -1,4 +1,4 @@
--- The rows that the fields stand for once agents and frameworks take part or not, or leave.
+-- The rows after agents and frameworks are made active or inactive, suppressed or revived, or removed.
 use Rattle.std.specs.List.{AllByRecursion}
 use Rattle.std.specs.Global.{Vec}
 use Rattle.std.specs.Map.{remove_entry}
@@ -20,7 +20,7 @@ rows_but t agents frameworks filters =
     rows_of agents frameworks t.holdings filters t.weights.entries t.limits t.clock t.next_offer t.events
 
 module _ (t : Inside) (kept : AreDerived (rows_in t) t.agents.entries t.total t.clients) where
-  -- the names of agents are distinct, and those of frameworks
+  -- the names of agents are distinct, and so are those of frameworks
   pub agents_apart : are_distinct (map (λ a. a.name) (map agent_row t.agents.entries)) ≡ true
   unfolding rows_of
   agents_apart = kept.consistent.agents.names
@@ -29,7 +29,7 @@ module _ (t : Inside) (kept : AreDerived (rows_in t) t.agents.entries t.total t.
   unfolding rows_of
   frameworks_apart = kept.consistent.frameworks.names
 
-  -- ---- an agent is active, or not
+  -- ---- an agent is activated or deactivated
 
   module _ (name : Text) (active : Bool) (entries : List (Text × Agent))
       (told : entries ≡ map (changed name (with_active active)) t.agents.entries) where
@@ -50,7 +50,7 @@ module _ (t : Inside) (kept : AreDerived (rows_in t) t.agents.entries t.total t.
           few = omega (arith, length-map (rows_in t).agents (active_at name active), kept.few);
         })
 
-  -- ---- a client is suppressed, or not
+  -- ---- a client is suppressed or revived
 
   module _ (client : Client) (suppressed : Bool) (entries : List (Text × Vec ClientRow))
       (told : framework_rows entries ≡ map (suppressed_in client suppressed) (framework_rows t.frameworks.entries)) where
@@ -81,7 +81,7 @@ module _ (t : Inside) (kept : AreDerived (rows_in t) t.agents.entries t.total t.
         (IsConsistent-revived (rows_in t) client kept.consistent)
         refl refl (sym (ap length (clients_of-with_suppression (rows_in t) client false))))
 
-  -- ---- an agent leaves
+  -- ---- an agent is removed
 
   module _ (name : Text) (entries : List (Text × Agent)) (filters : List FilterRow) (sum : List Entry)
       (nothing : without_ended (rows_in t) (all_on name) ≡ rows_in t)
@@ -117,7 +117,7 @@ module _ (t : Inside) (kept : AreDerived (rows_in t) t.agents.entries t.total t.
           few = omega (arith, length-filter_le (λ a. not (same_text a.name name)) (rows_in t).agents, kept.few);
         })
 
-  -- ---- a framework leaves
+  -- ---- a framework is removed
 
   module _ (name : Text) (entries : List (Text × Vec ClientRow)) (filters : List FilterRow) (gone : ℕ)
       (nothing : without_ended (rows_in t) (all_of name) ≡ rows_in t)
@@ -133,7 +133,7 @@ module _ (t : Inside) (kept : AreDerived (rows_in t) t.agents.entries t.total t.
           filters = filters_without_framework name (rows_in t).filters;
         })
 
-    -- so many clients are there
+    -- the stored number of clients is right
     pub all_clients : t.clients ≡ count_clients (framework_rows t.frameworks.entries)
     unfolding rows_of
     all_clients = kept.clients

@@ -1,4 +1,4 @@
--- The rows with one more framework, to whose clients offers may have been made.
+-- The rows with one more framework, whose clients can have counts above 0.
 use Rattle.std.specs.List.{list_any}
 use Rattle.std.proofs.Common.{refl, sym, ap, ◌∙◌, ◌≡◌, ◌<◌, ◌&&◌, Bool, true, false, List, [], ◌∷◌, ◌++◌, map}
 use Rattle.std.proofs.lemmas.Bool.{or_left}
@@ -8,14 +8,14 @@ use Rattle.drf_tables.proofs.tables.Names.{Text, same_text, same_path, Client, a
 use Rattle.drf_row_laws.specs.RegistrationLaws.{framework_added, IsConsistent-framework_added}
 use Rattle.drf_rows.specs.declared.rows.FilterRow.{FilterRow}
 
--- who is registered stays so
+-- registered clients stay registered
 still_registered : (fs : List FrameworkRow) (f : FrameworkRow) (client : Client) → is_registered fs client ≡ true → is_registered (fs ++ f ∷ []) client ≡ true
 still_registered fs f client known =
     let test : FrameworkRow → Bool =
     λ f. same_text f.name client.framework && list_any (λ (c : ClientRow). same_path c.role client.role) f.clients in
     list_any-append test fs (f ∷ []) ∙ or_left (list_any test fs) (list_any test (f ∷ [])) known
 
--- its name is that of the framework without clients
+-- the names of frameworks stay distinct
 names_apart : (rows : Rows) (f : FrameworkRow) → IsConsistent rows → has_framework rows f.name ≡ false → IsFramework f
     → are_distinct (map (λ f. f.name) (rows.frameworks ++ f ∷ [])) ≡ true
 names_apart rows f consistent new valid =

@@ -1,4 +1,4 @@
--- The rows that the fields stand for once the roles of a framework change.
+-- The rows after the roles of a framework change.
 use Rattle.std.specs.List.{AllByRecursion}
 use Rattle.std.specs.Global.{Vec}
 use Rattle.std.specs.Map.{lookup}
@@ -20,7 +20,7 @@ use Rattle.drf_tables.proofs.cycle.Counted.{count_clients-cons}
 use Rattle.drf_tables.proofs.registry.Entries.{counted-removed, found-lookup}
 
 module _ (name : Text) (clients : Vec ClientRow) where
-  -- the entries, with these clients at that name
+  -- the entries after the clients of the framework are replaced
   abbrev pub put_at : List (Text × Vec ClientRow) → List (Text × Vec ClientRow)
   put_at es = map (changed name (λ _. clients)) es
 
@@ -39,7 +39,7 @@ module _ (name : Text) (clients : Vec ClientRow) where
       rw past (ap (λ (l : List (Text × Vec ClientRow)). e ∷ l) (unput es parts.1))
 
   module _ (roles : List Path) where
-    -- where these are the clients that the framework is to have, the rows are those with other roles
+    -- if the clients are those of the new roles, the rows are those after the roles change
     pub rows-put : (es : List (Text × Vec ClientRow)) → are_distinct (map (λ f. f.name) (framework_rows es)) ≡ true
         → ((v : Vec ClientRow) → lookup (same_text name) es ≡ Some v → clients.items ≡ with_roles roles v.items)
         → framework_rows (put_at es) ≡ map (roles_set_in name roles) (framework_rows es)
@@ -58,7 +58,7 @@ module _ (name : Text) (clients : Vec ClientRow) where
               (λ v found. those v (ap (λ (b : Bool). if b then Some e.1 else lookup (same_text name) es) other ∙ found))))
         ]
 
-  -- the clients of others, and these
+  -- the number of clients is that of the other frameworks plus the new ones
   pub counted-put : (es : List (Text × Vec ClientRow)) (v : Vec ClientRow) → are_distinct (map (λ f. f.name) (framework_rows es)) ≡ true
       → lookup (same_text name) es ≡ Some v
       → count_clients (framework_rows (put_at es)) + length v.items ≡ count_clients (framework_rows es) + length clients.items
@@ -83,7 +83,7 @@ module _ (name : Text) (clients : Vec ClientRow) where
 
 -- ---- the fields
 
--- a framework that is known, with the clients that it has
+-- the framework is registered and has these clients
 pub record IsKnownFramework (name : Text) (es : List (Text × Vec ClientRow)) : Type 0 where
   pub clients : Vec ClientRow
   pub found : lookup (same_text name) es ≡ Some clients
@@ -101,7 +101,7 @@ module _ (t : Inside) (kept : AreDerived (rows_in t) t.agents.entries t.total t.
   abbrev pub entries_put : List (Text × Vec ClientRow)
   entries_put = map (changed name (λ _. clients)) t.frameworks.entries
 
-  -- the clients are those that the framework of that name is to have
+  -- the clients are those of the new roles
   its : (w : Vec ClientRow) → lookup (same_text name) t.frameworks.entries ≡ Some w → clients.items ≡ with_roles roles w.items
   unfolding rows_of
   its w at =
@@ -109,7 +109,7 @@ module _ (t : Inside) (kept : AreDerived (rows_in t) t.agents.entries t.total t.
       (found-lookup framework_row (λ f. f.name) name t.frameworks.entries (λ e. refl)
       ∙ ap (option_map (λ (v : Vec ClientRow). framework_row (name, v))) at)
 
-  -- how many clients there are
+  -- the framework has at most as many clients as there are in all
   pub clients-had : length v.items ≤ t.clients
   unfolding rows_of
   clients-had = omega (arith, kept.clients, counted-removed name t.frameworks.entries v found)

@@ -1,4 +1,4 @@
--- Offers that stand behind others.
+-- Offers that are added after others.
 use Rattle.std.specs.List.{AllByRecursion, list_all}
 use Rattle.std.proofs.Common.{refl, ap, ◌∙◌, arith, ◌≡◌, ℕ, ◌<◌, ◌≤◌, Bool, true, not, ◌&&◌, nat_lt, List, [], ◌∷◌, ◌++◌, map, filter, slice_get, Option, Some, None}
 use Rattle.std.proofs.lemmas.Bool.{and_parts, ltb-true, lt-ltb, le-ltb}
@@ -39,7 +39,7 @@ behind_first : (os new : List OfferRow) (o : OfferRow) → IsRising (map offer_n
 behind_first [] new o rising = rising
 behind_first (p ∷ os) new o rising = behind_first os new o rising.1
 
--- those whose numbers are not below the first of the new ones are the new ones
+-- the new offers are those whose numbers are not below that of the first new one
 pub from_first : (os new : List OfferRow) (next : ℕ) → IsRising (map offer_number (os ++ new)) → AllByRecursion (λ o. o.number < next) os
     → filter (is_from (first_number new next)) (os ++ new) ≡ new
 from_first os [] next rising below = none_from next os [] below
@@ -53,7 +53,7 @@ pub made_from : (os new all : List OfferRow) (first next later : ℕ) → are_ri
 made_from os new all first next later old risen is so =
     (λ i. filter (is_from (is i)) (so i)) ∙ from_first os new next (rising_from (map offer_number (os ++ new)) later risen) (below_next os next old)
 
--- the first one
+-- the first offer has the first number
 pub first_is : (os : List OfferRow) (o : OfferRow) (next : ℕ) → Some o ≡ slice_get os 0 → o.number ≡ first_number os next
 first_is [] o next is = cc
 first_is (p ∷ os) o next is =

@@ -1,13 +1,13 @@
--- Offers that are counted at their clients.
+-- Offers that are counted for their clients.
 use Rattle.std.proofs.Common.{refl, sym, ap, ◌∙◌, inl, inr, zero, suc, arith, get_or, set, ◌≡◌, ℕ, ◌+◌, ◌<◌, ◌≤◌, ◌^◌, true, false, List, [], ◌∷◌, ◌++◌, length, map, flat_map, sum_by, take, drop}
 use Rattle.std.proofs.lemmas.Bool.{cases_Bool}
 use Rattle.std.proofs.lemmas.List.{length-append, length-map}
 use Rattle.std.proofs.lemmas.List.Sums.{sum_by-cons}
 use Rattle.drf_tables.proofs.tables.Names.{same_text, same_path, Client, offers_counted, counted, count_offer, client_of, of_offer, ClientRow, FrameworkRow, OfferRow, counting, counting_all, count_clients, CanCount, CanCountAll}
 
--- ---- one client after another
+-- ---- the clients are changed one by one
 
--- where the elements before a place are mapped, and the others are not
+-- the elements before a place are mapped, and the others are not yet
 module _ {X : Type 0} (f : X → X) where
   pub map_next : (xs ys : List X) (i n : ℕ) (d : X) → n ≡ i + 1 → i < length xs → ys ≡ map f (take i xs) ++ drop i xs
       → set ys i (f (get_or ys i d)) ≡ map f (take n xs) ++ drop n xs
@@ -24,7 +24,7 @@ module _ {X : Type 0} (f : X → X) where
       at (x ∷ xs) (suc i) zero next within = absurd (omega arith)
       at (x ∷ xs) (suc i) (suc n) next within = ap (λ l. f x ∷ l) (at xs i n (omega arith) (omega arith))
 
--- ---- what is counted
+-- ---- an offer is counted
 
 pub counted_here : (client : Client) (c : ClientRow)
     → same_path c.role client.role ≡ true → counted client c ≡ record c { count = c.count + 1 }
@@ -33,7 +33,7 @@ counted_here client c same = rw same refl
 pub counted_other : (client : Client) (c : ClientRow) → same_path c.role client.role ≡ false → counted client c ≡ c
 counted_other client c other = rw other refl
 
--- one more offer fits, and then one less
+-- after an offer is counted, one fewer still fits
 counted_fits : (n m : ℕ) (client : Client) (c : ClientRow)
     → m ≡ n + 1 → c.count + m < 2 ^ 64 → (counted client c).count + n < 2 ^ 64
 counted_fits n m client c next fits = elim (cases_Bool (same_path c.role client.role)) [
@@ -64,7 +64,7 @@ CanCountAll-counting n m [] offer next all = tt
 CanCountAll-counting n m (f ∷ fs) offer next all =
     (counted_in n m (of_offer offer).client f next all.0, CanCountAll-counting n m fs offer next all.1)
 
--- no client was made more offers than all
+-- no count of a client is above the sum of all counts
 CanCount-from : (n : ℕ) (cs : List ClientRow) → sum_by (λ c. c.count) cs + n < 2 ^ 64 → CanCount n cs
 CanCount-from n [] few = tt
 CanCount-from n (c ∷ cs) few =
@@ -77,7 +77,7 @@ CanCountAll-from n (f ∷ fs) few =
     let first = sum_by-cons (λ (f : FrameworkRow). sum_by (λ (c : ClientRow). c.count) f.clients) f fs in
     (CanCount-from n f.clients (omega (arith, first, few)), CanCountAll-from n fs (omega (arith, first, few)))
 
--- ---- what counting leaves
+-- ---- what counting does not change
 
 length-count_offer : (client : Client) (f : FrameworkRow) → length (count_offer client f).clients ≡ length f.clients
 length-count_offer client f = elim (cases_Bool (same_text f.name client.framework)) [

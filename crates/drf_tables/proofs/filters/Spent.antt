@@ -1,4 +1,4 @@
--- The rows that the fields stand for once spent filters are dropped.
+-- The rows after expired filters are removed.
 use Rattle.std.proofs.lemmas.List.Sums.{length-filter}
 use Rattle.std.proofs.Common.{refl, sym, ap, ◌∙◌, subst, ◌≡◌, List, length}
 use Rattle.drf_rows.specs.Filters.{is_in_force, in_force, number_in_force}
@@ -26,7 +26,7 @@ module _ (t : Inside) (filters : List FilterRow) (left : filters ≡ in_force t.
       (AreDerived-same (rows_in t) (live_rows (rows_in t)) t.agents.entries t.total t.clients kept
       (IsConsistent-filters_kept (rows_in t) (is_in_force (rows_in t).clock) kept.consistent) refl refl refl)
 
--- all that are left are in force
+-- all filters that are left are in force
 pub left-swept : (rows : Rows) (filters left : List FilterRow) → left ≡ in_force rows.clock filters → number_in_force rows.clock left ≡ length left
 left-swept rows filters left is =
     sym (length-filter (is_in_force rows.clock) left)

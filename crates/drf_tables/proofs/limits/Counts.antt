@@ -1,16 +1,16 @@
--- What roles consume, change by change.
+-- Consumption before and after changes of the rows, and under limits.
 use Rattle.std.proofs.Common.{refl, sym, ap, subst, inl, inr, ◌∙◌, ◌≡◌, ◌≢◌, ℕ, ◌+◌, Bool, true, false, List, [], ◌∷◌, Option, Some, None, is_some, sum_by, if◌then◌else◌}
 use Rattle.std.specs.List.{list_any}
 use Rattle.std.proofs.lemmas.Bool.{cases_Bool, false≢true}
 use Rattle.drf_tables.proofs.tables.Names.{Text, same_text, Path, same_path, Entry, holdings_of, sum_by-map, active_at, with_activity, admits, admits_under, consumption, reserved_in, held_unreserved, reserved_for, limit_of, AgentRow, Rows, Allowance, IsAllowanceOf, Usage, quota_under, used_where, CountsAll}
 use Rattle.drf_rows.specs.declared.rows.LimitRow.{LimitRow}
 
--- where it is not counted, nothing is said
+-- unknown consumption is right for all rows
 pub none_counted : (rows : Rows) (consumption : Option (List Usage)) → is_some consumption ≡ false → CountsAll rows consumption
 none_counted rows None none = record { each = tt }
 none_counted rows (Some used) none = absurd (false≢true (sym none))
 
--- where what is held and what agents have reserved stays, roles consume as before
+-- if holdings and reservations do not change, consumption does not change
 pub counts-same : (old new : Rows) (consumption : Option (List Usage)) → CountsAll old consumption
     → holdings_of old ≡ holdings_of new
     → ((test : Path → Bool) (label : Text) → reserved_for test old.agents label ≡ reserved_for test new.agents label)
@@ -20,7 +20,7 @@ counts-same old new (Some used) counted held reserved = record {
   each = λ test label. counted.each test label ∙ (λ i. held_unreserved test (held i) label + reserved test label i);
 }
 
--- an agent that takes part or not has what it had
+-- activating or deactivating an agent does not change reservations
 pub reserved-with_activity : (rows : Rows) (name : Text) (active : Bool) (test : Path → Bool) (label : Text)
     → reserved_for test rows.agents label ≡ reserved_for test (with_activity rows name active) label
 reserved-with_activity rows name active test label =
@@ -34,16 +34,16 @@ reserved-with_activity rows name active test label =
         by true = refl
         by false = refl
 
--- ---- what is counted from the rows, one after another
+-- ---- consumption is computed from the rows one by one
 
--- what was counted and what is to come is all
+-- what was added so far, and what remains to be added, is all
 abbrev pub IsPartly : List Usage → List Usage → ((Path → Bool) → Text → ℕ) → ((Path → Bool) → Text → ℕ) → Type 0
 IsPartly old new all left =
     (test : Path → Bool) (label : Text) → used_where test new label + left test label ≡ used_where test old label + all test label
 
 -- ---- limits
 
--- a role has a limit where one is found
+-- a role has a limit exactly if one is found
 pub found_limit : (limits : List LimitRow) (role : Path) → is_some (limit_of limits role) ≡ list_any (λ l. same_path l.role role) limits
 found_limit [] role = refl
 found_limit (l ∷ ls) role = elim (cases_Bool (same_path l.role role)) [
@@ -51,7 +51,7 @@ found_limit (l ∷ ls) role = elim (cases_Bool (same_path l.role role)) [
   | inr past ↦ rw past (found_limit ls role)
 ]
 
--- where no role has one, all is admitted
+-- without limits, everything is admitted
 pub admits-unlimited : (rows : Rows) (role : Path) (amounts : List Entry) → rows.limits ≡ [] → true ≡ admits rows role amounts
 admits-unlimited rows role amounts none = sym (ap (λ (ls : List LimitRow). admits_under ls (consumption rows) role amounts) none ∙ by amounts)
   where
@@ -59,14 +59,14 @@ admits-unlimited rows role amounts none = sym (ap (λ (ls : List LimitRow). admi
     by [] = refl
     by (e ∷ es) = by es
 
--- so where nothing is counted, if it is where there are limits
+-- if consumption is unknown, and would be known if there were limits, there are none
 pub none-unlimited : (limits : List LimitRow) (consumption : Option (List Usage)) (counted : Bool) → quota_under limits consumption ≡ None
     → is_some consumption ≡ counted → (limits ≢ [] → counted ≡ true) → limits ≡ []
 none-unlimited [] consumption counted none is told = refl
 none-unlimited (l ∷ ls) None counted none is told = absurd (false≢true (is ∙ told (λ (same : l ∷ ls ≡ []). cc)))
 none-unlimited (l ∷ ls) (Some used) counted none is told = cc
 
--- limits beside what is counted
+-- the limits with known consumption are right for the rows
 pub allowance-counted : (rows : Rows) (consumption : Option (List Usage)) (quota : Allowance) → CountsAll rows consumption
     → quota_under rows.limits consumption ≡ Some quota → IsAllowanceOf rows quota
 allowance-counted rows None quota counts is = cc

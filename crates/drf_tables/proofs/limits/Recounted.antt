@@ -1,4 +1,4 @@
--- What roles consume, kept through each change of the rows.
+-- Consumption stays right through each change of the rows.
 use Rattle.std.specs.List.{AllByRecursion}
 use Rattle.std.specs.Map.{remove_entry}
 use Rattle.std.specs.Option.{option_map_or}
@@ -25,22 +25,22 @@ use Rattle.drf_rows.specs.declared.limits.TheConstants.{LARGEST_AMOUNT}
 use Rattle.drf_rows.specs.declared.rows.FilterRow.{FilterRow}
 use Rattle.drf_tables.proofs.tables.Fields.{sums_fit}
 
--- what holdings of roles that pass a test have for everyone, and what agents have reserved for them
+-- what holdings of roles that pass a test have unreserved, and what agents have reserved for these roles
 abbrev held_by : (Path → Bool) → Text → Holding → ℕ
 held_by test label h = cond (test h.client.role) (unreserved_in label h.bundle) 0
 
 abbrev reserved_by : (Path → Bool) → Text → AgentRow → ℕ
 reserved_by test label a = reserved_in test label a.total
 
--- ---- consumption that is counted
+-- ---- known consumption
 
--- what holds of all that roles may consume by the rows holds of what is counted
+-- what holds for the consumption of the rows holds for the stored one
 pub counted_so : (rows : Rows) (before : Option (List Usage)) → CountsAll rows before → (P : List Usage → Type 0)
     → ((used : List Usage) → IsConsumptionOf rows used → P used) → IfSome before P
 counted_so rows None counted P so = tt
 counted_so rows (Some used) counted P so = so used counted.each
 
--- more was counted, and something released
+-- an amount was added, and then another one subtracted
 pub counts-moved : (old : Rows) (before : Option (List Usage)) → CountsAll old before → (new : Rows) (mid after : Option (List Usage)) (more less : Amounts)
     → IsRaisedIf before mid more → IsRaisedIf after mid less
     → ((test : Path → Bool) (label : Text)
@@ -52,7 +52,7 @@ counts-moved old None counted new (Some m) (Some a) more less raised released mo
 counts-moved old (Some b) counted new (Some m) (Some a) more less raised released moved =
     record { each = λ test label. omega (arith, counted.each test label, raised test label, released test label, moved test label) }
 
--- something was released, and more counted, if there was memory
+-- an amount was subtracted, and then another one added, unless memory ran out
 pub counts-replaced : (old : Rows) (before : Option (List Usage)) → CountsAll old before → (new : Rows) (mid after : Option (List Usage)) (less more : Amounts)
     → IsRaisedIf mid before less → IfSome after (λ used. IsRaisedIf mid (Some used) more)
     → ((test : Path → Bool) (label : Text)
@@ -64,13 +64,13 @@ counts-replaced old None counted new (Some m) (Some a) less more released raised
 counts-replaced old (Some b) counted new (Some m) (Some a) less more released raised moved =
     record { each = λ test label. omega (arith, counted.each test label, released test label, raised test label, moved test label) }
 
--- nothing is consumed, or released
+-- nothing was added
 pub raised_nothing : (consumption : Option (List Usage)) → IsRaisedIf consumption consumption (λ test label. 0)
 raised_nothing None = tt
 raised_nothing (Some used) = λ test label. omega arith
 
 module _ (old : Rows) (before : Option (List Usage)) (counted : CountsAll old before) where
-  -- less is consumed, and as much was released
+  -- roles consume less, and as much was subtracted
   pub counts-released : (new : Rows) (after : Option (List Usage)) (less : Amounts) → IsRaisedIf after before less
       → ((test : Path → Bool) (label : Text) → consumption_where test old label ≡ consumption_where test new label + less test label)
       → CountsAll new after
@@ -78,7 +78,7 @@ module _ (old : Rows) (before : Option (List Usage)) (counted : CountsAll old be
       counts-moved old before counted new before after (λ test label. 0) less (raised_nothing before) raised
       (λ test label. omega (arith, fewer test label))
 
-  -- more is consumed, and was counted
+  -- roles consume more, and as much was added
   pub counts-consumed : (new : Rows) (after : Option (List Usage)) (more : Amounts) → IsRaisedIf before after more
       → ((test : Path → Bool) (label : Text) → consumption_where test new label ≡ consumption_where test old label + more test label)
       → CountsAll new after
@@ -91,16 +91,16 @@ module _ (old : Rows) (before : Option (List Usage)) (counted : CountsAll old be
           counts-replaced old before counted new before (Some a) (λ test label. 0) more (raised_nothing before) raised'
           (λ test label. omega (arith, more_is test label))
 
-  -- as much is consumed
+  -- roles consume as much as before
   pub counts-still : (after : Option (List Usage)) → IsRaisedIf before after (λ test label. 0) → CountsAll old after
   counts-still after same = counts-consumed old after (λ test label. 0) same (λ test label. omega arith)
 
-  -- more was counted, and released again
+  -- an amount was added and subtracted again
   pub counts-back : (mid after : Option (List Usage)) (more : Amounts) → IsRaisedIf before mid more → IsRaisedIf after mid more → CountsAll old after
   counts-back mid after more raised released =
       counts-moved old before counted old mid after more more raised released (λ test label. refl)
 
-  -- what is released is replaced
+  -- after an amount is subtracted, another can be added without overflow
   pub replaces_fit : (new : Rows) (mid : Option (List Usage)) (less more : Amounts) → IsRaisedIf mid before less
       → ((test : Path → Bool) (label : Text)
       → consumption_where test new label + less test label ≡ consumption_where test old label + more test label)
@@ -115,7 +115,7 @@ module _ (old : Rows) (before : Option (List Usage)) (counted : CountsAll old be
       by (Some b) counted' (Some m) released' =
           λ test label. omega (arith, counted'.each test label, released' test label, moved test label, fits test label)
 
-  -- so much more can be counted
+  -- an amount can be added without overflow
   pub adds_counted : (more : Amounts) → IsConsistent old → length old.agents ≤ 4096
       → ((test : Path → Bool) (label : Text) → more test label ≤ LARGEST_AMOUNT)
       → IfSome before (λ used. (test : Path → Bool) (label : Text) → used_where test used label + more test label < 2 ^ 64)
@@ -129,14 +129,14 @@ module _ (old : Rows) (before : Option (List Usage)) (counted : CountsAll old be
         sums_fit old.agents label (more test label) consistent.agents.each few (small test label),
       ))
 
--- what was counted can be released
+-- what was added can be subtracted
 pub raised_fits : (before mid : Option (List Usage)) (more : Amounts) → IsRaisedIf before mid more
     → IfSome mid (λ used. (role : Path) (label : Text) → more (same_path role) label ≤ used_by used role label)
 raised_fits before None more raised = tt
 raised_fits None (Some m) more raised = absurd raised
 raised_fits (Some b) (Some m) more raised = λ role label. omega (arith, raised (same_path role) label)
 
--- ---- a holding ends
+-- ---- an offer or a task ends
 
 pub consumption-one_less : (old new : Rows) (h : Holding) → IsOneLess (holdings_of old) (holdings_of new) h → old.agents ≡ new.agents
     → (test : Path → Bool) (label : Text)
@@ -170,7 +170,7 @@ module _ (old new : Rows) (before : Option (List Usage)) (h : Holding) (counted 
       counts-released old before counted new after (λ test label. cond (test h.client.role) (unreserved_in label h.bundle) 0) raised
       (consumption-one_less old new h less same)
 
--- ---- parts of an offer are tasks
+-- ---- an offer is replaced by tasks
 
 module _ (rows : Rows) (number : ℕ) (o : OfferRow) (starts : List Start) (filters : List FilterRow)
     (consistent : IsConsistent rows) (found : offer_at rows number ≡ Some o)
@@ -220,7 +220,7 @@ module _ (rows : Rows) (number : ℕ) (o : OfferRow) (starts : List Start) (filt
       plus true n m = refl
       plus false n m = refl
 
--- what they leave of it is released
+-- the rest of the offer is subtracted
 module _ (rows : Rows) (before : Option (List Usage)) (counted : CountsAll rows before)
     (number : ℕ) (o x : OfferRow) (starts : List Start) (left : List Resource)
     (consistent : IsConsistent rows) (found : offer_at rows number ≡ Some o)
@@ -251,7 +251,7 @@ module _ (rows : Rows) (before : Option (List Usage)) (counted : CountsAll rows 
       counts-released rows before counted (accepted_in rows o starts filters) after less_held raised
       (λ test label. omega (arith, consumption-accepted rows number o starts filters consistent found bundles can test label, told_as test label))
 
--- ---- agents come and go
+-- ---- agents are added and removed
 
 pub consumption-agent_added : (rows : Rows) (name : Text) (total : List Resource) (test : Path → Bool) (label : Text)
     → consumption_where test (agent_added rows name total) label ≡ consumption_where test rows label + reserved_in test label total
@@ -262,7 +262,7 @@ consumption-agent_added rows name total test label =
       sum_by-cons (reserved_by test label) (new_agent name total) [],
     )
 
--- what the agent of a name has reserved is among what all have
+-- what all agents have reserved is what one has reserved plus what the others have
 pub reserved-without : (name : Text) (entries : List (Text × Agent)) (test : Path → Bool) (label : Text)
     → reserved_for test (map agent_row entries) label
     ≡ reserved_for test (map agent_row (remove_entry (same_text name) entries)) label + reserved_at (map agent_row entries) name test label
@@ -311,9 +311,9 @@ module _ (rows : Rows) (name : Text) (a : AgentRow) (consistent : IsConsistent r
         sum_by-out (reserved_by test label) before after (record a { total = made a.total }),
       )
 
--- ---- a part is exchanged
+-- ---- a part of an agent's total is replaced
 
--- what is covered has no more
+-- the replaced part has at most what the whole has
 pub part_le : (whole old new : List Resource) → CanExchange whole old new → (test : Key → Bool) (p : Point)
     → units_where test p old ≤ units_where test p whole
 part_le whole old new can test p =
@@ -329,7 +329,7 @@ module _ (whole old new : List Resource) (can : CanExchange whole old new) (test
   pub reserved-part_le : reserved_in test label old ≤ reserved_in test label whole
   reserved-part_le = part_le whole old new can (reserves test label) Thousandths
 
-  -- what comes is at most what the whole has of the scalar
+  -- the new part has at most what the whole has of the scalar
   pub reserved-small : (most : ℕ) → amount_of (quantities_of whole) label ≤ most → reserved_in test label new ≤ most
   reserved-small most small =
       omega (

@@ -1,4 +1,4 @@
--- What roles consume is counted through each change of what agents have.
+-- Consumption stays right through each change of agents.
 use Rattle.std.specs.Map.{remove_entry}
 use Rattle.std.proofs.Common.{refl, sym, ap, subst, arith, ◌≡◌, ◌+◌, ◌<◌, ◌≤◌, ◌^◌, Bool, false, not, List, filter, map, Option, Some, None, IfSome}
 use Rattle.drf_tables.proofs.tables.Names.{Text, same_text, Path, same_path, quantities_of, plus, Entry, Resource, cluster_total, consumption_where, reserved_for, reserved_in, CanExchange, exchanged, with_other_total, with_total, Rows, Usage, used_by, used_where, CanExchangeOn, CanHaveTotal, HasOther, changed, with_exchanged, with_other, CountsAll, IsRaisedIf, reserved_at, Agent, Inside}
@@ -29,10 +29,10 @@ module _ (t : Inside) (entries : List (Text × Agent)) (same : entries ≡ t.age
       CountsAll (rows_of es t.frameworks.entries t.holdings t.filters t.weights.entries t.limits t.clock t.next_offer t.events) after)
       (sym same) counts
 
--- ---- an agent leaves
+-- ---- an agent is removed
 
 module _ (t : Inside) (counted : CountsAll (rows_in t) t.consumption) (name : Text) where
-  -- what it has reserved can be released
+  -- what the agent has reserved can be subtracted
   abbrev AgentFits : List Usage → Type 0
   AgentFits used = (role : Path) (label : Text) → reserved_at (map agent_row t.agents.entries) name (same_path role) label ≤ used_by used role label
 
@@ -60,7 +60,7 @@ module _ (t : Inside) (counted : CountsAll (rows_in t) t.consumption) (name : Te
         ap (λ (es : List (Text × Agent)). reserved_for test (map agent_row es) label) taken,
       ))
 
--- ---- a part is exchanged
+-- ---- a part of an agent's total is replaced
 
 module _ (t : Inside) (kept : AreDerived (rows_in t) t.agents.entries t.total t.clients) (counted : CountsAll (rows_in t) t.consumption)
     (name : Text) (old new : List Resource) (can : CanExchangeOn (rows_in t) name old new) where
@@ -74,7 +74,7 @@ module _ (t : Inside) (kept : AreDerived (rows_in t) t.agents.entries t.total t.
       ((is_agent (rows_in t) name can.row kept.consistent can.found).small label))
 
   module _ (mid : Option (List Usage)) (raised : IsRaisedIf t.consumption mid (λ test label. reserved_in test label new)) where
-    -- what goes is among what was consumed before
+    -- the replaced part was consumed before
     abbrev ExchangeFits : List Usage → Type 0
     ExchangeFits used = (role : Path) (label : Text) → reserved_in (same_path role) label old ≤ used_by used role label
 
@@ -108,7 +108,7 @@ module _ (t : Inside) (kept : AreDerived (rows_in t) t.agents.entries t.total t.
           reserved-exchanged can.row.total old new can_whole test label,
         )))
 
--- ---- another total
+-- ---- the total of an agent is replaced
 
 module _ (t : Inside) (kept : AreDerived (rows_in t) t.agents.entries t.total t.clients) (counted : CountsAll (rows_in t) t.consumption)
     (name : Text) (total : List Resource) (sum : List Entry) (right : CanHaveTotal (rows_in t) name total)

@@ -1,4 +1,4 @@
--- What tables hold once an offer is accepted or refused.
+-- The rows after an offer is accepted or declined.
 use Rattle.std.proofs.Common.{◌≡◌, ℕ, ◌≤◌, Bool, true, false, List, [], ◌∷◌, ◌++◌, Option, Some, map, refl, sym, ap, subst, ◌∙◌, max, if◌then◌else◌, append-nil}
 use Rattle.std.specs.Option.{option_map_or}
 use Rattle.drf_bundle.specs.laws.TakenLaws.{bundle-rest_of_all}
@@ -11,9 +11,9 @@ use Rattle.drf_rows.specs.declared.rows.FilterRow.{FilterRow}
 use Rattle.drf_row_laws.specs.OfferLaws.{offer_filter}
 use Rattle.drf_tables.specs.offers.Ended.{filter_if, with_accepted}
 
--- ---- it is accepted
+-- ---- an offer is accepted
 
--- the filter, if there is to be one, is that
+-- the filter that is set is this one
 the_filter : (b : Bool) (filter f : FilterRow) → filter_if b filter ≡ Some f → filter ≡ f
 the_filter true filter f same = cc
 the_filter false filter f same = cc
@@ -52,7 +52,7 @@ rows_accepted rows tables o starts filter at moment refuse_ms later told same =
       clock = later i;
     })
 
--- ---- it is refused
+-- ---- an offer is declined
 
 pub rows_refused : (rows tables : Rows) (o : OfferRow) (at moment refuse_ms : ℕ) → moment ≡ max rows.clock at
     → tables ≡ record rows { filters = filters_with (record rows { clock = moment }) (filters_all refuse_ms) o o.bundle refuse_ms; clock = moment }

@@ -1,4 +1,4 @@
--- The rows once one holding is taken out, and once parts of an offer are tasks.
+-- The rows after one offer or task is removed, and after an offer is replaced by tasks.
 use Rattle.std.specs.Prelude.{◌≡◌, ℕ, ◌+◌, ◌≤◌, ◌==◌, ◌||◌, Bool, true, false, not, List, [], ◌∷◌, ◌++◌, length, map, filter, find, Option, Some, None, cond, ◌⊎◌}
 use Rattle.std.specs.List.{list_any, AllByRecursion}
 use Rattle.std.specs.Option.{option_map_or}
@@ -32,7 +32,7 @@ use Rattle.drf_tables.specs.declared.tables.Agent.{Agent}
 use Rattle.drf_tables.specs.declared.tables.Tables.TheInside.{Inside}
 use Rattle.drf_tables.proofs.registry.Freed.{joins-freed, known-freed, rows-freed, HasLess}
 
--- ---- one holding ends
+-- ---- one offer or task ends
 
 pub record IsWithoutOne (old new : Rows) (ending : Ending) (h : Holding) : Type 0 where
   pub taken : IsOfferOut ending (held_in old) (held_in new) h ⊎ IsTaskOut ending (held_in old) (held_in new) h
@@ -90,7 +90,7 @@ module _ (t : Inside) (held : OffersAndTasks) (ending : Ending) (taken : Taken) 
     | inr task ↦ lost_task task
   ]
 
--- it is held there no longer
+-- less is held on its agent
 less-ended : (old new : Rows) (ending : Ending) (h : Holding) → IsConsistent old → IsWithoutOne old new ending h
     → HasLess (holdings_of old) (holdings_of new) h.agent h.bundle
 less-ended old new ending h consistent one = record {
@@ -103,7 +103,7 @@ less-ended old new ending h consistent one = record {
       ∙ ap (λ (b : Bool). units_of_all (parts_on agent (holdings_of new)) key p + cond b (units h.bundle key p) 0) here;
 }
 
--- so it can come back
+-- so its resources can join the free ones
 pub back-ended : (t : Inside) (held : OffersAndTasks) (ending : Ending) (taken : Taken) → AreDerived (rows_in t) t.agents.entries t.total t.clients
     → IsOfferOut ending t.holdings held (holding_of taken) ⊎ IsTaskOut ending t.holdings held (holding_of taken)
     → CanGiveBack taken.agent taken.bundle t.agents.entries
@@ -148,9 +148,9 @@ module _ (t : Inside) (held : OffersAndTasks) (ending : Ending) (lost : IsNothin
   unfolding rows_of
   without-none = without_ended-none (rows_in t) ending lost.offers.none lost.tasks.none
 
--- ---- parts of an offer are tasks
+-- ---- an offer is replaced by tasks
 
--- an offer that is found is there
+-- an element that is found is in the list
 pub found_any : {X : Type 0} (p : X → Bool) (xs : List X) (x : X) → find p xs ≡ Some x → list_any p xs ≡ true
 found_any p [] x found = cc
 found_any p (y ∷ ys) x found = by (p y) (found_any p ys x) found
@@ -164,7 +164,7 @@ each_filter : (P : FilterRow → Type 0) (refused : Option FilterRow) → ((f : 
 each_filter P None right = tt
 each_filter P (Some f) right = (right f refl, tt)
 
--- on its agent only the tasks are held
+-- of the offer, only the tasks are still held on its agent
 less-accepted : (rows : Rows) (number : ℕ) (starts : List Start) (o : OfferRow) → IsConsistent rows → offer_at rows number ≡ Some o
     → AllByRecursion IsBundle (uses starts) → CanStart rows o starts
     → HasLess (holdings_of rows) (holdings_of (with_accepted rows o starts None)) o.agent (left_of_offer o starts)
@@ -179,7 +179,7 @@ less-accepted rows number starts o consistent found bundles can =
       less = units-left rows number o starts [] consistent found has bundles;
     }
 
--- so what is left can come back
+-- so the rest can join the free resources
 pub back-accepted : (t : Inside) (number : ℕ) (starts : List Start) (o : OfferRow) → AreDerived (rows_in t) t.agents.entries t.total t.clients
     → offer_at (rows_in t) number ≡ Some o → AllByRecursion IsBundle (uses starts) → CanStart (rows_in t) o starts
     → CanGiveBack o.agent (left_of_offer o starts) t.agents.entries
@@ -196,7 +196,7 @@ module _ (t : Inside) (entries : List (Text × Agent)) (held : OffersAndTasks) (
     (started : HasStarted number starts t.holdings held x)
     (freed_there : HasFreed x.agent (left_of_offer o starts) t.agents.entries entries)
     (added : filters ≡ t.filters ++ option_map_or (λ f. f ∷ []) refused []) where
-  -- the rows with all that changed
+  -- the rows after all these changes
   abbrev pub rows_accepted : Rows
   rows_accepted = rows_of entries t.frameworks.entries held filters t.weights.entries t.limits t.clock t.next_offer t.events
 
@@ -242,13 +242,13 @@ module _ (t : Inside) (entries : List (Text × Agent)) (held : OffersAndTasks) (
         few = kept.few;
       })
 
--- ---- as the fields stand
+-- ---- in terms of the fields
 
 module _ (t : Inside) (entries : List (Text × Agent)) (held : OffersAndTasks) (ending : Ending) (taken : Taken)
     (kept : AreDerived (rows_in t) t.agents.entries t.total t.clients)
     (freed_there : HasFreed taken.agent taken.bundle t.agents.entries entries)
     (lost : IsOfferOut ending t.holdings held (holding_of taken) ⊎ IsTaskOut ending t.holdings held (holding_of taken)) where
-  -- the rows without it
+  -- the rows without the offer or task
   abbrev pub rows_ended : Rows
   rows_ended = rows_of entries t.frameworks.entries held t.filters t.weights.entries t.limits t.clock t.next_offer t.events
 

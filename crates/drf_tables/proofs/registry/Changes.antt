@@ -1,4 +1,4 @@
--- What stands in slots and changes, found by name.
+-- Changes of entries in slots that are found by name.
 use Rattle.std.proofs.Common.{◌≡◌, ◌+◌, ◌<◌, ℕ, Bool, refl, List, [], ◌∷◌, ◌++◌, Option, None, Some, map, length, drop, get_or, set, ap, ◌∙◌, sym, subst}
 use Rattle.std.specs.Cmp.Lexicographic.{bytes_decides}
 use Rattle.std.specs.Option.{option_map}
@@ -9,7 +9,7 @@ use Rattle.drf_hash.specs.SlotLaws.{filled-changed, read_is, registry-set}
 use Rattle.drf_tables.proofs.registry.Entries.{changed_none}
 use Rattle.drf_tables.proofs.registry.Slots.{Entry, Slots, IsFound, slot_none}
 
--- what stands in a slot is another of its name
+-- an entry is replaced by another one of its name
 pub registry_with : {A : Type 0} (slots : Slots A) (places : List (Text × ℕ)) (live i : ℕ) (e : Entry A) (w : A) (slot : Option (Entry A))
     → IsRegistry same_text name_of slots places live → get_or slots i None ≡ Some e → slot ≡ Some (e.0, w)
     → IsRegistry same_text name_of (set slots i slot) places live
@@ -17,7 +17,7 @@ registry_with slots places live i e w slot known there is =
     subst (λ (s : Option (Entry _)). IsRegistry same_text name_of (set slots i s) places live) (sym is)
     (registry-set same_text bytes_decides name_of slots places live i e (e.0, w) known there refl)
 
--- a slot is read and written in place
+-- the slot of a name was read and written
 pub record IsRewritten {A : Type 0} (name : Text) (slots new : Slots A) (places : List (Text × ℕ)) (live : ℕ) (old a : A) : Type 0 where
   pub registry : IsRegistry same_text name_of new places live
   pub entries : (change : A → A) → change old ≡ a → filled new ≡ map (changed name change) (filled slots)
@@ -34,7 +34,7 @@ rewritten name slots places live i e g x slot known at there read put =
           ∙ filled-changed same_text bytes_decides name_of name (λ (f : Entry _). (f.0, change f.1)) slots i e known.apart at.found there;
     }
 
--- and nothing where none has the name
+-- if no entry has the name, nothing changes
 pub unchanged_slots : {A : Type 0} (name : Text) (change : A → A) (slots : Slots A) → slot_of same_text name_of name slots ≡ None
     → filled slots ≡ map (changed name change) (filled slots)
 unchanged_slots name change slots none = changed_none name change (filled slots) (slot_none name slots none)

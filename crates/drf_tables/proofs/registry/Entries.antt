@@ -1,4 +1,4 @@
--- Tables by name, entry by entry.
+-- Lists of entries with names.
 use Rattle.std.specs.List.{list_any}
 use Rattle.std.specs.Global.{Vec}
 use Rattle.std.specs.Map.{lookup, keys_of, values_of, remove_entry}
@@ -15,13 +15,13 @@ use Rattle.drf_tables.proofs.cycle.Counted.{count_clients-cons}
 
 -- ---- names
 
--- a name is found among entries exactly where one has it
+-- a name is found among entries exactly if one has it
 pub any-lookup : {V : Type 0} (n : Text) (es : List (Text × V)) → list_any (λ e. same_text e.0 n) es ≡ is_some (lookup (same_text n) es)
 any-lookup {V} n es =
     (λ i. list_any (λ (e : Text × V). same_text-swap e.0 n i) es)
     ∙ sym (list_any-map (same_text n) (λ (e : Text × V). e.0) es) ∙ sym (is_some-lookup (same_text n) es)
 
--- and so it is among rows
+-- and the same for the rows of the entries
 pub known-lookup : {V R : Type 0} (name : R → Text) (row : Text × V → R) (n : Text) (es : List (Text × V))
     → ((e : Text × V) → name (row e) ≡ e.0)
     → list_any (λ r. same_text (name r) n) (map row es) ≡ is_some (lookup (same_text n) es)
@@ -29,7 +29,7 @@ known-lookup {V} name row n es keeps =
     list_any-map (λ r. same_text (name r) n) row es
     ∙ (λ i. list_any (λ (e : Text × V). same_text (keeps e i) n) es) ∙ any-lookup n es
 
--- ---- an entry by its place
+-- ---- the entry at a place
 
 pub value_at : {X : Type 0} (es : List (Text × X)) (i : ℕ) (e : Text × X) → slice_get es i ≡ Some e → slice_get (values_of es) i ≡ Some e.1
 value_at {X} es i e at = slice_get-map (λ (e : Text × X). e.1) es i ∙ ap (option_map (λ (e : Text × X). e.1)) at
@@ -43,7 +43,7 @@ from_ok (Err e) x P ok here = cc
 
 -- ---- frameworks
 
--- a change of each client of one framework is one of its row
+-- changing each client of a framework changes its row in the same way
 pub rows-with_each : (name : Text) (change : ClientRow → ClientRow) (es : List (Text × Vec ClientRow))
     → framework_rows (map (changed name (with_each change)) es)
     ≡ map (λ (f : FrameworkRow). if same_text f.name name then record f { clients = map change f.clients } else f) (framework_rows es)
@@ -66,7 +66,7 @@ module _ {V : Type 0} (n : Text) (change : V → V) where
   changed-other : (e : Text × V) → same_text n e.0 ≡ false → changed n change e ≡ e
   changed-other e past = ap (λ (b : Bool). if b then (e.0, change e.1) else e) (same_text-swap e.0 n ∙ past)
 
-  -- where no entry has the name, all stay
+  -- if no entry has the name, none changes
   pub changed_none : (es : List (Text × V)) → lookup (same_text n) es ≡ None → es ≡ map (changed n change) es
   changed_none [] none = refl
   changed_none (e ∷ es) none = elim (cases_Bool (same_text n e.0)) [
@@ -78,7 +78,7 @@ module _ {V : Type 0} (n : Text) (change : V → V) where
         λ i. sym (changed-other e other) i ∷ changed_none es later i
   ]
 
--- ---- a key that is taken out
+-- ---- a key is removed
 
 module _ {V : Type 0} (n : Text) where
   -- the entries of other keys
@@ -105,7 +105,7 @@ module _ {V : Type 0} (n : Text) where
         | inr other ↦ rw (swap ∙ other, other) (ap (λ l. e ∷ l) (removed_entry es parts.1))
       ]
 
-  -- and so are the rows
+  -- the rows of the entries are removed in the same way
   pub rows-filter : {R : Type 0} (row : Text × V → R) (name : R → Text) (es : List (Text × V))
       → ((e : Text × V) → name (row e) ≡ e.0) → map row (filter stays es) ≡ filter (λ r. not (same_text (name r) n)) (map row es)
   rows-filter row name [] named = refl
@@ -123,9 +123,9 @@ pub names-keys : {V R : Type 0} (row : Text × V → R) (name : R → Text) (es 
 names-keys row name [] named = refl
 names-keys row name (e ∷ es) named = λ i. named e i ∷ names-keys row name es named i
 
--- ---- a key that is found
+-- ---- a key is found
 
--- a row is found where its entry is
+-- a row is found exactly if its entry is
 pub found-lookup : {V R : Type 0} (row : Text × V → R) (name : R → Text) (n : Text) (es : List (Text × V))
     → ((e : Text × V) → name (row e) ≡ e.0)
     → find (λ r. same_text (name r) n) (map row es) ≡ option_map (λ v. row (n, v)) (lookup (same_text n) es)
@@ -139,7 +139,7 @@ found-lookup row name n (e ∷ es) named =
       | inr other ↦ rw (its ∙ other, other) (found-lookup row name n es named)
     ]
 
--- where there is none, none is taken out
+-- if no entry has the name, none is removed
 pub removed-none : {V : Type 0} (n : Text) (es : List (Text × V)) → lookup (same_text n) es ≡ None → remove_entry (same_text n) es ≡ es
 removed-none n [] none = refl
 removed-none n (e ∷ es) none = elim (cases_Bool (same_text n e.0)) [
@@ -151,7 +151,7 @@ removed-none n (e ∷ es) none = elim (cases_Bool (same_text n e.0)) [
       rw other (ap (λ l. e ∷ l) (removed-none n es later))
 ]
 
--- where there is a framework, its clients are counted no longer
+-- after a framework is removed, its clients do not count
 pub counted-removed : (n : Text) (es : List (Text × Vec ClientRow)) (v : Vec ClientRow) → lookup (same_text n) es ≡ Some v
     → count_clients (framework_rows es) ≡ count_clients (framework_rows (remove_entry (same_text n) es)) + length v.items
 counted-removed n [] v found = cc
@@ -170,7 +170,7 @@ counted-removed n (e ∷ es) v found =
           rw other (omega (arith, first, counted-removed n es v later, count_clients-cons (framework_row e) rest))
     ]
 
--- a client is registered where its framework's entry has its role
+-- a client is registered exactly if the entry of its framework has its role
 pub registered-lookup : (client : Client) (es : List (Text × Vec ClientRow))
     → are_distinct (map (λ f. f.name) (framework_rows es)) ≡ true
     → is_registered (framework_rows es) client

@@ -1,4 +1,4 @@
--- What is free on an agent once a part comes back to it.
+-- The free resources of an agent after a part is released.
 use Rattle.std.specs.Prelude.{◌≡◌, ◌+◌, ◌≤◌, Bool, true, false, List, [], ◌∷◌, map, Option, Some, None, if◌then◌else◌}
 use Rattle.std.specs.List.{AllByRecursion}
 use Rattle.std.proofs.Common.{refl, sym, ap, subst, ◌∙◌, arith}
@@ -18,7 +18,7 @@ use Rattle.drf_tables.specs.registry.Changing.{changed, freed, joined_free, CanG
 use Rattle.drf_tables.specs.Inside.{agent_row, IsKnown}
 use Rattle.drf_tables.specs.declared.tables.Agent.{Agent}
 
--- what was free and the part join to what is free, where so much less is held
+-- the old free resources joined with the part are the new ones, if the part is held no longer
 joins_free : (total part free : List Resource) (old new : List (List Resource))
     → IsBundle total → IsBundle part → AllByRecursion IsBundle old → AllByRecursion IsBundle new
     → free ≡ rest_of_all total old
@@ -37,7 +37,7 @@ joins_free total part free old new is_total is_part each_old each_new known less
       covered key p,
     ))
 
--- on the agent of a name so much less is held, and on the others the same
+-- the part is held on the agent no longer, and nothing changes on the others
 pub record HasLess (old new : List Holding) (name : Text) (part : List Resource) : Type 0 where
   pub is_part : IsBundle part
   pub each_old : AreBundles old
@@ -78,14 +78,14 @@ module _ (old new : List Holding) (name : Text) (part : List Resource) (lost : H
   known-freed kept (e ∷ es) known agents covered =
       (known_one e known.0 agents.0 covered.0 kept (same_text e.0 name) refl, known-freed kept es known.1 agents.1 covered.1)
 
-  -- what was free has a join with the part
+  -- the old free resources can be joined with the part
   pub joins-freed : (es : List (Text × Agent)) → AllByRecursion (IsKnown old) es
       → AllByRecursion IsAgent (map agent_row es) → AllByRecursion (IsCovered old) (map agent_row es)
       → CanGiveBack name part es
   joins-freed [] known agents covered = tt
   joins-freed (e ∷ es) known agents covered = (joins_one e known.0 agents.0 covered.0, joins-freed es known.1 agents.1 covered.1)
 
--- no row shows it
+-- the rows do not change
 pub rows-freed : (kept : Bool) (name : Text) (part : List Resource) (es : List (Text × Agent))
     → map agent_row (map (changed name (freed kept part)) es) ≡ map agent_row es
 rows-freed kept name part [] = refl

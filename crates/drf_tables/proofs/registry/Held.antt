@@ -1,4 +1,4 @@
--- What is free on an agent once one more part is held there.
+-- The free resources of an agent after one more part is held.
 use Rattle.std.specs.List.{AllByRecursion}
 use Rattle.std.specs.Option.{option_map}
 use Rattle.std.proofs.Common.{refl, sym, ap, subst, ◌∙◌, arith, ◌≡◌, ℕ, ◌+◌, ◌≤◌, Bool, true, false, ◌&&◌, List, [], ◌∷◌, ◌++◌, length, map, Option, Some, None, is_some, if◌then◌else◌, append-nil}
@@ -12,9 +12,9 @@ use Rattle.drf_row_laws.specs.EndingLaws.{IsOneLess, one-one_less, one_less-offe
 use Rattle.drf_row_laws.specs.HoldingsLaws.{each_part}
 use Rattle.drf_rows.specs.declared.rows.TaskRow.{TaskRow}
 
--- ---- what is free
+-- ---- free resources
 
--- what was free less the part is what is free, where so much more is held
+-- the old free resources without the part are the new ones, if the part is held too
 held_free : (total part free : List Resource) (old new : List (List Resource))
     → IsBundle total → IsBundle part → AllByRecursion IsBundle old → AllByRecursion IsBundle new
     → ((key : Key) (p : Point) → units_of_all new key p ≡ units_of_all old key p + units part key p)
@@ -31,7 +31,7 @@ held_free total part free old new is_total is_part each_old each_new more known 
       more key p,
     ))
 
--- one more is held
+-- one more offer or task is held
 module _ (old new : List Holding) (h : Holding) (more : IsOneLess new old h) (is_part : IsBundle h.bundle)
     (each_old : AreBundles old) (each_new : AreBundles new) where
   more_there : (agent : Text) → same_text h.agent agent ≡ true → (key : Key) (p : Point)
@@ -63,7 +63,7 @@ module _ (old new : List Holding) (h : Holding) (more : IsOneLess new old h) (is
   known-held (e ∷ es) known agents =
       (known_one e known.0 agents.0 (same_text e.0 h.agent) refl, known-held es known.1 agents.1)
 
--- no row shows it
+-- the rows do not change
 pub rows-held : (name : Text) (part : List Resource) (es : List (Text × Agent))
     → map agent_row (map (changed name (with_held part)) es) ≡ map agent_row es
 rows-held name part [] = refl
@@ -73,7 +73,7 @@ rows-held name part (e ∷ es) = λ i. by (same_text e.0 name) i ∷ rows-held n
     by true = refl
     by false = refl
 
--- where the change of one agent leaves it as it was whether its free part is known, so it is of all
+-- a change that keeps an agent's free resources known or unknown keeps all of them so
 pub settled-changed : (name : Text) (change : Agent → Agent) → ((a : Agent) → is_some (change a).free ≡ is_some a.free)
     → (es : List (Text × Agent)) → is_settled (map (changed name change) es) ≡ is_settled es
 settled-changed name change same [] = refl
@@ -91,7 +91,7 @@ settled-held name part = settled-changed name (with_held part) (λ a. by a.free)
     by None = refl
     by (Some known) = refl
 
--- ---- all that is kept
+-- ---- all that is stored besides the rows
 
 pub AreDerived-held : (old new : Rows) (agents : List (Text × Agent)) (sum : List Entry) (number : ℕ) (h : Holding)
     → IsConsistent new → IsOneLess (holdings_of new) (holdings_of old) h → new ≡ record old { offers = new.offers; tasks = new.tasks }

@@ -1,4 +1,4 @@
--- What is known of free parts, entry by entry.
+-- Known free resources, entry by entry.
 use Rattle.std.specs.List.{AllByRecursion}
 use Rattle.std.specs.Map.{lookup, values_of}
 use Rattle.std.proofs.Common.{refl, sym, ap, subst, ◌∙◌, zero, suc, inl, inr, add-one, arith, ◌≡◌, ℕ, ◌+◌, Bool, true, false, List, [], ◌∷◌, map, length, slice_get, slice_set, Option, Some, None, is_some, if◌then◌else◌}
@@ -12,7 +12,7 @@ use Rattle.drf_tables.specs.cycle.Drafts.{frees_after}
 use Rattle.drf_tables.specs.Inside.{agent_row, frees_in, known_after, is_settled, rows_in, rows_of, IsKnown}
 use Rattle.drf_tables.specs.declared.tables.Left.{Left}
 
--- ---- the rows of entries that change
+-- ---- rows of changed entries
 
 pub rows-each : (f : Text × Agent → Text × Agent) (g : AgentRow → AgentRow) → ((e : Text × Agent) → agent_row (f e) ≡ g (agent_row e))
     → (es : List (Text × Agent)) → map agent_row (map f es) ≡ map g (map agent_row es)
@@ -28,7 +28,7 @@ rows-with_active name active = rows-each (changed name (with_active active)) (ac
     by e true = refl
     by e false = refl
 
--- ---- what is known of them
+-- ---- known free resources of changed entries
 
 pub known-with_active : (hs : List Holding) (name : Text) (active : Bool) (es : List (Text × Agent))
     → AllByRecursion (IsKnown hs) es → AllByRecursion (IsKnown hs) (map (changed name (with_active active)) es)
@@ -40,9 +40,9 @@ known-with_active hs name active es known =
     by e was true = was
     by e was false = was
 
--- ---- what is known of all
+-- ---- known free resources of all agents
 
--- what is known is what is free
+-- known free resources are right
 free-settled : (rows : Rows) (e : Text × Agent) → is_some e.1.free ≡ true → IsKnown (holdings_of rows) e
     → e.1.free ≡ Some (free_of rows (agent_row e))
 unfolding free_of
@@ -53,7 +53,7 @@ free-settled rows e some known = by e.1.free known some
     by (Some x) is some = λ i. Some (is x refl i)
     by None is some = cc
 
--- where all is known
+-- if the free resources of all agents are known, they are right
 pub frees-settled : (rows : Rows) (es : List (Text × Agent)) → is_settled es ≡ true → AllByRecursion (IsKnown (holdings_of rows)) es
     → frees_in es ≡ map (λ f. Some f) (map (free_of rows) (map agent_row es))
 frees-settled rows [] all known = refl
@@ -62,7 +62,7 @@ frees-settled rows (e ∷ es) all known =
     let head = free-settled rows e parts.0 known.0 in
     λ i. head i ∷ frees-settled rows es parts.1 known.1 i
 
--- of the one that is found
+-- the same for the agent that is found
 pub known_found : (hs : List Holding) (name : Text) (es : List (Text × Agent)) (a : Agent)
     → AllByRecursion (IsKnown hs) es → lookup (same_text name) es ≡ Some a → IsKnown hs (name, a)
 known_found hs name [] a known found = cc
@@ -82,12 +82,12 @@ module _ (t : Inside) (name : Text) (a : Agent) where
   unfolding rows_of
   known_in known found = known_found (holdings_in t.holdings) name t.agents.entries a known found
 
-  -- what is left of its total is free
+  -- its total without all that is held there is free
   pub left_free : rest_of_all a.total (parts_on name (holdings_in t.holdings)) ≡ free_of (rows_in t) (agent_row (name, a))
   unfolding free_of rows_of
   left_free = refl
 
--- and what is free there, where all is known
+-- its free resources, if those of all agents are known
 pub free_found : (rows : Rows) (name : Text) (es : List (Text × Agent)) (a : Agent) → is_settled es ≡ true
     → AllByRecursion (IsKnown (holdings_of rows)) es → lookup (same_text name) es ≡ Some a
     → a.free ≡ Some (free_of rows (agent_row (name, a)))
@@ -104,7 +104,7 @@ free_found rows name (e ∷ es) a all known found =
       | inr other ↦ free_found rows name es a parts.1 known.1 (sym (ap tested other) ∙ found)
     ]
 
--- where the free parts are known, all are
+-- if the list has free resources for each agent, all are known
 pub settled-frees : (es : List (Text × Agent)) (frees : List (List Resource)) → frees_in es ≡ map (λ f. Some f) frees
     → is_settled es ≡ true
 settled-frees [] frees same = refl
@@ -114,7 +114,7 @@ settled-frees (e ∷ es) (f ∷ fs) same =
     let tail : frees_in es ≡ map (λ f. Some f) fs = cc in
     and_from (is_some e.1.free) (is_settled es) (ap is_some head) (settled-frees es fs tail)
 
--- and the other way round
+-- if the list is right, the known free resources are right
 pub known-frees : (rows : Rows) (es : List (Text × Agent)) → frees_in es ≡ map (λ f. Some f) (map (free_of rows) (map agent_row es))
     → AllByRecursion (IsKnown (holdings_of rows)) es
 unfolding free_of
@@ -134,7 +134,7 @@ set-some [] i free = refl
 set-some (f ∷ fs) zero free = refl
 set-some (f ∷ fs) (suc i) free = ap (λ l. Some f ∷ l) (set-some fs i free)
 
--- what is left is known
+-- the free resources that remain after turns are known
 pub known_after-some : (frees : List (List Resource)) (lefts : List Left)
     → known_after (map (λ f. Some f) frees) lefts ≡ map (λ f. Some f) (frees_after frees lefts)
 known_after-some frees [] = refl
@@ -152,7 +152,7 @@ settled_at (e ∷ es) zero a all at =
     (λ j. is_some (sym same j).free) ∙ (and_parts (is_some e.1.free) (is_settled es) all).0
 settled_at (e ∷ es) (suc i) a all at = settled_at es i a (and_parts (is_some e.1.free) (is_settled es) all).1 at
 
--- one more is known
+-- the free resources of one more agent are known
 settled-next : (es : List (Text × Agent)) (i : ℕ) (a : Agent) → are_settled i es ≡ true → slice_get (values_of es) i ≡ Some a
     → is_some a.free ≡ true → are_settled (suc i) es ≡ true
 settled-next [] i a all at some = cc
@@ -180,7 +180,7 @@ pub settled-set : (es : List (Text × Agent)) (i : ℕ) (a w : Agent) → are_se
     → is_some w.free ≡ true → are_settled (i + 1) (set_value_at es i w) ≡ true
 settled-set es i a w all at some = ap (λ n. are_settled n (set_value_at es i w)) (add-one i) ∙ settled-set_next es i a w all at some
 
--- what is written at a place is known, if it is right
+-- known free resources stay right if the right ones are written at a place
 pub known-set : (hs : List Holding) (es : List (Text × Agent)) (i : ℕ) (e : Text × Agent) (free : List Resource)
     → slice_get es i ≡ Some e → AllByRecursion (IsKnown hs) es → free ≡ rest_of_all e.1.total (parts_on e.0 hs)
     → AllByRecursion (IsKnown hs) (set_value_at es i (record e.1 { free = Some free }))
@@ -195,7 +195,7 @@ known-set hs (f ∷ es) zero e free at known right =
     by other is = cc
 known-set hs (f ∷ es) (suc i) e free at known right = (known.0, known-set hs es i e free at known.1 right)
 
--- ---- a free part that is written at a place
+-- ---- free resources are written at a place
 
 pub rows-free_at : (es : List (Text × Agent)) (i : ℕ) (free : List Resource) → map agent_row (with_free_at es i free) ≡ map agent_row es
 rows-free_at [] i free = refl

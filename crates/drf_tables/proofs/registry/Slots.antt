@@ -1,4 +1,4 @@
--- What stands under names in slots, some of which are gaps.
+-- Entries with names in slots, of which some are free.
 use Rattle.std.proofs.Common.{◌≡◌, ◌<◌, ℕ, zero, suc, true, false, not, refl, List, [], ◌∷◌, Option, None, Some, is_some, Result, Ok, Err, OnOk, length, get_or, set, take, slice_get, ap, ◌∙◌, sym, arith}
 use Rattle.std.specs.Cmp.Lexicographic.{bytes_decides}
 use Rattle.std.specs.List.{AllByRecursion, IsDistinct, list_all}
@@ -18,14 +18,14 @@ Entry A = Text × A
 abbrev pub Slots : Type 0 → Type 0
 Slots A = List (Option (Entry A))
 
--- what follows from what holds on success holds on success
+-- a consequence of a postcondition on success holds on success
 pub ok_then : {T E : Type 0} (r : Result T E) {P R : Type 0} → OnOk r P → (P → R) → OnOk r R
 ok_then (Ok x) on so = so on
 ok_then (Err e) on so = tt
 
--- ---- what is found
+-- ---- finding an entry
 
--- a name is found in a slot, and what has it stands there
+-- a name is found in a slot, and the entry there has it
 pub record IsFound {A : Type 0} (name : Text) (slots : Slots A) (i : ℕ) : Type 0 where
   pub found : slot_of same_text name_of name slots ≡ Some i
   pub here : IsIn name_of name slots i
@@ -33,7 +33,7 @@ pub record IsFound {A : Type 0} (name : Text) (slots : Slots A) (i : ℕ) : Type
 pub found_in : {A : Type 0} (name : Text) (slots : Slots A) (i : ℕ) → slot_of same_text name_of name slots ≡ Some i → IsFound name slots i
 found_in name slots i found = record { found = found; here = slot_found same_text bytes_decides name_of name slots i found }
 
--- a name is known in slots where it is among what they hold
+-- a name is found in slots exactly if an entry has it
 pub slot-looked_up : {A : Type 0} (name : Text) (slots : Slots A)
     → is_some (slot_of same_text name_of name slots) ≡ is_some (lookup (same_text name) (filled slots))
 slot-looked_up name slots = slot-known same_text bytes_decides name_of name slots ∙ any-lookup name (filled slots)
@@ -45,7 +45,7 @@ slot_none {A} name slots none = by (lookup (same_text name) (filled slots)) (sym
     by None is = refl
     by (Some a) is = cc
 
--- ---- no gaps
+-- ---- no free slots
 
 pub ranked-full : {A : Type 0} (slots : Slots A) (i : ℕ) → length (filled slots) ≡ length slots → i < length slots → IsRanked slots i i
 ranked-full [] i full within = absurd (omega (arith, within))
@@ -64,7 +64,7 @@ ranked_here slots i None number below read is before = cc
 ranked_here slots i (Some e) number below read is before =
     record { entry = e; there = get_or_default slots i None (Some e) below ∙ sym read; before = before }
 
--- ---- one by its place
+-- ---- the entry at a place
 
 pub filled_at : {A : Type 0} (slots : Slots A) (i : ℕ) (e : Entry A) → get_or slots i None ≡ Some e → slice_get (filled slots) (length (filled (take i slots))) ≡ Some e
 filled_at [] i e at = cc
@@ -94,14 +94,14 @@ written_free (f ∷ es) zero e free at =
     λ j. (f.0, record (sym same j).1 { free = Some free }) ∷ es
 written_free (f ∷ es) (suc i) e free at = ap (λ (fs : List (Entry _)). f ∷ fs) (written_free es i e free at)
 
--- what is read where a name is found has it
+-- the entry in the slot of a name has the name
 pub named_at : {A : Type 0} (name : Text) (slots : Slots A) (i : ℕ) (e : Entry A) → IsFound name slots i → get_or slots i None ≡ Some e → e.0 ≡ name
 named_at name slots i e at there =
     let its = at.here.there in
     let same : at.here.entry ≡ e = cc in
     (λ j. (sym same j).0) ∙ at.here.named
 
--- and a look-up finds it
+-- a look-up among the entries finds it
 pub value_found : {A : Type 0} (name : Text) (slots : Slots A) (i : ℕ) (e : Entry A) → IsDistinct same_text (keys_of (filled slots))
     → IsFound name slots i → get_or slots i None ≡ Some e → lookup (same_text name) (filled slots) ≡ Some e.1
 value_found name slots i e apart at there =
@@ -127,7 +127,7 @@ slot-below (s ∷ slots) (suc i) e there = omega (arith, slot-below slots i e th
 
 -- ---- names
 
--- what are distinct pass the test of it
+-- distinct names pass the test
 pub names_apart : (names : List Text) → IsDistinct same_text names → are_distinct names ≡ true
 names_apart [] apart = refl
 names_apart (n ∷ names) apart =

@@ -1,4 +1,4 @@
--- What agents have together.
+-- The cluster's total.
 use Rattle.std.specs.List.{AllByRecursion}
 use Rattle.std.proofs.Common.{sym, subst, arith, ◌≡◌, not, IsTrue, List, [], ◌∷◌, filter, find, fold, Some}
 use Rattle.drf_tables.proofs.tables.Names.{Text, same_text, quantities_of, Entry, IsAgent, AreAgents, cluster_total, each_filter, each_find, AgentRow}
@@ -22,13 +22,13 @@ module _ (agents : List AgentRow) (name : Text) (a : AgentRow) (right : AreAgent
   its : IsAgent a
   its = each_find IsAgent (λ (b : AgentRow). same_text b.name name) agents a right.each found
 
-  -- what one has is among what all have
+  -- the cluster's total covers the total of an agent
   pub total-covers : IsTrue (covers (cluster_total agents) (quantities_of a.total))
   total-covers =
       covers_from (cluster_total agents) (quantities_of a.total) (quantities_no_zeros a.total its.total).in_order
       (λ n. omega (arith, amount-without_named agents name a n right found))
 
-  -- and without it they have what the others have
+  -- without that, it is the total of the other agents
   pub total-without : without_zeros (minus (cluster_total agents) (quantities_of a.total))
       ≡ cluster_total (filter (λ b. not (same_text b.name name)) agents)
   total-without =

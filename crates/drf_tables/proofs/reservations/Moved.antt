@@ -1,4 +1,4 @@
--- The rows that the fields stand for once limits are set, a part of an agent is exchanged, or its total is another.
+-- The rows after a limit is set, a part of an agent's total is replaced, or the total is replaced.
 use Rattle.std.specs.List.{AllByRecursion}
 use Rattle.std.specs.Option.{option_map}
 use Rattle.std.proofs.Common.{refl, sym, ap, subst, ◌∙◌, arith, ◌≡◌, ℕ, ◌+◌, ◌<◌, ◌≤◌, ◌^◌, Bool, true, false, not, List, [], ◌∷◌, map, filter, Option, Some, None, if◌then◌else◌}
@@ -24,7 +24,7 @@ use Rattle.drf_tables.proofs.tables.Fields.{total_fits}
 use Rattle.drf_tables.proofs.tables.Kept.{AreDerived-same}
 use Rattle.drf_tables.proofs.registry.Known.{rows-each}
 
--- what holds of the rows holds of the entries
+-- what holds for the rows holds for the entries
 each_entry : (P : AgentRow → Type 0) (es : List (Text × Agent)) → AllByRecursion P (map agent_row es) → AllByRecursion (λ e. P (agent_row e)) es
 each_entry P [] all = tt
 each_entry P (e ∷ es) all = (all.0, each_entry P es all.1)
@@ -40,9 +40,9 @@ limit-set t whole role limit other valid = record {
   consumed = counts-same (rows_in t) _ t.consumption whole.consumed refl (λ test label. refl);
 }
 
--- ---- a part is exchanged
+-- ---- a part of an agent's total is replaced
 
--- the rows of entries whose totals change
+-- the rows of the entries after the replacement
 rows-exchanged_entries : (name : Text) (old new : List Resource) (es : List (Text × Agent))
     → map agent_row (map (changed name (with_exchanged old new)) es) ≡ map (total_at name (exchanged old new)) (map agent_row es)
 rows-exchanged_entries name old new =
@@ -54,7 +54,7 @@ rows-exchanged_entries name old new =
     by e true = refl
     by e false = refl
 
--- the free part is exchanged as the total is
+-- the free resources change as the total does, and stay right
 known-exchanged : (hs : List Holding) (name : Text) (old new : List Resource) (es : List (Text × Agent))
     → AllByRecursion (λ e. same_text e.0 name ≡ true
     → exchanged old new (rest_of_all e.1.total (parts_on e.0 hs)) ≡ rest_of_all (exchanged old new e.1.total) (parts_on e.0 hs)) es
@@ -83,7 +83,7 @@ known-exchanged hs name old new es moves known =
 
 module _ (t : Inside) (kept : AreDerived (rows_in t) t.agents.entries t.total t.clients) (name : Text) (old new : List Resource)
     (can : CanExchangeOn (rows_in t) name old new) where
-  -- in the total, and in what is free
+  -- the part can be replaced in the total and in the free resources
   pub can_each : AllByRecursion (λ e. same_text e.0 name ≡ true → CanExchangeAt old new e.1) t.agents.entries
   unfolding rows_of free_of
   can_each =
@@ -129,7 +129,7 @@ module _ (t : Inside) (kept : AreDerived (rows_in t) t.agents.entries t.total t.
           few = omega (arith, length-map (rows_in t).agents (total_at name (exchanged old new)), kept.few);
         })
 
--- ---- another total
+-- ---- the total of an agent is replaced
 
 rows-other_entries : (kept : Bool) (name : Text) (total : List Resource) (es : List (Text × Agent))
     → map agent_row (map (changed name (with_other kept total)) es) ≡ map (total_at name (λ old. total)) (map agent_row es)
@@ -142,7 +142,7 @@ rows-other_entries kept name total =
     by e true = refl
     by e false = refl
 
--- what the old total has beside its free part is all that is held
+-- the old total without its free part is all that is held
 other_left : (old new : List Resource) (parts : List (List Resource)) → IsBundle old → IsBundle new → AllByRecursion IsBundle parts
     → ((key : Key) (p : Point) → units_of_all parts key p ≤ units old key p)
     → rest new (rest old (rest_of_all old parts)) ≡ rest_of_all new parts
@@ -166,11 +166,11 @@ rest-nothing total is =
     known_by_units (rest total []) total (bundle-rest total [] is) is
     (λ key p. omega (arith, units-rest total [] key p is.in_order bundle-empty.in_order))
 
--- all of it, where all of the old one is free
+-- if the old total is free as a whole, so is the new one
 pub other_left-nothing : (total old : List Resource) → IsBundle total → IsBundle old → rest total (rest old old) ≡ total
 other_left-nothing total old is is_old = ap (rest total) (rest-itself old is_old) ∙ rest-nothing total is
 
--- so that what is free of the new one is known
+-- so the free part of the new total is right
 module _ (hs : List Holding) (bundles : AreBundles hs) (name : Text) (total : List Resource) (is_total : IsBundle total) where
   module _ (e : Text × Agent) (known : IsKnown hs e) (agent : IsAgent (agent_row e)) (covered : IsCovered hs (agent_row e)) where
     there : (was : Option (List Resource)) → e.1.free ≡ was
@@ -217,7 +217,7 @@ module _ (t : Inside) (kept : AreDerived (rows_in t) t.agents.entries t.total t.
         few = omega (arith, length-map (rows_in t).agents (total_at name (λ was. total)), kept.few);
       })
 
--- ---- what is consumed is counted
+-- ---- consumption is computed
 
 module _ (t : Inside) (kept : AreDerived (rows_in t) t.agents.entries t.total t.clients) (test : Path → Bool) (label : Text) where
   abbrev by_offers : ℕ
@@ -243,7 +243,7 @@ module _ (t : Inside) (kept : AreDerived (rows_in t) t.agents.entries t.total t.
     total_fits (rows_in t).agents label kept.consistent.agents.each kept.few,
   )
 
--- counted from nothing, one part after another
+-- consumption is computed from zero, by offers, tasks and totals
 pub counted-all : (t : Inside) (kept : AreDerived (rows_in t) t.agents.entries t.total t.clients)
     (none one two three : List Usage)
     → none ≡ []

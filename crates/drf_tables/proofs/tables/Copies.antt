@@ -11,13 +11,13 @@ use Rattle.drf_holdings.specs.Stored.{OffersAndTasks}
 use Rattle.drf_tables.specs.Inside.{agent_row, framework_rows, rows_in, rows_of, weight_rows}
 
 module _ {K V : Type 0} (same : K → K → Bool) (swap : (x y : K) → same x y ≡ same y x) where
-  -- no two keys are the same, so one that is still to come is new
+  -- keys are distinct, so a key that was not copied yet is new
   apart : (key : K) (e : K × V) (es : List (K × V)) (rest : List K)
       → AllByRecursion (λ y. same e.0 y ≡ false) (keys_of es ++ key ∷ rest) → same key e.0 ≡ false
   apart key e [] rest none = swap key e.0 ∙ none.0
   apart key e (x ∷ xs) rest none = apart key e xs rest none.1
 
-  -- and goes last
+  -- and its entry is added last
   entry_to_come : (es : List (K × V)) (key : K) (value : V) (rest : List K)
       → IsDistinct same (keys_of es ++ key ∷ rest) → insert_entry same es key value ≡ es ++ (key, value) ∷ []
   entry_to_come [] key value rest distinct = refl
@@ -30,7 +30,7 @@ module _ {K V : Type 0} (same : K → K → Bool) (swap : (x y : K) → same x y
   keys-append [] fs = refl
   keys-append (e ∷ es) fs = ap (λ ks. e.0 ∷ ks) (keys-append es fs)
 
-  -- one entry more is copied
+  -- one more entry is copied
   pub copied_more : (whole copied new rest : List (K × V)) (key : K) (value : V)
       → IsDistinct same (keys_of whole) → copied ++ (key, value) ∷ rest ≡ whole
       → new ≡ insert_entry same copied key value → new ++ rest ≡ whole
@@ -43,7 +43,7 @@ module _ {K V : Type 0} (same : K → K → Bool) (swap : (x y : K) → same x y
 
 -- ---- the tables
 
--- copies of what tables keep stand for the same rows
+-- copies of the fields mean the same rows
 pub rows-copied : (t : Inside) (agents : List (Text × Agent)) (frameworks : List (Text × Vec ClientRow)) (holdings : OffersAndTasks)
     (filters : List FilterRow) (weights : List (Path × ℕ)) (limits : List LimitRow)
     → agents ≡ t.agents.entries → framework_rows frameworks ≡ framework_rows t.frameworks.entries → holdings ≡ t.holdings

@@ -1,4 +1,4 @@
--- The rows that the fields of tables stand for, before and after each change.
+-- The rows that the fields mean, before and after each change.
 use Rattle.std.specs.List.{AllByRecursion}
 use Rattle.std.specs.Global.{Vec}
 use Rattle.std.specs.Option.{option_map}
@@ -18,7 +18,7 @@ use Rattle.drf_tables.specs.Inside.{agent_row, framework_row, framework_rows, ro
 use Rattle.drf_holdings.specs.Stored.{OffersAndTasks}
 use Rattle.drf_tables.proofs.registry.Entries.{known-lookup, found-lookup}
 
--- ---- an agent by its place
+-- ---- the agent at a place
 
 pub active_at : (agents : List (Text × Agent)) (i : ℕ) (v : Agent) (a : AgentRow)
     → slice_get (values_of agents) i ≡ Some v → slice_get (map agent_row agents) i ≡ Some a → v.active ≡ a.active
@@ -91,7 +91,7 @@ module _ (t : Inside) where
         ∙ (λ i. map agent_row t.agents.entries ++ row (active i) ∷ []) in
         λ i. record (rows_in t) { agents = read i }
 
-  -- and so does a framework
+  -- a framework that is added comes last
   pub rows_of-framework : (entries : List (Text × Vec ClientRow)) (name : Text) (v : Vec ClientRow)
       → entries ≡ t.frameworks.entries ++ (name, v) ∷ []
       → rows_of t.agents.entries entries t.holdings t.filters t.weights.entries t.limits t.clock t.next_offer t.events
@@ -123,7 +123,7 @@ module _ (t : Inside) where
 added : List Entry → List AgentRow → List Entry
 added start agents = fold (λ sum agent. plus sum (quantities_of agent.total)) start agents
 
--- few agents of small amounts have little together
+-- the sum of the amounts of few agents is small
 small_sum : (start : List Entry) (agents : List AgentRow) (label : Text) → AllByRecursion IsAgent agents
     → amount_of (added start agents) label ≤ amount_of start label + length agents * LARGEST_AMOUNT
 unfolding added

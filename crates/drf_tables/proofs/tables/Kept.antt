@@ -1,4 +1,4 @@
--- What tables keep beside their rows, change by change.
+-- What the tables store besides the rows stays right through each change.
 use Rattle.std.specs.List.{AllByRecursion}
 use Rattle.std.proofs.Common.{refl, sym, ap, ◌∙◌, subst, arith, length-append, ◌≡◌, ℕ, ◌+◌, ◌<◌, ◌≤◌, true, false, List, [], ◌∷◌, ◌++◌, length, map, Option, Some}
 use Rattle.drf_tables.proofs.tables.Names.{Text, plus, quantities_of, Entry, Resource, clients_of, cluster_total, Holding, holdings_of, parts_on, has_agent, has_framework, IsAgent, IsFramework, IsConsistent, are_distinct_roles, offers_counted, each_append, AgentRow, FrameworkRow, OfferRow, Rows, agent_row, frees_in, known_after, is_settled, IsKnown, AreDerived, Agent}
@@ -13,7 +13,7 @@ use Rattle.drf_tables.proofs.cycle.Counted.{count_clients-counting_all}
 use Rattle.drf_tables.proofs.agents.Registered.{IsConsistent-framework_put}
 use Rattle.drf_tables.proofs.registry.Known.{frees-settled, settled-frees, known-frees, known_after-some}
 
--- ---- what is held stays, and so do agents and clients
+-- ---- holdings, agents and clients do not change
 
 module _ (rows new : Rows) (agents : List (Text × Agent)) (sum : List Entry) (number : ℕ) (kept : AreDerived rows agents sum number) where
   pub AreDerived-same : IsConsistent new → holdings_of rows ≡ holdings_of new
@@ -27,7 +27,7 @@ module _ (rows new : Rows) (agents : List (Text × Agent)) (sum : List Entry) (n
     few = subst (λ (agents : List AgentRow). length agents ≤ 4096) same kept.few;
   }
 
--- ---- another clock, and another number of events
+-- ---- the clock and the number of events change
 
 pub AreDerived-clocked : (rows : Rows) (agents : List (Text × Agent)) (sum : List Entry) (number clock events : ℕ)
     → clock ≤ LATEST_MOMENT → AreDerived rows agents sum number
@@ -49,7 +49,7 @@ AreDerived-clocked rows agents sum number clock events early kept =
     })
     refl refl refl
 
--- ---- one more agent
+-- ---- an agent is added
 
 pub AreDerived-agent_added :
     (rows : Rows) (agents : List (Text × Agent)) (sum : List Entry) (number : ℕ) (name : Text) (a : Agent)
@@ -71,7 +71,7 @@ AreDerived-agent_added rows agents sum number name a kept few new right all =
     by : (free : List Resource) → ◌≡◌ {A = Option (List Resource)} (Some a.total) (Some free) → free ≡ a.total
     by free is = cc
 
--- ---- one more framework
+-- ---- a framework is added
 
 pub AreDerived-framework_added : (rows : Rows) (agents : List (Text × Agent)) (sum : List Entry) (number : ℕ) (f : FrameworkRow)
     → AreDerived rows agents sum number → has_framework rows f.name ≡ false → IsFramework f
@@ -87,7 +87,7 @@ AreDerived-framework_added rows agents sum number f kept new valid apart counted
 
 -- ---- offers
 
--- what a cycle left is what is free on each agent
+-- the free resources that a cycle leaves are those of each agent
 module _ (rows : Rows) (old new : List (Text × Agent)) (offers : List OfferRow) (lefts : List Left)
     (agents : rows.agents ≡ map agent_row old) (same : map agent_row new ≡ map agent_row old)
     (settled : is_settled old ≡ true) (known : AllByRecursion (IsKnown (holdings_of rows)) old)

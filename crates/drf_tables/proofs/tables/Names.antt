@@ -1,4 +1,4 @@
--- Words of specs that proofs of this crate cite, most of them in more than one file, passed on from one place.
+-- Definitions of other crates that the proofs of this crate use, re-exported from one place.
 pub use Rattle.drf_bundle.specs.Bundle.{IsBundle, Key, covers, is_default, merged, part_for, quantities_of, refusal, rest, units, units_where}
 pub use Rattle.drf_bundle.specs.ListLaws.{each_append, each_at, each_filter, each_find, each_from, each_from_both, each_map, length-filter_le, none_has, sum_by-map}
 pub use Rattle.drf_bundle.specs.Quantities.{amount_of, plus}

@@ -1,4 +1,4 @@
--- The tables once an offer or a task is put back.
+-- The tables after a saved offer or task is added.
 use Rattle.std.specs.List.{list_all, list_any}
 use Rattle.std.specs.Map.{lookup}
 use Rattle.std.specs.Option.{option_map, option_map_or}
@@ -16,14 +16,14 @@ use Rattle.drf_tables.specs.Inside.{agent_row, rows_in, rows_of, AreDerived}
 use Rattle.drf_tables.proofs.tables.Fields.{agents_in}
 use Rattle.drf_tables.proofs.registry.Held.{AreDerived-held, one_more-offer, one_more-task, rows-held}
 
--- the rows with one more offer, and with one more task
+-- the rows with one more offer
 abbrev pub offer_put : Rows → OfferRow → Rows
 offer_put rows o = record rows { offers = rows.offers ++ o ∷ [] }
 
 abbrev pub task_put : Rows → TaskRow → Rows
 task_put rows x = record rows { tasks = rows.tasks ++ x ∷ [] }
 
--- they are held on an agent that is registered
+-- a holding is on a registered agent
 known_agent : (old new : Rows) (h : Holding) → IsOneLess (holdings_of new) (holdings_of old) h → IsConsistent new → has_agent new h.agent ≡ true
 known_agent old new h more consistent =
     (one-one_less (holdings_of new) (holdings_of old) h more (IsHeld new.agents new.frameworks) consistent.holdings).agent
@@ -34,7 +34,7 @@ agent_of-offer rows o = known_agent rows (offer_put rows o) (of_offer o) (one_mo
 pub agent_of-task : (rows : Rows) (x : TaskRow) → IsConsistent (task_put rows x) → has_agent rows x.agent ≡ true
 agent_of-task rows x = known_agent rows (task_put rows x) (of_task x) (one_more-task rows x)
 
--- its name is new behind those of its framework's other tasks
+-- the name of a new task differs from those of its framework's other tasks
 pub new_task : (ts : List TaskRow) (x : TaskRow) → are_distinct_tasks (ts ++ x ∷ []) ≡ true → list_any (is_task x.framework x.name) ts ≡ false
 new_task [] x apart = refl
 new_task (t ∷ ts) x apart =
@@ -45,9 +45,9 @@ new_task (t ∷ ts) x apart =
     or_from (is_task x.framework x.name t) (list_any (is_task x.framework x.name) ts)
     (is_task-swap x t ∙ not-true (is_task t.framework t.name x) last.0) (new_task ts x parts.1)
 
--- ---- what is usable
+-- ---- usable resources
 
--- that is asked of what is free on the agent, if it is there
+-- the test reads the free resources of the agent, if it is registered
 pub usable_free : (rows : Rows) (name : Text) (role : Path) (bundle : List Resource) (free : Option (List Resource))
     → free ≡ option_map (free_of rows) (agent_at rows name)
     → option_map_or (λ f. covers (part_for role f) bundle) free false ≡ is_usable rows name role bundle
@@ -59,14 +59,14 @@ usable_free rows name role bundle free is =
     by (Some a) = refl
     by None = refl
 
--- ---- what is left
+-- ---- free resources that remain
 
--- what is left is free where one more is held
+-- the remaining resources are the free ones after one more part is held
 left_held : (a : Agent) (part : List Resource) (left : Option (List Resource)) → left ≡ option_map (λ known. rest known part) a.free
     → with_held part a ≡ record a { free = left }
 left_held a part left is = λ i. record a { free = sym is i }
 
--- and the agent of the name changes so, where a copy of the name found it
+-- the agent changes in this way if it is found by a copy of its name
 pub told_held : (old new : List (Text × Agent)) (name copy : Text) (part : List Resource) (left : Option (List Resource)) (a : Agent)
     → lookup (same_text name) old ≡ Some a → left ≡ option_map (λ known. rest known part) a.free → copy ≡ name
     → ((change : Agent → Agent) (a : Agent) → lookup (same_text copy) old ≡ Some a → change a ≡ record a { free = left } → new ≡ map (changed copy change) old)
@@ -76,7 +76,7 @@ told_held old new name copy part left a at is same set =
     → new ≡ map (changed n change) old) same set (with_held part) a at (left_held a part left is)
 
 module _ (t : Inside) (kept : AreDerived (rows_in t) t.agents.entries t.total t.clients) (entries : List (Text × Agent)) (held : OffersAndTasks) where
-  -- the rows with other agents and holdings
+  -- the rows after agents and holdings change
   abbrev rows_now : Rows
   rows_now = rows_of entries t.frameworks.entries held t.filters t.weights.entries t.limits t.clock t.next_offer t.events
 

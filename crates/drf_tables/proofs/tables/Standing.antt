@@ -1,4 +1,4 @@
--- Whether anything stands in a table.
+-- Tests whether tables are empty.
 use Rattle.std.specs.List.{list_all}
 use Rattle.std.specs.Map.Iter.{TakesFirst}
 use Rattle.std.proofs.Common.{refl, sym, ap, inl, inr, ◌≡◌, ◌==◌, ℕ, Bool, true, false, not, List, [], ◌∷◌, filter, length, nat_lt, Option, Some, None, is_some}
@@ -10,7 +10,7 @@ pub none_there : {X : Type 0} (xs : List X) → (length xs == 0) ≡ is_empty xs
 none_there [] = refl
 none_there (x ∷ xs) = eqb-suc-zero (length xs)
 
--- where no first one is given, there is none
+-- a list is empty exactly if there is no first element
 pub none_first : {A V : Type 0} (shows : A → V) (s t : List V) (r : Option A) (none : Bool) → TakesFirst shows s r t
     → is_some r ≡ not none → none ≡ is_empty s
 none_first shows s t None true gone told = ap (λ (es : List _). is_empty es) (sym gone.0)
@@ -18,7 +18,7 @@ none_first shows s t None false gone told = cc
 none_first shows s t (Some x) true first told = cc
 none_first shows s t (Some x) false first told = ap (λ (es : List _). is_empty es) (sym first)
 
--- all numbers are below one where none is from it on
+-- all numbers are below a number if no offer has that number or a greater one
 pub none_from : (number : ℕ) (os : List OfferRow)
     → is_empty (filter (λ o. not (nat_lt o.number number)) os) ≡ list_all (λ o. nat_lt o.number number) os
 none_from number [] = refl

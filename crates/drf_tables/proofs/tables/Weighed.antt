@@ -1,4 +1,4 @@
--- The table of weights, as rows.
+-- The table of weights as rows.
 use Rattle.std.specs.List.{list_any}
 use Rattle.std.specs.Map.{lookup}
 use Rattle.std.proofs.Common.{refl, ap, ◌∙◌, inl, inr, ◌≡◌, ℕ, List, [], ◌∷◌, is_some, true}
@@ -11,7 +11,7 @@ use Rattle.drf_row_laws.specs.WeightLaws.{IsConsistent-weight_set}
 use Rattle.drf_tables.specs.Inside.{weight_row, weight_rows, rows_of, rows_in, AreDerived}
 use Rattle.drf_tables.proofs.tables.Kept.{AreDerived-same}
 
--- a role is found among the keys exactly where a row has it
+-- a role is found among the keys exactly if a row has it
 known_weight : (role : Path) (es : List (Path × ℕ))
     → list_any (λ w. same_path w.role role) (weight_rows es) ≡ is_some (lookup (same_path role) es)
 known_weight role [] = refl
@@ -28,7 +28,7 @@ pub has_weight-rows_in : (t : Inside) (role : Path)
 unfolding rows_of
 has_weight-rows_in t role = known_weight role t.weights.entries
 
--- an entry is put into the place of its row
+-- setting an entry sets the row at its place
 weights_put : (es : List (Path × ℕ)) (role : Path) (weight : ℕ)
     → weight_rows (insert_entry same_path es role weight) ≡ weights_with (weight_rows es) role weight
 weights_put [] role weight = refl
@@ -40,7 +40,7 @@ weights_put (e ∷ es) role weight =
       | inr other ↦ rw (test ∙ other, other) (ap (λ ws. weight_row e ∷ ws) more)
     ]
 
--- the rows with the weight of a role
+-- the rows after the weight of a role is set
 abbrev pub weight_set : Rows → Path → ℕ → Rows
 weight_set rows role weight = record rows { weights = weights_with rows.weights role weight }
 
@@ -53,7 +53,7 @@ rows_of-weight t entries role weight inserted =
     let read = ap weight_rows inserted ∙ weights_put t.weights.entries role weight in
     λ i. record (rows_in t) { weights = read i }
 
--- nothing else depends on weights
+-- what is stored besides the rows does not depend on weights
 pub AreDerived-weight_set : (rows : Rows) (agents : List (Text × Agent)) (sum : List Entry) (number : ℕ) (role : Path) (weight : ℕ)
     → is_weight weight ≡ true → IsRole role → AreDerived rows agents sum number → AreDerived (weight_set rows role weight) agents sum number
 AreDerived-weight_set rows agents sum number role weight right valid kept =

@@ -178,7 +178,7 @@ shared-all label rs shared = all rs shared ∙ sym (amount-quantities_of rs labe
         at true true shared = refl
         at true false shared = absurd (true≢false (sym shared))
 
--- a client without reservations can have at most what is free and unreserved of a scalar, and at most the headroom
+-- a client for which nothing is reserved can have at most the free unreserved amount of a scalar, and at most the headroom
 below : (rows : Rows) (free : List Resource) (client : Client) (label : Text) (least : ℕ) → IsBundle free
     → is_for_all label (entitlement rows free client) ≡ true → has_at_least rows free client.role label least ≡ false
     → amount_of (quantities_of (entitlement rows free client)) label < least

@@ -84,7 +84,7 @@ pub record CanExchangeOn (rows : Rows) (agent : Text) (old new : List Resource) 
   pub found : agent_at rows agent ≡ Some row
   pub can : CanExchange (free_of rows row) old new
 
--- the agent is registered, and the total is valid and covers what is held there
+-- the agent is registered, and the total is valid and covers the resources held there
 pub record CanHaveTotal (rows : Rows) (agent : Text) (total : List Resource) : Type 0 where
   pub row : AgentRow
   pub found : agent_at rows agent ≡ Some row

@@ -37,7 +37,7 @@ commit-requires-clause-consumption g c =
     counts_all after c.lend_consumption.new.tables.rows.limits c.take-consumption.result
     (subst (λ (o : Option (List Usage)). IsQuotaOf after (quota_under c.lend_consumption.new.tables.rows.limits o)) (sym c.take-consumption.ensures.value) c.in_ok-turns.ensures.cycle.quota)
 
--- with limits it is counted what roles consume
+-- if any role has a limit, consumption is known
 pub returns-clause-counted : goal.returns-clause-counted
 returns-clause-counted g c = λ some.
     let rows : Rows = c.lend_consumption.new.tables.rows in
@@ -72,7 +72,7 @@ returns-clause-spends g c =
       work = λ counted. omega (arith, c.is_idle.ensures.spends.work counted, c.in_ok-turns.ensures.work counted, ap Nodes c.requires.none, ap Nodes new);
     }
 
--- ---- nobody is tried
+-- ---- no client is tried
 
 pub returns-then-idle-clause-ok : goal.returns-then-idle-clause-ok
 returns-then-idle-clause-ok g c =

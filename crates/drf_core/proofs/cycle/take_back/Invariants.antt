@@ -7,7 +7,7 @@ use Rattle.drf_sorter.specs.Content.{IsSame}
 use Rattle.drf_content.specs.Content.{content_of}
 use Rattle.drf_core.proofs.cycle.take_back.Given as goal
 
--- the sorter knows the drafts that are left, each of a registered client
+-- the sorter holds the drafts that are left, and their clients are registered
 abbrev pub invariant-loop-offer : goal.invariant-loop-offer
 invariant-loop-offer g l = record {
   sorted : IsSame (g.S.Sorter.content l.sorter) (content_of (with_offers l.tables.rows l.offers.items));

@@ -22,13 +22,13 @@ use Rattle.drf_core.proofs.cycle.try_first.Given as given
 use Rattle.drf_core.proofs.cycle.try_first.Goals.{After-reserve, After-quantities}
 use Rattle.drf_core.proofs.cycle.try_first.Goals as goal
 
--- the client is the first that is still to be served
+-- the client is the first in the queue
 first_at : (g : given.Over) (c : After-reserve g) → slice_get (g.S.Sorter.queue c.args.sorter.now) 0 ≡ Some c.in_ok-client.client
 first_at g c =
     let told : Some c.in-Some.client.now ≡ slice_get (g.S.Sorter.queue c.args.sorter.now) 0 = rw c.in-Some.is at c.first.ensures in
     sym told ∙ ap Some (sym c.in_ok-client.ensures)
 
--- the row that is made is that of the next draft
+-- the row is that of the next draft
 next_at : (g : given.Over) (c : After-reserve g)
     → IsNext (g.S.Sorter.content c.args.sorter.now) c.args.tables.now.rows c.args.drafts.now.offers.items c.args.place c.in_ok-client.client c.args.free.now.bundle
     c.in-Some-granted.bundle c.in_ok-offer.offer
@@ -128,7 +128,7 @@ returns-in_default-granted-clause-tried g c = λ path first.
     ∙ c.in_ok-granted.ensures.granted after agent client free name filters clock (rw (c.as_ref-2.ensures.value ∙ c.quota_under-quota.ensures ∙ ap (quota_under c.args.tables.now.rows.limits) c.as_ref.ensures.value) counted) (same ∙ joined))
     c.agent_name-agent.ensures
 
--- what is known is of the role of the client that was tried
+-- what is known is about the role of the client that was tried
 pub returns-clause-role : goal.returns-clause-role
 returns-clause-role g c = λ role path told first.
     let same : c.in-Some.client.now ≡ path = let e : Some c.in-Some.client.now ≡ Some path = (rw c.in-Some.is at c.first.ensures) ∙ first in cc in
@@ -139,7 +139,7 @@ returns-in_default-granted-clause-role g c = λ role path told first.
     let same : c.in-Some.client.now ≡ path = let e : Some c.in-Some.client.now ≡ Some path = (rw c.in-Some.is at c.first.ensures) ∙ first in cc in
     c.in_ok-granted.ensures.role role told ∙ ap role_part same
 
--- no client is left
+-- the queue is empty
 pub returns-in_default-clause-role : goal.returns-in_default-clause-role
 returns-in_default-clause-role g c = λ role path told first.
     let nothing : None ≡ Some path = (rw c.in_default.is at c.first.ensures) ∙ first in

@@ -16,7 +16,7 @@ use Rattle.drf_core.proofs.cycle.turn.Given as given
 use Rattle.drf_core.proofs.cycle.turn.Goals.{After-pass_tried}
 use Rattle.drf_core.proofs.cycle.turn.Goals as goal
 
--- an agent with too little free, or that is not active
+-- an agent that is inactive or has too little free
 pub returns-then-not-is_open-clause-turn : goal.returns-then-not-is_open-clause-turn
 returns-then-not-is_open-clause-turn g c =
     turn_at-closed (with_offers c.args.tables.now.rows c.args.drafts.now.offers.items) c.args.place
@@ -42,7 +42,7 @@ loop-sorter-init g c = record {
 pub goes_on-requires : goal.goes_on-requires
 goes_on-requires g c = c.loop-sorter.invariant.turn.known.worth
 
--- who is passed by, of those that wait
+-- which clients are removed from the queue
 over_at : (g : given.Over) (c : After-pass_tried g) → IsPassedOver c.try_first.new.free.known (g.S.Sorter.queue c.loop-sorter.sorter) (g.S.Sorter.queue c.pass_tried.new.sorter)
 over_at g c =
     subst (λ paths. IsPassedOver c.try_first.new.free.known paths (g.S.Sorter.queue c.pass_tried.new.sorter)) c.try_first.ensures.queue c.pass_tried.ensures.queue
@@ -81,7 +81,7 @@ loop-sorter-smaller g c =
     let first = first_at g b in
     passed_falls c.try_first.new.free.known (g.S.Sorter.queue c.loop-sorter.sorter) (g.S.Sorter.queue c.pass_tried.new.sorter) first.0 first.1 (over_at g b)
 
--- every client was tried, or would be granted nothing
+-- every client was tried, or too little is left to grant
 pub returns-clause-turn : goal.returns-clause-turn
 returns-clause-turn g c =
     let rows : Rows = c.args.tables.now.rows in

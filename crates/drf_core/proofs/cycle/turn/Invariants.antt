@@ -5,7 +5,7 @@ use Rattle.drf_core.specs.Working.{AddsDrafts}
 use Rattle.drf_core.proofs.drafting.Turn.{AreWaiting}
 use Rattle.drf_core.proofs.cycle.turn.Given as goal
 
--- to try the clients that wait gives what trying all gives
+-- trying the clients in the queue completes what trying all clients gives
 abbrev pub invariant-loop-sorter : goal.invariant-loop-sorter
 invariant-loop-sorter g l = record {
   turn : IsTurn (g.S.Sorter.content l.sorter) l.tables l.drafts l.place l.free (g.S.Sorter.queue l.sorter);

@@ -6,7 +6,7 @@ use Rattle.drf_core.specs.cycle.Drafting.{IsCycleAt, turns_of}
 use Rattle.drf_core.specs.Working.{AddsDrafts}
 use Rattle.drf_core.proofs.cycle.turns.Given as goal
 
--- the agents before this one had their turns, and the others have theirs from here on
+-- the agents before this one had their turns, and the others follow
 abbrev pub invariant-loop-place : goal.invariant-loop-place
 invariant-loop-place g l = record {
   cycle : IsCycleAt (g.S.Sorter.content l.sorter) l.tables l.drafts l.place;

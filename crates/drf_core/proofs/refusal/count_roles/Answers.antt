@@ -10,7 +10,7 @@ use Rattle.drf_core.proofs.refusal.count_roles.Goals as goal
 abbrev now_of : Bor Path → Path
 now_of r = r.now
 
--- the role at a place was counted already, or is counted now
+-- the role at a place was counted before, or is counted now
 module _ (roles : List Path) (i : ℕ) (role : Path) (counted : List (Bor Path)) (inside : i < length roles)
     (at : role ≡ slice_index_or roles i role) (is : map now_of counted ≡ distinct (take i roles)) where
   one_more : take i roles ++ role ∷ [] ≡ take (i + 1) roles

@@ -16,7 +16,7 @@ or_false : (a b : Bool) → (a || b) ≡ false → (a ≡ false) × (b ≡ false
 or_false false b none = (refl, none)
 or_false true b none = absurd (true≢false none)
 
--- no event of a front makes keys where none of the list does
+-- if no event of a list computes keys, no event of a prefix does
 none_before : (events : List Event) (i : ℕ) → list_any may_make_keys events ≡ false
     → list_any may_make_keys (take i events) ≡ false
 none_before events i none =
@@ -24,7 +24,7 @@ none_before events i none =
     (sym (list_any-append may_make_keys (take i events) (drop i events))
     ∙ ap (list_any may_make_keys) (take-append-drop i events) ∙ none)).0
 
--- there is no room for a reply
+-- memory ran out for the reply
 pub returns-in_err-reserve-clause-stopped : goal.returns-in_err-reserve-clause-stopped
 returns-in_err-reserve-clause-stopped g c =
     let events = c.args.events.now in
@@ -39,7 +39,7 @@ pub returns-in_err-reserve-clause-keys : goal.returns-in_err-reserve-clause-keys
 returns-in_err-reserve-clause-keys g c none =
     c.loop-event.invariant.keys (none_before c.args.events.now c.loop-event.event-index none)
 
--- there is no memory for an event that is not refused early
+-- memory ran out for an event that is not refused early
 pub returns-in_err-reply-clause-stopped : goal.returns-in_err-reply-clause-stopped
 returns-in_err-reply-clause-stopped g c =
     let events = c.args.events.now in

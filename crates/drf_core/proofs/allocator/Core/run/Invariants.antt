@@ -7,7 +7,7 @@ use Rattle.drf_core.specs.Machine.{IsAfterAll, IsSafe}
 use Rattle.drf_core.specs.Working.{allowance_of_all, may_make_keys}
 use Rattle.drf_core.proofs.allocator.Core.run.Given as goal
 
--- the events before this one were taken, and replied to
+-- the events before this one were applied, and their replies appended
 abbrev pub invariant-loop-event : goal.invariant-loop-event
 invariant-loop-event g l = record {
   after : IsAfterAll l.initial.self l.self (take l.event-index l.events);

@@ -23,7 +23,7 @@ use Rattle.drf_core.proofs.allocator.Core.step_copied.Goals as goal
 abbrev engine_of : LimitNumbers → ClusterState → Engine
 engine_of limits cluster = record { limits = limits; rows = cluster.rows; work = cluster.work }
 
--- callers see what the cluster is that is lent
+-- what callers see is decided by the borrowed cluster
 seen : (limits : LimitNumbers) (lent inside : ClusterState) (engine : Engine) → lent ≡ inside → engine_of limits inside ≡ engine
     → engine_of limits lent ≡ engine
 seen limits lent inside engine same view = ap (engine_of limits) same ∙ view
@@ -32,7 +32,7 @@ pub refusal-requires : goal.refusal-requires
 refusal-requires g c =
     subst (λ (m : ClusterState). IsStanding c.self.inside.limits m.rows) (sym c.deref_mut-cluster.ensures.value) c.self.invariant
 
--- a test of refusal that found no memory
+-- memory ran out in a test of refusal
 pub returns-in_err-refusal-clause-not_refused : goal.returns-in_err-refusal-clause-not_refused
 returns-in_err-refusal-clause-not_refused g c =
     let view = seen c.self.inside.limits c.deref_mut-cluster.result.now c.self.inside.cluster.value c.args.self.now c.deref_mut-cluster.ensures.value c.self.view_is in
@@ -79,7 +79,7 @@ returns-in-Some-clause-spends g c =
     spends-on_ok _ (subst (λ (m : Engine). Spends g.S.Sorter.COUNTED m.work c.refusal.new.self.work (allowance m.limits m.rows c.args.event)) view
     (spends-within (spends-nothing c.refusal.ensures.work) (omega arith)))
 
--- an accepted one
+-- an accepted event
 pub count_event-requires : goal.count_event-requires
 count_event-requires g c =
     let limits = c.self.inside.limits in
@@ -165,7 +165,7 @@ returns-clause-filters g c =
       c.refusal.ensures.filters,
     )
 
--- what the sorter owes more
+-- the work that the event adds
 pub returns-clause-spends : goal.returns-clause-spends
 returns-clause-spends g c =
     let limits = c.self.inside.limits in
@@ -178,7 +178,7 @@ returns-clause-spends g c =
     spends-on_ok _ (subst (λ (m : Engine). Spends g.S.Sorter.COUNTED m.work c.count_event.new.self.work (allowance m.limits m.rows c.args.event)) view
     (spends-within (spends-both (spends-nothing c.refusal.ensures.work) applied) (omega (arith, same))))
 
--- a refused event makes no key
+-- a refused event computes no key
 pub returns-in_err-stepped-clause-refused : goal.returns-in_err-stepped-clause-refused
 returns-in_err-stepped-clause-refused g c =
     let limits = c.self.inside.limits in

@@ -47,7 +47,7 @@ add_framework-requires-clause-roles g c =
     ap are_distinct_roles (ap (map (λ (x : ClientRow). x.role)) (c.in_ok-clients.ensures ∙ ap (map new_client) c.in_ok-roles.ensures) ∙ roles_of_new (distinct c.args.roles))
     ∙ distinct_apart c.args.roles
 
--- no offer was made to its clients
+-- the counts of its clients are 0
 nothing_made : (cs : List ClientRow) → AllByRecursion (λ c. c.count ≡ 0) cs → sum_by (λ c. c.count) cs ≡ 0
 nothing_made [] all = refl
 nothing_made (c ∷ cs) all = omega (arith, sum_by-cons (λ (c : ClientRow). c.count) c cs, all.0, nothing_made cs all.1)

@@ -44,7 +44,7 @@ returns-clause-err g c =
     let same : c.offer_all.new.tables.rows ≡ record rows { clock = c.max.result } = c.in-Err.ensures.err ∙ c.set_clock.ensures in
     rw (← c.self.view_is) (c.set_clock-in-Err.ensures ∙ (λ i. record (same i) { clock = c.clock-before.ensures i }))
 
--- the turns are the cycle
+-- the rows after all turns are those after the cycle
 turned : (g : given.Over) (c : After-offer_all g) → turns_of c.set_clock.new.self.rows ≡ effect c.self.inside.tables.rows (Cycle c.args.at)
 turned g c =
     turns_of-cycle c.self.inside.tables.rows c.set_clock.new.self.rows c.args.at c.max.result

@@ -38,7 +38,7 @@ loop-taken-preserved g c =
       made = c.refund.ensures.spends.made ∙ c.loop-taken.invariant.made;
     }
 
--- one holding ended, and no more end
+-- one offer or task ended, and at most one is selected
 
 pub invariant_of-self : goal.invariant_of-self
 invariant_of-self g c =
@@ -67,7 +67,7 @@ returns-then-is_one-clause-spends g c =
       );
     })
 
--- nothing is left that ends
+-- no selected offer or task is left
 
 pub returns-clause-spends : goal.returns-clause-spends
 returns-clause-spends g c =

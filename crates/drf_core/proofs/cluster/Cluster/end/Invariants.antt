@@ -9,7 +9,7 @@ use Rattle.drf_content.specs.Content.{content_of}
 use Rattle.drf_core.specs.Working.{losers, nodes_of}
 use Rattle.drf_core.proofs.cluster.Cluster.end.Given as goal
 
--- what ended was given back, and the rest is still to end
+-- the offers and tasks that ended were refunded, and the other selected ones remain
 abbrev pub invariant-loop-taken : goal.invariant-loop-taken
 invariant-loop-taken g l = record {
   sorted : IsSame (g.S.Sorter.content l.self-inside.sorter) (content_of l.self-inside.tables.rows);

@@ -9,7 +9,7 @@ use Rattle.drf_explain.specs.Gates.{AreGatesOf}
 use Rattle.drf_core.specs.cycle.Entitling.{IsQuotaOf}
 use Rattle.drf_core.proofs.cycle.explain.tell_behind.Given as goal
 
--- those who wait are told of behind those who were
+-- the clients in the queue are reported after those before them
 abbrev pub invariant-loop-sorter : goal.invariant-loop-sorter
 invariant-loop-sorter g l = record {
   content : g.S.Sorter.content l.sorter ≡ g.S.Sorter.content l.initial.sorter;

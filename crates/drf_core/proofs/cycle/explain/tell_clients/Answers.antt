@@ -87,7 +87,7 @@ loop-drafts-smaller g c =
     let first = first_at g b in
     omega (arith, ap length (queue_begins (g.S.Sorter.queue c.loop-drafts.sorter) first.0 first.1), ap length (left_at g b))
 
--- every client was tried, or would be granted nothing
+-- every client was tried, or too little is left to grant
 pub returns-clause-tried : goal.returns-clause-tried
 returns-clause-tried g c =
     let rows : Rows = c.args.tables.now.rows in

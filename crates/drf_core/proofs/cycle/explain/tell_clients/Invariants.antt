@@ -5,7 +5,7 @@ use Rattle.drf_core.proofs.drafting.Told.{AreTold}
 use Rattle.drf_core.proofs.drafting.Turn.{AreWaiting}
 use Rattle.drf_core.proofs.cycle.explain.tell_clients.Given as goal
 
--- to try the clients that wait, and to tell of them, gives what trying and telling of all gives
+-- trying and reporting the clients in the queue completes what trying and reporting all clients gives
 abbrev pub invariant-loop-drafts : goal.invariant-loop-drafts
 invariant-loop-drafts g l = record {
   turn : IsTurn (g.S.Sorter.content l.sorter) l.tables l.drafts l.place l.free (g.S.Sorter.queue l.sorter);

@@ -13,7 +13,7 @@ use Rattle.drf_core.proofs.cycle.explain.tell_turn.Goals.{After-is_empty}
 use Rattle.drf_core.proofs.cycle.explain.tell_turn.Given as given
 use Rattle.drf_core.proofs.cycle.explain.tell_turn.Goals as goal
 
--- whether anything is free there, with the drafts
+-- whether the agent has free resources, with the drafts
 empty_at : (g : given.Over) (c : After-is_empty g)
     → c.is_empty.result ≡ is_empty (free_of (with_offers c.args.tables.now.rows c.args.drafts.now.offers.items) (agent_in c.args.tables.now.rows c.args.drafts.now.offers.items c.args.place c.requires.place).0)
 empty_at g c =

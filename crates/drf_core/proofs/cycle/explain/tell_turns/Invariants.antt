@@ -4,7 +4,7 @@ use Rattle.drf_tables.specs.cycle.Drafts.{with_offers}
 use Rattle.drf_core.specs.cycle.Drafting.{IsCycleAt}
 use Rattle.drf_core.proofs.cycle.explain.tell_turns.Given as goal
 
--- the agents before this one were told of, and the others are told of from here on
+-- the agents before this one were reported, and the others remain
 abbrev pub invariant-loop-place : goal.invariant-loop-place
 invariant-loop-place g l = record {
   cycle : IsCycleAt (g.S.Sorter.content l.sorter) l.tables l.drafts l.place;

@@ -7,7 +7,7 @@ use Rattle.drf_core.specs.cycle.Entitling.{known_role}
 use Rattle.drf_core.proofs.drafting.Granted.{granted-is, known_each}
 use Rattle.drf_core.proofs.cycle.free.grant.Goals as goal
 
--- all that is free
+-- the fast path: all free resources can be granted
 pub returns-then-is_for_all-clause-granted : goal.returns-then-is_for_all-clause-granted
 returns-then-is_for_all-clause-granted c =
     let rows = c.args.tables.now.rows in

@@ -9,7 +9,7 @@ use Rattle.drf_core.proofs.drafting.Granted.{granted-is, granted-none, known_eac
 use Rattle.drf_core.proofs.cycle.free.grant_part.Goals.{In_ok-entitle, After-is_held_back}
 use Rattle.drf_core.proofs.cycle.free.grant_part.Goals as goal
 
--- what the role may have
+-- what the role can have
 offered_at : (c : In_ok-entitle) (part : Option (List Resource)) → known_part c.entitle.new.free.known ≡ part
     → IsOffered (option_copied c.args.quota) c.args.free.now.bundle (role_part c.args.client.now) part
 offered_at c part is =
@@ -23,13 +23,13 @@ held_at c =
     c.is_held_back.ensures
     ∙ (λ i. is_held_back c.args.tables.now.rows.filters c.args.tables.now.rows.clock (record { role = c.role-2.ensures i; framework = c.framework.ensures i }) c.args.agent.now c.in-Part.part)
 
--- nothing that is worth an offer
+-- nothing that is enough for an offer
 pub returns-in_default-clause-granted : goal.returns-in_default-clause-granted
 returns-in_default-clause-granted c = λ rows a of is_free name filters clock counted joined.
     granted-none c.args.client.now (option_copied c.args.quota) c.args.free.now.bundle
     (offered_at (goal.at.returns-in_default-clause-granted c).In_ok-entitle None (no_part c.entitle.new.free.known c.in_default.not-Part)) rows a of is_free counted joined
 
--- a filter holds it back
+-- a filter covers it
 pub returns-then-is_held_back-clause-granted : goal.returns-then-is_held_back-clause-granted
 returns-then-is_held_back-clause-granted c =
     let b = (goal.at.returns-then-is_held_back-clause-granted c).In_ok-entitle in
@@ -48,7 +48,7 @@ returns-clause-granted c =
     c.args.tables.now.rows.filters c.args.tables.now.rows.clock c.args.agent.now part false c.take_part.result
     (offered_at b (Some part) (ap known_part c.in-Part.is)) (sym c.if-is_held_back.false ∙ held) (c.take_part.ensures.part ∙ ap known_part c.in-Part.is)
 
--- all of the part is taken
+-- the whole part is granted
 left_at : (granted : Option (List Resource)) (part old new : List Resource) → granted ≡ Some part → new ≡ rest old part
     → MatchOption granted (new ≡ old) (λ bundle. new ≡ rest old bundle)
 left_at granted part old new is left = subst (λ o. MatchOption o (new ≡ old) (λ bundle. new ≡ rest old bundle)) (sym is) left

@@ -7,12 +7,12 @@ use Rattle.drf_core.proofs.drafting.Barred.{barred-role}
 use Rattle.drf_core.proofs.cycle.free.known_of.Goals.{After-is_worth_an_offer}
 use Rattle.drf_core.proofs.cycle.free.known_of.Goals as goal
 
--- amounts tell
+-- the amounts alone decide
 pub returns-in-Some-clause-right : goal.returns-in-Some-clause-right
 returns-in-Some-clause-right c =
     subst (λ (r : Path). IsBarred (option_copied c.args.quota) c.args.free.now r c.in-Some.front) (sym c.in_ok-named.ensures) c.in-Some.ensures
 
--- the part tells
+-- the computed part decides
 offered_at : (c : After-is_worth_an_offer) (worth : Bool) → c.is_worth_an_offer.result ≡ worth
     → IsOffered (option_copied c.args.quota) c.args.free.now c.args.role.now (cond worth (Some c.in_ok-part.part) None)
 offered_at c worth told =

@@ -3,7 +3,7 @@ use Rattle.std.specs.List.{list_any}
 use Rattle.drf_core.specs.cycle.Entitling.{is_reserved_for, is_reserved_near}
 use Rattle.drf_core.proofs.cycle.free.reserved_front.Given as goal
 
--- what was looked at is reserved neither for the role or above it, nor for roles with the first parts so far
+-- the resources so far are not reserved for the role, for roles above it, or for roles with the first parts so far
 abbrev pub invariant-loop-resource : goal.invariant-loop-resource
 invariant-loop-resource l = record {
   within : l.front ≤ length l.role + 1;

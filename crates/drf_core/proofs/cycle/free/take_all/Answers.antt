@@ -14,7 +14,7 @@ held_at c =
     c.is_held_back.ensures
     ∙ (λ i. is_held_back c.args.tables.now.rows.filters c.args.tables.now.rows.clock (record { role = c.role.ensures i; framework = c.framework.ensures i }) c.args.agent.now c.args.free.now.bundle)
 
--- a filter holds it back
+-- a filter covers it
 pub returns-then-is_held_back-clause-taken : goal.returns-then-is_held_back-clause-taken
 returns-then-is_held_back-clause-taken c =
     let b = (goal.at.returns-then-is_held_back-clause-taken c).After-is_held_back in
@@ -24,7 +24,7 @@ pub returns-then-is_held_back-clause-known : goal.returns-then-is_held_back-clau
 returns-then-is_held_back-clause-known c = λ quota later known.
     record { worth = known.worth; unreserved = known.unreserved; everyone = known.everyone; right = tt }
 
--- all is taken
+-- all free resources are granted
 pub returns-clause-taken : goal.returns-clause-taken
 returns-clause-taken c =
     let b = (goal.at.returns-clause-taken c).After-is_held_back in

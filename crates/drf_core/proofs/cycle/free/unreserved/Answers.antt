@@ -11,7 +11,7 @@ use Rattle.drf_row_laws.specs.QuotaLaws.{parts_le}
 use Rattle.drf_core.proofs.cycle.free.unreserved.Goals.{After-unreserved_one-sum}
 use Rattle.drf_core.proofs.cycle.free.unreserved.Goals as goal
 
--- what is left begins with the resource that is read
+-- the rest of the list begins with the resource that is read
 left : (c : After-unreserved_one-sum) → let i : ℕ = c.loop-resource.resource-index in
     let rs : List Resource = c.entries-resource-items.result.now in
     unreserved_in c.args.label.now (drop i rs) ≡ c.unreserved_one-sum.result + unreserved_in c.args.label.now (drop (i + 1) rs)
@@ -33,7 +33,7 @@ unreserved_one-sum-requires c =
     let bundle = subst IsBundle (sym c.entries-resource-items.ensures.value) c.entries-resource-items.ensures.bundle in
     subst IsResource (sym c.resource-item.is) (All-get_or IsResource rs c.loop-resource.resource-index c.resource-item.result c.loop-resource-test.true bundle.each)
 
--- there is no more for everyone than in all
+-- the unreserved amount is at most the amount in all
 pub overflow_add-sum : goal.overflow_add-sum
 overflow_add-sum c =
     let label : Text = c.args.label.now in

@@ -4,7 +4,7 @@ use Rattle.drf_sorter.specs.Work.{debt}
 use Rattle.drf_content.specs.Registering.{AreKnown, without_all}
 use Rattle.drf_core.proofs.events.frameworks.remove_clients.Given as goal
 
--- those that are left are known, and without them the sorter holds what it is to hold
+-- the remaining clients are known, and removing them gives the content that is ensured
 abbrev pub invariant-loop-path : goal.invariant-loop-path
 invariant-loop-path g l = record {
   known : AreKnown (g.S.Sorter.content l.sorter) (drop l.path-index l.paths);

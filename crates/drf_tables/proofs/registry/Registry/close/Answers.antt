@@ -25,7 +25,7 @@ returns-in_ok-close_gaps-clause-same g c =
     ∙ filled-all (filled c.self.inside.slots.items)
     ∙ ap (λ (r : Registered g.row.T.Denot). r.entries) c.self.view_is
 
--- where there are no gaps
+-- if there are no free slots
 pub returns-else-self-len-clause-closed : goal.returns-else-self-len-clause-closed
 returns-else-self-len-clause-closed g c =
     let s = c.self.inside.slots in

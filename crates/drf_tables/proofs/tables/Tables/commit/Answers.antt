@@ -12,7 +12,7 @@ use Rattle.drf_tables.proofs.tables.Kept.{AreDerived-with_offers, known-left, se
 use Rattle.drf_tables.proofs.tables.Tables.commit.Goals.{After-first_number-first, After-offers_from, After-put_lefts}
 use Rattle.drf_tables.proofs.tables.Tables.commit.Goals as goal
 
--- ---- what is asked, of the rows within
+-- ---- the preconditions, in terms of the fields
 
 consistent_at : (c : After-first_number-first) → IsConsistent (with_offers (rows_in c.self.inside) c.args.offers.now.items)
 consistent_at c = subst (λ (s : Stored). IsConsistent (with_offers s.rows c.args.offers.now.items)) (sym c.self.view_is) c.requires.consistent
@@ -26,7 +26,7 @@ left_at c =
 settled_at : (c : After-first_number-first) → is_settled c.self.inside.agents.entries ≡ true
 settled_at c = ap (λ (s : Stored). s.settled) c.self.view_is ∙ c.requires.settled
 
--- the offers are numbered on
+-- the numbers of the new offers continue those of the old ones
 risen_at : (c : After-first_number-first) → let offers : List OfferRow = c.args.offers.now.items in
     are_rising (map offer_number (c.self.inside.holdings.offers ++ offers)) (with_offers (rows_in c.self.inside) offers).next_offer ≡ true
 unfolding rows_of
@@ -35,7 +35,7 @@ risen_at c =
     let offers : List OfferRow = c.args.offers.now.items in
     ap (λ (os : List OfferRow). are_rising (map offer_number os) (with_offers rows offers).next_offer) (sym (offers-with_offers rows offers)) ∙ (consistent_at c).numbered
 
--- ---- what becomes of the tables
+-- ---- the tables afterwards
 
 made_at : (c : After-offers_from) → let offers : List OfferRow = c.args.offers.now.items in
     are_rising (map offer_number (c.self.inside.holdings.offers ++ offers)) (with_offers (rows_in c.self.inside) offers).next_offer ≡ true

@@ -1,4 +1,4 @@
--- Where a label stands among the entries, or a key among the resources, or would stand.
+-- Where a label is among entries, or a key among resources, and where it would be inserted.
 use Rattle.std.specs.Prelude.{◌≡◌, ℕ, ◌<◌, ◌≤◌, List, length, slice_index_or, IsTrue}
 use Rattle.drf_role.specs.Text.{Text, text_below}
 use Rattle.drf_bundle.specs.Bundle.{Key, key_of, key_below}
@@ -10,7 +10,7 @@ pub record IsAt (entries : List Entry) (label : List ℕ) (i : ℕ) : Type 0 whe
   pub in_range : i < length entries
   pub has_label : (d : Entry) → (slice_index_or entries i d).label ≡ label
 
--- the label would go at place i: the labels before it are smaller, and those from it on are greater
+-- place i is where the label would be inserted: the labels before it are smaller, and those from it on are greater
 pub record IsGapFor (entries : List Entry) (label : List ℕ) (i : ℕ) : Type 0 where
   pub in_range : i ≤ length entries
   pub smaller_before : (k : ℕ) (d : Entry) → k < i → IsTrue (text_below (slice_index_or entries k d).label label)
@@ -21,13 +21,14 @@ pub record IsKeyAt (resources : List Resource) (key : Key) (i : ℕ) : Type 0 wh
   pub in_range : i < length resources
   pub has_key : (d : Resource) → key_of (slice_index_or resources i d) ≡ key
 
--- the key would go at place i: those before it are below it, and those from it on are above
+-- place i is where the key would be inserted: the keys before it are smaller, and those from it on are greater
 pub record IsKeyGap (resources : List Resource) (key : Key) (i : ℕ) : Type 0 where
   pub in_range : i ≤ length resources
   pub below_before : (k : ℕ) (d : Resource) → k < i → IsTrue (key_below (key_of (slice_index_or resources k d)) key)
   pub above_after : (k : ℕ) (d : Resource) → i ≤ k → k < length resources → IsTrue (key_below key (key_of (slice_index_or resources k d)))
 
--- the name has no resource, and one would go at place i: the names before it are smaller, and those from it on are greater
+-- no resource has the name, and place i is where one would be inserted: the names before it are smaller, and those from
+-- it on are greater
 pub record IsNameGap (resources : List Resource) (name : Text) (i : ℕ) : Type 0 where
   pub in_range : i ≤ length resources
   pub smaller_before : (k : ℕ) (d : Resource) → k < i → IsTrue (text_below (slice_index_or resources k d).label name)

@@ -1,4 +1,4 @@
--- Sums, counts and tests over lists of any type, and what holds of each element.
+-- Sums, counts and tests over lists of any type, and properties of each element.
 use Rattle.std.specs.Prelude.{◌≡◌, ℕ, ◌+◌, ◌*◌, ◌≤◌, Bool, true, false, not, ◌&&◌, ◌||◌, List, [], ◌∷◌, ◌++◌, length, map, filter, find, flat_map, sum_by, slice_get}
 use Rattle.std.specs.List.{list_any, list_all, count_by, AllByRecursion}
 use Rattle.std.proofs.Common.{refl, sym, ap, subst, ◌∙◌, inl, inr, cond, zero, suc, arith, Some}
@@ -51,12 +51,12 @@ sum_by-filter f p [] = refl
 sum_by-filter f p (x ∷ xs) =
     omega (arith, sum_by-filter-cons f p x xs, sum_by-cons (λ x. cond (p x) (f x) 0) x xs, sum_by-filter f p xs)
 
--- a part that is left out or not
+-- a number that is counted or not
 pub cond_le : (b : Bool) (n : ℕ) → cond b n 0 ≤ n
 cond_le true n = omega arith
 cond_le false n = omega arith
 
--- if those that pass one test are as one in a second, then they all pass it, or none
+-- if all elements that pass `p` agree on `q`, either all of them or none pass `q`
 pub sum_by-as_one : {X : Type 0} (f : X → ℕ) (p q : X → Bool) (one : Bool) (xs : List X)
     → ((x : X) → p x ≡ true → q x ≡ one)
     → sum_by (λ x. cond (q x) (f x) 0) (filter p xs) ≡ cond one (sum_by f (filter p xs)) 0
@@ -99,7 +99,7 @@ pub count_by-cons : {X : Type 0} (p : X → Bool) (x : X) (xs : List X)
     → count_by p (x ∷ xs) ≡ cond (p x) 1 0 + count_by p xs
 count_by-cons p x xs = sum_by-cons (λ x. cond (p x) 1 0) x xs
 
--- a sum of one amount, as often as a test passes
+-- the sum of the same amount for each element that passes a test
 pub sum_by-cond : {X : Type 0} (p : X → Bool) (n : ℕ) (xs : List X)
     → sum_by (λ x. cond (p x) n 0) xs ≡ n * count_by p xs
 sum_by-cond p n [] = omega arith
@@ -122,7 +122,7 @@ count_by-any p (x ∷ xs) any = elim (or_cases (p x) (list_any p xs) any) [
 
 -- ---- elements by group
 
--- if each element is of one group, the sum over all is the sum, over the groups, of the sums over their elements
+-- if each element belongs to one group, the sum over all elements is the sum of the sums over the groups
 pub sum_by-groups : {X K : Type 0} (f : X → ℕ) (t : X → K → Bool) (keys : List K) (xs : List X)
     → AllByRecursion (λ x. count_by (t x) keys ≡ 1) xs
     → sum_by (λ k. sum_by f (filter (λ x. t x k) xs)) keys ≡ sum_by f xs
@@ -152,18 +152,18 @@ pub list_any-map : {X Y : Type 0} (p : Y → Bool) (g : X → Y) (xs : List X) �
 list_any-map p g [] = refl
 list_any-map p g (x ∷ xs) = ap (λ (b : Bool). p (g x) || b) (list_any-map p g xs)
 
--- a filter leaves none of what it takes out
+-- a filter leaves none of the elements that it removes
 pub none_left : {X : Type 0} (p : X → Bool) (xs : List X) → list_any p (filter (λ x. not (p x)) xs) ≡ false
 none_left p xs = any-filter_same p (λ x. not (p x)) false (λ x here. ap not here) xs
 
--- a part of a test that reads no element
+-- a test with a part that does not depend on the element
 pub list_any-both : {X : Type 0} (b : Bool) (p : X → Bool) (xs : List X)
     → list_any (λ x. b && p x) xs ≡ (b && list_any p xs)
 list_any-both true p xs = refl
 list_any-both false p [] = refl
 list_any-both false p (x ∷ xs) = list_any-both false p xs
 
--- ---- keys that stand once, by their test for equality
+-- ---- keys that occur once, by a test for equality
 
 abbrev pub none_has : {X K : Type 0} → (K → K → Bool) → (X → K) → K → List X → Bool
 none_has same key k xs = list_all (λ t. not (same k t)) (map key xs)
@@ -176,7 +176,8 @@ count_none same key k (x ∷ xs) none =
     count_by-cons (λ x. same k (key x)) x xs
     ∙ (λ i. cond (not-true (same k (key x)) parts.0 i) 1 0 + count_none same key k xs parts.1 i)
 
--- the first element is the only one of its key: a key is counted at most once if it is so among the others
+-- if no other element has the key of the first one, a key that occurs at most once among the others occurs at most once
+-- in the whole list
 pub count_once : {X K : Type 0} (same : K → K → Bool) (key : X → K) (k : K) (x : X) (xs : List X)
     → (same k (key x) ≡ true → k ≡ key x)
     → none_has same key (key x) xs ≡ true
@@ -192,7 +193,7 @@ count_once {X} {K} same key k x xs equal none later =
       | inr past ↦ omega (arith, first ∙ ap (λ (b : Bool). cond b 1 0 + count_by (λ x. same k (key x)) xs) past, later)
     ]
 
--- where no other element has its key, one is the only one of it
+-- if no other element has its key, an element is the only one with it
 pub only_none : {X K : Type 0} (same : K → K → Bool) (key : X → K) (a : X) (xs : List X)
     → none_has same key (key a) xs ≡ true → AllByRecursion (λ x. same (key a) (key x) ≡ true → x ≡ a) xs
 only_none same key a [] none = tt
@@ -211,7 +212,7 @@ none_has_at same key k (x ∷ xs) zero a none at =
 none_has_at same key k (x ∷ xs) (suc i) a none at =
     none_has_at same key k xs i a (and_parts (not (same k (key x))) (none_has same key k xs) none).1 at
 
--- ---- what holds of each element
+-- ---- properties of each element
 
 pub each_at : {X : Type 0} (P : X → Type 0) (xs : List X) (i : ℕ) (a : X)
     → AllByRecursion P xs → slice_get xs i ≡ Some a → P a
@@ -248,7 +249,7 @@ pub each_map : {X Y : Type 0} (P : Y → Type 0) (g : X → Y) (xs : List X)
 each_map P g [] all = tt
 each_map P g (x ∷ xs) all = (all.0, each_map P g xs all.1)
 
--- what holds of all that a function makes holds of each that it made
+-- if all results of a function have a property, so does each element of the mapped list
 pub each_made : {X Y : Type 0} (P : Y → Type 0) (g : X → Y) (xs : List X) → ((x : X) → P (g x)) → AllByRecursion P (map g xs)
 each_made P g [] made = tt
 each_made P g (x ∷ xs) made = (made x, each_made P g xs made)
@@ -261,7 +262,7 @@ each_filter P p (x ∷ xs) all = elim (cases_Bool (p x)) [
   | inr past ↦ rw past (each_filter P p xs all.1)
 ]
 
--- the first that passes a test
+-- the first element that passes a test
 pub each_find : {X : Type 0} (P : X → Type 0) (p : X → Bool) (xs : List X) (x : X)
     → AllByRecursion P xs → find p xs ≡ Some x → P x
 each_find P p [] x all found = cc
@@ -273,7 +274,7 @@ each_find {X} P p (y ∷ ys) x all found = by (each_find P p ys x all.1) (p y) f
         subst P same all.0
     by later false there = later there
 
--- a test that each element passes against itself finds each in the list
+-- if each element is the same as itself, each is found in the list
 pub each_found : {X : Type 0} (same : X → X → Bool) (xs : List X) → ((x : X) → same x x ≡ true)
     → AllByRecursion (λ x. list_any (λ y. same y x) xs ≡ true) xs
 each_found same [] itself = tt
@@ -299,7 +300,7 @@ pub filter_each : {X : Type 0} (p : X → Bool) (xs : List X) → AllByRecursion
 filter_each p [] each = refl
 filter_each {X} p (x ∷ xs) each = rw each.0 (ap (λ (ys : List X). x ∷ ys) (filter_each p xs each.1))
 
--- no more pass a test than there are
+-- at most all elements pass a test
 pub length-filter_le : {X : Type 0} (p : X → Bool) (xs : List X) → length (filter p xs) ≤ length xs
 length-filter_le p xs = omega (arith, length-filter p xs, count_by-le-length p xs)
 
@@ -316,7 +317,7 @@ any_fails p (x ∷ xs) each = rw each.0 (any_fails p xs each.1)
 
 module _ {X : Type 0} (p : X → Bool) (before later : List X) (x : X)
     (none : AllByRecursion (λ y. p y ≡ false) before) (passes : p x ≡ true) where
-  -- it is found
+  -- the element is found
   pub find_only : find p (before ++ x ∷ later) ≡ Some x
   find_only = by before none
     where
@@ -324,7 +325,7 @@ module _ {X : Type 0} (p : X → Bool) (before later : List X) (x : X)
       by [] past = rw passes
       by (y ∷ ys) past = rw past.0 (by ys past.1)
 
-  -- and goes alone
+  -- only this element is removed
   pub filter_only : AllByRecursion (λ y. p y ≡ false) later → filter (λ y. not (p y)) (before ++ x ∷ later) ≡ before ++ later
   filter_only rest = by before none
     where

@@ -1,4 +1,4 @@
--- Theorems about the definitions beside this folder.
+-- Theorems about the definitions in the folder above.
 pub mod Laws
 pub mod ListLaws
 pub mod QuantitiesLaws

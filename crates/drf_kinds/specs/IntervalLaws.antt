@@ -1,4 +1,4 @@
--- The numbers in intervals, one by one.
+-- The numbers in intervals.
 use Rattle.std.proofs.Common.{◌≡◌, ℕ, suc, zero, ◌+◌, ◌-◌, ◌≤◌, Bool, ◌&&◌, ◌||◌, List, [], ◌∷◌, map, eqb, ltb, leb, Any, inl, inr, refl, sym, ap, ◌∙◌, arith}
 use Rattle.std.specs.Prelude.{◌↔◌, IsTrue}
 use Rattle.std.specs.List.{flat_map, range_with_len, list_any}
@@ -10,7 +10,7 @@ use Rattle.std.proofs.lemmas.List.Folds.{list_any-append, Any-from_list_any, lis
 use Rattle.drf_kinds.specs.declared.interval.Interval.{Interval}
 use Rattle.drf_kinds.specs.Intervals.{members, numbers, interval_of, is_in, is_within}
 
--- the numbers from a on
+-- the k numbers from a on
 pub in_range : (a k n : ℕ) → list_any (λ y. eqb y n) (range_with_len a k) ≡ (leb a n && ltb n (a + k))
 in_range a zero n =
     elim (cases_lt n a) [

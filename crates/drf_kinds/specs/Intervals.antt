@@ -10,7 +10,7 @@ use Rattle.drf_kinds.specs.Sets.{IsSetOf}
 abbrev pub IsNumberSet : set.FinSet nat_cmp → Type 0
 IsNumberSet = IsSetOf (λ n. n < 2 ^ 32)
 
--- from the first number of an interval to its last
+-- the numbers of an interval, from its first to its last
 abbrev pub numbers : Interval → List ℕ
 numbers i = range_with_len i.first (i.last + 1 - i.first)
 
@@ -18,12 +18,12 @@ numbers i = range_with_len i.first (i.last + 1 - i.first)
 unfoldable pub members : List Interval → set.FinSet nat_cmp
 members intervals = set.from_list (flat_map numbers intervals)
 
--- intervals from low on, each followed by a number that is in none
+-- the intervals begin at `low` or later, and after each there is a number that is in none
 abbrev pub AreMaximalFrom : ℕ → List Interval → Type 0
 AreMaximalFrom low [] = Unit {0}
 AreMaximalFrom low (i ∷ is) = (low ≤ i.first) × (i.first ≤ i.last) × (i.last < 2 ^ 32) × AreMaximalFrom (i.last + 2) is
 
--- ascending intervals of numbers below 2^32, with a number between any two that is in none
+-- ascending intervals of numbers below 2^32, with a number between any two that is in neither
 abbrev pub AreMaximal : List Interval → Type 0
 AreMaximal = AreMaximalFrom 0
 
@@ -32,7 +32,7 @@ pub record AreIntervalsOfSet (intervals : List Interval) : Type 0 where
   pub maximal : AreMaximal intervals
   pub given : IsNumberSet (members intervals)
 
--- the interval of a pair of ends
+-- the interval of a pair of numbers
 abbrev pub interval_of : ℕ × ℕ → Interval
 interval_of pair = record { first = pair.0; last = pair.1 }
 

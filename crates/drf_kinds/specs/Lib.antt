@@ -1,3 +1,4 @@
+-- Finite sets of numbers as intervals, finite sets of labels as lists, and theorems about them.
 pub mod Intervals
 pub mod IntervalLaws
 pub mod Listed

@@ -1,4 +1,4 @@
--- A set is that of its ascending members, and a set of numbers that of its maximal intervals.
+-- A set is the set of its members in ascending order, and a set of numbers is that of its maximal intervals.
 use Rattle.std.specs.Prelude.{◌≡◌, ℕ, ◌+◌, ◌-◌, ◌<◌, ◌≤◌, ◌==◌, Bool, true, false, ◌||◌, T, Option, Some, None, is_some, ◌^◌, List, [], ◌∷◌, ◌++◌, map, if◌then◌else◌}
 use Rattle.std.specs.List.{flat_map, range_with_len, list_any, AllByRecursion}
 use Rattle.std.specs.List.Sorted.{IsStrictlySortedBy}
@@ -58,7 +58,7 @@ module _ {K : Type 0} (R : K → K → Ordering) (total : IsTotalOrder R) (same 
       ap (λ (o : Option (Unit {0})). if eq_by_cmp R q k then Some (tt {0}) else o) (find-paired ks q)
       ∙ either (eq_by_cmp R q k) (list_any (eq_by_cmp R q) ks)
 
-  -- its members are that list
+  -- the members of the set of an ascending list are this list
   pub listed-from_list : (ks : List K) → IsStrictlySortedBy R ks → listed (set.from_list {R = R} ks) ≡ ks
   unfolding listed
   listed-from_list ks ascending =
@@ -87,7 +87,7 @@ module _ {K : Type 0} (R : K → K → Ordering) (total : IsTotalOrder R) (same 
       let parts = and_parts (below_all R e.0 es) (is_sorted R es) sorted in
       (above-keys e.0 es parts.0, ascending-keys es parts.1)
 
-  -- the members of any set ascend, and the set is that of its members
+  -- the members of any set are ascending, and the set is the set of its members
   pub ascending-listed : (s : set.FinSet R) → IsStrictlySortedBy R (listed s)
   unfolding listed
   ascending-listed s =
@@ -150,7 +150,7 @@ ascending-numbers low (i ∷ is) maximal =
     (above-weaker (i.last + 2) (i.first + (i.last + 1 - i.first)) (flat_map numbers is) (omega (arith, maximal.1)) (above-numbers (i.last + 2) is maximal.3))
     (ascending-numbers (i.last + 2) is maximal.3)
 
--- the numbers of an interval, put before intervals that begin further on, are that interval
+-- the numbers of an interval, added before intervals that begin later, make this interval
 runs-range : (a k : ℕ) (ns : List ℕ) (is : List Interval) → runs_of ns ≡ is → AreMaximalFrom (a + k + 2) is
     → runs_of (range_with_len a (suc k) ++ ns) ≡ record { first = a; last = a + k } ∷ is
 runs-range a zero ns [] same maximal = rw same (λ j. record { first = a; last = (let e : a ≡ a + 0 = omega arith in e) j } ∷ [])
@@ -173,7 +173,7 @@ runs-numbers low (i ∷ is) maximal =
     (subst (λ n. AreMaximalFrom (n + 2) is) (sym end) maximal.3)
     ∙ (λ j. record { first = i.first; last = end j } ∷ is)
 
--- maximal intervals are those of the set of their numbers
+-- maximal intervals are the intervals of the set of their numbers
 pub intervals_of-members : (is : List Interval) → AreMaximal is → intervals_of (members is) ≡ is
 unfolding intervals_of members
 intervals_of-members is maximal =
@@ -186,7 +186,7 @@ intervals_of-members is maximal =
 abbrev Below : List ℕ → Type 0
 Below ns = AllByRecursion (λ n. n < 2 ^ 32) ns
 
--- a number before intervals that begin further on
+-- a number added before intervals that begin later
 maximal-with : (low n : ℕ) (is : List Interval) → low ≤ n → n < 2 ^ 32 → AreMaximalFrom (n + 1) is → AreMaximalFrom low (with_number n is)
 maximal-with low n [] le small maximal = (le, omega arith, small, tt)
 maximal-with low n (i ∷ is) le small maximal = elim (cases_eq i.first (n + 1)) [
@@ -240,7 +240,7 @@ below-listed s given =
     (λ n found. given.each n (ap (λ (t : set.FinSet nat_cmp). set.contains t n) (sym (from_list-listed nat_cmp nat_cmp_total nat_cmp-IsAntisymmetric s))
     ∙ set.contains-from_list nat_cmp_total (listed s) n ∙ found))
 
--- they are maximal, and have its numbers
+-- the intervals of a set are maximal and have its numbers
 pub maximal-intervals_of : (s : set.FinSet nat_cmp) → IsNumberSet s → AreMaximal (intervals_of s)
 unfolding intervals_of
 maximal-intervals_of s given =

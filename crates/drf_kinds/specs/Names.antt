@@ -1,4 +1,4 @@
--- Finite sets of labels, as lists in order of bytes.
+-- Finite sets of labels, as lists in byte order.
 use Rattle.std.specs.Prelude.{ℕ, Bool, List, [], ◌∷◌, Option, Some, None}
 use Rattle.std.specs.declared.cmp.Ordering.{Ordering}
 use Rattle.std.specs.declared.cmp.Ordering.TheVariants.{Less, Equal, Greater}
@@ -12,7 +12,7 @@ use Rattle.drf_kinds.specs.Sets.{IsSetOf}
 use Rattle.drf_kinds.specs.declared.merge.Side.{Side}
 use Rattle.drf_kinds.specs.declared.merge.Side.TheVariants.{Left, Right, Both}
 
--- texts compare by their bytes
+-- texts are compared by their bytes
 abbrev pub text_cmp : List ℕ → List ℕ → Ordering
 text_cmp = slice_cmp nat_cmp
 
@@ -24,7 +24,7 @@ IsLabelSet = IsSetOf IsLabel
 abbrev pub AreAscending : List (List ℕ) → Type 0
 AreAscending = IsStrictlySortedBy text_cmp
 
--- the names of a set of labels, in order and each once
+-- the names of a set of labels, in order and without repetitions
 pub record AreNamesOfSet (names : List (List ℕ)) : Type 0 where
   pub ascending : AreAscending names
   pub given : IsLabelSet (set.from_list names)
@@ -33,13 +33,13 @@ pub record AreNamesOfSet (names : List (List ℕ)) : Type 0 where
 abbrev pub is_named : List (List ℕ) → List ℕ → Bool
 is_named names text = list_any (eq_by_cmp text_cmp text) names
 
--- the side of what compares as this with the other side
+-- the side with the smaller text, given how the left text compares with the right one
 abbrev pub side_of : Ordering → Side
 side_of Less = Left
 side_of Equal = Both
 side_of Greater = Right
 
--- the side on which the next name of two lists stands
+-- which list has the next name
 abbrev pub next_side : List (List ℕ) → List (List ℕ) → Option Side
 next_side [] [] = None
 next_side [] (y ∷ ys) = Some Right

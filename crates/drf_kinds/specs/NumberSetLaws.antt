@@ -1,4 +1,4 @@
--- Finite sets of numbers keep the laws of amounts.
+-- Finite sets of numbers satisfy what a type of amounts must satisfy.
 use Rattle.std.specs.Prelude.{◌<◌, ◌^◌}
 use Rattle.std.specs.Cmp.{nat_cmp_total}
 use Rattle.std.specs.FinSet as set

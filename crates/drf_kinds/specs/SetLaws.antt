@@ -1,4 +1,4 @@
--- Finite sets keep the laws of amounts.
+-- Finite sets satisfy what a type of amounts must satisfy.
 use Rattle.std.proofs.Common.{◌≡◌, ◌↔◌, ℕ, suc, zero, ◌+◌, ◌-◌, inl, inr, Bool, true, false, not, cond, ◌&&◌, ◌||◌, List, [], ◌∷◌, Some, None, IsSome, IfSome, eqb, refl, sym, ap, ◌∙◌, subst, arith}
 use Rattle.std.specs.Prelude.{option_and_then}
 use Rattle.std.specs.declared.cmp.Ordering.{Ordering}
@@ -25,7 +25,7 @@ one_more_of : (tie x y : Bool) → (tie ≡ true → y ≡ true) → (x || y) �
 one_more_of true x y f = ap (λ b. x || b) (f refl) ∙ or-true x
 one_more_of false x y f = refl
 
--- what is in a union and out of a third set
+-- if (x or y) and z is false, so are (x and z) and (y and z)
 and_or : (x y z : Bool) → ((x || y) && z) ≡ false → ((x && z) ≡ false) × ((y && z) ≡ false)
 and_or true y true e = absurd (true≢false e)
 and_or true true false e = (refl, refl)
@@ -61,7 +61,7 @@ module _ {K : Type 0} {R : K → K → Ordering} (o : IsTotalOrder R) (same : se
   pub same_set : (a b : set.FinSet R) → ((k : K) → has a k ≡ has b k) → a ≡ b
   same_set a b each = set.same_set o same a b each
 
-  -- the test of disjoint sets, by their members
+  -- disjoint sets have no member in common
   pub out_of_both : (a b : set.FinSet R) → are_disjoint a b ≡ true → (k : K) → (has a k && has b k) ≡ false
   out_of_both a b disjoint k =
       sym (set.contains-intersection o a b k)
@@ -105,7 +105,7 @@ module _ {K : Type 0} {R : K → K → Ordering} (o : IsTotalOrder R) (same : se
       (λ disjoint. and_from (are_disjoint a c) (are_disjoint b c) (disjoint_from a c (λ k. (union_parts a b c disjoint k).0)) (disjoint_from b c (λ k. (union_parts a b c disjoint k).1)))
       (λ both. union_joined a b c (and_parts (are_disjoint a c) (are_disjoint b c) both))
 
-  -- what a join says
+  -- what follows if there is a join
   pub join_some : (a b c : set.FinSet R) → set_join a b ≡ Some c → (are_disjoint a b ≡ true) × (set.union a b ≡ c)
   join_some a b c joined =
       elim (are_disjoint a b) as (λ d. cond d (Some (set.union a b)) None ≡ Some c → (d ≡ true) × (set.union a b ≡ c)) [
@@ -159,7 +159,7 @@ module _ {K : Type 0} {R : K → K → Ordering} (o : IsTotalOrder R) (same : se
     pick [] none = absurd (omega (arith, ap set.len (same_set a set.empty (λ k. set.contains-items a k ∙ ap (list_any (eq_by_cmp R k)) none ∙ sym (set.contains-empty R k))) ∙ set.len-empty R, more))
     pick (k ∷ ks) is = (k, set.contains-items a k ∙ ap (list_any (eq_by_cmp R k)) is ∙ ap (λ x. x || list_any (eq_by_cmp R k) ks) (itself k))
 
-  -- a union, a member later
+  -- the union, one member added later
   one_more : (a b : set.FinSet R) (k : K) → has b k ≡ true → set.union a b ≡ set.insert (set.union a (set.remove b k)) k
   one_more a b k is = same_set _ _ (λ q.
       set.contains-union o a b q
@@ -187,7 +187,7 @@ module _ {K : Type 0} {R : K → K → Ordering} (o : IsTotalOrder R) (same : se
       ∙ ap (λ x. cond x (set.len (set.union a (set.remove b k))) (set.len (set.union a (set.remove b k)) + 1)) new
       ∙ omega (arith, rest, fewer, more)
 
-  -- disjoint sets have as many members together as each by itself
+  -- the union of disjoint sets has as many members as both together
   pub len-union : (a b : set.FinSet R) → are_disjoint a b ≡ true → set.len (set.union a b) ≡ set.len a + set.len b
   len-union a b disjoint = len-union-from (set.len b) a b refl (out_of_both a b disjoint)
 
@@ -224,7 +224,7 @@ module _ {K : Type 0} {R : K → K → Ordering} (o : IsTotalOrder R) (same : se
       refusals = λ a b _ _. refusals a b;
     }
 
-    -- what is out of a subset is its rest
+    -- the difference is the rest of a subset
     pub is_rest_difference : (whole part : set.FinSet R) → IsSetOf P whole → set.is_subset part whole ≡ true → IsRest (IsSetOf P) set_join whole part (set.difference whole part)
     is_rest_difference whole part given within = record {
       given = record { each = λ k is. given.each k (and_parts (has whole k) (not (has part k)) (sym (set.contains-difference o whole part k) ∙ is)).0 };
@@ -237,7 +237,7 @@ module _ {K : Type 0} {R : K → K → Ordering} (o : IsTotalOrder R) (same : se
           ∙ put_back (has whole k) (has part k) (set.is_subset-contains o part whole within k)));
     }
 
-    -- only a subset has one
+    -- only a subset has a rest
     pub subset_of_rest : (whole part : set.FinSet R) → Covers (IsSetOf P) set_join whole part → set.is_subset part whole ≡ true
     subset_of_rest whole part covers =
         let is = join_some covers.rest part whole covers.is_rest.joined in
@@ -247,7 +247,7 @@ module _ {K : Type 0} {R : K → K → Ordering} (o : IsTotalOrder R) (same : se
     pub covers_subset : (whole part : set.FinSet R) → IsSetOf P whole → set.is_subset part whole ≡ true → Covers (IsSetOf P) set_join whole part
     covers_subset whole part given within = record { rest = set.difference whole part; is_rest = is_rest_difference whole part given within }
 
-  -- sets that share no member of one of them are disjoint
+  -- sets that are not disjoint share a member
   pub shared_member : (a b : set.FinSet R) → are_disjoint a b ≡ false → (k : K) × (has a k ≡ true) × (has b k ≡ true)
   shared_member a b meet =
       let some = some_member (set.intersection a b) (set.len (set.intersection a b) - 1) (omega (arith, eqb-false _ _ meet)) in

@@ -1,4 +1,4 @@
--- Finite sets of labels keep the laws of amounts.
+-- Finite sets of labels satisfy what a type of amounts must satisfy.
 use Rattle.std.specs.Cmp.Lexicographic.{nat_list_cmp_total}
 use Rattle.std.specs.FinSet as set
 use Rattle.drf_amount.specs.Algebra.{AlgebraLaws}

@@ -1,4 +1,4 @@
--- Bundles keep the laws of amounts.
+-- Bundles satisfy what a type of amounts must satisfy.
 use Rattle.std.specs.Prelude.{◌≡◌, ◌⊎◌, ◌↔◌, ℕ, ◌+◌, Bool, true, false, List, [], ◌∷◌, Option, Some, None, IsSome, IfSome, option_and_then}
 use Rattle.std.proofs.Common.{refl, sym, ap, ◌∙◌, inl, inr, cond, arith}
 use Rattle.std.proofs.lemmas.List.Elements.{All-head, All-nil}
@@ -18,12 +18,12 @@ use Rattle.drf_bundle.specs.declared.value.Clash.TheVariants.{Kinds, Members}
 pub orderly : (a : List Resource) → IsBundle a → IsOrderly a
 orderly a is = record { in_order = is.in_order; each = is.each }
 
--- two bundles with the same units are one
+-- two bundles with the same units are equal
 pub known_by_units : (a b : List Resource) → IsBundle a → IsBundle b
     → ((key : Key) (p : Point) → units a key p ≡ units b key p) → a ≡ b
 known_by_units a b first second same = same_bundle a b (orderly a first) (orderly b second) same
 
--- two joins of the same units are one
+-- two joins with the same units are equal
 same_joins : (a b c d whole other : List Resource) → IsJoinOf a b whole → IsJoinOf c d other
     → ((key : Key) (p : Point) → units a key p + units b key p ≡ units c key p + units d key p) → whole ≡ other
 same_joins a b c d whole other one two same =
@@ -167,7 +167,7 @@ bundle_laws = record {
   refusals = λ a b is_a is_b. refusals a b;
 }
 
--- the rest is what a bundle lacks of another that covers it
+-- `rest` is the rest of a bundle that covers the part
 pub is_rest : (whole part : List Resource) → IsBundle whole → IsBundle part → covers whole part ≡ true
     → IsRest IsBundle join whole part (rest whole part)
 is_rest whole part first second all = record {
@@ -175,7 +175,7 @@ is_rest whole part first second all = record {
   joined = rest_join whole part first second (covered_units whole part first.in_order second.in_order all);
 }
 
--- one bundle covers another exactly where some bundle joined with it is the first
+-- a bundle covers another exactly if it is the join of the other with some bundle
 pub covers_exact : (whole part : List Resource) → IsBundle whole → IsBundle part
     → (covers whole part ≡ true) ↔ Covers IsBundle join whole part
 covers_exact whole part first second = (

@@ -1,4 +1,4 @@
--- When two bundles have a join: where their stocks together fit.
+-- Two bundles have a join exactly if their stocks together fit.
 use Rattle.std.specs.Prelude.{◌≡◌, ◌⊎◌, ℕ, ◌+◌, ◌^◌, ◌<◌, ◌≤◌, ◌&&◌, Bool, true, false, not, List, [], ◌∷◌, IsTrue, Option, Some, None, nat_le}
 use Rattle.std.specs.List.{list_any}
 use Rattle.std.proofs.Common.{refl, sym, ap, ◌∙◌, subst, inl, inr, cond, arith, zero, suc}
@@ -24,7 +24,7 @@ zero_or_some (suc n) = inr (omega arith)
 
 -- ---- stocks and the resources that they come from
 
--- what each resource with such units passes, some resource passes
+-- if all resources with such units pass a test, some resource does
 found_any : (test : Resource → Bool) (name : Text) (p : Point) (rs : List Resource) → 0 < stock rs name p
     → ((r : Resource) → same_text name r.label ≡ true → 0 < units_in r.value p → test r ≡ true) → list_any test rs ≡ true
 found_any test name p [] some each = absurd (omega arith)
@@ -64,7 +64,7 @@ any_has test (s ∷ ss) r (inr later) passes = elim (cases_Bool (test s)) [
   | inr other ↦ rw other (any_has test ss r later passes)
 ]
 
--- the stock of its name has the units of each resource
+-- the stock of a name contains the units of each of its resources
 pub stock_has : (rs : List Resource) (r : Resource) (p : Point) → Has rs r → units_in r.value p ≤ stock rs r.label p
 stock_has [] r p has = absurd has
 stock_has (s ∷ ss) r p (inl is) =
@@ -74,7 +74,7 @@ stock_has (s ∷ ss) r p (inr later) = omega (arith, where-cons (λ key. same_te
 
 -- ---- clashes
 
--- units of one name in both that clash, clash
+-- if units of one name in both bundles clash, the bundles clash
 found_clash : (clash : Clash) (a b : List Resource) (name : Text) (p q : Point) → 0 < stock a name p
     → 0 < stock b name q
     → ((r s : Resource) → 0 < units_in r.value p → 0 < units_in s.value q → clash_in clash r.value s.value ≡ true) → have_clash clash a b ≡ true
@@ -114,7 +114,7 @@ fits_less f g fits below = record {
   at_most = λ name p. omega (arith, fits.at_most name p, below name p);
 }
 
--- what both have of a name
+-- the stock of a name in both bundles together
 abbrev pub stock_of_both : List Resource → List Resource → Text → Point → ℕ
 stock_of_both a b name p = stock a name p + stock b name p
 
@@ -129,7 +129,7 @@ one_kind_turn (Member m) Thousandths = refl
 one_kind_turn (Member m) (Number n) = refl
 one_kind_turn (Member m) (Member n) = refl
 
--- no clash, and nothing too large
+-- nothing clashes, and nothing is too large
 pub record IsFree (a b : List Resource) : Type 0 where
   pub kinds : have_clash Kinds a b ≡ false
   pub members : have_clash Members a b ≡ false
@@ -182,7 +182,7 @@ module _ (a b : List Resource) (first : IsBundle a) (second : IsBundle b) where
         (λ r s here there. ap not (kind_at r.value s.value p q here there ∙ two))))
   ]
 
-  -- where no kinds clash, both together have one kind of each name
+  -- if no kinds clash, each name has one kind in both bundles together
   pub one_kind_of_both : have_clash Kinds a b ≡ false → (name : Text) (p q : Point) → 0 < stock_of_both a b name p
       → 0 < stock_of_both a b name q → IsTrue (is_one_kind p q)
   one_kind_of_both none name p q some other = elim (zero_or_some (stock a name p)) [
@@ -226,7 +226,7 @@ module _ (a b : List Resource) (first : IsBundle a) (second : IsBundle b) where
       let same : r.label ≡ s.label = λ i. (keys i).0 in
       record { same_kind = not-false _ (no_clash Kinds a b r s free.kinds in_a in_b same); apart = no_clash Members a b r s free.members in_a in_b same }
 
-  -- where the stocks fit, the merged list is a bundle
+  -- if the stocks fit, the merged list is a bundle
   bundle-merged : KeysJoin a b → Fits (stock_of_both a b) → IsBundle (merged a b)
   bundle-merged joins fits = record {
     in_order = in_order-merged a b first.in_order second.in_order;
@@ -282,14 +282,14 @@ join_some a b whole first second joined =
     let is = join_or_some (refusal a b) (merged a b) whole joined in
     subst (IsJoinOf a b) is.1 (join_of_free a b first second (free_from_refusal a b is.0))
 
--- where the stocks fit there is a join
+-- if the stocks fit, there is a join
 pub join_fits : (a b : List Resource) → IsBundle a → IsBundle b → Fits (stock_of_both a b)
     → (join a b ≡ Some (merged a b)) × IsJoinOf a b (merged a b)
 join_fits a b first second fits =
     let free = free_from_fits a b first second fits in
     (rw (refusal_from_free a b free) refl, join_of_free a b first second free)
 
--- there is a join exactly where the stocks fit
+-- there is a join exactly if the stocks fit
 pub cases_join : (a b : List Resource) → IsBundle a → IsBundle b
     → Fits (stock_of_both a b) ⊎ ((join a b ≡ None) × (¬ Fits (stock_of_both a b)))
 cases_join a b first second = of (refusal a b) refl

@@ -1,4 +1,4 @@
--- What joining two bundles does to their units, and when they have a join.
+-- The units of the join of two bundles, and when there is one.
 use Rattle.std.specs.Prelude.{◌≡◌, ℕ, ◌+◌, Bool, true, false, List, [], ◌∷◌, IsTrue, All}
 use Rattle.std.specs.List.{sum_by}
 use Rattle.std.proofs.Common.{refl, sym, ap, ◌∙◌, subst, inl, inr, arith}
@@ -15,7 +15,7 @@ use Rattle.drf_bundle.specs.Bundle.{Key, is_default, reservation, key_of, key_be
 use Rattle.drf_bundle.specs.laws.KeyLaws.{cases_key, key_less, key_greater, key_equal, cases_same, Has, stands_first, first_trans, unit_of, unit-here, unit-none, units_first, units_head, units_other}
 use Rattle.drf_bundle.specs.declared.resource.Resource.{Resource}
 
--- what stands under one key in both can be joined
+-- values at the same key in both bundles can be joined
 abbrev pub KeysJoin : List Resource → List Resource → Type 0
 KeysJoin a b = (r s : Resource) → Has a r → Has b s → key_of r ≡ key_of s → AreJoinable r.value s.value
 
@@ -25,7 +25,7 @@ merged-empty (r ∷ rs) = ap (λ (l : List Resource). r ∷ l) (merged-empty rs)
 
 -- ---- sums over a merged list
 
--- what a resource counts is the sum of its parts
+-- the count of a united resource is the sum of the counts of the two
 abbrev Adds : (Resource → ℕ) → Type 0
 Adds g = (r s : Resource) → key_of r ≡ key_of s → AreJoinable r.value s.value → g (both_of r s) ≡ g r + g s
 
@@ -63,7 +63,7 @@ unit_adds test p r s same joinable = elim (cases_Bool (test (key_of r))) [
       omega (arith, whole, unit-none test p r fails, unit-none test p s other)
 ]
 
--- units add up, wherever they are counted
+-- units add up, for any test of keys
 pub where-merged : (test : Key → Bool) (p : Point) (a b : List Resource) → KeysJoin a b
     → units_where test p (merged a b) ≡ units_where test p a + units_where test p b
 where-merged test p a b joins = sum-merged (unit_of test p) (unit_adds test p) a b joins
@@ -126,9 +126,9 @@ in_order-merged [] b first second = second
 in_order-merged (r ∷ rs) b first second =
     in_order-put_among r rs b first second (λ b second. in_order-merged rs b (and_parts (stands_first (key_of r) rs) (is_in_order rs) first).1 second)
 
--- ---- what holds of each resource of a merged list
+-- ---- properties of each resource of a merged list
 
--- P passes from two resources of one key to both as one
+-- if two resources with the same key have P, so has their union
 abbrev Passes : (Resource → Type 0) → List Resource → List Resource → Type 0
 Passes P a b = (r s : Resource) → Has a r → Has b s → key_of r ≡ key_of s → P r → P s → P (both_of r s)
 
@@ -157,7 +157,7 @@ module _ (P : Resource → Type 0) where
   each-merged (r ∷ rs) b passes first second =
       each-put_among r rs b passes first second (λ b rest others. each-merged rs b rest (All-tail P r rs first) others)
 
--- ---- lists in order with the same units are one
+-- ---- two lists in order with the same units are equal
 
 pub record IsOrderly (a : List Resource) : Type 0 where
   pub in_order : IsTrue (is_in_order a)
@@ -166,7 +166,7 @@ pub record IsOrderly (a : List Resource) : Type 0 where
 orderly_tail : (r : Resource) (rs : List Resource) → IsOrderly (r ∷ rs) → IsOrderly rs
 orderly_tail r rs is = record { in_order = (and_parts (stands_first (key_of r) rs) (is_in_order rs) is.in_order).1; each = All-tail IsResource r rs is.each }
 
--- the empty text is no role's
+-- the text of no other role is empty
 empty_no_role : (role : Path) → IsRole role → is_default role ≡ false → parts_of (text_of role) ≡ role
     → text_of role ≡ [] → ⊥
 empty_no_role role (inl default) other read empty = true≢false (sym (ap is_default default ∙ same_path_itself default_role) ∙ other)
@@ -174,7 +174,7 @@ empty_no_role role (inr path) other read empty =
     let one : [] ∷ [] ≡ role = ap parts_of (sym empty) ∙ read in
     (All-head IsComponent [] [] (subst (λ (parts : Path). All IsComponent parts) (sym one) path.each)).not_empty refl
 
--- reservations tell roles apart
+-- different roles have different reservations
 same_role : (r s : Path) → IsRole r → IsRole s → parts_of (text_of r) ≡ r → parts_of (text_of s) ≡ s
     → reservation r ≡ reservation s → r ≡ s
 same_role r s first second read_r read_s same = elim (cases_Bool (is_default r)) [
@@ -190,14 +190,14 @@ same_role r s first second read_r read_s same = elim (cases_Bool (is_default r))
   ]
 ]
 
--- two resources of one key and one value are one
+-- two resources with the same key and value are equal
 pub same_resource : (r s : Resource) → IsResource r → IsResource s → key_of r ≡ key_of s → r.value ≡ s.value → r ≡ s
 same_resource r s first second keys values =
     let label : r.label ≡ s.label = λ i. (keys i).0 in
     let role = same_role r.role s.role first.role second.role first.role_read second.role_read (λ i. (keys i).1) in
     λ i. record { label = label i; role = role i; value = values i }
 
--- a key with the units of another list does not stand before it
+-- a key does not come before all keys of another list that has the same units
 has_no_units : (r : Resource) (rs b : List Resource) → IsOrderly (r ∷ rs) → IsTrue (stands_first (key_of r) b)
     → ((key : Key) (p : Point) → units (r ∷ rs) key p ≡ units b key p) → ⊥
 has_no_units r rs b first before same =

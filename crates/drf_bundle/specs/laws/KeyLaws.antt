@@ -1,4 +1,4 @@
--- The order of keys, and what it says of units.
+-- The order of keys, and what follows for units.
 use Rattle.std.specs.Prelude.{◌≡◌, ◌⊎◌, ℕ, ◌+◌, Bool, true, false, List, [], ◌∷◌, IsTrue, All, Option}
 use Rattle.std.specs.List.{list_all}
 use Rattle.std.specs.Option.{option_map_or}
@@ -119,7 +119,7 @@ pub for_all : (P : Resource → Type 0) (rs : List Resource) → ((r : Resource)
 for_all P [] each = All-nil P
 for_all P (s ∷ ss) each = All-cons P s ss (each s (inl refl)) (for_all P ss (λ r later. each r (inr later)))
 
--- the key stands before those of all
+-- the key comes before those of all resources
 abbrev pub stands_first : Key → List Resource → Bool
 stands_first key rs = list_all (λ s. key_below key (key_of s)) rs
 
@@ -147,7 +147,7 @@ unit-here test p r passes = rw passes refl
 pub unit-none : (test : Key → Bool) (p : Point) (r : Resource) → test (key_of r) ≡ false → unit_of test p r ≡ 0
 unit-none test p r fails = rw fails refl
 
--- a key that stands before all has no units
+-- a list has no units at a key that comes before all of its keys
 pub units_first : (key : Key) (rs : List Resource) (p : Point) → IsTrue (stands_first key rs) → units rs key p ≡ 0
 units_first key [] p first = refl
 units_first key (r ∷ rs) p first =
@@ -181,11 +181,11 @@ units_its_own (s ∷ ss) r p ordered has =
     before (t ∷ ts) first (inl is) = subst (λ (u : Resource). IsTrue (key_below (key_of s) (key_of u))) is (and_parts (key_below (key_of s) (key_of t)) (stands_first (key_of s) ts) first).0
     before (t ∷ ts) first (inr later) = before ts (and_parts (key_below (key_of s) (key_of t)) (stands_first (key_of s) ts) first).1 later
 
--- the units of a value that may be there
+-- the units of a value, if there is one
 abbrev pub units_at : Option Value → Point → ℕ
 units_at found p = option_map_or (λ v. units_in v p) found 0
 
--- in a list in order the value that is found has all units of its key
+-- in a list in order, the value at a key has all of its units
 pub units_found : (rs : List Resource) (key : Key) (p : Point) → IsTrue (is_in_order rs)
     → units rs key p ≡ units_at (value_at rs key) p
 units_found [] key p ordered = refl

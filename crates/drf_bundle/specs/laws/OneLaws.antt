@@ -40,7 +40,7 @@ bundle-one r is = record {
   };
 }
 
--- one resource, or none where there is nothing of it
+-- one resource, or none if its value is empty, is a bundle
 pub bundle-one_of : (label : Text) (role : Path) (value : Value) → IsLabel label → IsRole role
     → parts_of (text_of role) ≡ role → IsGiven value → IsBundle (one_of label role value)
 bundle-one_of label role value is_label is_role read given = elim (cases_Bool (nat_lt 0 (amount_in value))) [

@@ -1,4 +1,4 @@
--- What is made of a bundle is a bundle: what a role may use, what limits leave of it, and what is moved to a role.
+-- The part for a role, a bundle cut to limits, and a relabelled bundle are bundles.
 use Rattle.std.specs.Prelude.{◌≡◌, ℕ, ◌≤◌, ◌&&◌, Bool, true, false, List, [], ◌∷◌, map, filter, IsTrue, All, nat_lt}
 use Rattle.std.proofs.Common.{Less, refl, sym, ap, ◌∙◌, inl, inr, arith}
 use Rattle.std.specs.List.{list_all}
@@ -91,7 +91,7 @@ pub bundle-clip : (limits : List Entry) (rs : List Resource) → IsBundle rs →
 bundle-clip limits rs is = bundle-changed (clipped limits) (keeps-clipped limits) (λ r p. cut-falls (is_default r.role && is_named limits r.label) (amount_of limits r.label) r.value p)
     (λ r one filled. record { label = one.label; role = one.role; role_read = one.role_read; value = cut-given (is_default r.role && is_named limits r.label) (amount_of limits r.label) r.value one.value; filled = filled }) rs is
 
--- nothing of a bundle is empty
+-- no resource of a bundle is empty
 filled_all : (rs : List Resource) → All IsResource rs → filled_of rs ≡ rs
 filled_all rs each = all_kept filled rs (list_all-from_AllPass filled rs
     (All-weaker IsResource (λ r. filled r ≡ true) (λ r is. lt-ltb 0 (amount_in r.value) is.filled) rs each))
@@ -99,13 +99,13 @@ filled_all rs each = all_kept filled rs (list_all-from_AllPass filled rs
     filled : Resource → Bool
     filled r = nat_lt 0 (amount_in r.value)
 
--- a bundle of which nothing is cut stays
+-- a bundle of which nothing is cut stays the same
 pub clip-all : (limits : List Entry) (rs : List Resource) → IsBundle rs → map (clipped limits) rs ≡ rs → clip limits rs ≡ rs
 clip-all limits rs is same = ap (λ (left : List Resource). filled_of left) same ∙ filled_all rs is.each
 
--- ---- moved resources
+-- ---- relabelled resources
 
--- of two that are for everyone no reservation stands before the other
+-- of two unreserved resources neither reservation comes before the other
 nothing_below : (r s : Resource) → is_default r.role ≡ true → is_default s.role ≡ true
     → text_below (reservation r.role) (reservation s.role) ≡ false
 nothing_below r s first second = rw (first, second) refl
@@ -119,7 +119,7 @@ relabel-stock role name p (r ∷ rs) =
     omega (arith, where-cons test p r rs, where-cons test p (moved_to role r) (relabel role rs), relabel-stock role name p rs)
 
 module _ (role : Path) (is_role : IsRole role) (read : parts_of (text_of role) ≡ role) where
-  -- without reservations the names alone are in order
+  -- without reservations the resources are in order of names alone
   first-moved : (r : Resource) (rs : List Resource) → IsTrue (is_unreserved (r ∷ rs))
       → IsTrue (stands_first (key_of r) rs) → IsTrue (stands_first (key_of (moved_to role r)) (relabel role rs))
   first-moved r [] all first = refl
@@ -146,7 +146,7 @@ module _ (role : Path) (is_role : IsRole role) (read : parts_of (text_of role) �
       let one = All-head IsResource r rs all in
       All-cons IsResource (moved_to role r) (relabel role rs) (record { label = one.label; role = is_role; role_read = read; value = one.value; filled = one.filled }) (each-moved rs (All-tail IsResource r rs all))
 
-  -- an unreserved bundle moved to a role is a bundle
+  -- an unreserved bundle that is relabelled is a bundle
   pub bundle-relabel : (rs : List Resource) → IsTrue (is_unreserved rs) → IsBundle rs → IsBundle (relabel role rs)
   bundle-relabel rs all is = record {
     in_order = in_order-moved rs all is.in_order;

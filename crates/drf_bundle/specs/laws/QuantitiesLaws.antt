@@ -1,4 +1,5 @@
--- Laws of amounts by label, for the crates above: what each change does to each amount, and what keeps the order.
+-- Theorems about amounts by label, for the crates above: what each operation does to each amount, and what keeps the
+-- order.
 use Rattle.std.specs.Prelude.{◌≡◌, ℕ, ◌+◌, ◌-◌, ◌<◌, ◌≤◌, ◌&&◌, ◌||◌, Bool, true, false, List, [], ◌∷◌, length, filter, not, IsTrue, if◌then◌else◌, nat_lt, nat_le}
 use Rattle.std.specs.List.{list_all}
 use Rattle.std.proofs.Common.{refl, sym, ap, ◌∙◌, subst, inl, inr, cond, arith}
@@ -9,7 +10,7 @@ use Rattle.drf_role.specs.TextLaws.{same_itself, same_from_test, test_from_same,
 use Rattle.drf_bundle.specs.Quantities.{HasNoZeros, amount_of, is_named, is_in_order, with_amount, plus, minus, covers, without_zeros}
 use Rattle.drf_bundle.specs.declared.quantities.Entry.{Entry}
 
--- the label stands before that of each entry
+-- the label comes before that of each entry
 abbrev pub stands_first : List ℕ → List Entry → Bool
 stands_first label entries = list_all (λ f. text_below label f.label) entries
 
@@ -54,7 +55,7 @@ amount-with (e ∷ es) label a n = elim (cases_cmp label e.label) [
       (λ same. subst (λ (t : List ℕ). same_text e.label t ≡ false) (same_from_test label n same) (below_other e.label label (above_from_cmp label e.label greater)))))
 ]
 
--- a label that stands before all, and before the one that is set, still does
+-- a label that comes before all others and before the one that is set, still does so afterwards
 pub first-with : (es : List Entry) (label : List ℕ) (a : ℕ) (n : List ℕ) → IsTrue (text_below n label) → IsTrue (stands_first n es) → IsTrue (stands_first n (with_amount es label a))
 first-with [] label a n below first = and_from _ _ below refl
 first-with (e ∷ es) label a n below first =
@@ -115,7 +116,7 @@ pub in_order-minus : (a b : List Entry) → is_in_order (minus a b) ≡ is_in_or
 in_order-minus [] b = refl
 in_order-minus (e ∷ es) b = rw (first-minus es b e.label) (ap (λ (t : Bool). stands_first e.label es && t) (in_order-minus es b))
 
--- ---- the amounts above 0
+-- ---- removing zeros
 
 pub first-without_zeros : (es : List Entry) (n : List ℕ) → IsTrue (stands_first n es) → IsTrue (stands_first n (without_zeros es))
 first-without_zeros [] n first = refl
@@ -213,7 +214,7 @@ above_zero-plus a (e ∷ es) first second =
 pub no_zeros-plus : (a b : List Entry) → HasNoZeros a → HasNoZeros b → HasNoZeros (plus a b)
 no_zeros-plus a b first second = record { in_order = in_order-plus a b first.in_order; above_zero = above_zero-plus a b first.above_zero second.above_zero }
 
--- ---- a list without zeros is known by its amounts
+-- ---- a list without zeros is determined by its amounts
 
 abbrev SameAmounts : List Entry → List Entry → Type 0
 SameAmounts a b = (n : List ℕ) → amount_of a n ≡ amount_of b n
@@ -221,7 +222,7 @@ SameAmounts a b = (n : List ℕ) → amount_of a n ≡ amount_of b n
 same_entry : (e f : Entry) → e.label ≡ f.label → e.amount ≡ f.amount → e ≡ f
 same_entry e f label amount = λ i. record { label = label i; amount = amount i }
 
--- a list that begins with an amount above 0 does not have the amounts of one whose labels all come later
+-- a list that begins with an amount greater than 0 has other amounts than one whose labels all come later
 begins_apart : (e : Entry) (es fs : List Entry) → 0 < e.amount → IsTrue (stands_first e.label fs) → SameAmounts (e ∷ es) fs → ⊥
 begins_apart e es fs some first same = omega (arith, same e.label, amount_head e es, amount_first e.label fs first)
 
@@ -323,7 +324,7 @@ unnamed_first label (e ∷ es) first =
     let parts = and_parts (text_below label e.label) (stands_first label es) first in
     rw (above_other label e.label parts.0) (unnamed_first label es parts.1)
 
--- one more label is named exactly where it was not
+-- one more label is named exactly if it was not named before
 pub length-with : (es : List Entry) (label : List ℕ) (a : ℕ) → IsTrue (is_in_order es) → length (with_amount es label a) ≡ length es + cond (is_named es label) 0 1
 length-with [] label a ordered = refl
 length-with (e ∷ es) label a ordered =
@@ -348,7 +349,7 @@ unnamed-with es (f ∷ fs) label a first =
     let parts = and_parts (text_below label f.label) (stands_first label fs) first in
     rw (named-with es label a f.label, below_other label f.label parts.0, unnamed-with es fs label a parts.1)
 
--- the labels of both: those of the first, and those that only the second names
+-- the labels of a sum: those of the first list, and those that only the second one names
 pub length-plus : (a b : List Entry) → IsTrue (is_in_order a) → IsTrue (is_in_order b) → length (plus a b) ≡ length a + length (unnamed_in a b)
 length-plus a [] first second = omega arith
 length-plus a (e ∷ es) first second =

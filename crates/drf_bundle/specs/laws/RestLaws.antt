@@ -15,7 +15,7 @@ use Rattle.drf_bundle.specs.laws.FitLaws.{fits_less, stock_of_both, join_some, j
 use Rattle.drf_bundle.specs.declared.resource.Resource.{Resource}
 use Rattle.drf_bundle.specs.declared.value.Value.{Value}
 
--- ---- each resource changed in its value, those that come to nothing dropped
+-- ---- resources with changed values, without those that become empty
 
 -- the change of a resource leaves its key
 abbrev pub KeepsKeys : (Resource → Resource) → Type 0
@@ -60,7 +60,7 @@ nothing_there v p none = by (units_in v p) refl
     by zero is = is
     by (suc n) is = absurd (true≢false (sym (lt-ltb 0 (amount_in v) (point_filled v p (omega (arith, is)))) ∙ none))
 
--- what is dropped had no units
+-- removed resources had no units
 pub where-changed-cons : (f : Resource → Resource) → KeepsKeys f
     → (test : Key → Bool) (p : Point) (r : Resource) (rs : List Resource)
     → units_where test p (filled_of (map f (r ∷ rs))) ≡ unit_of test p (f r) + units_where test p (filled_of (map f rs))
@@ -74,7 +74,7 @@ where-changed-cons f keeps test p r rs = elim (cases_Bool (nat_lt 0 (amount_in (
     no_unit : units_in (f r).value p ≡ 0 → unit_of test p (f r) ≡ 0
     no_unit none = elim (cases_Bool (test (key_of (f r)))) [ inl passes ↦ unit-here test p (f r) passes ∙ none | inr fails ↦ unit-none test p (f r) fails ]
 
--- where no value gains units, no sum of them grows
+-- if no value gains units, no sum of units grows
 pub where-changed-le : (f : Resource → Resource) → KeepsKeys f
     → ((r : Resource) (p : Point) → units_in (f r).value p ≤ units_in r.value p)
     → (test : Key → Bool) (p : Point) (rs : List Resource) → units_where test p (filled_of (map f rs)) ≤ units_where test p rs
@@ -109,7 +109,7 @@ units-changed f keeps g of_zero is (r ∷ rs) key p ordered =
           whole ∙ units-changed f keeps g of_zero is rs key p parts.1 ∙ ap (g key p) (sym (units_other key r rs p other))
     ]
 
--- a bundle whose values are changed to fewer units is a bundle
+-- a bundle whose values are changed to at most as many units is a bundle
 pub bundle-changed : (f : Resource → Resource) → KeepsKeys f
     → ((r : Resource) (p : Point) → units_in (f r).value p ≤ units_in r.value p)
     → ((r : Resource) → IsResource r → 0 < amount_in (f r).value → IsResource (f r)) → (rs : List Resource) → IsBundle rs → IsBundle (filled_of (map f rs))
@@ -209,7 +209,7 @@ units_in_stock (r ∷ rs) key p = omega (arith, where-cons (same_key key) p r rs
     ]
 
 module _ (whole part : List Resource) (first : IsBundle whole) (second : IsBundle part) (covered : (key : Key) (p : Point) → units part key p ≤ units whole key p) where
-  -- under a key of both, the two values are the whole's
+  -- at a key of both, the two values have the units of the whole together
   parts_whole : (r s : Resource) → Has (rest whole part) r → Has part s → key_of r ≡ key_of s → (p : Point)
       → units_in r.value p + units_in s.value p ≡ units whole (key_of r) p
   parts_whole r s in_rest in_part keys p = omega (
@@ -259,7 +259,7 @@ module _ (whole part : List Resource) (first : IsBundle whole) (second : IsBundl
       λ name p. omega (arith, where-merged (λ key. same_text name key.0) p (rest whole part) part rest_joins, ap (λ rs. stock rs name p) rest_merged) in
       (join_fits (rest whole part) part (bundle-rest whole part first) second (fits_less _ _ first.fits stocks)).0 ∙ ap Some rest_merged
 
--- only what has all units of a part has a rest of it
+-- only a bundle with all units of a part has a rest without it
 pub covered_of_rest : (whole part : List Resource) → IsBundle part → Covers IsBundle join whole part
     → (key : Key) (p : Point) → units part key p ≤ units whole key p
 covered_of_rest whole part second covers key p =

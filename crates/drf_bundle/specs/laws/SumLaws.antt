@@ -1,4 +1,4 @@
--- The quantity of a name is its scalars over all reservations.
+-- The quantity of a name is the sum of its scalars over all reservations.
 use Rattle.std.specs.Prelude.{◌≡◌, ℕ, ◌+◌, Bool, true, false, List, [], ◌∷◌}
 use Rattle.std.proofs.Common.{refl, sym, ap, ◌∙◌, inl, inr, cond, arith}
 use Rattle.drf_role.specs.Text.{Text, same_text}
@@ -21,7 +21,7 @@ pub nothing : (b : Bool) (n : ℕ) → n ≡ 0 → cond b n 0 ≡ n
 nothing true n e = refl
 nothing false n e = sym e
 
--- a scalar adds to its name alone
+-- a scalar adds only to its own name
 pub amount-add_scalar : (sums : List Entry) (r : Resource) (name : Text)
     → amount_of (add_scalar sums r) name ≡ amount_of sums name + unit_of (of_name name) Thousandths r
 amount-add_scalar sums r name = by r.value
@@ -47,12 +47,12 @@ amount-add_scalars sums [] name = omega arith
 amount-add_scalars sums (r ∷ rs) name =
     omega (arith, amount-add_scalars (add_scalar sums r) rs name, amount-add_scalar sums r name, where-cons (of_name name) Thousandths r rs)
 
--- the quantity of a name is its scalars over all reservations
+-- the quantity of a name is the sum of its scalars over all reservations
 pub amount-quantities_of : (rs : List Resource) (name : Text)
     → amount_of (quantities_of rs) name ≡ stock rs name Thousandths
 amount-quantities_of rs name = omega (arith, amount-add_scalars [] rs name)
 
--- as every bundle keeps it
+-- the same for the sums that a bundle stores
 pub amount-kept : (rs : List Resource) (quantities : List Entry) (name : Text) → HasSums rs quantities
     → amount_of quantities name ≡ stock rs name Thousandths
 amount-kept rs quantities name kept = ap (λ (q : List Entry). amount_of q name) kept.sums ∙ amount-quantities_of rs name

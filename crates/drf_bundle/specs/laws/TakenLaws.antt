@@ -1,4 +1,4 @@
--- What is left of a bundle and the parts taken from it join to it, and nothing else does.
+-- What is left of a bundle joins with the removed parts to the bundle, and nothing else does.
 use Rattle.std.specs.Prelude.{◌≡◌, ℕ, ◌+◌, ◌-◌, List, [], ◌∷◌, ◌++◌, sum_by, Option, Some, None, option_and_then}
 use Rattle.std.specs.List.{AllByRecursion}
 use Rattle.std.proofs.Common.{refl, sym, ap, ◌∙◌, arith}
@@ -30,7 +30,7 @@ units-rest_of_all whole (part ∷ parts) key p is each = omega (
   sum_by-cons (λ (part : List Resource). units part key p) part parts,
 )
 
--- a part is taken wherever it stands among the others
+-- it does not matter at which place a part is among the others
 pub rest_of_all-insert : (whole : List Resource) (before after : List (List Resource)) (part : List Resource)
     → IsBundle whole → AllByRecursion IsBundle (before ++ after) → AllByRecursion IsBundle (before ++ part ∷ after) → IsBundle part
     → rest_of_all whole (before ++ part ∷ after) ≡ rest (rest_of_all whole (before ++ after)) part
@@ -48,9 +48,9 @@ rest_of_all-insert whole before after part is others each one =
       sum_by-append of before after,
     ))
 
--- ---- what is left and the parts
+-- ---- what is left joined with the parts
 
--- they join to the whole, where it has the units of all parts
+-- they join to the whole if it has the units of all parts
 pub joined-rest_of_all : TakenAndLeftJoin
 joined-rest_of_all whole [] is each covered = refl
 joined-rest_of_all whole (part ∷ parts) is each covered =
@@ -70,11 +70,11 @@ joined-rest_of_all whole (part ∷ parts) is each covered =
     ap (option_and_then (λ both. joined both parts)) back
     ∙ joined-rest_of_all whole parts is each.1 (λ key p. omega (arith, covered key p, more key p))
 
--- what adds up in a join
+-- a quantity that adds up in a join
 abbrev pub AddsUp : (List Resource → ℕ) → Type 0
 AddsUp of = (a b whole : List Resource) → IsBundle a → IsBundle b → join a b ≡ Some whole → of whole ≡ of a + of b
 
--- adds up in the join of all parts
+-- it adds up in the join of all parts
 pub sum-joined : (of : List Resource → ℕ) → AddsUp of → (bundle whole : List Resource) (parts : List (List Resource))
     → IsBundle bundle → AllByRecursion IsBundle parts → joined bundle parts ≡ Some whole
     → of whole ≡ of bundle + sum_by of parts
@@ -105,13 +105,13 @@ units-adds_up key p a b whole first second same = (join_some a b whole first sec
 pub stock-adds_up : (name : Text) (p : Point) → AddsUp (λ bundle. stock bundle name p)
 stock-adds_up name p a b whole first second same = (join_some a b whole first second same).stocks_add name p
 
--- and nothing but what is left does so
+-- nothing else joins with the parts to the whole
 pub only_rest_of_all : OnlyTheRestJoins
 only_rest_of_all bundle whole parts first is each same =
     known_by_units bundle (rest_of_all whole parts) first (bundle-rest_of_all whole parts is)
     (λ key p. omega (arith, units-rest_of_all whole parts key p is each, sum-joined (λ rs. units rs key p) (units-adds_up key p) bundle whole parts first each same))
 
--- nothing is left of a bundle that is taken whole
+-- nothing is left of a bundle without itself
 pub rest-itself : (bundle : List Resource) → IsBundle bundle → rest bundle bundle ≡ []
 rest-itself bundle is =
     known_by_units (rest bundle bundle) [] (bundle-rest bundle bundle is) bundle-empty

@@ -1,4 +1,4 @@
--- What a union does to units, and that it is a bundle.
+-- The units of a union, and that it is a bundle.
 use Rattle.std.specs.Prelude.{◌≡◌, ℕ, ◌+◌, ◌^◌, ◌<◌, ◌≤◌, ◌&&◌, ◌||◌, Bool, true, false, not, List, [], ◌∷◌, IsTrue, Option, Some, None, nat_lt}
 use Rattle.std.specs.Bool.{then_some}
 use Rattle.std.proofs.Common.{refl, sym, ap, ◌∙◌, subst, inl, inr, cond, arith}
@@ -28,7 +28,7 @@ use Rattle.drf_bundle.specs.declared.value.Clash.TheVariants.{Kinds}
 
 -- ---- units
 
--- a key that stands before all has no value
+-- a list has no value at a key that comes before all of its keys
 value_first : (key : Key) (rs : List Resource) → IsTrue (stands_first key rs) → value_at rs key ≡ None
 value_first key [] first = refl
 value_first key (r ∷ rs) first =
@@ -36,14 +36,14 @@ value_first key (r ∷ rs) first =
     rw (below_other key (key_of r) parts.0) (value_first key rs parts.1)
 
 module _ (test : Key → Bool) (p : Point) (r : Resource) where
-  -- what the value under the resource's key counts, before and after
+  -- what the value at the key of the resource counts, before and after
   abbrev had : Option Value → ℕ
   had found = cond (test (key_of r)) (units_at found p) 0
 
   abbrev has_now : Option Value → ℕ
   has_now found = cond (test (key_of r)) (units_in (united_at found r.value) p) 0
 
-  -- units change under the resource's key alone
+  -- units change only at the key of the resource
   pub where-united : (rs : List Resource) → IsTrue (is_in_order rs)
       → units_where test p (merged rs (r ∷ [])) + had (value_at rs (key_of r)) ≡ units_where test p rs + has_now (value_at rs (key_of r))
   where-united [] ordered = omega (arith, where-cons test p r [], nothing (test (key_of r)) 0 refl)
@@ -73,7 +73,7 @@ united_at_within : (found : Option Value) (w : Value) (p : Point)
 united_at_within None w p = (omega arith, omega arith)
 united_at_within (Some v) w p = united_within v w p
 
--- ---- what a union asks for
+-- ---- when a union is refused
 
 pub record IsRoom (bundle : List Resource) (r : Resource) : Type 0 where
   pub kinds : has_other_kind bundle r.label r.value ≡ false
@@ -94,7 +94,7 @@ pub room_fits : (bundle : List Resource) (r : Resource) → IsRoom bundle r
     → stock bundle r.label Thousandths + units_in r.value Thousandths < 2 ^ 64
 room_fits bundle r room = let small = room.small in grind (arith, nat_tests, small)
 
--- where nothing clashes, only the sum can be too large
+-- if nothing clashes, the only possible reason is that the sum is too large
 pub refusal_is : (bundle : List Resource) (r : Resource) (large : Bool) → has_other_kind bundle r.label r.value ≡ false
     → is_reserved_elsewhere bundle r ≡ false → large ≡ is_too_much bundle r
     → then_some large fault.TooLarge ≡ union_refusal bundle r
@@ -105,12 +105,12 @@ refusal_is bundle r large kinds members is =
     last true = refl
     last false = refl
 
--- a clash of kinds with the resource alone
+-- kinds clash exactly if the name has another kind
 kinds_same : (r : Resource) (rs : List Resource) → have_clash Kinds rs (r ∷ []) ≡ has_other_kind rs r.label r.value
 kinds_same r [] = refl
 kinds_same r (s ∷ ss) = λ i. sym (or_none (same_text s.label r.label && not (is_same_kind s.value r.value))) i || kinds_same r ss i
 
--- where no value of the name is of another kind, thousandths add up
+-- if the name has no other kind, thousandths add up
 thousandths_at : (r : Resource) (rs : List Resource) → has_other_kind rs r.label r.value ≡ false
     → units_in (united_at (value_at rs (key_of r)) r.value) Thousandths ≡ units_at (value_at rs (key_of r)) Thousandths + units_in r.value Thousandths
 thousandths_at r [] none = omega arith
@@ -124,7 +124,7 @@ thousandths_at r (s ∷ ss) none =
       | inr other ↦ rw other (thousandths_at r ss parts.1)
     ]
 
--- where no member stands under another reservation, the stock of a member of the resource is what its key has
+-- if no member of the resource is under another reservation, the stock of such a member is what its key has
 stock_here : (r : Resource) (p : Point) → most p ≡ 1 → 0 < units_in r.value p → (rs : List Resource)
     → is_reserved_elsewhere rs r ≡ false → stock rs r.label p ≡ units rs (key_of r) p
 stock_here r p single some [] none = refl
@@ -232,7 +232,7 @@ module _ (bundle : List Resource) (r : Resource) (is : IsBundle bundle) (one : I
       (quantities_no_zeros whole bundle-merged_one) (no_zeros-add_scalar (quantities_of bundle) r one.filled (quantities_no_zeros bundle is))
       (λ n. omega (arith, amount-quantities_of whole n, amount-add_scalar (quantities_of bundle) r n, amount-quantities_of bundle n, stock_thousandths n))
 
--- ---- the union, be there anything of the resource or not
+-- ---- the union, whether the resource is empty or not
 
 with_empty : (bundle : List Resource) (r : Resource) → nat_lt 0 (amount_in r.value) ≡ false → with_united bundle r ≡ bundle
 with_empty bundle r nothing = rw nothing (merged-empty bundle)
@@ -251,7 +251,7 @@ bundle-with_united bundle r is piece none = elim (cases_Bool (nat_lt 0 (amount_i
 ]
 
 module _ (bundle : List Resource) (r : Resource) (is : IsBundle bundle) (p : Point) where
-  -- what stands under the resource's key
+  -- the units at the key of the resource afterwards
   abbrev then_there : ℕ
   then_there = units_in (united_at (value_at bundle (key_of r)) r.value) p
 
@@ -277,7 +277,7 @@ units-with_united bundle r is key p = elim (cases_same key (key_of r)) [
   | inr other ↦ rw other (units_elsewhere bundle r is p key other)
 ]
 
--- ---- the same, in the terms that the code has at hand
+-- ---- the same, with what the code has computed
 
 pub union_empty : (bundle : List Resource) (r : Resource) → union_refusal bundle r ≡ None → amount_in r.value ≡ 0
     → union bundle r ≡ Some bundle
@@ -290,7 +290,7 @@ union_filled bundle r none some = λ i. join_or (none i) (with_filled bundle r s
 pub some_in : (r : Resource) → (amount_in r.value ≡ 0 → ⊥) → nat_lt 0 (amount_in r.value) ≡ true
 some_in r some = lt-ltb 0 (amount_in r.value) (elim (zero_or_some (amount_in r.value)) [ inl zero ↦ absurd (some zero) | inr above ↦ above ])
 
--- what a bundle keeps stays right
+-- the stored sums are still those of the resources
 pub kept-merged : (bundle more : List Resource) (quantities sums : List Entry) (r : Resource) → HasSums bundle quantities
     → IsPiece r → union_refusal bundle r ≡ None → nat_lt 0 (amount_in r.value) ≡ true → more ≡ merged bundle (r ∷ []) → sums ≡ add_scalar quantities r
     → HasSums more sums

@@ -1,4 +1,4 @@
--- What joins, rests and covers are by units.
+-- Joins, rests and covering, in terms of units.
 use Rattle.std.specs.Prelude.{◌&&◌, ◌≡◌, ◌≤◌, List, ◌+◌, ◌<◌, [], ◌∷◌, All}
 use Rattle.std.proofs.Common.{sym, ap, ◌∙◌, arith}
 use Rattle.drf_bundle.specs.Value.{Point, Thousandths, amount_in}
@@ -17,7 +17,8 @@ use Rattle.drf_bundle.specs.declared.value.Value.{Value}
 use Rattle.drf_bundle.specs.declared.quantities.Entry.{Entry}
 use Rattle.drf_bundle.specs.declared.resource.Resource.{Resource}
 
--- where a bundle has the units of both, it is what is left of it and the second, so it is the join
+-- if a bundle has the units of two others, it covers both and the first is the rest without the second, so it is their
+-- join
 pub join_by_units : JoinHasUnitsOfBoth
 join_by_units a b whole first second is = (
   λ joined key p. (join_some a b whole first second joined).units_add key p,
@@ -40,7 +41,7 @@ rest_by_units whole part first second key p = units-rest whole part key p first.
 pub rest_and_part : RestAndPartJoin
 rest_and_part whole part first second all = rest_join whole part first second (covered_units whole part first.in_order second.in_order all)
 
--- ---- what is made of a bundle
+-- ---- bundles that are made from others
 
 pub part_covered : PartIsCovered
 part_covered role bundle is =

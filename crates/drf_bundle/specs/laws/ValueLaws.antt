@@ -1,4 +1,4 @@
--- What units say of values.
+-- The units of values, and what they determine.
 use Rattle.std.specs.Prelude.{◌≡◌, ℕ, ◌+◌, ◌-◌, ◌<◌, ◌≤◌, ◌&&◌, ◌||◌, Bool, true, false, not, IsTrue}
 use Rattle.std.proofs.Common.{refl, sym, ap, ◌∙◌, subst, cond, arith, suc, zero}
 use Rattle.std.specs.declared.cmp.Ordering.{Ordering}
@@ -13,7 +13,7 @@ use Rattle.drf_bundle.specs.Value.{Point, Thousandths, Number, Member, units_in,
 use Rattle.drf_bundle.specs.declared.value.Value.{Value}
 use Rattle.drf_bundle.specs.declared.value.Value.TheVariants.{Scalar, Ranges, Items}
 
--- two values of one name can be joined
+-- two values of a name can be joined
 pub record AreJoinable (v w : Value) : Type 0 where
   pub same_kind : is_same_kind v w ≡ true
   pub apart : share_members v w ≡ false
@@ -21,7 +21,7 @@ pub record AreJoinable (v w : Value) : Type 0 where
 pub texts_apart : set.IsAntisymmetric text_cmp
 texts_apart = set.slice_cmp-IsAntisymmetric set.nat_cmp-IsAntisymmetric
 
--- ---- units of finite sets: 1 where there is a member
+-- ---- units of finite sets: 1 for each member
 
 abbrev unit : Bool → ℕ
 unit is = cond is 1 0
@@ -127,7 +127,7 @@ amount-united (Ranges a) (Items b) is = absurd (false≢true is.same_kind)
 amount-united (Items a) (Scalar b) is = absurd (false≢true is.same_kind)
 amount-united (Items a) (Ranges b) is = absurd (false≢true is.same_kind)
 
--- what is united has the units of each, and no more than those of both
+-- a united value has at least the units of each, and at most those of both together
 pub united_within : (v w : Value) (p : Point)
     → (units_in v p ≤ units_in (united v w) p) × (units_in (united v w) p ≤ units_in v p + units_in w p)
 united_within (Scalar a) (Scalar b) Thousandths = (omega arith, omega arith)
@@ -146,7 +146,7 @@ united_within (Ranges a) (Items b) p = (omega arith, omega arith)
 united_within (Items a) (Scalar b) p = (omega arith, omega arith)
 united_within (Items a) (Ranges b) p = (omega arith, omega arith)
 
--- scalars add up, whatever members are shared
+-- scalars add up, whether members are shared or not
 pub thousandths-united : (v w : Value) → is_same_kind v w ≡ true
     → units_in (united v w) Thousandths ≡ units_in v Thousandths + units_in w Thousandths
 thousandths-united (Scalar a) (Scalar b) same = refl
@@ -159,7 +159,7 @@ thousandths-united (Items a) (Scalar b) same = absurd (false≢true same)
 thousandths-united (Items a) (Ranges b) same = omega arith
 thousandths-united (Items a) (Items b) same = omega arith
 
--- what is united is given, if it is not too large
+-- a united value is valid if it is not too large
 pub given-united : (v w : Value) → IsGiven v → IsGiven w
     → units_in v Thousandths + units_in w Thousandths ≤ most Thousandths → IsGiven (united v w)
 given-united (Scalar a) (Scalar b) first second fits = omega (arith, fits)
@@ -212,7 +212,7 @@ given-less (Ranges a) (Items b) given = given
 given-less (Items a) (Scalar b) given = given
 given-less (Items a) (Ranges b) given = given
 
--- a number or a label has one unit at most
+-- a number or a label has at most one unit
 pub units_single : (v : Value) (p : Point) → most p ≡ 1 → units_in v p ≤ 1
 units_single v Thousandths single = absurd (omega arith)
 units_single (Scalar a) (Number n) single = omega arith
@@ -233,7 +233,7 @@ units-most (Items a) Thousandths given = omega arith
 units-most (Items a) (Number n) given = omega arith
 units-most (Items a) (Member m) given = unit_most (set.contains a m)
 
--- a value of some amount has units somewhere
+-- a value that is not empty has a unit somewhere
 pub filled_point : (v : Value) → 0 < amount_in v → (p : Point) × (0 < units_in v p)
 filled_point (Scalar a) some = (Thousandths, some)
 filled_point (Ranges a) some =
@@ -256,7 +256,7 @@ point_filled (Items a) Thousandths some = absurd (omega arith)
 point_filled (Items a) (Number n) some = absurd (omega arith)
 point_filled (Items a) (Member m) some = set_counts nat_list_cmp_total texts_apart a m (unit_some _ some)
 
--- values with units at two points are of one kind exactly where the points are
+-- two values are of the same kind exactly if points at which they have units are
 pub kind_at : (v w : Value) (p q : Point) → 0 < units_in v p → 0 < units_in w q → is_same_kind v w ≡ is_one_kind p q
 kind_at (Scalar a) (Scalar b) Thousandths Thousandths some other = refl
 kind_at (Scalar a) (Ranges b) Thousandths (Number n) some other = refl
@@ -306,7 +306,7 @@ share_from o same a b k first second = by (are_disjoint a b) refl
     by true apart = absurd (false≢true (sym (sets.out_of_both o same a b apart k) ∙ rw (unit_some _ first, unit_some _ second)))
     by false apart = refl
 
--- a number or a label with units in both is a member of both
+-- a number or a label that has units in both is a shared member
 pub share_at : (p : Point) (v w : Value) → most p ≡ 1 → 0 < units_in v p → 0 < units_in w p → share_members v w ≡ true
 share_at Thousandths v w single first second = absurd (omega arith)
 share_at (Number n) (Ranges a) (Ranges b) single first second = share_from nat_cmp_total set.nat_cmp-IsAntisymmetric a b n first second
@@ -314,7 +314,7 @@ share_at (Number n) v w single first second = absurd (omega arith)
 share_at (Member m) (Items a) (Items b) single first second = share_from nat_list_cmp_total texts_apart a b m first second
 share_at (Member m) v w single first second = absurd (omega arith)
 
--- values below the most, of one kind at all their points, can be joined
+-- two values that are not too large, and of the same kind at all their points, can be joined
 pub joinable_from : (v w : Value) → 0 < amount_in v → 0 < amount_in w
     → ((p q : Point) → 0 < units_in v p → 0 < units_in w q → IsTrue (is_one_kind p q))
     → ((p : Point) → units_in v p + units_in w p ≤ most p) → AreJoinable v w

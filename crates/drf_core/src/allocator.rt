@@ -111,9 +111,10 @@ impl<S: Sorter> Core<S> {
     /// applies: only `reserve`, `unreserve` and `set_agent` have refusals that can need memory. However the call ends, nothing is
     /// granted twice, and at most 65,537 filters are stored, including expired ones.
     ///
-    /// If the call succeeds and the sorter counts its work, the event adds at most one key for each node on the paths of the
-    /// clients that it touches, and one for `set_weight`. `add_agent`, `remove_agent` and `set_agent` add at most one more for
-    /// each node of a report. Only `cycle`, `add_framework` and `set_framework` events that are not refused compute keys.
+    /// If the call succeeds and the sorter counts its work, the event adds at most one key to this work for each node on the
+    /// paths of the clients that it touches, and one for `set_weight`. `add_agent`, `remove_agent` and `set_agent` add at most
+    /// one more for each node of a report. Only `cycle`, `add_framework` and `set_framework` events that are not refused compute
+    /// keys.
     pub fn step(&mut self, event: Event) -> Result<Reply, AllocError>
         ensures reply { IfOk result (λ reply. reply ≡ reply_to self.old.limits self.old.rows event) }
         ensures ok { OnOk result (IsAfter self.old self.new event) }
@@ -205,7 +206,7 @@ impl<S: Sorter> Core<S> {
         Ok(())
     }
 
-    /// Returns the sorter, which holds the order of the clients and counts its work.
+    /// Returns the sorter, from which the order of the clients and the counted work can be read.
     pub fn sorter(&self) -> &S
         ensures content { HoldsTheSame (S.content result.now) (content_of self.now.rows) }
         ensures work { S.work result.now ≡ self.now.work }

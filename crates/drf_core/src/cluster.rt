@@ -104,7 +104,7 @@ impl<S: Sorter> Cluster<S> {
         self.tables.key()
     }
 
-    /// Returns the sorter, which holds the order of the clients and counts its work.
+    /// Returns the sorter, from which the order of the clients and the counted work can be read.
     pub(crate) fn sorter(&self) -> &S
         ensures content { IsSame (S.content result.now) (content_of self.now.rows) }
         ensures work { S.work result.now ≡ self.now.work }

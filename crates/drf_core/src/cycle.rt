@@ -41,7 +41,7 @@ use std::alloc::{AllocError, Global};
 use std::mem;
 
 /// The offers of a running cycle, the free resources that remain after the turns so far, and what roles consume with the offers.
-/// `consumption` is `None` only if no role has a limit.
+/// During the turns, `consumption` is `None` only if no role has a limit.
 #[derive(Drop)]
 pub(crate) struct Drafts {
     pub(crate) offers: Vec<OfferRow>,
@@ -78,7 +78,7 @@ pub(crate) fn has_next<S: Sorter>(sorter: &S) -> bool
     sorter.first().is_some()
 }
 
-/// Returns whether a cycle certainly makes no offer, because no agent has enough free resources or no client is active.
+/// Returns whether a cycle certainly makes no offer, because no active agent has enough free resources or no client is active.
 fn is_idle<S: Sorter>(tables: &Tables, sorter: &mut S) -> Result<bool, AllocError>
     requires settled { tables.now.settled ≡ true }
     requires drafting { IsDrafting (S.content sorter.old) tables.now.rows [] }

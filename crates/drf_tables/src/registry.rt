@@ -60,6 +60,7 @@ impl<T: Drop> Registry<T> {
         }
     }
 
+    /// Returns the memory allocator.
     pub(crate) fn allocator(&self) -> &Global {
         self.slots.allocator()
     }

@@ -340,7 +340,7 @@ fn explain<S: Sorter>(
 }
 
 /// An explanation of a cycle that is computed agent by agent, with an outcome for each client. Of the agents already reported,
-/// only the offers are kept.
+/// only the drafts are kept.
 #[derive(Drop)]
 pub struct Telling<S: Sorter> {
     alloc: Global,

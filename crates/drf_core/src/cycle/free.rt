@@ -1,6 +1,4 @@
-//! The free resources of an agent in its turn, and what a client is granted of them. A role's prefix length is a number
-//! of first parts such that what is known about clients of the role holds for all clients whose paths begin with the
-//! same parts.
+//! The free resources of an agent in its turn, and what a client is granted of them.
 ghost use Rattle.std.specs.Prelude.{◌≡◌, ◌+◌, ◌≤◌, [], if◌then◌else◌, Option, Some, None, false, true, length, take, IfOk, IfSome, OnOk, IsTrue, MatchOption};
 ghost use Rattle.std.specs.List.{list_any};
 ghost use Rattle.std.specs.Option.{option_copied};
@@ -184,9 +182,9 @@ fn unreserved(free: &Bundle, label: &str) -> u64
     sum
 }
 
-/// Returns a prefix length if less than `least` (in thousandths) of a scalar is free and unreserved, or if limits leave the role
-/// less than that: then it is the same for all roles with as many first parts in common. It is 0 if too little is free. Returns
-/// `None` if there is enough.
+/// Returns a prefix length if less than `least` (in thousandths) of a scalar is available to a role, because too little is free
+/// and unreserved (then it is 0) or because limits leave too little. All roles with that many first parts in common have as
+/// little. Returns `None` if enough is available.
 fn short_front(
     quota: Option<&Quota<'_>>,
     free: &Bundle,
@@ -207,8 +205,9 @@ fn short_front(
     quota?.short_front(role, label, least)
 }
 
-/// Returns a prefix length if amounts alone show that clients of the role can have nothing that is enough for an offer, because
-/// too little is free and unreserved or within the limits, and nothing is reserved for the role. It needs no memory.
+/// Returns a prefix length if amounts alone show that clients of the role can have nothing that is enough for an offer: too
+/// little is free and unreserved or within the limits, and nothing is reserved for the role. All clients whose paths have that
+/// many first parts in common with those of the role can have as little. It needs no memory.
 fn spent_front(
     quota: Option<&Quota<'_>>,
     free: &Bundle,
@@ -226,8 +225,7 @@ fn spent_front(
     Some(cpus.max(mem).max(reserved))
 }
 
-/// Returns the part of the free resources that clients of a role can have, if it is enough for an offer, and otherwise a prefix
-/// length.
+/// Returns the part of the free resources that clients of a role can have, if it is enough for an offer, and otherwise `Barred`.
 fn known_of(
     quota: Option<&Quota<'_>>,
     free: &Bundle,

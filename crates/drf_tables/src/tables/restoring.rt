@@ -1,5 +1,5 @@
-//! Restoring a saved state: the tables begin with the numbers of the state, and then its rows are added one by one.
-//! Each table is added after those that it depends on.
+//! Restoring a saved state: the tables begin with the numbers of the state, and then its rows are added one by one. The
+//! rows of a table are added after those of the tables that it depends on.
 #![tactic(auto, unfolding(crate::specs::Inside::rows_of))]
 
 ghost use Rattle.std.specs.Prelude.{◌≡◌, ◌+◌, ◌^◌, ◌<◌, ◌≤◌, [], ◌∷◌, ◌++◌, true, false, length, sum_by, nat_lt, IfOk, IfNone, IfSome, OnOk, OnErr};

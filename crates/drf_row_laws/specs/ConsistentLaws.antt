@@ -1,4 +1,4 @@
--- The rules that hold of the rows at all times hold after one more offer.
+-- A state that satisfies `IsConsistent` satisfies it after one more offer.
 use Rattle.std.specs.Prelude.{◌≡◌, ℕ, ◌+◌, ◌<◌, ◌≤◌, Bool, true, false, ◌&&◌, ◌||◌, List, [], ◌∷◌, ◌++◌, filter, map, sum_by, slice_get, nat_lt, if◌then◌else◌}
 use Rattle.std.specs.List.{list_all, list_any, count_by, AllByRecursion}
 use Rattle.std.specs.Cmp.Lexicographic.{bytes_decides}
@@ -35,14 +35,14 @@ use Rattle.drf_rows.specs.declared.rows.FrameworkRow.{FrameworkRow}
 use Rattle.drf_rows.specs.declared.rows.OfferRow.{OfferRow}
 use Rattle.drf_rows.specs.declared.rows.Rows.{Rows}
 
--- ---- names and roles that stand once
+-- ---- names and roles without repetitions
 
 pub same_text-swap : (a b : Text) → same_text a b ≡ same_text b a
 same_text-swap a b =
     same_from_decides (same_text a b) (same_text b a) (bytes_decides a b)
     (Decides-like (same_text b a) sym sym (bytes_decides b a))
 
--- an element of the name is the one at that place
+-- an element with the name of the one at a place is this one
 pub only_named : {X : Type 0} (name : X → Text) (xs : List X) (i : ℕ) (a : X)
     → are_distinct (map name xs) ≡ true → slice_get xs i ≡ Some a
     → AllByRecursion (λ x. same_text (name a) (name x) ≡ true → x ≡ a) xs
@@ -72,7 +72,7 @@ count_role role (c ∷ cs) apart =
     let parts = and_parts (none_has same_path key c.role cs) (are_distinct_roles (map key cs)) apart in
     count_once same_path key role c cs (same_path-true role c.role) parts.0 (count_role role cs parts.1)
 
--- ---- how often a client is registered
+-- ---- how many rows a client has
 
 -- the row is that of the client
 abbrev pub has_its_role : Client → ClientRow → Bool
@@ -133,7 +133,7 @@ times_at_least (f ∷ fs) client known =
       | inr later ↦ omega (arith, first, times_at_least fs client later)
     ]
 
--- once
+-- exactly one row
 pub registered_once : (frameworks : List FrameworkRow) (client : Client)
     → AreFrameworks frameworks → is_registered frameworks client ≡ true → times_registered frameworks client ≡ 1
 registered_once frameworks client right known =
@@ -141,7 +141,7 @@ registered_once frameworks client right known =
 
 -- ---- an offer is counted
 
--- names and roles stay
+-- names and roles do not change
 pub name-count_offer : (client : Client) (f : FrameworkRow) → (count_offer client f).name ≡ f.name
 name-count_offer client f =
     elim (cases_Bool (same_text f.name client.framework)) [ inl here ↦ rw here | inr other ↦ rw other ]
@@ -180,7 +180,7 @@ AreFrameworks-counted client frameworks right = record {
       }) right.each);
 }
 
--- who is registered stays
+-- registered clients stay registered
 role_known : (client : Client) (f : FrameworkRow)
     → list_any (has_its_role client) f.clients ≡ list_any (λ r. same_path r client.role) (roles_of f)
 role_known client f = each f.clients
@@ -234,7 +234,7 @@ offers_counted-counted client frameworks =
     ∙ (λ i. sum_by (λ f. counts-count_offer client f i) frameworks)
     ∙ sum_by-plus (λ (f : FrameworkRow). counts_of f.clients) (times_in client) frameworks
 
--- ---- the next number stands last
+-- ---- the next number is added last
 
 below_push : (n m : ℕ) (ns : List ℕ)
     → list_all (nat_lt n) ns ≡ true → nat_lt n m ≡ true → list_all (nat_lt n) (ns ++ m ∷ []) ≡ true
@@ -257,7 +257,7 @@ rising_push (n ∷ ns) next rising =
     (and_from (nat_lt n (next + 1)) (list_all (nat_lt n) past) head (below_push n next ns first.1 first.0))
     (rising_push ns next parts.1)
 
--- offers before the next number keep to any bound that it keeps to
+-- if the next offer number is within a bound, so are the numbers of all offers
 pub numbers_within : (offers : List OfferRow) (next bound : ℕ)
     → are_rising (map (λ o. o.number) offers) next ≡ true → next ≤ bound + 1 → AllByRecursion (λ o. o.number ≤ bound) offers
 numbers_within [] next bound rising within = tt
@@ -280,7 +280,7 @@ unfolding free_of
 conserved_one rows each agent right covered =
     joined-rest_of_all agent.total (parts_on agent.name (holdings_of rows)) right.total (each_part agent.name (holdings_of rows) each) covered
 
--- of a scalar no more is held on an agent than there is
+-- of each scalar at most the agent's total is held
 pub held_on-le : (rows : Rows) (agent : AgentRow) (label : Text)
     → AreBundles (holdings_of rows) → IsAgent agent → IsCovered (holdings_of rows) agent
     → held_where (is_on agent.name) (holdings_of rows) label ≤ amount_of (quantities_of agent.total) label
@@ -299,12 +299,12 @@ conserved-consistent rows consistent =
     each_from_both IsAgent (IsCovered (holdings_of rows)) (IsConserved rows) rows.agents
     (conserved_one rows (bundles-consistent rows consistent)) consistent.agents.each consistent.covered
 
--- and in the live rows, since what is held does not hang on filters
+-- the same for the current state, because holdings do not depend on filters
 pub conserved-live : (rows : Rows) → AllByRecursion (IsConserved rows) rows.agents → AllByRecursion (IsConserved (live_rows rows)) rows.agents
 unfolding free_of
 conserved-live rows all = all
 
--- an offer takes no more than what is free
+-- an offer of at most the free resources leaves the agent covered
 covered_here : (rows : Rows) (offer : OfferRow) (agent : AgentRow)
     → AreBundles (holdings_of rows)
     → same_text offer.agent agent.name ≡ true
@@ -339,9 +339,9 @@ covered_other : (rows : Rows) (offer : OfferRow) (agent : AgentRow)
 covered_other rows offer agent covered other = λ key p.
     omega (arith, ap (λ parts. units_of_all parts key p) (parts_on-other rows offer agent.name other), covered key p)
 
--- ---- the rows with one more offer
+-- ---- the state with one more offer
 
--- a grant of what is free to a registered client keeps the rows consistent
+-- granting free resources to a registered client keeps the state consistent
 pub IsConsistent-with_offer : (rows : Rows) (agent : AgentRow) (place : ℕ) (client : Client) (bundle : List Resource)
     → IsConsistent rows
     → slice_get rows.agents place ≡ Some agent

@@ -1,4 +1,4 @@
--- The rows with one more offer, and turns step by step.
+-- The state with one more offer, and turns step by step.
 use Rattle.std.specs.Prelude.{◌≡◌, ◌-◌, ◌≤◌, ◌&&◌, codes, Bool, true, false, not, List, [], ◌∷◌, ◌++◌, map, filter, Some, if◌then◌else◌, nat_lt, All}
 use Rattle.std.specs.List.{flat_map, AllByRecursion}
 use Rattle.std.specs.Option.{option_map_or}
@@ -35,7 +35,7 @@ use Rattle.drf_rows.specs.declared.rows.Rows.{Rows}
 
 -- ---- one more offer
 
--- who is registered, and who is active, stays
+-- the registered clients and the active ones stay the same
 counted-client : (client : Client) (f g : FrameworkRow) (c : ClientRow) → g.name ≡ f.name
     → client_of g (counted client c) ≡ client_of f c
 counted-client client f g c same =
@@ -106,20 +106,20 @@ module _ (rows : Rows) (offer : OfferRow) where
       over_frameworks (of_offer offer).client (λ f. map (client_of f) (filter (λ c. not c.suppressed) f.clients)) rows.frameworks
       (count_offer-active (of_offer offer).client)
 
--- ---- what is free
+-- ---- free resources
 
 pub bundle-free_of : (rows : Rows) (agent : AgentRow) → IsBundle agent.total → IsBundle (free_of rows agent)
 unfolding free_of
 bundle-free_of rows agent total = bundle-rest_of_all agent.total (parts_on agent.name (holdings_of rows)) total
 
--- by its units: the total less what is held
+-- the units of the free resources: those of the total less those of what is held
 pub units-free_of : (rows : Rows) (agent : AgentRow) (key : Key) (p : Point) → IsBundle agent.total → AreBundles (holdings_of rows)
     → units (free_of rows agent) key p ≡ units agent.total key p - units_of_all (parts_on agent.name (holdings_of rows)) key p
 unfolding free_of
 units-free_of rows agent key p total each =
     units-rest_of_all agent.total (parts_on agent.name (holdings_of rows)) key p total (each_part agent.name (holdings_of rows) each)
 
--- on its agent an offer leaves the rest
+-- on its own agent an offer leaves the rest free
 pub free_of-with_offer : (rows : Rows) (offer : OfferRow) (agent : AgentRow)
     → IsBundle agent.total → AreBundles (holdings_of rows) → IsBundle offer.bundle → same_text offer.agent agent.name ≡ true
     → free_of (with_offer rows offer) agent ≡ rest (free_of rows agent) offer.bundle
@@ -139,7 +139,7 @@ free_of-with_offer rows offer agent total each one here =
     one
     ∙ ap (λ (parts : Parts). rest (rest_of_all agent.total parts) offer.bundle) (sym old)
 
--- on other agents all that was free
+-- on other agents an offer does not change what is free
 pub free_of-with_offer_other : (rows : Rows) (offer : OfferRow) (agent : AgentRow) → same_text offer.agent agent.name ≡ false
     → free_of (with_offer rows offer) agent ≡ free_of rows agent
 unfolding free_of
@@ -153,7 +153,7 @@ pub all_tried-append : (rows : Rows) (agent : AgentRow) (cs ds : List Client)
 all_tried-append rows agent [] ds = refl
 all_tried-append rows agent (c ∷ cs) ds = all_tried-append (tried rows agent c) agent cs ds
 
--- what a client may have of a bundle is part of it, name by name and entry by entry
+-- the entitlement is a part of the free bundle, for any test of keys
 entitled_where : (test : Key → Bool) (rows : Rows) (free : List Resource) (client : Client) (p : Point)
     → units_where test p (entitlement rows free client) ≤ units_where test p free
 entitled_where test rows free client p =
@@ -174,7 +174,7 @@ pub units-entitlement : (rows : Rows) (free : List Resource) (client : Client) (
     → units (entitlement rows free client) key p ≤ units free key p
 units-entitlement rows free client key p = entitled_where (same_key key) rows free client p
 
--- where no limit binds a role nothing is cut
+-- without limits nothing is cut
 uncut : (r : Resource) → IsResource r → filled_of (clipped [] r ∷ []) ≡ r ∷ []
 uncut r one =
     let some : nat_lt 0 (amount_in r.value) ≡ true = lt-ltb 0 (amount_in r.value) one.filled in
@@ -198,7 +198,7 @@ entitlement-unlimited rows free client is none =
     ap (λ (room : List Entry). clip room (part_for client.role free)) none
     ∙ clip-nothing (part_for client.role free) (bundle-part_for client.role free is).each
 
--- of a bundle that is worth no offer no client may have a part that is
+-- if a bundle is too little for an offer, so is the entitlement of each client
 entitled_less : (rows : Rows) (free : List Resource) (client : Client) (name : Text)
     → amount_of (quantities_of (entitlement rows free client)) name ≤ amount_of (quantities_of free) name
 entitled_less rows free client name = omega (
@@ -215,13 +215,13 @@ little_entitlement rows free client little =
     let mem = entitled_less rows free client (codes "mem") in
     grind (arith, nat_tests)
 
--- where too little is free, no client is granted anything
+-- if too little is free, no client is granted anything
 pub all_tried_none : (rows : Rows) (agent : AgentRow) (cs : List Client)
     → is_allocatable (free_of rows agent) ≡ false → all_tried rows agent cs ≡ rows
 all_tried_none rows agent [] little = refl
 all_tried_none rows agent (c ∷ cs) little = rw (little_entitlement rows (free_of rows agent) c little) (all_tried_none rows agent cs little)
 
--- where the first is granted all that is free, nothing is left for the others
+-- if the first client is granted everything that is free, nothing is left for the others
 pub all_tried_first : (rows : Rows) (agent : AgentRow) (c : Client) (cs : List Client)
     → grant rows agent c ≡ Some (free_of rows agent)
     → IsBundle agent.total → AreBundles (holdings_of rows)

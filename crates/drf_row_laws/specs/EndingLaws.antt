@@ -1,4 +1,4 @@
--- What is held once a holding ends, or once an offer is accepted; and that the rows stay consistent.
+-- What is held after a holding ends or an offer is accepted; and that the state stays consistent.
 use Rattle.std.specs.Prelude.{◌≡◌, ℕ, ◌+◌, ◌<◌, ◌≤◌, ◌==◌, Bool, true, false, not, ◌&&◌, List, [], ◌∷◌, ◌++◌, length, map, filter, find, take, drop, slice_get, sum_by, nat_lt, Option}
 use Rattle.std.specs.List.{list_all, list_any, count_by, AllByRecursion}
 use Rattle.std.proofs.Common.{refl, sym, ap, subst, ◌∙◌, inl, inr, cond, zero, suc, arith, Some, append_assoc}
@@ -30,9 +30,9 @@ use Rattle.drf_rows.specs.declared.rows.OfferRow.{OfferRow}
 use Rattle.drf_rows.specs.declared.rows.TaskRow.{TaskRow}
 use Rattle.drf_rows.specs.declared.rows.Rows.{Rows}
 
--- ---- lists with one element taken out
+-- ---- lists with one element removed
 
--- what does not pass a test is not missed by it
+-- removing an element that does not pass the test does not change what passes
 pub filter-out : {X : Type 0} (p : X → Bool) (xs ys : List X) (x : X)
     → p x ≡ false → filter p (xs ++ x ∷ ys) ≡ filter p (xs ++ ys)
 filter-out p xs ys x past =
@@ -44,7 +44,7 @@ pub sum_by-out : {X : Type 0} (f : X → ℕ) (xs ys : List X) (x : X)
     → sum_by f (xs ++ x ∷ ys) ≡ sum_by f (xs ++ ys) + f x
 sum_by-out f xs ys x = omega (arith, sum_by-append f xs (x ∷ ys), sum_by-cons f x ys, sum_by-append f xs ys)
 
--- what passes is counted once more
+-- removing an element that passes lowers the count by one
 pub count_by-out : {X : Type 0} (p : X → Bool) (xs ys : List X) (x : X)
     → p x ≡ true → count_by p (xs ++ x ∷ ys) ≡ count_by p (xs ++ ys) + 1
 count_by-out p xs ys x passes =
@@ -55,7 +55,7 @@ pub each-out : {X : Type 0} (P : X → Type 0) (xs ys : List X) (x : X)
 each-out P [] ys x all = all.1
 each-out P (z ∷ xs) ys x all = (all.0, each-out P xs ys x all.1)
 
--- what holds of each holds of the one
+-- what is true of each element is true of one
 pub each-one : {X : Type 0} (P : X → Type 0) (xs ys : List X) (x : X)
     → AllByRecursion P (xs ++ x ∷ ys) → P x
 each-one P [] ys x all = all.0
@@ -87,9 +87,9 @@ tasks_apart-out (s ∷ ts) us t apart =
     and_from (list_all other (ts ++ us)) (are_distinct_tasks (ts ++ us))
     (list_all-out other ts us t parts.0) (tasks_apart-out ts us t parts.1)
 
--- ---- one holding is taken out
+-- ---- one holding is removed
 
--- the second holdings are the first without one
+-- `new` is `old` without the holding h
 pub record IsOneLess (old new : List Holding) (h : Holding) : Type 0 where
   pub before : List Holding
   pub after : List Holding
@@ -97,7 +97,7 @@ pub record IsOneLess (old new : List Holding) (h : Holding) : Type 0 where
   pub lacks : new ≡ before ++ after
 
 module _ (old new : List Holding) (h : Holding) (less : IsOneLess old new h) where
-  -- whatever passes a test holds so much less
+  -- the holdings that pass a test have less by this holding, if it passes
   pub held_where-one_less : (test : Holding → Bool) (label : Text)
       → held_where test old label ≡ held_where test new label + cond (test h) (amount_in label h) 0
   held_where-one_less test label =
@@ -117,7 +117,7 @@ module _ (old new : List Holding) (h : Holding) (less : IsOneLess old new h) whe
       ∙ ap (map (λ (g : Holding). g.bundle)) (sym (filter-out (is_on agent) less.before less.after h past))
       ∙ sym (ap (parts_on agent) less.has)
 
-  -- by units, what is held on an agent was that, and what the one had there
+  -- the units held on an agent before are those held afterwards and those of the holding, if it was there
   pub units-one_less : (agent : Text) (key : Key) (p : Point)
       → units_of_all (parts_on agent old) key p
       ≡ units_of_all (parts_on agent new) key p + cond (same_text h.agent agent) (units h.bundle key p) 0
@@ -144,25 +144,25 @@ module _ (old new : List Holding) (h : Holding) (less : IsOneLess old new h) whe
       first true = sum_by-cons of h.bundle (parts_on agent less.after)
       first false = omega arith
 
-  -- what holds of each holding still does
+  -- what was true of each holding still is
   pub each-one_less : (P : Holding → Type 0) → AllByRecursion P old → AllByRecursion P new
   each-one_less P all =
       subst (AllByRecursion P) (sym less.lacks) (each-out P less.before less.after h (subst (AllByRecursion P) less.has all))
 
-  -- and it holds of the one
+  -- and it is true of the removed one
   pub one-one_less : (P : Holding → Type 0) → AllByRecursion P old → P h
   one-one_less P all = each-one P less.before less.after h (subst (AllByRecursion P) less.has all)
 
-  -- no more is held than there is
+  -- at most the total is held on each agent
   pub covered-one_less : (agent : AgentRow) → IsCovered old agent → IsCovered new agent
   covered-one_less agent covered key p = omega (arith, covered key p, units-one_less agent.name key p)
 
--- ---- one offer, and one task
+-- ---- one offer or one task is removed
 
 map-out : {X Y : Type 0} (f : X → Y) (xs ys : List X) (x : X) → map f (xs ++ x ∷ ys) ≡ map f xs ++ f x ∷ map f ys
 map-out f xs ys x = map-append f xs (x ∷ ys)
 
--- rows of which the offers and the tasks change stay consistent, if these do
+-- if offers and tasks are changed so that they satisfy the rules, the state stays consistent
 pub IsConsistent-held : (rows : Rows) (offers : List OfferRow) (tasks : List TaskRow)
     → IsConsistent rows
     → AllByRecursion (IsHeld rows.agents rows.frameworks) (map of_offer offers ++ map of_task tasks)
@@ -211,7 +211,7 @@ module _ (rows : Rows) (before after : List OfferRow) (x : OfferRow) (stands : r
       (ap (λ (ns : List ℕ). are_rising ns rows.next_offer) (map-append number before after)
       ∙ rising-out (map number before) (map number after) x.number rows.next_offer numbers)
 
-  -- the others that end are still to end, and all that stays, stays
+  -- removing an offer that the ending ends does not change the result of the ending
   pub without_ended-offer : (ending : Ending) → ends_offer ending x ≡ true
       → without_ended (record rows { offers = before ++ after }) ending ≡ without_ended rows ending
   without_ended-offer ending ends =
@@ -266,22 +266,22 @@ module _ (rows : Rows) (before after : List TaskRow) (x : TaskRow) (stands : row
     ap (count_by (ends_task ending)) stands ∙ count_by-out (ends_task ending) before after x ends,
   )
 
--- ---- nothing is left to end
+-- ---- an ending that ends nothing
 
--- a test that nothing passes fails at each element
+-- if no element passes a test, it fails at each
 pub each_past : {X : Type 0} (p : X → Bool) (xs : List X) → list_any p xs ≡ false → AllByRecursion (λ x. p x ≡ false) xs
 each_past p [] none = tt
 each_past p (x ∷ xs) none =
     let parts = or_parts (p x) (list_any p xs) none in
     (parts.0, each_past p xs parts.1)
 
--- where no element passes a test, none is left out
+-- if no element passes a test, a filter removes none
 pub filter-none : {X : Type 0} (p : X → Bool) (xs : List X)
     → AllByRecursion (λ x. p x ≡ false) xs → filter (λ x. not (p x)) xs ≡ xs
 filter-none p [] none = refl
 filter-none p (x ∷ xs) none = λ i. cond (not (none.0 i)) (x ∷ filter-none p xs none.1 i) (filter-none p xs none.1 i)
 
--- and only there
+-- if a filter removes none, no element passes the test
 pub none-filter : {X : Type 0} (p : X → Bool) (xs : List X)
     → filter (λ x. not (p x)) xs ≡ xs → AllByRecursion (λ x. p x ≡ false) xs
 none-filter p [] same = tt
@@ -307,9 +307,9 @@ without_ended-none rows ending offers tasks = λ i. record rows {
   tasks = filter-none (ends_task ending) rows.tasks (each_past (ends_task ending) rows.tasks tasks) i;
 }
 
--- ---- a place
+-- ---- places in lists
 
--- an element at a place stands between those before and those behind
+-- a list is what is before a place, its element, and what is after it
 pub split_at : {X : Type 0} (xs : List X) (i : ℕ) (x : X) → slice_get xs i ≡ Some x → xs ≡ take i xs ++ x ∷ drop (suc i) xs
 split_at [] i x at = cc
 split_at (y ∷ ys) zero x at =
@@ -317,7 +317,7 @@ split_at (y ∷ ys) zero x at =
     ap (λ z. z ∷ ys) same
 split_at (y ∷ ys) (suc i) x at = ap (λ zs. y ∷ zs) (split_at ys i x at)
 
--- a found element stands at a place
+-- an element that is found has a place
 pub record IsPlace {X : Type 0} (xs : List X) (x : X) : Type 0 where
   pub before : List X
   pub after : List X
@@ -341,7 +341,7 @@ offer_at-place rows number o found =
     let at = find-place (λ (p : OfferRow). p.number == number) rows.offers o found in
     (at.0, eqb-true o.number number at.1)
 
--- it is held by a registered client on a registered agent
+-- an outstanding offer is held by a registered client on a registered agent
 pub held-offer_at : (rows : Rows) (number : ℕ) (o : OfferRow) → IsConsistent rows → offer_at rows number ≡ Some o
     → IsHeld rows.agents rows.frameworks (of_offer o)
 held-offer_at rows number o consistent found =
@@ -349,7 +349,7 @@ held-offer_at rows number o consistent found =
     one-one_less (holdings_of rows) (holdings_of (record rows { offers = at.before ++ at.after })) (of_offer o)
     (one_less-offer rows at.before at.after o at.stands) (IsHeld rows.agents rows.frameworks) consistent.holdings
 
--- numbers that rise tell offers apart
+-- different offers have different numbers, because these rise
 list_all-one : {X : Type 0} (p : X → Bool) (xs ys : List X) (x : X) → list_all p (xs ++ x ∷ ys) ≡ true → p x ≡ true
 list_all-one p [] ys x all = (and_parts (p x) (list_all p ys) all).0
 list_all-one p (z ∷ xs) ys x all = list_all-one p xs ys x (and_parts (p z) (list_all p (xs ++ x ∷ ys)) all).1
@@ -381,7 +381,7 @@ others_of_number (p ∷ before) after o next rising =
     (sym (ap (list_all (nat_lt p.number)) (map-out number_of before after o)) ∙ above)) in
     (ne_eqb p.number o.number (λ same. omega (arith, same)), others_of_number before after o next parts.1)
 
--- where one element passes a test, and no other, it alone is left out
+-- if exactly one element passes a test, a filter removes this one
 pub filter-one : {X : Type 0} (p : X → Bool) (xs ys : List X) (x : X) → p x ≡ true → AllByRecursion (λ y. p y ≡ false) (xs ++ ys)
     → filter (λ y. not (p y)) (xs ++ x ∷ ys) ≡ xs ++ ys
 filter-one p xs ys x here others =
@@ -398,7 +398,7 @@ without_offer-place rows before after o consistent stands =
 
 -- ---- an offer is accepted
 
--- rows with other filters stay consistent, if these are filters
+-- if filters are changed so that they are valid, the state stays consistent
 pub IsConsistent-filters : (rows : Rows) (filters : List FilterRow) → IsConsistent rows
     → AllByRecursion (IsFilter rows.agents rows.frameworks) filters → IsConsistent (record rows { filters = filters })
 IsConsistent-filters rows filters consistent each = record {
@@ -418,7 +418,7 @@ IsConsistent-filters rows filters consistent each = record {
 pub is_task-swap : (s t : TaskRow) → is_task s.framework s.name t ≡ is_task t.framework t.name s
 is_task-swap s t = λ i. same_text-swap t.framework s.framework i && same_text-swap t.name s.name i
 
--- a framework has no two tasks of a name, if the last is new
+-- tasks have different names if the last one is new
 list_all-push : {X : Type 0} (p : X → Bool) (xs : List X) (x : X)
     → list_all p xs ≡ true → p x ≡ true → list_all p (xs ++ x ∷ []) ≡ true
 list_all-push p [] x all here = and_from (p x) true here refl
@@ -438,7 +438,7 @@ tasks_apart-push (s ∷ ts) t apart new =
     (list_all-push other ts t parts.0 (ap not (is_task-swap s t ∙ none.0)))
     (tasks_apart-push ts t parts.1 none.1)
 
--- of the whole a scalar is in the parts or in the rest
+-- a scalar of the whole is in the parts or in the rest
 amount-rest : (whole : List Resource) (parts : List (List Resource)) (label : Text) → IsBundle whole → AllByRecursion IsBundle parts
     → HasAll whole parts
     → amount_of (quantities_of whole) label
@@ -458,11 +458,11 @@ amount-rest whole parts label is each has =
       stocks_add a b both first second same label Thousandths,
     )
 
--- the tasks of an offer, as holdings
+-- the tasks of an offer as holdings
 abbrev pub started_by : OfferRow → List Start → List Holding
 started_by o starts = map of_task (map (task_of o) starts)
 
--- the rows once parts of an offer are tasks, and filters stand last
+-- the state after tasks are started with parts of an offer, with these filters added last
 abbrev pub accepted_in : Rows → OfferRow → List Start → List FilterRow → Rows
 accepted_in rows o starts filters = record (without_ended rows (one_offer o.number)) {
   tasks = rows.tasks ++ map (task_of o) starts;
@@ -473,7 +473,7 @@ none_either : (b : Bool) → ◌≡◌ {A = ℕ} 0 (cond b 0 0)
 none_either true = refl
 none_either false = refl
 
--- tasks that pass the test as their offer did hold what they use
+-- if the tasks pass a test exactly if the offer did, they hold what they use
 held_where-started : (test : Holding → Bool) (label : Text) (o : OfferRow) (starts : List Start)
     → ((s : Start) → test (of_offer o) ≡ test (of_task (task_of o s)))
     → held_where test (started_by o starts) label
@@ -493,7 +493,7 @@ held_where-started test label o (s ∷ starts) same =
     by true = sym more
     by false = omega arith
 
--- on the offer's agent they hold what they use, and elsewhere nothing
+-- on the agent of the offer they hold what they use, and elsewhere nothing
 units-started : (agent : Text) (key : Key) (p : Point) (o : OfferRow) (starts : List Start)
     → units_on agent (started_by o starts) key p ≡ cond (same_text o.agent agent) (units_of_all (uses starts) key p) 0
 units-started agent key p o [] = none_either (same_text o.agent agent)
@@ -512,7 +512,7 @@ parts_on-started : (agent : Text) (o : OfferRow) (starts : List Start) → same_
 parts_on-started agent o [] past = refl
 parts_on-started agent o (s ∷ starts) past = rw past (parts_on-started agent o starts past)
 
--- ---- tasks that are new
+-- ---- new tasks
 
 tasks_apart : (old new : List TaskRow) → are_distinct_tasks old ≡ true → AreNew old new → are_distinct_tasks (old ++ new) ≡ true
 tasks_apart old [] apart new = ap are_distinct_tasks (append-nil old) ∙ apart
@@ -530,7 +530,7 @@ and_false : (b : Bool) → (b && false) ≡ false
 and_false true = refl
 and_false false = refl
 
--- the tasks of an offer are new where their names are
+-- the tasks of an offer are new if their names are
 new_tasks : (o : OfferRow) (old : List TaskRow) (starts : List Start)
     → list_any (λ s. list_any (is_task o.framework s.0) old) starts ≡ false → are_distinct (names_of starts) ≡ true
     → AreNew old (map (task_of o) starts)
@@ -556,7 +556,7 @@ new_starts rows o starts can =
     let known = or_parts (list_any (λ s. has_task rows o.framework s.0) starts) (not (are_distinct (names_of starts))) can.new in
     new_tasks o rows.tasks starts known.0 (not-false (are_distinct (names_of starts)) known.1)
 
--- ---- what is held then
+-- ---- what is held afterwards
 
 module _ (rows : Rows) (number : ℕ) (o : OfferRow) (starts : List Start) (filters : List FilterRow)
     (consistent : IsConsistent rows) (found : offer_at rows number ≡ Some o) where
@@ -566,7 +566,7 @@ module _ (rows : Rows) (number : ℕ) (o : OfferRow) (starts : List Start) (filt
   abbrev pub after : Rows
   after = accepted_in rows o starts filters
 
-  -- neither the offer nor the tasks are held yet
+  -- the holdings without the offer and without the tasks
   abbrev pub between : List Holding
   between = map of_offer left ++ map of_task rows.tasks
 
@@ -582,7 +582,7 @@ module _ (rows : Rows) (number : ℕ) (o : OfferRow) (starts : List Start) (filt
             (without_offer-place rows at.before at.after o consistent at.stands) ∙ less.lacks;
       }
 
-  -- the tasks stand last
+  -- the tasks are added last
   pub tasks_last : holdings_of after ≡ between ++ started_by o starts
   tasks_last =
       ap (λ (hs : List Holding). map of_offer left ++ hs) (map-append of_task rows.tasks (map (task_of o) starts))
@@ -591,7 +591,7 @@ module _ (rows : Rows) (number : ℕ) (o : OfferRow) (starts : List Start) (filt
   pub offer_held : IsHeld rows.agents rows.frameworks (of_offer o)
   offer_held = held-offer_at rows number o consistent found
 
-  -- where the tasks pass the same test as the offer did, the rest is no longer held
+  -- if the tasks pass a test exactly if the offer did, only the rest of the offer is no longer held
   pub held_where-accepted : (test : Holding → Bool) (label : Text) → AllByRecursion IsBundle (uses starts) → HasAll o.bundle (uses starts)
       → ((s : Start) → test (of_offer o) ≡ test (of_task (task_of o s)))
       → held_where test (holdings_of rows) label
@@ -619,7 +619,7 @@ module _ (rows : Rows) (number : ℕ) (o : OfferRow) (starts : List Start) (filt
       ∙ append-nil (parts_on agent between)
       ∙ parts_on-one_less (holdings_of rows) between (of_offer o) offer_out agent past
 
-  -- and on its agent less, by what is left of it
+  -- on its own agent less is held, by the rest of the offer
   pub units-left : HasAll o.bundle (uses starts) → AllByRecursion IsBundle (uses starts) → (agent : Text) → same_text o.agent agent ≡ true
       → (key : Key) (p : Point)
       → units_of_all (parts_on agent (holdings_of rows)) key p
@@ -641,7 +641,7 @@ module _ (rows : Rows) (number : ℕ) (o : OfferRow) (starts : List Start) (filt
         has key p,
       )
 
-  -- and on no agent more
+  -- on no agent more is held
   pub units-accepted : HasAll o.bundle (uses starts) → (agent : Text) (key : Key) (p : Point)
       → units_of_all (parts_on agent (holdings_of (accepted_in rows o starts filters))) key p
       ≤ units_of_all (parts_on agent (holdings_of rows)) key p

@@ -1,5 +1,5 @@
--- What a client may have of a free bundle, by its units: what is reserved goes to its role and the roles below it alone, and of
--- what is for everyone each scalar is cut to the headroom, if a limit names it.
+-- The entitlement of a client to a free bundle, in units: reserved resources go only to their role and the roles below
+-- it, and each unreserved scalar is cut to the headroom if a limit names it.
 use Rattle.std.specs.Prelude.{◌≡◌, ℕ, min, Bool, true, false, ◌&&◌, ◌||◌, List, [], ◌∷◌, fold, filter, flat_map, Option, Some, None, is_some, IsTrue, All, if◌then◌else◌}
 use Rattle.std.specs.List.{list_any, reduce}
 use Rattle.std.specs.Option.{option_map_or}
@@ -27,8 +27,9 @@ use Rattle.drf_row_laws.specs.QuotaLaws.{put, named_put, any_append, no_text, ro
 use Rattle.drf_rows.specs.declared.rows.LimitRow.{LimitRow}
 use Rattle.drf_rows.specs.declared.rows.Rows.{Rows}
 
--- of so many free units under a key, those that a client of the role may have: of a scalar for everyone at most the headroom, if
--- there is one, of all else for everyone all; and of what is reserved all or nothing, as it is for the role or one above it
+-- of n free units at a key, how many a client of the role can have: of an unreserved scalar at most the headroom, if
+-- there is one; of other unreserved resources all; and of reserved ones all if they are for the role or a role above
+-- it, and otherwise none
 abbrev pub units_for : Rows → Path → Key → Point → ℕ → ℕ
 units_for rows role (label, []) Thousandths n = option_map_or (min n) (headroom_at rows role label) n
 units_for rows role (label, []) (Number m) n = n
@@ -41,9 +42,9 @@ EntitledByUnits =
     → IsBundle free
     → units (entitlement rows free client) key p ≡ units_for rows client.role key p (units free key p)
 
--- ---- what a role may use
+-- ---- what a role can use
 
--- by its key, a resource is for everyone, or for the role or one above it
+-- the key is unreserved, or reserved for the role or a role above it
 abbrev is_key_for : Path → Key → Bool
 is_key_for role key = same_text key.1 [] || begins_with role (parts_of key.1)
 
@@ -83,9 +84,9 @@ units-part_for role key p (r ∷ rs) each =
           goal ∙ later ∙ ap (λ n. cond (is_key_for role key) n 0) (sym same)
     ]
 
--- ---- what a cut leaves
+-- ---- cutting to limits
 
--- of so many units under a key those that limits leave
+-- of n units at a key, how many the limits leave
 abbrev cut_to : List Entry → Key → Point → ℕ → ℕ
 cut_to limits (label, []) Thousandths n = cond (is_named limits label) (min n (amount_of limits label)) n
 cut_to limits (label, []) (Number m) n = n
@@ -126,7 +127,7 @@ cut-members b limit (Scalar t) m = refl
 cut-members b limit (Ranges a) m = refl
 cut-members b limit (Items a) m = refl
 
--- one resource under its key
+-- one resource at its key
 units-clipped : (limits : List Entry) (r : Resource) (key : Key) (p : Point) → IsResource r → key ≡ key_of r
     → units_in (clipped limits r).value p ≡ cut_to limits key p (units_in r.value p)
 units-clipped limits r (label, []) Thousandths is same =
@@ -174,7 +175,7 @@ units-clip limits key p (r ∷ rs) ordered each =
           cut_none ∙ units-clip limits key p rs parts.1 (All-tail IsResource r rs each) ∙ ap (cut_to limits key p) (sym all)
     ]
 
--- ---- the headroom names what limits bind
+-- ---- the headroom names exactly the scalars that limits restrict
 
 module _ (consumed : Consumed) (role : Path) (label : Text) where
   pub some_room : (ls : List LimitRow) → is_some (headroom_under ls consumed role label) ≡ list_any (binds role label) ls
@@ -217,7 +218,7 @@ named-puts v label room (n ∷ ns) =
     turned false true c = refl
     turned false false c = refl
 
--- a scalar is cut to its headroom, where it has one
+-- a scalar is cut to its headroom, if it has one
 cut-headroom : (rows : Rows) (role : Path) (label : Text) (n : ℕ)
     → cond (is_named (headroom rows role) label) (min n (amount_of (headroom rows role) label)) n
     ≡ option_map_or (min n) (headroom_at rows role label) n

@@ -1,4 +1,4 @@
--- What filters hold back, and how many are in force, does not depend on those that ended before.
+-- What filters cover and how many are in force does not depend on filters that expired earlier.
 use Rattle.std.specs.Prelude.{◌≡◌, ℕ, ◌≤◌, true, false, ◌&&◌, List, [], ◌∷◌, ◌++◌, filter, length, Bool, nat_lt}
 use Rattle.std.proofs.Common.{refl, sym, ap, ◌∙◌, inl, inr, cond, arith}
 use Rattle.std.proofs.lemmas.Bool.{cases_Bool, and_parts, ltb-true, lt-ltb}
@@ -14,7 +14,7 @@ use Rattle.drf_rows.specs.Filters.{is_in_force, in_force, number_in_force, is_of
 use Rattle.drf_bundle.specs.ListLaws.{filter-swap}
 use Rattle.drf_rows.specs.declared.rows.FilterRow.{FilterRow}
 
--- what is held back at a moment is held back by the filters that are in force at an earlier one
+-- the filters in force at an earlier time decide what is covered at a later one
 pub held_back-in_force : (filters : List FilterRow) (now later : ℕ) (client : Client) (agent : Text) (bundle : List Resource) → now ≤ later
     → is_held_back (in_force now filters) later client agent bundle ≡ is_held_back filters later client agent bundle
 held_back-in_force filters now later client agent bundle le = any-filter_same (holds_back later client agent bundle) (is_in_force now) true passes filters
@@ -24,7 +24,7 @@ held_back-in_force filters now later client agent bundle le = any-filter_same (h
         let still : nat_lt later f.until ≡ true = (and_parts _ (is_of_client client f && (is_on_agent agent f && covers f.bundle bundle)) holds).0 in
         lt-ltb now f.until (omega (arith, le, ltb-true later f.until still))
 
--- of those in force at a moment, those in force at a later one
+-- the filters in force later are among those in force now
 pub in_force-later : (now later : ℕ) (fs : List FilterRow) → now ≤ later → in_force later (in_force now fs) ≡ in_force later fs
 in_force-later now later [] le = refl
 in_force-later now later (f ∷ fs) le = elim (cases_Bool (nat_lt now f.until)) [
@@ -34,12 +34,12 @@ in_force-later now later (f ∷ fs) le = elim (cases_Bool (nat_lt now f.until)) 
       rw (past, gone) (in_force-later now later fs le)
 ]
 
--- and how many they are
+-- so their number is the same
 pub number_in_force-later : (now later : ℕ) (fs : List FilterRow) → now ≤ later → number_in_force later (in_force now fs) ≡ number_in_force later fs
 number_in_force-later now later fs le =
     sym (length-filter (is_in_force later) (in_force now fs)) ∙ ap length (in_force-later now later fs le) ∙ length-filter (is_in_force later) fs
 
--- when some leave, or others come
+-- the same after filters are removed or added
 pub in_force-left : (now later : ℕ) (p : FilterRow → Bool) (fs : List FilterRow) → now ≤ later
     → in_force later (filter p (in_force now fs)) ≡ in_force later (filter p fs)
 in_force-left now later p fs le =

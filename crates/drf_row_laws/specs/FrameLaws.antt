@@ -1,4 +1,4 @@
--- Which tables of the rows each event may change, and what is kept from one offer of a cycle to the next.
+-- Which tables of the state each event can change, and properties that every offer of a cycle keeps.
 use Rattle.std.specs.Prelude.{◌≡◌, ℕ, ◌+◌, Bool, true, false, List, [], ◌∷◌, ◌++◌, map, filter, Option, Some, None, if◌then◌else◌}
 use Rattle.std.specs.List.{AllByRecursion}
 use Rattle.std.specs.Option.{option_map_or}
@@ -21,7 +21,7 @@ use Rattle.drf_rows.specs.declared.rows.Rows.{Rows}
 
 -- ---- the tables
 
--- some of the tables of the rows, the clock and the next number among them
+-- a set of tables, with the clock and the next offer number
 pub record Tables : Type 0 where
   pub agents : Bool
   pub frameworks : Bool
@@ -46,11 +46,11 @@ no_table = record {
   next_offer = false;
 }
 
--- what an offer that is made changes
+-- the tables that a new offer changes
 abbrev pub by_offer : Tables
 by_offer = record no_table { frameworks = true; offers = true; next_offer = true }
 
--- the tables that an event may change
+-- the tables that an event can change
 abbrev pub changed : Event → Tables
 changed (AddAgent agent total) = record no_table { agents = true }
 changed (RemoveAgent agent) = record no_table { agents = true; offers = true; tasks = true; filters = true }
@@ -73,7 +73,7 @@ changed (SetLimit role limit) = record no_table { limits = true }
 changed (Cycle at) = record by_offer { clock = true }
 changed Report = no_table
 
--- the rows, with these tables as they are afterwards
+-- the state `rows`, with these tables taken from `after`
 abbrev pub with_tables : Tables → Rows → Rows → Rows
 with_tables t rows after = record {
   agents = if t.agents then after.agents else rows.agents;
@@ -90,11 +90,11 @@ with_tables t rows after = record {
 
 -- ---- from one offer of a cycle to the next
 
--- what a client may have of what is free on an agent
+-- the entitlement of a client to what is free on an agent
 abbrev pub its_part : Rows → AgentRow → Client → List Resource
 its_part rows agent client = entitlement rows (free_of rows agent) client
 
--- what each offer to a client that is served, on an agent of some kind, keeps
+-- a property that is kept by each offer to a client that is tried, on an agent of some kind
 module _ (P : Rows → Type 0) (OfAgent : AgentRow → Type 0) (OfClient : Client → Type 0)
     (served : (rows : Rows) → P rows → AllByRecursion OfClient (turn_order rows))
     (each : (rows : Rows) (agent : AgentRow) (client : Client) → OfAgent agent → OfClient client
@@ -123,11 +123,11 @@ module _ (P : Rows → Type 0) (OfAgent : AgentRow → Type 0) (OfClient : Clien
   turns_keep rows [] right kept = kept
   turns_keep rows (agent ∷ agents) right kept = turns_keep (turn rows agent) agents right.1 (turn_keeps rows agent right.0 kept)
 
--- what holds of everything
+-- a property of everything
 abbrev pub Any : {X : Type 0} → X → Type 0
 Any x = ◌≡◌ {A = Bool} true true
 
--- what any offer keeps
+-- a property that is kept by every offer
 module _ (P : Rows → Type 0) (each : (rows : Rows) (offer : OfferRow) → P rows → P (with_offer rows offer)) where
   pub any_all_tried : (rows : Rows) (agent : AgentRow) (clients : List Client) → P rows → P (all_tried rows agent clients)
   any_all_tried rows agent clients =
@@ -141,7 +141,7 @@ module _ (P : Rows → Type 0) (each : (rows : Rows) (offer : OfferRow) → P ro
       (λ rows agent client right known is kept. each rows (new_offer rows agent client (its_part rows agent client)) kept)
       rows agents (each_true agents)
 
--- ---- the rest stays
+-- ---- other tables stay
 
 module _ (start : Rows) where
   abbrev OnlyOffered : Rows → Type 0
@@ -165,16 +165,16 @@ module _ (start : Rows) where
   pub turns_only : (agents : List AgentRow) → OnlyOffered (turns start agents)
   turns_only agents = any_turns OnlyOffered only_one start agents refl
 
--- a cycle moves the clock and makes offers
+-- a cycle moves the clock and makes offers, and changes nothing else
 pub cycle_only : (rows : Rows) (at : ℕ) → cycle rows at ≡ with_tables by_offer (at_moment rows at) (cycle rows at)
 unfolding cycle
 cycle_only rows at = turns_only (at_moment rows at) (filter (λ a. a.active) rows.agents)
 
--- a test that all pass leaves all
+-- a filter that every element passes leaves the list as it is
 pub all_stay : {X : Type 0} (xs : List X) → filter (λ x. true) xs ≡ xs
 all_stay xs = filter_each (λ x. true) xs (each_true xs)
 
--- an event changes the tables that it may change, and no other
+-- an event changes only the tables that it can change
 pub only_changed : (rows : Rows) (event : Event) → effect rows event ≡ with_tables (changed event) rows (effect rows event)
 unfolding effect
 only_changed rows (DeactivateAgent agent) = λ i. record (effect rows (DeactivateAgent agent)) { tasks = all_stay rows.tasks i }
@@ -199,7 +199,7 @@ only_changed rows (Cycle at) =
     only ∙ (λ i. record (with_tables (changed (Cycle at)) rows (cycle rows at)) { clock = sym (ap (λ (r : Rows). r.clock) only) i })
 only_changed rows event = refl
 
--- a step keeps what holds of the rows and of the effect, which is counted
+-- a step keeps a property if the effect of the event, once it is counted, keeps it
 pub step_keeps : (P : Rows → Type 0) (limits : LimitNumbers) (rows : Rows) (event : Event)
     → P rows → P (record (effect rows event) { events = rows.events + 1 }) → P (rows_after limits rows event)
 unfolding rows_after

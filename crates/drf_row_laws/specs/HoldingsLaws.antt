@@ -1,4 +1,4 @@
--- What one more holding changes in what is held.
+-- What one more holding changes in sums over holdings.
 use Rattle.std.specs.Prelude.{◌≡◌, ℕ, ◌+◌, Bool, false, List, [], ◌∷◌, ◌++◌, map, filter, sum_by}
 use Rattle.std.specs.List.{AllByRecursion}
 use Rattle.std.proofs.Common.{refl, sym, ap, ◌∙◌, inl, inr, cond, arith}
@@ -46,7 +46,7 @@ each_part agent (h ∷ hs) all = elim (cases_Bool (is_on agent h)) [
   | inr past ↦ rw past (each_part agent hs all.1)
 ]
 
--- the units that are held on an agent
+-- the units of everything that is held on an agent
 abbrev pub units_on : Text → List Holding → Key → Point → ℕ
 units_on agent hs key p = units_of_all (parts_on agent hs) key p
 
@@ -77,7 +77,7 @@ holdings_of-with_offer rows offer =
     append_one [] h gs = refl
     append_one (x ∷ hs) h gs = ap (λ (zs : List Holding). x ∷ zs) (append_one hs h gs)
 
--- it adds what it has where it passes the test
+-- an offer adds what it has if it passes the test
 pub held_where-with_offer : (test : Holding → Bool) (rows : Rows) (offer : OfferRow) (label : Text)
     → held_where test (holdings_of (with_offer rows offer)) label
     ≡ held_where test (holdings_of rows) label + cond (test (of_offer offer)) (amount_in label (of_offer offer)) 0
@@ -88,7 +88,7 @@ held_where-with_offer test rows offer label =
     ∙ held_where-append test before (of_offer offer ∷ after) label
     ∙ omega (arith, held_where-cons test (of_offer offer) after label, held_where-append test before after label)
 
--- on its agent it stands among what is held there
+-- on its own agent, the offer is one of the bundles that are held there
 pub parts_on-with_offer : (rows : Rows) (offer : OfferRow) (agent : Text)
     → parts_on agent (holdings_of (with_offer rows offer))
     ≡ parts_on agent (map of_offer rows.offers)
@@ -98,7 +98,7 @@ parts_on-with_offer rows offer agent =
     ∙ parts_on-append agent (map of_offer rows.offers) (of_offer offer ∷ map of_task rows.tasks)
     ∙ ap (λ (parts : List (List Resource)). parts_on agent (map of_offer rows.offers) ++ parts) (parts_on-cons agent (of_offer offer) (map of_task rows.tasks))
 
--- elsewhere it changes nothing
+-- on other agents nothing changes
 pub parts_on-other : (rows : Rows) (offer : OfferRow) (agent : Text) → same_text offer.agent agent ≡ false
     → parts_on agent (holdings_of (with_offer rows offer)) ≡ parts_on agent (holdings_of rows)
 parts_on-other rows offer agent past =
@@ -107,7 +107,7 @@ parts_on-other rows offer agent past =
     parts_on-with_offer rows offer agent ∙ ap (λ (b : Bool). before ++ cond b (offer.bundle ∷ after) after) past
     ∙ sym (parts_on-append agent (map of_offer rows.offers) (map of_task rows.tasks))
 
--- what holds of each holding, and of the new one
+-- if all holdings and the new one have a property, so have all afterwards
 each-insert : (P : Holding → Type 0) (hs gs : List Holding) (h : Holding)
     → AllByRecursion P (hs ++ gs) → P h → AllByRecursion P (hs ++ (h ∷ gs))
 each-insert P [] gs h all here = (here, all)

@@ -1,4 +1,4 @@
--- What is proved of the definitions.
+-- Statements about orders, turns, steps, expired filters and reports.
 use Rattle.std.specs.Prelude.{◌≡◌, ℕ, ◌+◌, ◌≤◌, Bool, true, false, not, ◌&&◌, ◌||◌, List, [], ◌∷◌, ◌++◌, map, length, sum_by, Some, None, IsTrue, Contains, nat_lt, nat_le}
 use Rattle.std.specs.List.{list_all, list_any, AllByRecursion}
 use Rattle.std.specs.List.Sorted.{IsPermutation}
@@ -26,16 +26,16 @@ use Rattle.drf_rows.specs.declared.report.NodeLine.{NodeLine}
 use Rattle.drf_rows.specs.declared.reply.Refusal.{Refusal}
 use Rattle.drf_rows.specs.declared.reply.Reply.TheVariants.{Refused}
 
--- no path stands before itself
+-- no path comes before itself
 abbrev pub NoneBeforeItself : Type 0
 NoneBeforeItself = (s : Standing) (path : Path) → stands_before s path path ≡ false
 
--- of two paths at most one stands before the other
+-- if one path comes before another, the other does not come before it
 abbrev pub AtMostOneBefore : Type 0
 AtMostOneBefore =
     (s : Standing) (a b : Path) → stands_before s a b ≡ true → stands_before s b a ≡ false
 
--- where the paths of some clients stand in a serving order, a turn serves the clients in that order
+-- if the paths of some clients are in a serving order, a turn tries the clients in this order
 abbrev pub OneServingOrder : Type 0
 OneServingOrder =
     (s : Standing) (clients : List Client) (paths : List Path)
@@ -43,14 +43,14 @@ OneServingOrder =
     → IsTrue (is_serving_order s paths)
     → map path_of (serving_order s (length clients) clients) ≡ paths
 
--- where too little is free on an agent, its turn grants nothing
+-- if too little is free on an agent, its turn grants nothing
 abbrev pub TooLittleIsNotGranted : Type 0
 TooLittleIsNotGranted =
     (rows : Rows) (agent : AgentRow) (clients : List Client)
     → is_allocatable (free_of rows agent) ≡ false
     → all_tried rows agent clients ≡ rows
 
--- where the first client is granted all that is free, it is offered that, and the others nothing
+-- if the first client is granted everything that is free, it is offered that, and the others are offered nothing
 abbrev pub FirstIsGrantedAll : Type 0
 FirstIsGrantedAll =
     (rows : Rows) (agent : AgentRow) (first : Client) (others : List Client)
@@ -59,18 +59,18 @@ FirstIsGrantedAll =
     → AreBundles (holdings_of rows)
     → all_tried rows agent (first ∷ others) ≡ with_offer rows (new_offer rows agent first (free_of rows agent))
 
--- each number is below all later ones
+-- the numbers rise strictly
 abbrev pub is_rising : List ℕ → Bool
 is_rising [] = true
 is_rising (n ∷ ns) = list_all (nat_lt n) ns && is_rising ns
 
--- of the cases in which an event is refused, an earlier one has a lesser number
+-- the refusal cases of an event are in order of their numbers
 abbrev pub CasesRise : Type 0
 CasesRise =
     (limits : LimitNumbers) (rows : Rows) (event : Event)
     → is_rising (map (λ c. refusal_number c.1) (cases_of limits rows event)) ≡ true
 
--- an event is refused with a case that holds, and none that holds has a lesser number; where no case holds it is not refused
+-- an event is refused with a case that holds, and with the least number of these; if no case holds, it is not refused
 abbrev pub LeastIsTold : Type 0
 LeastIsTold =
     (limits : LimitNumbers) (rows : Rows) (event : Event)
@@ -80,14 +80,14 @@ LeastIsTold =
     × (list_all (λ c. not c.0 || nat_le (refusal_number refusal) (refusal_number c.1)) cases ≡ true))
     × (refusal_of limits rows event ≡ None → list_any (λ c. c.0) cases ≡ false)
 
--- a refused event is told so, and changes nothing
+-- the reply to a refused event is its refusal, and the state stays the same
 abbrev pub RefusedChangesNothing : Type 0
 RefusedChangesNothing =
     (limits : LimitNumbers) (rows : Rows) (event : Event) (refusal : Refusal)
     → refusal_of limits rows event ≡ Some refusal
     → (reply_to limits rows event ≡ Refused refusal) × (rows_after limits rows event ≡ rows)
 
--- any other has its effect, and is counted
+-- an event that is not refused has its effect, and is counted
 abbrev pub AcceptedIsCounted : Type 0
 AcceptedIsCounted =
     (limits : LimitNumbers) (rows : Rows) (event : Event)
@@ -95,7 +95,7 @@ AcceptedIsCounted =
     → (reply_to limits rows event ≡ answer rows (effect rows event) event)
     × (rows_after limits rows event ≡ record (effect rows event) { events = rows.events + 1 })
 
--- a run goes on from where an earlier one ended
+-- a run of two lists of events is the run of the first list, followed by a run of the second
 abbrev pub RunsGoOn : Type 0
 RunsGoOn =
     (limits : LimitNumbers) (rows : Rows) (first second : List Event)
@@ -103,59 +103,60 @@ RunsGoOn =
     ≡ replies_to limits rows first ++ replies_to limits (rows_after_all limits rows first) second)
     × (rows_after_all limits rows (first ++ second) ≡ rows_after_all limits (rows_after_all limits rows first) second)
 
--- spent filters change no reply
+-- expired filters change no reply
 abbrev pub LiveRowsReply : Type 0
 LiveRowsReply =
     (limits : LimitNumbers) (rows : Rows) (event : Event)
     → reply_to limits (live_rows rows) event ≡ reply_to limits rows event
 
--- nor the live rows after an event
+-- expired filters do not change the current state after an event
 abbrev pub LiveRowsGoOn : Type 0
 LiveRowsGoOn =
     (limits : LimitNumbers) (rows : Rows) (event : Event)
     → live_rows (rows_after limits (live_rows rows) event) ≡ live_rows (rows_after limits rows event)
 
--- the same of a run
+-- the same for a run
 abbrev pub LiveRowsRun : Type 0
 LiveRowsRun =
     (limits : LimitNumbers) (rows : Rows) (events : List Event)
     → (replies_to limits (live_rows rows) events ≡ replies_to limits rows events)
     × (live_rows (rows_after_all limits (live_rows rows) events) ≡ live_rows (rows_after_all limits rows events))
 
--- each line of a report tells of each scalar what the clients of its node hold
+-- each line of a report has the amount of each scalar that the clients of its node hold
 abbrev pub HeldIsReported : Type 0
 HeldIsReported =
     (rows : Rows)
     → AreBundles (holdings_of rows)
     → AllByRecursion (λ line. (label : Text) → amount_of line.held label ≡ held_by rows line.path label) (report_of rows).nodes
 
--- and how many offers they got
+-- each line of a report has the number of offers that the clients of its node received
 abbrev pub CountIsReported : Type 0
 CountIsReported = (rows : Rows) → AllByRecursion (λ line. line.count ≡ count_of rows line.path) (report_of rows).nodes
 
--- the total tells of each scalar what all agents have together
+-- the total in a report has for each scalar the sum over all agents
 abbrev pub TotalIsReported : Type 0
 TotalIsReported =
     (rows : Rows) (label : Text)
     → AllByRecursion IsAgent rows.agents
     → amount_of (report_of rows).total label ≡ sum_by (λ agent. amount_of (quantities_of agent.total) label) rows.agents
 
--- the amounts that a report names are above 0, each scalar once and in order; what it does not name is 0
+-- the amounts in a report are greater than 0, and in order of their labels without repetitions; a scalar that is not
+-- named has the amount 0
 abbrev pub AmountsAreAboveZero : Type 0
 AmountsAreAboveZero =
     (rows : Rows)
     → HasNoZeros (report_of rows).total × AllByRecursion (λ line. HasNoZeros line.held) (report_of rows).nodes
 
--- two numbers, as a fraction
+-- a pair of numbers as a fraction
 abbrev pub told_as : ℕ × ℕ → Fraction
 told_as terms = record { part = terms.0; whole = terms.1 }
 
--- a line tells the share and the weighted share of its node in lowest terms
+-- the line has the share and the weighted share of its node in lowest terms
 pub record TellsLowest (rows : Rows) (line : NodeLine) : Type 0 where
   pub share : IsLowest (share_of (standing_of rows) line.path) (told_as line.share)
   pub weighted : IsLowest (weighted_share_of (standing_of rows) line.path) (told_as line.weighted)
 
--- so does each line of a report
+-- this is so for each line of a report
 abbrev pub SharesAreLowest : Type 0
 SharesAreLowest =
     (rows : Rows)
@@ -164,20 +165,20 @@ SharesAreLowest =
     → IsTrue (are_weights rows.weights)
     → AllByRecursion (TellsLowest rows) (report_of rows).nodes
 
--- each path stands before all later ones, and so but once
+-- the paths rise strictly
 abbrev pub are_in_order : List Path → Bool
 are_in_order [] = true
 are_in_order (path ∷ paths) = list_all (λ p. is_lt (path_cmp path p)) paths && are_in_order paths
 
--- the nodes that are reported
+-- the nodes of a report
 abbrev pub paths_told : Rows → List Path
 paths_told rows = map (λ line. line.path) (report_of rows).nodes
 
--- they are in order of path
+-- the nodes of a report are in order of their paths
 abbrev pub NodesRise : Type 0
 NodesRise = (rows : Rows) → are_in_order (paths_told rows) ≡ true
 
--- a path is reported exactly where it has a part, and the path of a registered client begins with it
+-- the nodes of a report are the non-empty prefixes of the paths of registered clients
 abbrev pub NodesBeginPaths : Type 0
 NodesBeginPaths =
     (rows : Rows) (node : Path)

@@ -1,3 +1,4 @@
+-- Theorems about the definition, on which the proofs of the code depend.
 pub mod ServingOrder
 pub mod HoldingsLaws
 pub mod FrameLaws

@@ -1,4 +1,4 @@
--- What is proved of offers, tasks and filters, from their making to their end, and of what each event leaves as it was.
+-- Statements about offers, tasks and filters from beginning to end, and about what each event leaves unchanged.
 use Rattle.std.specs.Prelude.{◌≡◌, ℕ, ◌+◌, ◌≤◌, ◌==◌, max, Bool, true, false, not, ◌&&◌, ◌||◌, List, [], ◌∷◌, ◌++◌, length, map, filter, count_by, drop, flat_map, slice_get, Some}
 use Rattle.std.specs.List.{list_all, list_any}
 use Rattle.drf_role.specs.Text.{Text, same_text}
@@ -31,8 +31,8 @@ use Rattle.drf_rows.specs.declared.reply.OfferLine.{OfferLine}
 use Rattle.drf_rows.specs.declared.reply.Reply.{Reply}
 use Rattle.drf_rows.specs.declared.reply.Reply.TheVariants.{Offers}
 
--- an offer that is declined at once, for no time, leaves the rows as they were, but for the clock, the counts and the
--- next number
+-- an offer that is declined at once without a filter leaves the state as it was, except for the clock, the counts and
+-- the next offer number
 abbrev pub DeclinedAtOnceIsUndone : Type 0
 DeclinedAtOnceIsUndone =
     (rows : Rows) (agent : AgentRow) (client : Client) (bundle : List Resource) (at : ℕ)
@@ -41,13 +41,13 @@ DeclinedAtOnceIsUndone =
     effect (with_offer rows o) (Decline (record { framework = client.framework; offer = o.number; at = at; refuse_ms = 0 }))
     ≡ record rows { frameworks = (with_offer rows o).frameworks; next_offer = rows.next_offer + 1; clock = max rows.clock at }
 
--- the task goes, nothing else of the rows changes, and its agent gets back exactly what it used
+-- the task is removed, nothing else changes, and exactly what it used becomes free on its agent
 pub record GoesAlone (rows : Rows) (before later : List TaskRow) (t : TaskRow) (agent : AgentRow) (after : Rows) : Type 0 where
   pub only_task : after ≡ record rows { tasks = before ++ later }
   pub given_back : same_text t.agent agent.name ≡ true → join (free_of rows agent) t.bundle ≡ Some (free_of after agent)
   pub kept_elsewhere : same_text t.agent agent.name ≡ false → free_of after agent ≡ free_of rows agent
 
--- what a task that finishes does
+-- this is so for a task that finishes
 abbrev pub FinishedIsGivenBack : Type 0
 FinishedIsGivenBack =
     (rows : Rows) (before later : List TaskRow) (t : TaskRow) (agent : AgentRow) (place : ℕ)
@@ -56,16 +56,16 @@ FinishedIsGivenBack =
     → slice_get rows.agents place ≡ Some agent
     → GoesAlone rows before later t agent (effect rows (Finish t.framework t.name))
 
--- the task is the offer's client's, on its agent, with the part that it uses
+-- the row of a started task: it belongs to the client of the offer, runs on its agent, and uses its part
 abbrev pub task_started : OfferRow → Start → TaskRow
 task_started o s = record { name = s.0; agent = o.agent; framework = o.framework; role = o.role; bundle = s.1 }
 
--- the filters behind those that stood
+-- the filters that are added after the old ones
 abbrev pub filters_added : Rows → Rows → List FilterRow
 filters_added rows after = drop (length rows.filters) after.filters
 
--- the offer goes, and leaves its tasks behind those that run, in their order. The clock moves, one filter of the client
--- there may be added, and nothing else of the rows changes
+-- the offer is removed, and its tasks are added after those that run, in order. The clock moves, at most one filter of
+-- the client on the agent is added, and nothing else changes
 pub record LeavesItsTasks (rows : Rows) (a : accepting.Accept) (o : OfferRow) (after : Rows) : Type 0 where
   pub nothing_else : after
       ≡ record rows {
@@ -77,14 +77,14 @@ pub record LeavesItsTasks (rows : Rows) (a : accepting.Accept) (o : OfferRow) (a
   pub at_most_one_filter : length (filters_added rows after) ≤ 1
   pub of_the_client_there : list_all (λ f. is_of_client (of_offer o).client f && is_on_agent o.agent f) (filters_added rows after) ≡ true
 
--- what an offer that is accepted does
+-- this is so for an offer that is accepted
 abbrev pub AcceptedStartsTasks : Type 0
 AcceptedStartsTasks =
     (rows : Rows) (a : accepting.Accept) (o : OfferRow)
     → offer_at rows a.offer ≡ Some o
     → LeavesItsTasks rows a o (effect rows (Accept a))
 
--- no filter outlives its agent, its framework, or the next revival of its client
+-- no filter stays when its agent or its framework is removed, or when its client revives
 pub record NoFilterOutlives (rows : Rows) (agent framework : Text) (client : Client) : Type 0 where
   pub agent_removed : list_any (is_on_agent agent) (effect rows (RemoveAgent agent)).filters ≡ false
   pub framework_removed : list_any (λ f. same_text f.framework framework) (effect rows (RemoveFramework framework)).filters ≡ false
@@ -93,7 +93,7 @@ pub record NoFilterOutlives (rows : Rows) (agent framework : Text) (client : Cli
 abbrev pub FiltersGoWithTheirOwner : Type 0
 FiltersGoWithTheirOwner = (rows : Rows) (agent framework : Text) (client : Client) → NoFilterOutlives rows agent framework client
 
--- the others stay: those on other agents, of other frameworks, and of other clients
+-- all other filters stay: those on other agents, of other frameworks, and of other clients
 pub record OnlyOwnFiltersGo (rows : Rows) (agent framework : Text) (client : Client) : Type 0 where
   pub agent_removed : (effect rows (RemoveAgent agent)).filters ≡ filter (λ f. not (same_text f.agent agent)) rows.filters
   pub framework_removed :
@@ -112,12 +112,12 @@ abbrev pub is_suppressed : Rows → Client → Bool
 is_suppressed rows client =
     list_all (λ f. list_all (λ c. not (is_same_client client (client_of f c)) || c.suppressed) f.clients) rows.frameworks
 
--- no row of the client is
+-- no row of the client is suppressed
 abbrev pub is_served : Rows → Client → Bool
 is_served rows client =
     list_all (λ f. list_all (λ c. not (is_same_client client (client_of f c)) || not c.suppressed) f.clients) rows.frameworks
 
--- the frameworks, as they were if all clients were suppressed
+-- a client's row with suppression set, to compare everything else
 abbrev pub quiet_row : ClientRow → ClientRow
 quiet_row c = record c { suppressed = true }
 
@@ -127,52 +127,52 @@ quiet_framework f = record f { clients = map quiet_row f.clients }
 abbrev pub all_suppressed : Rows → List FrameworkRow
 all_suppressed rows = map quiet_framework rows.frameworks
 
--- the client is suppressed, the others are or are not as they were, and of the rows nothing else changes
+-- the client is suppressed, the suppression of others stays, and nothing else changes
 pub record SuppressesOnly (rows : Rows) (client : Client) (after : Rows) : Type 0 where
   pub client_suppressed : is_suppressed after client ≡ true
   pub others_as_before : (other : Client) → is_same_client other client ≡ false → is_suppressed after other ≡ is_suppressed rows other
   pub nothing_else_there : all_suppressed after ≡ all_suppressed rows
   pub only_frameworks : after ≡ record rows { frameworks = after.frameworks }
 
--- the client is served, the others are suppressed or not as they were, and of the rows nothing else changes, but that filters go
+-- the client is not suppressed, the suppression of others stays, and nothing else changes except filters
 pub record RevivesOnly (rows : Rows) (client : Client) (after : Rows) : Type 0 where
   pub client_served : is_served after client ≡ true
   pub others_as_before : (other : Client) → is_same_client other client ≡ false → is_suppressed after other ≡ is_suppressed rows other
   pub nothing_else_there : all_suppressed after ≡ all_suppressed rows
   pub only_frameworks_and_filters : after ≡ record rows { frameworks = after.frameworks; filters = after.filters }
 
--- an event suppresses its client or makes it revive, and no other
+-- an event suppresses or revives its client and no other
 abbrev pub SuppressionIsItsClients : Type 0
 SuppressionIsItsClients =
     (rows : Rows) (client : Client)
     → SuppressesOnly rows client (effect rows (Suppress client.framework client.role))
     × RevivesOnly rows client (effect rows (Revive client.framework client.role))
 
--- no cycle offers anything to a client that is suppressed
+-- no cycle offers anything to a suppressed client
 abbrev pub SuppressedIsNotOffered : Type 0
 SuppressedIsNotOffered =
     (rows : Rows) (client : Client) (at : ℕ)
     → is_suppressed rows client ≡ true
     → list_any (λ o. is_same_client client (of_offer o).client) (new_offers rows (cycle rows at)) ≡ false
 
--- no cycle offers a client what a filter that is then in force holds back from it there
+-- no cycle offers a client what a filter covers that is then in force
 abbrev pub FilteredIsNotOffered : Type 0
 FilteredIsNotOffered =
     (rows : Rows) (at : ℕ)
     → list_any (λ o. is_held_back rows.filters (max rows.clock at) (of_offer o).client o.agent o.bundle) (new_offers rows (cycle rows at))
     ≡ false
 
--- the numbers are those from one to before another, in order
+-- the numbers are consecutive: from `first` to the one before `next`
 abbrev pub CountUp : ℕ → List ℕ → ℕ → Type 0
 CountUp first [] next = next ≡ first
 CountUp first (n ∷ ns) next = (n ≡ first) × CountUp (first + 1) ns next
 
--- the offers that a reply tells
+-- the offers in a reply
 abbrev pub lines_told : Reply → List OfferLine
 lines_told (Offers lines) = lines
 lines_told other = []
 
--- no number is given to two offers: a run tells them with the next numbers, one after another
+-- no number is given to two offers: those of a run have consecutive numbers, from the next offer number on
 abbrev pub NumbersAreNew : Type 0
 NumbersAreNew =
     (limits : LimitNumbers) (rows : Rows) (events : List Event)
@@ -180,7 +180,7 @@ NumbersAreNew =
     (map (λ line. line.number) (flat_map lines_told (replies_to limits rows events)))
     (rows_after_all limits rows events).next_offer
 
--- the agent that an event registers, removes, activates or deactivates, or whose total it changes
+-- the event registers, removes, activates or deactivates the agent, or changes its total
 abbrev pub is_about_agent : Event → Text → Bool
 is_about_agent (AddAgent agent total) name = same_text name agent
 is_about_agent (RemoveAgent agent) name = same_text name agent
@@ -191,7 +191,7 @@ is_about_agent (Reserve agent role resources) name = same_text name agent
 is_about_agent (Unreserve agent role resources) name = same_text name agent
 is_about_agent event name = false
 
--- the framework that an event registers, removes, suppresses in a role or makes revive there, or whose roles it changes
+-- the event registers or removes the framework, suppresses or revives it in a role, or changes its roles
 abbrev pub is_about_framework : Event → Text → Bool
 is_about_framework (AddFramework framework roles) name = same_text name framework
 is_about_framework (SetFramework framework roles) name = same_text name framework
@@ -200,7 +200,7 @@ is_about_framework (Suppress framework role) name = same_text name framework
 is_about_framework (Revive framework role) name = same_text name framework
 is_about_framework event name = false
 
--- the rows of all others
+-- the rows of all other agents
 abbrev pub other_agents : Event → List AgentRow → List AgentRow
 other_agents event agents = filter (λ a. not (is_about_agent event a.name)) agents
 
@@ -211,13 +211,13 @@ abbrev pub is_cycle : Event → Bool
 is_cycle (Cycle at) = true
 is_cycle event = false
 
--- the agents that an event is not about stay as they were, and in order
+-- the agents that an event is not about stay as they are, in order
 abbrev pub OtherAgentsStay : Type 0
 OtherAgentsStay =
     (limits : LimitNumbers) (rows : Rows) (event : Event)
     → other_agents event (rows_after limits rows event).agents ≡ other_agents event rows.agents
 
--- so do the frameworks, but that a cycle counts its offers
+-- so do the frameworks, except that a cycle counts its offers
 abbrev pub OtherFrameworksStay : Type 0
 OtherFrameworksStay =
     (limits : LimitNumbers) (rows : Rows) (event : Event)
@@ -234,7 +234,7 @@ other_offers (Decline d) offers = filter (λ o. not (o.number == d.offer)) offer
 other_offers (Rescind offer) offers = filter (λ o. not (o.number == offer)) offers
 other_offers event offers = offers
 
--- the tasks that it does not end
+-- the tasks that an event does not end
 abbrev pub other_tasks : Event → List TaskRow → List TaskRow
 other_tasks (RemoveAgent agent) tasks = filter (λ t. not (same_text t.agent agent)) tasks
 other_tasks (RemoveFramework framework) tasks = filter (λ t. not (same_text t.framework framework)) tasks
@@ -245,7 +245,7 @@ abbrev pub is_accept : Event → Bool
 is_accept (Accept a) = true
 is_accept event = false
 
--- what the event does not end stays as it was, and in order; a cycle adds offers, and an accept tasks
+-- what the event does not end stays as it is, in order; a cycle adds offers, and an accept adds tasks
 pub record OthersStay (event : Event) (rows after : Rows) : Type 0 where
   pub offers : is_cycle event ≡ false → other_offers event after.offers ≡ other_offers event rows.offers
   pub tasks : is_accept event ≡ false → other_tasks event after.tasks ≡ other_tasks event rows.tasks
@@ -253,7 +253,7 @@ pub record OthersStay (event : Event) (rows after : Rows) : Type 0 where
 abbrev pub OtherHoldingsStay : Type 0
 OtherHoldingsStay = (limits : LimitNumbers) (rows : Rows) (event : Event) → OthersStay event rows (rows_after limits rows event)
 
--- what the event ends is gone, and is all that goes: the others are what is left
+-- what the event ends is removed, and nothing else
 pub record OnlyOthersAreLeft (event : Event) (rows after : Rows) : Type 0 where
   pub offers : is_cycle event ≡ false → after.offers ≡ other_offers event rows.offers
   pub tasks : is_accept event ≡ false → after.tasks ≡ other_tasks event rows.tasks
@@ -261,51 +261,51 @@ pub record OnlyOthersAreLeft (event : Event) (rows after : Rows) : Type 0 where
 abbrev pub EndedIsGone : Type 0
 EndedIsGone = (rows : Rows) (event : Event) → OnlyOthersAreLeft event rows (effect rows event)
 
--- an agent or a framework that is removed is known no more
+-- an agent or a framework that is removed is no longer registered
 abbrev pub RemovedIsGone : Type 0
 RemovedIsGone =
     (rows : Rows) (name : Text)
     → (has_agent (effect rows (RemoveAgent name)) name ≡ false)
     × (has_framework (effect rows (RemoveFramework name)) name ≡ false)
 
--- the agents, as they were if all were active
+-- an agent's row with `active` set, to compare everything else
 abbrev pub active_row : AgentRow → AgentRow
 active_row a = record a { active = true }
 
 abbrev pub all_active : Rows → List AgentRow
 all_active rows = map active_row rows.agents
 
--- the agent is active, and of the rows nothing else changes
+-- the agent is active, and nothing else changes
 pub record ActivatesOnly (rows : Rows) (name : Text) (after : Rows) : Type 0 where
   pub agent_active : list_all (λ a. not (same_text a.name name) || a.active) after.agents ≡ true
   pub nothing_else_there : all_active after ≡ all_active rows
   pub only_agents : after ≡ record rows { agents = after.agents }
 
--- the agent is not, and of the rows nothing else changes, but that offers go
+-- the agent is inactive, and nothing else changes except offers
 pub record DeactivatesOnly (rows : Rows) (name : Text) (after : Rows) : Type 0 where
   pub agent_inactive : list_all (λ a. not (same_text a.name name) || not a.active) after.agents ≡ true
   pub nothing_else_there : all_active after ≡ all_active rows
   pub only_agents_and_offers : after ≡ record rows { agents = after.agents; offers = after.offers }
 
--- an event activates its agent, or deactivates it
+-- this is so for activating and deactivating an agent
 abbrev pub ActivityIsItsAgents : Type 0
 ActivityIsItsAgents =
     (rows : Rows) (name : Text)
     → ActivatesOnly rows name (effect rows (ActivateAgent name))
     × DeactivatesOnly rows name (effect rows (DeactivateAgent name))
 
--- the offer is made to the framework, in that role
+-- the offer is made to the framework in that role
 abbrev pub is_made_to : Text → Path → OfferRow → Bool
 is_made_to framework role o = same_text framework o.framework && same_path role o.role
 
--- the frameworks, with each client's count raised by the number of offers that are made to it
+-- the clients' rows, with each count raised by the number of new offers to the client
 abbrev pub raised_row : List OfferRow → Text → ClientRow → ClientRow
 raised_row made framework c = record c { count = c.count + count_by (is_made_to framework c.role) made }
 
 abbrev pub with_counts : List OfferRow → FrameworkRow → FrameworkRow
 with_counts made f = record f { clients = map (raised_row made f.name) f.clients }
 
--- the clock moves, offers are added to those that stand, and each is counted at its client; nothing else changes
+-- the clock moves, offers are added and counted for their clients, and nothing else changes
 pub record OnlyOffers (rows : Rows) (at : ℕ) (after : Rows) : Type 0 where
   pub nothing_else : after
       ≡ record rows {

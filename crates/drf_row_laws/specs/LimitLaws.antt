@@ -1,4 +1,4 @@
--- What an event that sets a limit changes: the limit of its role, and nothing else.
+-- Setting a limit changes the limit of its role, and nothing else.
 use Rattle.std.specs.Prelude.{◌≡◌, Bool, true, false, not, ◌&&◌, List, [], ◌∷◌, length, map, Some, None, nat_lt, if◌then◌else◌}
 use Rattle.std.specs.List.{list_all, AllByRecursion}
 use Rattle.std.proofs.Common.{refl, sym, ap, ◌∙◌, inl, inr, arith}
@@ -17,28 +17,28 @@ use Rattle.drf_rows.specs.declared.event.Event.TheVariants.{SetLimit}
 use Rattle.drf_rows.specs.declared.rows.LimitRow.{LimitRow}
 use Rattle.drf_rows.specs.declared.rows.Rows.{Rows}
 
--- the role has the limit, or none where that names nothing
+-- the role has the new limit, or none if it is empty
 abbrev pub RoleHasItsLimit : Type 0
 RoleHasItsLimit =
     (rows : Rows) (role : Path) (limit : List Entry)
     → IsConsistent rows
     → limit_of (effect rows (SetLimit role limit)).limits role ≡ (if is_empty limit then None else Some limit)
 
--- every other role has the limit that it had
+-- every other role keeps its limit
 abbrev pub OthersKeepTheirLimit : Type 0
 OthersKeepTheirLimit =
     (rows : Rows) (role : Path) (limit : List Entry) (other : Path)
     → same_path role other ≡ false
     → limit_of (effect rows (SetLimit role limit)).limits other ≡ limit_of rows.limits other
 
--- nothing is taken from anybody, however low the limit is: offers, tasks and all else stay
+-- however low the limit is, offers, tasks and everything else stay
 abbrev pub LimitTakesNothing : Type 0
 LimitTakesNothing =
     (rows : Rows) (role : Path) (limit : List Entry)
     → let after : Rows = effect rows (SetLimit role limit) in
     after ≡ record rows { limits = after.limits }
 
--- ---- a row that is put, and a row that goes
+-- ---- adding and removing a row
 
 abbrev role_in : LimitRow → Path
 role_in l = l.role
@@ -46,7 +46,7 @@ role_in l = l.role
 abbrev is_row : LimitRow → Bool
 is_row l = not (is_default l.role) && nat_lt 0 (length l.limit)
 
--- a role that stands nowhere has no limit
+-- a role without a row has no limit
 limit_of-none : (role : Path) (ls : List LimitRow) → none_has same_path role_in role ls ≡ true → limit_of ls role ≡ None
 limit_of-none role [] none = refl
 limit_of-none role (l ∷ ls) none =
@@ -75,7 +75,7 @@ module _ (role : Path) where
       ]
 
   module _ (other : Path) (apart : same_path role other ≡ false) where
-    -- the row of the role is not that of the other
+    -- the row of the role is not that of another role
     not_its : (l : LimitRow) → same_path l.role role ≡ true → same_path l.role other ≡ false
     not_its l here = ap (λ r. same_path r other) (same_path-true l.role role here) ∙ apart
 
@@ -99,7 +99,7 @@ module _ (role : Path) where
       ]
     ]
 
-  -- roles stay distinct
+  -- roles stay different
   none_has-put : (limit : List Entry) (r : Path) (ls : List LimitRow) → same_path r role ≡ false
       → none_has same_path role_in r ls ≡ true → none_has same_path role_in r (limits_put ls role limit) ≡ true
   none_has-put limit r [] other none = rw other refl
@@ -151,7 +151,7 @@ module _ (role : Path) where
             (none_has-gone l.role ls parts.0) (distinct-gone ls parts.1))
       ]
 
-  -- no row is that of `*`, and each names something
+  -- no row is that of `*`, and each names a scalar
   rows-put : (limit : List Entry) → is_default role ≡ false → nat_lt 0 (length limit) ≡ true → (ls : List LimitRow)
       → list_all is_row ls ≡ true → list_all is_row (limits_put ls role limit) ≡ true
   rows-put limit other some [] all =
@@ -194,7 +194,7 @@ module _ (role : Path) where
     | inr past ↦ rw past (all.0, valid-gone ls all.1)
   ]
 
--- ---- a limit that is set
+-- ---- setting a limit
 
 AreLimits-with : (limits : List LimitRow) (role : Path) (limit : List Entry) → is_default role ≡ false → IsRole role → AreLimits limits
     → AreLimits (limits_with limits role limit)

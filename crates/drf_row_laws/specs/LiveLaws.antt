@@ -1,4 +1,4 @@
--- Filters that are no longer in force change nothing.
+-- Expired filters change nothing.
 use Rattle.std.specs.Prelude.{◌≡◌, ℕ, ◌+◌, ◌≤◌, max, Bool, true, false, not, ◌&&◌, List, [], ◌∷◌, ◌++◌, filter, Option, Some, None, if◌then◌else◌, nat_le}
 use Rattle.std.specs.Option.{option_map_or}
 use Rattle.std.proofs.Common.{refl, sym, ap, subst, ◌∙◌, arith}
@@ -30,7 +30,7 @@ use Rattle.drf_rows.specs.declared.rows.Rows.{Rows}
 abbrev with_filters : Rows → List FilterRow → Rows
 with_filters rows filters = record rows { filters = filters }
 
--- ---- a cycle over rows whose filters hold the same back
+-- ---- a cycle in states whose filters cover the same
 
 abbrev HoldTheSame : List FilterRow → List FilterRow → ℕ → Type 0
 HoldTheSame fs gs clock =
@@ -57,7 +57,7 @@ tried-filters rows fs agent client same =
     (granted-filters rows fs agent client same)
     ∙ offered-filters rows fs agent client (grant rows agent client)
 
--- filters and clock stay in a turn, and so does what is held back
+-- a turn changes neither filters nor clock, nor what is covered
 pub kept-turns : (rows : Rows) (agents : List AgentRow) → ((turns rows agents).filters ≡ rows.filters) × ((turns rows agents).clock ≡ rows.clock)
 kept-turns rows agents =
     let only = turns_only rows agents in
@@ -88,7 +88,7 @@ turns-filters rows fs (agent ∷ agents) same =
     ap (λ (r : Rows). turns r agents) (turn-filters rows fs agent same)
     ∙ turns-filters after fs agents (still_the_same rows after fs (turn_only rows agent) same)
 
--- ---- the rows with the filters in force alone
+-- ---- the current state
 
 module _ (rows : Rows) (at : ℕ) where
   -- from the clock on
@@ -111,12 +111,12 @@ refusal_of-live limits rows (Accept a) = rw (are_many-live rows a.at limits)
 refusal_of-live limits rows (Decline d) = rw (are_many-live rows d.at limits)
 refusal_of-live limits rows event = refl
 
--- rows that are the same but for filters, of which the same are in force at their clock
+-- two states that differ only in filters, with the same filters in force, have the same current state
 live-kept : (after : Rows) (fs : List FilterRow) → in_force after.clock fs ≡ in_force after.clock after.filters
     → live_rows (with_filters after fs) ≡ live_rows after
 live-kept after fs same = ap (with_filters after) same
 
--- as those that were in force before
+-- filters that expired before do not matter
 live-late : (after : Rows) (now : ℕ) → now ≤ after.clock → live_rows (with_filters after (in_force now after.filters)) ≡ live_rows after
 live-late after now le = live-kept after (in_force now after.filters) (in_force-later now after.clock after.filters le)
 
@@ -126,16 +126,16 @@ live-refused : (now later : ℕ) (fs : List FilterRow) (refused : Bool) (more : 
 live-refused now later fs true more le = in_force-more now later fs more le
 live-refused now later fs false more le = in_force-later now later fs le
 
--- the live rows after some event, counted
+-- the current state after an event that is counted
 module _ (rows : Rows) (n : ℕ) where
-  -- where the filters stay
+  -- if the filters stay
   live-stay : (after : Rows) → rows.clock ≤ after.clock → after.filters ≡ rows.filters
       → live_rows (record after { filters = in_force rows.clock rows.filters; events = n }) ≡ live_rows (record after { events = n })
   live-stay after le same =
       ap (λ (fs : List FilterRow). live_rows (record after { filters = in_force rows.clock fs; events = n })) (sym same)
       ∙ live-late (record after { events = n }) rows.clock le
 
-  -- where some leave
+  -- if some filters are removed
   live-leave : (after : Rows) (p : FilterRow → Bool) → after.clock ≡ rows.clock → after.filters ≡ filter p rows.filters
       → live_rows (record after { filters = filter p (in_force rows.clock rows.filters); events = n }) ≡ live_rows (record after { events = n })
   live-leave after p clock left =
@@ -171,7 +171,7 @@ module _ (rows : Rows) (n : ℕ) where
       ap (λ (r : Rows). live_rows (record r { events = n })) (cycle-live rows at)
       ∙ live-stay (turns (at_moment rows at) agents) (omega (arith, kept.1)) kept.0
 
-  -- the effect on the live rows has the live rows of the effect
+  -- the current state after the effect is the same from the current state
   effect-live : (event : Event) → live_rows (record (effect (live_rows rows) event) { events = n }) ≡ live_rows (record (effect rows event) { events = n })
   unfolding effect
   effect-live (RemoveAgent agent) = live-leave (effect rows (RemoveAgent agent)) (λ f. not (is_on_agent agent f)) refl refl
@@ -219,7 +219,7 @@ rows_after-live limits rows event =
     ap (λ (o : Option Refusal). live_rows (option_map_or (λ refusal. live_rows rows) o (record (effect (live_rows rows) event) { events = rows.events + 1 }))) (refusal_of-live limits rows event)
     ∙ live_by rows event (refusal_of limits rows event) (rows.events + 1)
 
--- ---- steps and runs from rows with the same live rows
+-- ---- steps and runs from two states with the same current state
 
 module _ (limits : LimitNumbers) (a b : Rows) (same : live_rows a ≡ live_rows b) (event : Event) where
   pub reply_to-same_live : reply_to limits a event ≡ reply_to limits b event

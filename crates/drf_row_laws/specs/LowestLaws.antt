@@ -1,4 +1,4 @@
--- Each fraction has one form in lowest terms, and `lowest_terms` is it.
+-- Each fraction has exactly one form in lowest terms, which `lowest_terms` computes.
 use Rattle.std.proofs.Common.{◌≡◌, ◌≢◌, ◌<◌, ◌≤◌, ◌+◌, ◌*◌, ◌/◌, ◌%◌, ◌^◌, ◌==◌, ℕ, zero, suc, IsTrue, refl, sym, ap, subst, ◌∙◌, inl, inr, arith}
 use Rattle.std.specs.Int.{◌∣◌, IsGcd}
 use Rattle.std.proofs.Math.Nat.{mul_assoc, mul_right_comm, mul-one, one-mul, zero-mul, add-mul, mul-le-mul_right, two-pow-succ, mod-lt, dvd-add_iff_right, dvd-mul_left, dvd-mul_right, dvd-mul_left_of_dvd, div-mul_cancel, eq-zero_of_zero-dvd, eq_of_mul-eq-mul_right}
@@ -9,7 +9,7 @@ use Rattle.drf_rows.specs.Share.{Fraction, is_same, IsLowest, divisor_within, co
 
 -- ---- the greatest common divisor, with a factor
 
--- one step by a remainder
+-- one division with remainder
 step_by : (a b k g : ℕ) → IsGcd (b * k) (a % b * k) g → IsGcd (a * k) (b * k) g
 step_by a b k g h =
     let whole : a / b * (b * k) + a % b * k ≡ a * k =
@@ -20,7 +20,7 @@ step_by a b k g h =
       λ d p q. h.2 d q ((dvd-add_iff_right d (dvd-mul_left_of_dvd d q (a / b))).1 (subst (λ n. d ∣ n) (sym whole) p)),
     )
 
--- two divisions halve
+-- two divisions halve a number
 halved : (a b : ℕ) → 0 < a % b → 0 < b → b % (a % b) + b % (a % b) < b
 halved a b rest some =
     let r = a % b in
@@ -38,7 +38,7 @@ halved a b rest some =
         of zero whole = absurd (omega (arith, whole, below, less, zero-mul r))
         of (suc q) whole = omega arith
 
--- so many steps lead to the divisor of numbers below that power of two
+-- if b is below 2^steps, so many steps lead to the greatest common divisor
 divisor-by : (steps a b k : ℕ) → b < 2 ^ steps → IsGcd (a * k) (b * k) (divisor_within steps a b * k)
 divisor-by zero a b k small =
     let none : b ≡ 0 = omega (arith, small) in
@@ -63,7 +63,7 @@ divisor-by (suc steps) a b k small = elim (cases_Bool (b == 0)) [
       ]
 ]
 
--- a number is below the power of two by itself
+-- n is below 2^n
 below_power : (n : ℕ) → n < 2 ^ n
 below_power zero = omega arith
 below_power (suc n) = omega (arith, below_power n, two-pow-succ n)
@@ -91,7 +91,7 @@ divisor-above a b (suc n) some is = omega arith
 
 -- ---- one form in lowest terms
 
--- what is the same as a fraction that is the same as a third is the same as the third
+-- equality of fractions is transitive
 same_through : (a b c : Fraction) → 1 ≤ b.whole → a.part * b.whole ≡ b.part * a.whole
     → b.part * c.whole ≡ c.part * b.whole → a.part * c.whole ≡ c.part * a.whole
 same_through a b c some first second =
@@ -102,7 +102,7 @@ same_through a b c some first second =
     ∙ ap (λ n. n * a.whole) second
     ∙ mul_right_comm c.part b.whole a.whole)
 
--- a number that divides a product, and nothing of one factor, divides the other
+-- a number that divides a product and has no common divisor with one factor divides the other
 divides_other : (p q r s : ℕ) → IsGcd p q 1 → p * s ≡ r * q → q ∣ s
 divides_other p q r s apart product =
     let times = IsGcd-times p q 1 s apart in
@@ -120,7 +120,7 @@ lowest-unique f a b some p q =
     let part = eq_of_mul-eq-mul_right b.whole q.some a.part b.part (cross ∙ ap (λ n. b.part * n) whole) in
     λ i. record { part = part i; whole = whole i }
 
--- the terms over their greatest common divisor
+-- a fraction is in lowest terms after dividing by the greatest common divisor
 pub IsLowest-by : (f : Fraction) (g : ℕ) → 1 ≤ f.whole → IsGcd f.part f.whole g
     → IsLowest f (record { part = f.part / g; whole = f.whole / g })
 IsLowest-by f g some is =
@@ -154,7 +154,7 @@ lowest_terms-by f g some small is =
     lowest-unique f (record { part = f.part / g; whole = f.whole / g }) (lowest_terms f) some
     (IsLowest-by f g some is) (lowest_terms-is f some small)
 
--- equal fractions have one form
+-- equal fractions have the same form in lowest terms
 pub lowest_terms-same : (f g : Fraction) → 1 ≤ f.whole → f.whole < 2 ^ 128 → 1 ≤ g.whole → g.whole < 2 ^ 128
     → IsTrue (is_same f g) → lowest_terms f ≡ lowest_terms g
 lowest_terms-same f g some_f small_f some_g small_g same =

@@ -1,4 +1,4 @@
--- The rows once agents and frameworks take part or not, and once they leave; and that they stay consistent.
+-- Activating, suppressing and removing agents and frameworks keeps the state consistent.
 use Rattle.std.specs.Prelude.{◌≡◌, ℕ, ◌+◌, ◌≤◌, Bool, true, false, not, ◌&&◌, ◌||◌, List, [], ◌∷◌, ◌++◌, map, fold, filter, find, flat_map, sum_by, Some, if◌then◌else◌}
 use Rattle.std.specs.List.{list_any, AllByRecursion}
 use Rattle.std.proofs.Common.{refl, sym, ap, subst, ◌∙◌, inl, inr, arith}
@@ -36,16 +36,16 @@ use Rattle.drf_rows.specs.declared.rows.Rows.{Rows}
 
 -- ---- the clock, and filters
 
--- those that pass any test
+-- keeping only filters that pass a test
 pub IsConsistent-filters_kept : (rows : Rows) (test : FilterRow → Bool) → IsConsistent rows
     → IsConsistent (record rows { filters = filter test rows.filters })
 IsConsistent-filters_kept rows test consistent =
     IsConsistent-filters rows (filter test rows.filters) consistent
     (each_filter (IsFilter rows.agents rows.frameworks) test rows.filters consistent.filters)
 
--- ---- an agent is active, or not
+-- ---- activating or deactivating an agent
 
--- agents that are active as they are told to be
+-- the agents with `active` given by a function
 abbrev active_as : (AgentRow → Bool) → AgentRow → AgentRow
 active_as is_active a = record a { active = is_active a }
 
@@ -115,9 +115,9 @@ module _ (rows : Rows) (name : Text) (active : Bool) where
         numbered = consistent.numbered;
       }
 
--- ---- a client is suppressed, or not
+-- ---- suppressing or reviving a client
 
--- clients that are suppressed as they are told to be
+-- the clients with suppression given by a function
 abbrev quiet_as : (ClientRow → Bool) → ClientRow → ClientRow
 quiet_as is_quiet c = record c { suppressed = is_quiet c }
 
@@ -243,13 +243,13 @@ module _ (rows : Rows) (client : Client) (suppressed : Bool) where
         numbered = consistent.numbered;
       }
 
--- a client that revives
+-- reviving a client
 pub IsConsistent-revived : (rows : Rows) (client : Client) → IsConsistent rows → IsConsistent (revived rows client)
 IsConsistent-revived rows client consistent =
     IsConsistent-filters_kept (record rows { frameworks = with_suppression rows client false }) (λ f. not (is_of_client client f))
     (IsConsistent-with_suppression rows client false consistent)
 
--- ---- lists without what passes no test
+-- ---- filtered lists
 
 each_kept : {X : Type 0} (P : X → Type 0) (q : X → Bool) (xs : List X)
     → AllByRecursion (λ x. q x ≡ true → P x) xs → AllByRecursion P (filter q xs)
@@ -259,7 +259,7 @@ each_kept P q (x ∷ xs) all = elim (cases_Bool (q x)) [
   | inr past ↦ rw past (each_kept P q xs all.1)
 ]
 
--- one that passes a test is found, where what passes it is kept
+-- an element that passes a test is still found if the filter keeps it
 list_any-kept : {X : Type 0} (p q : X → Bool) (xs : List X) → ((x : X) → p x ≡ true → q x ≡ true)
     → list_any p xs ≡ true → list_any p (filter q xs) ≡ true
 list_any-kept p q [] stays any = any
@@ -300,7 +300,7 @@ sum_by-kept : {X : Type 0} (f : X → ℕ) (q : X → Bool) (xs : List X) → su
 sum_by-kept f q [] = omega arith
 sum_by-kept f q (x ∷ xs) = omega (arith, sum_by-filter-cons f q x xs, cond_le (q x) (f x), sum_by-cons f x xs, sum_by-kept f q xs)
 
--- ---- an agent leaves
+-- ---- removing an agent
 
 -- nothing is held on it
 pub none_on : (rows : Rows) (name : Text) → without_ended rows (all_on name) ≡ rows
@@ -313,7 +313,7 @@ none_on rows name nothing =
     (each_map Past of_task rows.tasks
     (none-filter (λ (t : TaskRow). same_text t.agent name) rows.tasks (ap (λ (r : Rows). r.tasks) nothing)))
 
--- another's name, or role, is that of some other
+-- if a and b have the same name and b is not n, then a is not n
 other_name : (a b n : Text) → same_text a b ≡ true → same_text b n ≡ false → not (same_text a n) ≡ true
 other_name a b n same other = ap (λ (t : Text). not (same_text t n)) (same_from_test a b same) ∙ ap not other
 
@@ -361,9 +361,9 @@ module _ (rows : Rows) (name : Text) (nothing : without_ended rows (all_on name)
         numbered = consistent.numbered;
       })
 
--- ---- a framework leaves
+-- ---- removing a framework
 
--- nothing is held by it
+-- it holds nothing
 pub none_of : (rows : Rows) (name : Text) → without_ended rows (all_of name) ≡ rows
     → AllByRecursion (λ h. same_text h.client.framework name ≡ false) (holdings_of rows)
 none_of rows name nothing =
@@ -384,7 +384,7 @@ module _ (rows : Rows) (name : Text) (nothing : without_ended rows (all_of name)
   removed_of : framework_removed rows name ≡ record rows { frameworks = others_of; filters = filters_without_framework name rows.filters }
   removed_of = λ i. record (nothing i) { frameworks = others_of; filters = filters_without_framework name rows.filters }
 
-  -- other frameworks' clients stay registered
+  -- the clients of other frameworks stay registered
   pub is_registered-framework_removed : (client : Client) → same_text client.framework name ≡ false
       → is_registered rows.frameworks client ≡ true
       → is_registered (filter (λ f. not (same_text f.name name)) rows.frameworks) client ≡ true
@@ -436,7 +436,7 @@ module _ (rows : Rows) (name : Text) (nothing : without_ended rows (all_of name)
 
 -- ---- what the other agents have
 
--- what an agent has of a scalar
+-- how much of a scalar an agent has
 abbrev pub amount_on : Text → AgentRow → ℕ
 amount_on label agent = amount_of (quantities_of agent.total) label
 
@@ -451,12 +451,12 @@ amount-added start (a ∷ agents) label all = omega (
   sum_by-cons (amount_on label) a agents,
 )
 
--- all agents have together what each has
+-- the cluster's total is the sum over all agents
 pub amount-cluster_total : (agents : List AgentRow) (label : Text) → AllByRecursion IsAgent agents
     → amount_of (cluster_total agents) label ≡ sum_by (amount_on label) agents
 amount-cluster_total agents label all = amount-added [] agents label all ∙ omega arith
 
--- names that are distinct tell all others from one
+-- if no two names are equal, the name of one element is not that of another
 none_has-one : {X : Type 0} (name : X → Text) (n : Text) (xs ys : List X) (x : X)
     → none_has same_text name n (xs ++ x ∷ ys) ≡ true → same_text n (name x) ≡ false
 none_has-one name n [] ys x none =
@@ -481,7 +481,7 @@ others_of_name {X} name (y ∷ before) after x apart =
     let parts = and_parts (none_has same_text name (name y) later) (are_distinct (map name later)) apart in
     (none_has-one name (name y) before after x parts.0, others_of_name name before after x parts.1)
 
--- and all others are left without the one of a name
+-- removing the elements with a name removes exactly this one
 pub without_named : {X : Type 0} (name : X → Text) (xs before after : List X) (x : X)
     → are_distinct (map name xs) ≡ true → xs ≡ before ++ x ∷ after
     → filter (λ y. not (same_text (name y) (name x))) xs ≡ before ++ after
@@ -491,7 +491,7 @@ without_named {X} name xs before after x apart stands =
     ∙ filter-one (λ y. same_text (name y) (name x)) before after x (same_itself (name x))
     (others_of_name name before after x (sym (ap (λ (ys : List X). are_distinct (map name ys)) stands) ∙ apart))
 
--- what the others have, and what the one has, is what all have
+-- the cluster's total is what the others have and what this one has
 pub amount-without_agent : (agents before after : List AgentRow) (a : AgentRow) (label : Text)
     → AreAgents agents → agents ≡ before ++ a ∷ after
     → amount_of (cluster_total (filter (λ b. not (same_text b.name a.name)) agents)) label + amount_of (quantities_of a.total) label
@@ -507,7 +507,7 @@ amount-without_agent agents before after a label right stands =
       sum_by-out (amount_on label) before after a,
     )
 
--- so too where the agent is found by its name
+-- the same if the agent is found by its name
 pub amount-without_named : (agents : List AgentRow) (name : Text) (a : AgentRow) (label : Text)
     → AreAgents agents → find (λ b. same_text b.name name) agents ≡ Some a
     → amount_of (cluster_total (filter (λ b. not (same_text b.name name)) agents)) label + amount_of (quantities_of a.total) label

@@ -1,4 +1,4 @@
--- An offer that stands, the filters that it may have, and the clock.
+-- Outstanding offers, the filters that they can lead to, and the clock.
 use Rattle.std.specs.Prelude.{◌≡◌, ℕ, ◌≤◌, true, List, Option, is_some, max}
 use Rattle.std.proofs.Common.{None, Some, refl, sym, ◌∙◌, arith}
 use Rattle.drf_bundle.specs.Bundle.{IsBundle}
@@ -10,7 +10,7 @@ use Rattle.drf_rows.specs.declared.limits.TheConstants.{LATEST_MOMENT}
 use Rattle.drf_rows.specs.declared.rows.OfferRow.{OfferRow}
 use Rattle.drf_rows.specs.declared.rows.Rows.{Rows}
 
--- a filter of any bundle, for a while
+-- a filter of any bundle, with a duration
 pub offer_filter : (rows : Rows) (number : ℕ) (o : OfferRow) (bundle : List Resource) (moment refuse_ms : ℕ)
     → IsConsistent rows → offer_at rows number ≡ Some o → IsBundle bundle → moment ≤ LATEST_MOMENT
     → IsFilter rows.agents rows.frameworks (filter_of o bundle (filtered_until moment refuse_ms))
@@ -18,7 +18,7 @@ offer_filter rows number o bundle moment refuse_ms right found is early =
     let held = held-offer_at rows number o right found in
     record { agent = held.agent; client = held.client; bundle = is; until = omega (arith, early) }
 
--- some offer stands
+-- an offer with this number is outstanding
 pub record IsOffer (rows : Rows) (number : ℕ) : Type 0 where
   pub offer : OfferRow
   pub at : offer_at rows number ≡ Some offer
@@ -30,7 +30,7 @@ some_offer rows number known = by (offer_at rows number) refl known
     by None none some = cc
     by (Some o) at some = record { offer = o; at = at }
 
--- the offer of a number is one
+-- at most one offer has a number
 pub same_offer : (rows : Rows) (number : ℕ) (o p : OfferRow) → offer_at rows number ≡ Some o → offer_at rows number ≡ Some p → o ≡ p
 same_offer rows number o p one other =
     let e : Some o ≡ Some p = sym one ∙ other in

@@ -1,4 +1,4 @@
--- Which rows an event leaves as they were: all but those of its own agent or framework, and what it ends.
+-- Which rows an event leaves unchanged: all except those of its own agent or framework, and what it ends.
 use Rattle.std.specs.Prelude.{◌≡◌, ℕ, ◌+◌, ◌==◌, Bool, true, false, not, ◌&&◌, ◌||◌, List, [], ◌∷◌, ◌++◌, length, map, filter, find, count_by, drop, Option, Some, None, if◌then◌else◌}
 use Rattle.std.specs.List.{list_all}
 use Rattle.std.specs.Option.{option_map_or}
@@ -38,11 +38,11 @@ use Rattle.drf_rows.specs.declared.rows.Rows.{Rows}
 
 -- ---- lists
 
--- a row that does not pass the test comes last
+-- a row that does not pass the test is added last
 filter-last : {X : Type 0} (p : X → Bool) (xs : List X) (x : X) → p x ≡ false → filter p (xs ++ x ∷ []) ≡ filter p xs
 filter-last p xs x past = filter-out p xs [] x past ∙ ap (filter p) (append-nil xs)
 
--- only rows that do not pass the test are changed, and those pass it no more than before
+-- only rows that do not pass the test are changed, and they do not pass it afterwards
 filter-changed : {X : Type 0} (p : X → Bool) (f : X → X) (xs : List X)
     → ((x : X) → p x ≡ true → f x ≡ x) → ((x : X) → p x ≡ false → p (f x) ≡ false)
     → filter p (map f xs) ≡ filter p xs
@@ -62,7 +62,7 @@ record MadeOffers (start after : Rows) : Type 0 where
   offers : after.offers ≡ start.offers ++ made
   counts : after.frameworks ≡ map (with_counts made) start.frameworks
 
--- what no offer is made to is counted no higher
+-- without offers no count is raised
 raised-none : (framework : Text) (cs : List ClientRow) → map (raised_row [] framework) cs ≡ cs
 raised-none framework [] = refl
 raised-none framework (c ∷ cs) =
@@ -73,7 +73,7 @@ counts-none : (fs : List FrameworkRow) → map (with_counts []) fs ≡ fs
 counts-none [] = refl
 counts-none (f ∷ fs) = λ i. record f { clients = raised-none f.name f.clients i } ∷ counts-none fs i
 
--- the offers of two lists are counted one list after the other
+-- counting two lists of offers, one after the other
 raised-both : (first second : List OfferRow) (framework : Text) (cs : List ClientRow)
     → map (raised_row second framework) (map (raised_row first framework) cs) ≡ map (raised_row (first ++ second) framework) cs
 raised-both first second framework [] = refl
@@ -89,7 +89,7 @@ counts-both first second [] = refl
 counts-both first second (f ∷ fs) =
     λ i. record f { clients = raised-both first second f.name f.clients i } ∷ counts-both first second fs i
 
--- one offer is counted as the definition counts it
+-- one offer is counted as in the definition
 abbrev raised_by : OfferRow → Bool → ClientRow → ClientRow
 raised_by o here c = record c { count = c.count + count_by (λ p. here && same_path c.role p.role) (o ∷ []) }
 
@@ -151,7 +151,7 @@ cycle_only_offers rows at =
       counts = so.counts ∙ ap (λ (os : List OfferRow). map (with_counts os) rows.frameworks) new;
     }
 
--- ---- the others
+-- ---- other rows
 
 agents_active : (name : Text) (active : Bool) (agents : List AgentRow)
     → filter (λ a. not (same_text a.name name)) (map (active_at name active) agents) ≡ filter (λ a. not (same_text a.name name)) agents
@@ -250,7 +250,7 @@ other_frameworks_stay limits rows event no_cycle =
     step_keeps (λ after. other_frameworks event after.frameworks ≡ other_frameworks event rows.frameworks) limits rows event refl
     (frameworks_left rows event no_cycle)
 
--- ---- what goes
+-- ---- removed rows
 
 none-found : {X : Type 0} (p : X → Bool) (xs : List X) → find p xs ≡ None → xs ≡ filter (λ x. not (p x)) xs
 none-found p [] none = refl
@@ -297,7 +297,7 @@ tasks_gone rows event no_accept = ap (λ (r : Rows). r.tasks) (only_changed rows
 pub ended_is_gone : EndedIsGone
 ended_is_gone rows event = record { offers = offers_gone rows event; tasks = tasks_gone rows event }
 
--- ---- what is left
+-- ---- remaining rows
 
 offers_again : (event : Event) (offers : List OfferRow) → other_offers event (other_offers event offers) ≡ other_offers event offers
 offers_again (RemoveAgent agent) offers = filter-again (λ o. not (same_text o.agent agent)) offers
@@ -321,7 +321,7 @@ other_holdings_stay limits rows event =
       tasks = λ no_accept. ap (other_tasks event) (tasks_gone rows event no_accept) ∙ tasks_again event rows.tasks;
     })
 
--- ---- the one
+-- ---- the row of the event
 
 pub removed_is_gone : RemovedIsGone
 unfolding effect
@@ -330,7 +330,7 @@ removed_is_gone rows name = (
   none_left (λ (f : FrameworkRow). same_text f.name name) rows.frameworks,
 )
 
--- each agent of the name is active as told
+-- each agent with the name is made active or inactive
 own_active : (test : Bool → Bool) (name : Text) (active : Bool) → test active ≡ true → (agents : List AgentRow)
     → list_all (λ a. not (same_text a.name name) || test a.active) (map (active_at name active) agents) ≡ true
 own_active test name active is [] = refl
@@ -341,7 +341,7 @@ own_active test name active is (a ∷ agents) = and_from _ _ (by (same_text a.na
     by true here = ap (λ (b : Bool). not (same_text a.name name) || b) is ∙ or-true (not (same_text a.name name))
     by false past = ap (λ (b : Bool). not b || test a.active) past
 
--- and nothing else of an agent is changed
+-- nothing else of an agent is changed
 all_as_were : (name : Text) (active : Bool) (agents : List AgentRow) → map active_row (map (active_at name active) agents) ≡ map active_row agents
 all_as_were name active [] = refl
 all_as_were name active (a ∷ agents) = λ i. by (same_text a.name name) i ∷ all_as_were name active agents i

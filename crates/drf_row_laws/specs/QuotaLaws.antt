@@ -1,5 +1,6 @@
--- What limits hold: a grant cut to the headroom takes no role over its limit, a limit below the consumption leaves nothing, no
--- role consumes more than there is, and what is moved to a role and back is consumed as before.
+-- Quota limits: a grant that is cut to the headroom takes no role over its limit; a limit that is consumed leaves no
+-- headroom; no role consumes more than the cluster's total; and what is reserved for a role and then unreserved is
+-- consumed as before.
 use Rattle.std.specs.Prelude.{◌≡◌, ℕ, zero, suc, ◌+◌, ◌≤◌, max, min, Bool, true, false, not, ◌&&◌, ◌||◌, List, [], ◌∷◌, ◌++◌, map, fold, filter, flat_map, sum_by, slice_get, Option, Some, IsTrue, All}
 use Rattle.std.specs.List.{list_any, count_by, reduce, AllByRecursion}
 use Rattle.std.specs.Option.{option_map_or}
@@ -42,9 +43,9 @@ use Rattle.drf_rows.specs.declared.rows.LimitRow.{LimitRow}
 use Rattle.drf_rows.specs.declared.rows.OfferRow.{OfferRow}
 use Rattle.drf_rows.specs.declared.rows.Rows.{Rows}
 
--- ---- the laws, as statements
+-- ---- the statements
 
--- a limit that is at most the consumption of its role leaves nothing
+-- a limit that is at most the consumption of its role leaves no headroom
 abbrev pub SpentLimitLeavesNothing : Type 0
 SpentLimitLeavesNothing =
     (rows : Rows) (role : Path) (label : Text) (place : ℕ) (l : LimitRow)
@@ -53,7 +54,7 @@ SpentLimitLeavesNothing =
     → amount_of l.limit label ≤ consumption rows l.role label
     → headroom_at rows role label ≡ Some 0
 
--- an offer of what a client may have of a bundle takes no role over its limit: neither the client's own nor one above it
+-- an offer of the entitlement takes neither the client's role nor a role above it over a limit
 abbrev pub GrantKeepsLimits : Type 0
 GrantKeepsLimits =
     (rows : Rows) (agent : AgentRow) (free : List Resource) (client : Client) (label : Text) (place : ℕ) (l : LimitRow)
@@ -63,7 +64,7 @@ GrantKeepsLimits =
     → consumption (with_offer rows (new_offer rows agent client (entitlement rows free client))) l.role label
     ≤ max (amount_of l.limit label) (consumption rows l.role label)
 
--- no cycle raises what a role consumes above its limit: what it makes offers of is cut, one grant after the other
+-- no cycle raises the consumption of a role above its limit: each grant is cut in turn
 abbrev pub CycleKeepsLimits : Type 0
 CycleKeepsLimits =
     (rows : Rows) (at : ℕ) (label : Text) (place : ℕ) (l : LimitRow)
@@ -72,7 +73,7 @@ CycleKeepsLimits =
     → IsTrue (is_named l.limit label)
     → consumption (cycle rows at) l.role label ≤ max (amount_of l.limit label) (consumption rows l.role label)
 
--- what is moved to a role is reserved for it and for the roles above it, just as much as was unreserved
+-- what is relabelled for a role is reserved for it and the roles above it, as much as was unreserved
 abbrev pub MovedIsReserved : Type 0
 MovedIsReserved =
     (test : Path → Bool) (role : Path) (bundle : List Resource) (label : Text)
@@ -82,19 +83,19 @@ MovedIsReserved =
     → IsTrue (is_unreserved bundle)
     → reserved_in test label (relabel role bundle) ≡ cond (test role) (unreserved_in label bundle) 0
 
--- and moved back it is the bundle that it was
+-- relabelled back, it is the same bundle as before
 abbrev pub MovedBackIsAsBefore : Type 0
 MovedBackIsAsBefore =
     (role : Path) (bundle : List Resource) → IsTrue (is_unreserved bundle) → relabel default_role (relabel role bundle) ≡ bundle
 
--- roles consume no more than there is
+-- roles do not consume more than the cluster's total
 abbrev pub ConsumptionIsPartOfTotal : Type 0
 ConsumptionIsPartOfTotal =
     (test : Path → Bool) (rows : Rows) (label : Text)
     → IsConsistent rows
     → consumption_where test rows label ≤ amount_of (cluster_total rows.agents) label
 
--- ---- the least room
+-- ---- the least headroom
 
 fold_le : (n : ℕ) (ns : List ℕ) → fold min n ns ≤ n
 fold_le n [] = omega arith
@@ -129,7 +130,7 @@ module _ (consumed : Consumed) (role : Path) (label : Text) where
     | inr past ↦ omega (arith, ap (fold min n) (rooms-past x xs past), least_among n xs place l at here)
   ]
 
-  -- the headroom is at most what any limit that binds leaves
+  -- the headroom is at most what each limit that restricts the role leaves
   pub headroom_le : (ls : List LimitRow) (place : ℕ) (l : LimitRow) → slice_get ls place ≡ Some l → binds role label l ≡ true
       → (n : ℕ) × (headroom_under ls consumed role label ≡ Some n) × (n ≤ room_under consumed label l)
   headroom_le [] place l at here = cc
@@ -197,7 +198,7 @@ pub any_append : (p : Text → Bool) (xs ys : List Text) → list_any p (xs ++ y
 any_append p [] ys = refl
 any_append p (x ∷ xs) ys = elim (cases_Bool (p x)) [ inl here ↦ rw here refl | inr past ↦ rw past (any_append p xs ys) ]
 
--- a limit that binds has its names among the limited ones
+-- the names in a limit that restricts the role are among the limited ones
 limited : (role : Path) (label : Text) (ls : List LimitRow) (place : ℕ) (l : LimitRow)
     → slice_get ls place ≡ Some l → is_within l.role role ≡ true → is_named l.limit label ≡ true
     → list_any (λ n. same_text n label) (limited_names ls role) ≡ true
@@ -231,7 +232,7 @@ limited role label (x ∷ xs) (suc place) l at within named =
         or_true false = refl
     by false more = more
 
--- ---- what the cut leaves
+-- ---- what cutting leaves
 
 pub no_text : (role : Path) → IsRole role → is_default role ≡ false → same_text (text_of role) [] ≡ false
 no_text role (inl default) other = absurd (false≢true (sym other ∙ ap is_default default))
@@ -243,7 +244,7 @@ no_text role (inr path) other = by role path
     by ((b ∷ bs) ∷ []) path = refl
     by ((b ∷ bs) ∷ p ∷ ps) path = refl
 
--- what has no reservation is for everyone
+-- a resource without a reservation has the role `*`
 pub for_everyone : (role : Path) → IsRole role → reservation role ≡ [] → is_default role ≡ true
 for_everyone role right none = elim (cases_Bool (is_default role)) [
   | inl default ↦ default
@@ -292,7 +293,7 @@ unreserved-clip limits label (r ∷ rs) ordered each named =
 
 -- ---- one more offer
 
--- it adds what it has unreserved to what the roles of its client consume
+-- an offer adds what it has unreserved to the consumption of its client's roles
 pub consumption-with_offer : (test : Path → Bool) (rows : Rows) (offer : OfferRow) (label : Text)
     → consumption_where test (with_offer rows offer) label
     ≡ consumption_where test rows label + cond (test offer.role) (unreserved_in label offer.bundle) 0
@@ -334,7 +335,7 @@ grant_keeps_limits rows agent free client label place l right at binding =
 
 -- ---- a cycle
 
--- limits stay, and a role consumes no more than its limit, or than it did
+-- limits stay, and the consumption of a role is at most its limit, or what it was
 record KeepsLimit (start after : Rows) (label : Text) (l : LimitRow) : Type 0 where
   limits : after.limits ≡ start.limits
   consumed : consumption after l.role label ≤ max (amount_of l.limit label) (consumption start l.role label)
@@ -344,7 +345,7 @@ module _ (start : Rows) (label : Text) (place : ℕ) (l : LimitRow) (at : slice_
   abbrev Keeps : Rows → Type 0
   Keeps rows = KeepsLimit start rows label l
 
-  -- one more offer of what a client may have
+  -- one more offer of the entitlement
   keeps-offer : (rows : Rows) (agent : AgentRow) (client : Client) → IsBundle agent.total → Keeps rows
       → Keeps (with_offer rows (new_offer rows agent client (entitlement rows (free_of rows agent) client)))
   unfolding with_offer
@@ -382,7 +383,7 @@ cycle_keeps_limits rows at label place l consistent here named =
     (each_filter (λ a. IsBundle a.total) (λ a. a.active) rows.agents totals)
     (record { limits = refl; consumed = omega arith })).consumed
 
--- ---- what is moved to a role
+-- ---- relabelling for a role
 
 module _ (test : Path → Bool) (role : Path) (label : Text) (read : parts_of (text_of role) ≡ role)
     (other : is_default role ≡ false) (some : same_text (text_of role) [] ≡ false) where
@@ -436,9 +437,9 @@ moved_back role (r ∷ rs) free =
     let default : default_role ≡ r.role = sym (same_path-true r.role default_role parts.0) in
     λ i. record { label = r.label; role = default i; value = r.value } ∷ moved_back role rs parts.1 i
 
--- ---- no more than there is
+-- ---- no more than the total
 
--- of a name, what is unreserved and what is reserved for some roles is at most all
+-- what is unreserved and what is reserved for some roles is at most everything with this name
 apart : (a t : Bool) (k : Text) (u : ℕ) → cond (a && same_text [] k) u 0 + cond (a && (not (same_text k []) && t)) u 0 ≤ cond a u 0
 apart false t k u = omega arith
 apart true t [] u = omega arith

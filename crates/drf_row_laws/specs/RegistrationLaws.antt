@@ -1,4 +1,4 @@
--- The rows with one more agent, or one more framework: what they say of it, and that they stay consistent.
+-- Registering an agent or a framework: what the state says about it, and that it stays consistent.
 use Rattle.std.specs.Prelude.{◌≡◌, ◌+◌, ◌&&◌, true, false, not, List, [], ◌∷◌, ◌++◌, length, map, filter, sum_by}
 use Rattle.std.specs.List.{list_any, AllByRecursion}
 use Rattle.std.proofs.Common.{refl, sym, ap, ◌∙◌, inl, inr, arith}
@@ -26,15 +26,15 @@ use Rattle.drf_rows.specs.declared.rows.ClientRow.{ClientRow}
 use Rattle.drf_rows.specs.declared.rows.FrameworkRow.{FrameworkRow}
 use Rattle.drf_rows.specs.declared.rows.Rows.{Rows}
 
--- an agent that has just registered
+-- the row of a new agent
 abbrev pub new_agent : Text → List Resource → AgentRow
 new_agent name total = record { name = name; total = total; active = true }
 
--- the rows with an agent that registers last
+-- the state with a new agent added last
 abbrev pub agent_added : Rows → Text → List Resource → Rows
 agent_added rows name total = record rows { agents = with_agent rows name total }
 
--- the rows with a framework that registers last
+-- the state with a new framework added last
 abbrev pub framework_added : Rows → FrameworkRow → Rows
 framework_added rows f = record rows { frameworks = rows.frameworks ++ f ∷ [] }
 
@@ -47,7 +47,7 @@ none_has-push name n (y ∷ ys) x all other =
     let parts = and_parts (not (same_text n (name y))) (none_has same_text name n ys) all in
     rw (parts.0) (none_has-push name n ys x parts.1 other)
 
--- a new name stays apart from the others
+-- a new name is different from the others
 are_distinct-push : {X : Type 0} (name : X → Text) (xs : List X) (x : X)
     → are_distinct (map name xs) ≡ true → list_any (λ y. same_text (name y) (name x)) xs ≡ false
     → are_distinct (map name (xs ++ x ∷ [])) ≡ true
@@ -57,7 +57,7 @@ are_distinct-push name (y ∷ ys) x apart new =
     let none = or_parts (same_text (name y) (name x)) (list_any (λ y. same_text (name y) (name x)) ys) new in
     rw (none_has-push name (name y) ys x parts.0 none.0) (are_distinct-push name ys x parts.1 none.1)
 
--- ---- one more agent
+-- ---- a new agent
 
 -- nothing is held on an agent that is not registered
 nothing_on : (rows : Rows) (name : Text) (hs : List Holding)
@@ -73,7 +73,7 @@ pub parts_on-nothing : (rows : Rows) (name : Text)
 parts_on-nothing rows name consistent new =
     ap (map (λ (h : Holding). h.bundle)) (nothing_on rows name (holdings_of rows) consistent.holdings new)
 
--- its total is added
+-- its total is added to the cluster's
 pub cluster_total-with_agent : (rows : Rows) (name : Text) (total : List Resource)
     → cluster_total (with_agent rows name total) ≡ plus (cluster_total rows.agents) (quantities_of total)
 cluster_total-with_agent rows name total =
@@ -120,9 +120,9 @@ IsConsistent-agent_added rows name total consistent new right =
       numbered = consistent.numbered;
     }
 
--- ---- one more framework
+-- ---- a new framework
 
--- its clients come last
+-- its clients are added last
 pub clients_of-framework_added : (rows : Rows) (f : FrameworkRow)
     → clients_of (framework_added rows f) ≡ clients_of rows ++ map (client_of f) f.clients
 clients_of-framework_added rows f =
@@ -136,7 +136,7 @@ length-clients_of-framework_added rows f =
     ∙ length-append (clients_of rows) (map (client_of f) f.clients)
     ∙ ap (λ n. length (clients_of rows) + n) (length-map f.clients (client_of f))
 
--- no offer was made to clients that are not counted
+-- clients with the count 0 add nothing to the sum
 nothing_counted : (cs : List ClientRow) → AllByRecursion (λ c. c.count ≡ 0) cs → sum_by (λ c. c.count) cs ≡ 0
 nothing_counted [] all = refl
 nothing_counted (c ∷ cs) all = omega (arith, sum_by-cons (λ (c : ClientRow). c.count) c cs, all.0, nothing_counted cs all.1)
@@ -194,7 +194,7 @@ IsConsistent-framework_added rows f consistent new valid apart none =
       numbered = consistent.numbered;
     }
 
--- ---- no rows at all
+-- ---- the empty state
 
 pub IsConsistent-opening : IsConsistent opening
 IsConsistent-opening = record {

@@ -1,5 +1,5 @@
--- What is reported of a node is what its clients hold, what is reported of the cluster what its agents have, and the nodes
--- are those of the registered clients, in order.
+-- A report says of each node what its clients hold, and of the cluster what its agents have together; its nodes are
+-- those of the registered clients, in order.
 use Rattle.std.specs.Prelude.{◌≡◌, ℕ, zero, suc, ◌+◌, ◌≤◌, Bool, true, false, ◌||◌, List, [], ◌∷◌, length, map, take, drop, fold, filter, flat_map, sum_by, IsTrue}
 use Rattle.std.specs.List.{list_all, list_any}
 use Rattle.std.specs.Ordering.{nat_cmp, is_lt, is_eq, match_ordering, ordering_reverse}
@@ -137,7 +137,7 @@ in_order-put : (ns ms : List Path) → are_in_order ns ≡ true → are_in_order
 in_order-put ns [] ordered = ordered
 in_order-put ns (m ∷ ms) ordered = in_order-put (with_node ns m) ms (in_order-with ns m ordered)
 
--- the nodes, as they are told
+-- the nodes of a report
 told : (rows : Rows) → paths_told rows ≡ nodes_of rows
 unfolding report_of
 told rows = by (nodes_of rows)
@@ -150,7 +150,7 @@ pub nodes_rise : NodesRise
 nodes_rise rows =
     ap are_in_order (told rows) ∙ in_order-put [] (flat_map (λ client. nodes_on (path_of client)) (clients_of rows)) refl
 
--- ---- which nodes there are
+-- ---- which nodes are in a report
 
 or_moved : (a b d : Bool) → (a || (b || d)) ≡ ((b || a) || d)
 or_moved true true d = refl
@@ -240,7 +240,7 @@ any-clients x (c ∷ cs) some =
     list_any-append (same_path x) (nodes_on (path_of c)) (flat_map (λ client. nodes_on (path_of client)) cs)
     ∙ (λ i. any-on_path x (path_of c) some i || any-clients x cs some i)
 
--- no node is the path of no part
+-- the empty path is not a node
 empty_to : (path : Path) (n : ℕ) → n ≤ length path → list_any (same_path []) (nodes_to path n) ≡ false
 empty_to path zero within = refl
 empty_to [] (suc n) within = absurd (omega arith)

@@ -1,4 +1,4 @@
--- Reported shares are in lowest terms: what they are fractions of is neither nothing nor too large.
+-- Reported shares are in lowest terms: the wholes of their fractions are neither 0 nor too large.
 use Rattle.std.specs.Prelude.{ℕ, ◌*◌, ◌^◌, ◌<◌, ◌≤◌, IsTrue, List, [], ◌∷◌, length, map, fold, filter, sum_by, nat_lt}
 use Rattle.std.specs.List.{AllByRecursion, list_all}
 use Rattle.std.proofs.Common.{refl, sym, ap, ◌∙◌, inl, inr, arith}
@@ -39,7 +39,7 @@ in_order-added start (a ∷ agents) ordered =
 pub in_order-cluster_total : (agents : List AgentRow) → IsTrue (is_in_order (cluster_total agents))
 in_order-cluster_total agents = in_order-added [] agents refl
 
--- few agents of small amounts have little together
+-- few agents with small amounts have a small sum
 sum-few : (agents : List AgentRow) (label : Text) → AllByRecursion IsAgent agents
     → sum_by (amount_on label) agents ≤ length agents * LARGEST_AMOUNT
 sum-few [] label all = omega arith
@@ -51,7 +51,7 @@ pub small_total : (agents : List AgentRow) (label : Text) → AllByRecursion IsA
 small_total agents label all few =
     omega (arith, amount-cluster_total agents label all, sum-few agents label all, few)
 
--- of entries in order each amount is that of its label
+-- in a sorted list each amount is that of its label
 pub small_entries : (es : List Entry) → IsTrue (is_in_order es) → ((label : Text) → amount_of es label < 2 ^ 52)
     → AllByRecursion (λ e. e.amount < 2 ^ 52) es
 small_entries [] ordered small = tt
@@ -65,7 +65,7 @@ small_entries (e ∷ es) ordered small =
 
 -- ---- the fractions
 
--- a fraction of something that is not too large
+-- a fraction whose whole is neither 0 nor too large
 pub record IsPart (f : Fraction) : Type 0 where
   pub some : 1 ≤ f.whole
   pub small : f.whole < 2 ^ 52

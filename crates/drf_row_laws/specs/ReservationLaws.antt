@@ -1,4 +1,4 @@
--- What events change of agents: what is reserved and given back again, and what an agent keeps whose total changes.
+-- Events that change agents' totals: reserving, unreserving, and setting a new total.
 use Rattle.std.specs.Prelude.{◌≡◌, ℕ, ◌+◌, ◌≤◌, max, Bool, true, false, not, ◌&&◌, ◌||◌, List, [], ◌∷◌, map, find, filter, sum_by, slice_get, Option, Some, None, IsTrue}
 use Rattle.std.specs.List.{list_any, list_all, AllByRecursion}
 use Rattle.std.specs.Option.{option_map_or}
@@ -38,15 +38,15 @@ use Rattle.drf_rows.specs.declared.rows.AgentRow.{AgentRow}
 use Rattle.drf_rows.specs.declared.rows.LimitRow.{LimitRow}
 use Rattle.drf_rows.specs.declared.rows.Rows.{Rows}
 
--- ---- the laws, as statements
+-- ---- the statements
 
--- resources of a role, as they come with an event
+-- the resources and the role of an event are valid
 pub record IsAsked (role : Path) (resources : List Resource) : Type 0 where
   pub bundle : IsBundle resources
   pub is_role : IsRole role
   pub role_read : parts_of (text_of role) ≡ role
 
--- what is reserved and then given back is as it was
+-- reserving and then unreserving restores the state
 abbrev pub ReservedIsGivenBack : Type 0
 ReservedIsGivenBack =
     (limits : LimitNumbers) (rows : Rows) (agent : Text) (role : Path) (resources : List Resource)
@@ -55,7 +55,7 @@ ReservedIsGivenBack =
     → refusal_of limits rows (Reserve agent role resources) ≡ None
     → effect (effect rows (Reserve agent role resources)) (Unreserve agent role resources) ≡ rows
 
--- an event that reserves takes no role over its limit
+-- reserving takes no role over its limit
 abbrev pub ReservingKeepsLimits : Type 0
 ReservingKeepsLimits =
     (limits : LimitNumbers) (rows : Rows) (agent : Text) (role : Path) (resources : List Resource)
@@ -67,7 +67,7 @@ ReservingKeepsLimits =
     → IsTrue (is_named l.limit label)
     → consumption (effect rows (Reserve agent role resources)) l.role label ≤ max (amount_of l.limit label) (consumption rows l.role label)
 
--- what is reserved is consumed by the role and the roles above it, and what is given back is not
+-- reserved resources are consumed by the role and the roles above it; unreserved ones no longer
 abbrev pub MovedIsConsumed : Type 0
 MovedIsConsumed =
     (limits : LimitNumbers) (rows : Rows) (agent : Text) (role : Path) (resources : List Resource)
@@ -80,8 +80,8 @@ MovedIsConsumed =
     × (refusal_of limits rows (Unreserve agent role resources) ≡ None
     → consumption_where test (effect rows (Unreserve agent role resources)) label + moved ≡ consumption_where test rows label)
 
--- an agent whose total changes keeps its name, its place, its part in cycles and all that is held there: the new total is what
--- is free then, joined with that. Nothing else of the rows changes
+-- an agent that gets a new total keeps its name, its place, its activity and everything that is held there: the new
+-- total is what is free afterwards, joined with what is held. Nothing else in the state changes
 abbrev pub ChangedAgentKeepsAll : Type 0
 ChangedAgentKeepsAll =
     (limits : LimitNumbers) (rows : Rows) (agent : Text) (total : List Resource) (row : AgentRow)
@@ -97,9 +97,9 @@ ChangedAgentKeepsAll =
     × (map (λ a. a.active) after.agents ≡ map (λ a. a.active) rows.agents)
     × IsConserved after changed
 
--- ---- an event that is not refused
+-- ---- an accepted event
 
--- an agent that is known is found
+-- a registered agent is found
 pub found_known : (rows : Rows) (agent : Text) → has_agent rows agent ≡ true → (row : AgentRow) × (agent_at rows agent ≡ Some row)
 found_known rows agent known = by rows.agents known
   where
@@ -113,7 +113,7 @@ found_known rows agent known = by rows.agents known
           (later.0, ap (λ (b : Bool). cond b (Some a) (find (λ a. same_text a.name agent) agents)) past ∙ later.1)
     ]
 
--- what an event that moves a part may count on
+-- what is true if reserving or unreserving is accepted
 pub record CanMove (rows : Rows) (agent : Text) (role : Path) (resources moved : List Resource) : Type 0 where
   pub row : AgentRow
   pub found : agent_at rows agent ≡ Some row
@@ -154,7 +154,7 @@ module _ (limits : LimitNumbers) (rows : Rows) (agent : Text) (role : Path) (res
       can_move rows agent role resources (relabel role resources) (not-false (has_agent rows agent) known.0) known.1.0
       (not-false (is_unreserved resources) some.1.0) some.1.1.0
 
--- ---- a part that moves
+-- ---- the part that is exchanged
 
 module _ (rows : Rows) (agent : Text) (role : Path) (resources : List Resource) (consistent : IsConsistent rows) (asked : IsAsked role resources) where
   pub can_exchange-reserve : (can : CanMove rows agent role resources resources)
@@ -169,7 +169,7 @@ module _ (rows : Rows) (agent : Text) (role : Path) (resources : List Resource) 
       can_unreserve role resources asked.is_role asked.role_read asked.bundle can.unreserved (free_of rows can.row)
       (bundle_free rows agent can.row consistent can.found) can.free
 
--- two changes of which the second takes the first back
+-- two changes, of which the second undoes the first
 pub changed_back : (name : Text) (f g : List Resource → List Resource) (agents : List AgentRow)
     → AllByRecursion (λ a. same_text a.name name ≡ true → g (f a.total) ≡ a.total) agents
     → map (total_at name g) (map (total_at name f) agents) ≡ agents
@@ -197,9 +197,9 @@ reserved_is_given_back limits rows agent role resources consistent asked accepte
     (exchanged-back can.row.total resources moved total)) in
     λ i. record rows { agents = same i }
 
--- ---- what is consumed
+-- ---- consumption
 
--- of what is not reserved nothing is reserved, and all is for everyone
+-- an unreserved bundle has nothing reserved, and all of it is unreserved
 module _ (test : Path → Bool) (label : Text) where
   none_here : (a : Bool) (n : ℕ) → cond (a && false) n 0 ≡ 0
   none_here true n = refl
@@ -236,7 +236,7 @@ module _ (test : Path → Bool) (label : Text) where
             by rs parts.1,
           )
 
--- one agent's total alone makes a difference
+-- only the total of one agent makes a difference
 module _ (rows : Rows) (name : Text) (a : AgentRow) (consistent : IsConsistent rows) (found : agent_at rows name ≡ Some a)
     (made : List Resource → List Resource) (test : Path → Bool) (label : Text) where
   pub consumption-with_total :
@@ -299,7 +299,7 @@ moved_is_consumed limits rows agent role resources test label consistent asked =
 
 -- ---- what limits admit
 
--- a limit that binds admits what is more, if all of them do
+-- if all limits admit an amount, so does each one
 admitted_by : (more : Entry) (consumed : Path → Text → ℕ) (role : Path) (ls : List LimitRow) (place : ℕ) (l : LimitRow)
     → list_all (stays_within consumed more) (filter (binds role more.label) ls) ≡ true
     → slice_get ls place ≡ Some l → binds role more.label l ≡ true → stays_within consumed more l ≡ true
@@ -322,7 +322,7 @@ admitted_by more consumed role (x ∷ xs) (suc place) l all at here = elim (case
       at here
 ]
 
--- with what is admitted a role consumes at most its limit, or what it consumed
+-- with admitted amounts a role consumes at most its limit, or what it consumed before
 admitted_amount : (rows : Rows) (role : Path) (amounts : List Entry) (label : Text) (place : ℕ) (l : LimitRow)
     → admits rows role amounts ≡ true → slice_get rows.limits place ≡ Some l → binds role label l ≡ true
     → consumption rows l.role label + amount_of amounts label ≤ max (amount_of l.limit label) (consumption rows l.role label)
@@ -364,7 +364,7 @@ reserving_keeps_limits limits rows agent role resources label place l consistent
       | inr outside ↦ omega (arith, moved, ap (λ (b : Bool). cond b (amount_of (quantities_of resources) label) 0) outside)
     ]
 
--- ---- another total
+-- ---- a new total
 
 module _ (rows : Rows) (name : Text) (a : AgentRow) (total : List Resource) (consistent : IsConsistent rows)
     (found : agent_at rows name ≡ Some a) (right : IsBundle total) (all : is_below_held rows name total ≡ false) where
@@ -390,7 +390,7 @@ module _ (rows : Rows) (name : Text) (a : AgentRow) (total : List Resource) (con
       joined-rest_of_all total (parts_on a.name (holdings_of rows)) right
       (each_part a.name (holdings_of rows) (bundles-consistent rows consistent)) covered-other_total
 
--- the agent of the name is the first of the name still
+-- the same agent is found afterwards
 pub found-with_total : (name : Text) (made : List Resource → List Resource) (agents : List AgentRow) (a : AgentRow)
     → find (λ b. same_text b.name name) agents ≡ Some a
     → find (λ b. same_text b.name name) (map (total_at name made) agents) ≡ Some (record a { total = made a.total })

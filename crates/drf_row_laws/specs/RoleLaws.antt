@@ -1,4 +1,4 @@
--- The rows once the roles of a framework change: who is registered then, and who holds something.
+-- The state after the roles of a framework change: which clients are registered, and which hold something.
 use Rattle.std.specs.Prelude.{◌≡◌, ℕ, ◌≤◌, Bool, true, false, not, ◌&&◌, ◌||◌, List, [], ◌∷◌, map, filter, sum_by, if◌then◌else◌}
 use Rattle.std.specs.List.{list_any, AllByRecursion}
 use Rattle.std.proofs.Common.{refl, sym, ap, ◌∙◌, inl, inr, arith}
@@ -23,7 +23,7 @@ use Rattle.drf_rows.specs.declared.rows.FilterRow.{FilterRow}
 use Rattle.drf_rows.specs.declared.rows.FrameworkRow.{FrameworkRow}
 use Rattle.drf_rows.specs.declared.rows.Rows.{Rows}
 
--- ---- each role once
+-- ---- roles without repetitions
 
 pub any_distinct : (roles : List Path) (role : Path) → is_among (distinct roles) role ≡ is_among roles role
 any_distinct [] role = refl
@@ -37,7 +37,7 @@ any_distinct (first ∷ roles) role = by (same_path first role) refl (any_distin
         (λ r same. ap (λ (p : Path). not (same_path first p)) (same_path-true r role same) ∙ ap not past) (distinct roles)
         ∙ later
 
--- ---- the roles that the clients have then
+-- ---- the roles of the clients afterwards
 
 kept_role : (roles : List Path) (clients : List ClientRow) (role : Path)
     → has_role (clients_kept roles clients) role ≡ (is_among roles role && has_role clients role)
@@ -54,7 +54,7 @@ joined_role roles clients role =
     (λ r same. ap new (same_path-true r role same)) (distinct roles)
     ∙ ap (λ (b : Bool). new role && b) (any_distinct roles role)
 
--- they have just the new roles
+-- they have exactly the new roles
 pub has_role-with_roles : (roles : List Path) (clients : List ClientRow) (role : Path)
     → has_role (with_roles roles clients) role ≡ is_among roles role
 has_role-with_roles roles clients role =
@@ -70,7 +70,7 @@ has_role-with_roles roles clients role =
 
 -- ---- the frameworks
 
--- the clients of a framework then
+-- the clients of a framework afterwards
 abbrev pub clients_then : Text → List Path → FrameworkRow → List ClientRow
 clients_then name roles f = if same_text f.name name then with_roles roles f.clients else f.clients
 
@@ -89,7 +89,7 @@ pub with_framework_roles-is : (rows : Rows) (name : Text) (roles : List Path)
     → with_framework_roles rows name roles ≡ map (with_clients_then name roles) rows.frameworks
 with_framework_roles-is rows name roles = λ i. map (λ f. roles_set_in-is name roles f i) rows.frameworks
 
--- names stay
+-- names do not change
 pub names-with_framework_roles : (rows : Rows) (name : Text) (roles : List Path)
     → map (λ f. f.name) (with_framework_roles rows name roles) ≡ map (λ f. f.name) rows.frameworks
 names-with_framework_roles rows name roles =
@@ -102,13 +102,13 @@ has_framework-with_framework_roles rows name roles other =
     ap (list_any (λ (f : FrameworkRow). same_text f.name other)) (with_framework_roles-is rows name roles)
     ∙ list_any-map (λ (f : FrameworkRow). same_text f.name other) (with_clients_then name roles) rows.frameworks
 
--- ---- who is registered
+-- ---- which clients are registered
 
 module _ (name : Text) (roles : List Path) (client : Client) where
   abbrev is_its : FrameworkRow → Bool
   is_its f = same_text f.name client.framework && has_role f.clients client.role
 
-  -- a framework that has the client has it then, where the client does not go
+  -- a client that is not removed still belongs to its framework
   stays_in : is_left name roles client ≡ false → (f : FrameworkRow) → is_its f ≡ true → is_its (roles_set_in name roles f) ≡ true
   stays_in stays f its = by (same_text f.name name) refl
     where
@@ -126,7 +126,7 @@ module _ (name : Text) (roles : List Path) (client : Client) where
           among_from false false is left = absurd (false≢true is)
       by false past = its
 
-  -- so who does not go stays registered
+  -- so it stays registered
   pub is_registered-roles_set : is_left name roles client ≡ false → (frameworks : List FrameworkRow)
       → is_registered frameworks client ≡ true → is_registered (map (roles_set_in name roles) frameworks) client ≡ true
   is_registered-roles_set stays [] known = known
@@ -138,7 +138,7 @@ module _ (name : Text) (roles : List Path) (client : Client) where
         | inr past ↦ or_right (is_its g) (is_registered later client) (is_registered-roles_set stays fs past)
       ]
 
--- ---- what is held, and what is filtered
+-- ---- holdings and filters
 
 each_none : {X : Type 0} (p : X → Bool) (xs : List X) → list_any p xs ≡ false → AllByRecursion (λ x. p x ≡ false) xs
 each_none p [] none = tt
@@ -146,12 +146,12 @@ each_none p (x ∷ xs) none =
     let both = or_parts (p x) (list_any p xs) none in
     (both.0, each_none p xs both.1)
 
--- no client that goes holds anything, where its role is not in use
+-- if no role in use is left, no removed client holds anything
 pub none_left_holds : (rows : Rows) (name : Text) (roles : List Path) → is_role_in_use rows name roles ≡ false
     → AllByRecursion (λ h. is_left name roles h.client ≡ false) (holdings_of rows)
 none_left_holds rows name roles free = each_none (λ (h : Holding). is_left name roles h.client) (holdings_of rows) free
 
--- the filters that are left are of clients that stay
+-- the remaining filters belong to clients that stay
 pub each_stays : (name : Text) (roles : List Path) (filters : List FilterRow)
     → AllByRecursion (λ f. is_of_left name roles f ≡ false) (filters_without_left name roles filters)
 each_stays name roles [] = tt
@@ -162,7 +162,7 @@ each_stays name roles (f ∷ fs) = elim (cases_Bool (is_of_left name roles f)) [
 
 -- ---- counts
 
--- clients that come have no offers counted
+-- new clients have the count 0
 counted_new : (roles : List Path) → sum_by (λ c. c.count) (map new_client roles) ≡ 0
 counted_new [] = refl
 counted_new (role ∷ roles) =

@@ -1,4 +1,4 @@
--- Runs over one list of events after another.
+-- A run of two lists of events, one after the other.
 use Rattle.std.specs.Prelude.{◌≡◌, List, [], ◌∷◌, ◌++◌}
 use Rattle.std.proofs.Common.{refl, ap}
 use Rattle.drf_rows.specs.LimitNumbers.{LimitNumbers}

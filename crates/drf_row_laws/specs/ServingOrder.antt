@@ -1,5 +1,5 @@
--- The laws of the order in which clients are served. No path stands before itself, of two paths at most one stands
--- before the other, and so at most one order of some clients is a serving order: the one that a turn picks one by one.
+-- The order in which clients are served. No path comes before itself, and if one path comes before another, the other
+-- does not come before it. So at most one order of some clients is a serving order: the one that a turn computes.
 use Rattle.std.proofs.Common.{◌≡◌, ℕ, ◌*◌, Bool, true, false, not, ◌&&◌, ◌||◌, ltb, eqb, inl, inr, List, [], ◌∷◌, ◌++◌, map, length, refl, sym, ap, subst, ◌∙◌, arith, is_lt}
 use Rattle.std.specs.Prelude.{Some, IsTrue}
 use Rattle.std.specs.List.{filter, find, list_all, list_any}
@@ -21,7 +21,8 @@ use Rattle.drf_rows.specs.Cycle.{first_of, without, serving_order}
 text_below-back : (a b : Text) → text_below a b ≡ true → text_below b a ≡ false
 text_below-back a b h = ap is_lt (cmp_above a b h)
 
--- by shares p and q, then counts m and n, then names: where one is ahead of another, the other is not ahead of the one
+-- comparing shares p and q, then counts m and n, then names: if one node is ahead of another, the other is not ahead of
+-- it
 rank_back : (p q m n : ℕ) (l g : Bool)
     → (l ≡ true → g ≡ false)
     → (ltb p q || (eqb p q && (ltb m n || (eqb m n && l)))) ≡ true
@@ -37,7 +38,7 @@ is_ahead-back s parent a b h =
     rank_back (x.part * y.whole) (y.part * x.whole) (s.count (parent ++ a ∷ [])) (s.count (parent ++ b ∷ []))
     (text_below a b) (text_below b a) (text_below-back a b) h
 
--- no path stands before itself
+-- no path comes before itself
 below_itself : (s : Standing) (parent path : Path) → stands_before_below s parent path path ≡ false
 below_itself s parent [] = refl
 below_itself s parent (a ∷ path) = rw (same_itself a) (below_itself s (parent ++ a ∷ []) path)
@@ -45,7 +46,7 @@ below_itself s parent (a ∷ path) = rw (same_itself a) (below_itself s (parent 
 pub stands_before_itself : (s : Standing) (path : Path) → stands_before s path path ≡ false
 stands_before_itself s path = below_itself s [] path
 
--- where one path stands before another, the other does not stand before the one
+-- if one path comes before another, the other does not come before it
 decided_back : (s : Standing) (parent : Path) (x y : Text) (xs ys : Path)
     → (stands_before_below s (parent ++ x ∷ []) xs ys ≡ true → stands_before_below s (parent ++ x ∷ []) ys xs ≡ false)
     → stands_before_below s parent (x ∷ xs) (y ∷ ys) ≡ true
@@ -71,7 +72,7 @@ below_back s parent (x ∷ xs) (y ∷ ys) h =
 pub stands_before-back : (s : Standing) (a b : Path) → stands_before s a b ≡ true → stands_before s b a ≡ false
 stands_before-back s a b h = below_back s [] a b h
 
--- what a search finds passes the test and is one of the list
+-- what a search finds passes the test, and is in the list
 found : {X : Type 0} (t : X → Bool) (xs : List X) → list_any t xs ≡ true
     → (x : X) × (find t xs ≡ Some x) × (t x ≡ true) × ((u : X → Bool) → u x ≡ true → list_any u xs ≡ true)
 found t [] h = absurd (true≢false (sym h))
@@ -95,11 +96,11 @@ list_all-not_any : {X : Type 0} (t : X → Bool) (xs : List X) → list_all t xs
 list_all-not_any t [] = refl
 list_all-not_any t (x ∷ xs) = grind (arith, list_all-not_any t xs)
 
--- the paths are those of the clients, however often and in which order
+-- the clients have exactly these paths, in any order and number
 abbrev HasPaths : List Client → List Path → Type 0
 HasPaths cs ps = (t : Path → Bool) → list_any (λ c. t (path_of c)) cs ≡ list_any t ps
 
--- what holds of all of them holds of one
+-- what is true of all paths is true of one of them
 all_at : (t : Path → Bool) (x : Path) (ps : List Path)
     → list_any (same_path x) ps ≡ true → list_all t ps ≡ true → t x ≡ true
 all_at t x [] m h = absurd (true≢false (sym m))
@@ -122,7 +123,7 @@ same_path-before s a b h =
       | inr other ↦ other
     ]
 
--- the first of some paths in a serving order is no later one
+-- in a serving order the first path is not among the later ones
 none_later : (s : Standing) (p : Path) (t : Path → Bool) (ps : List Path)
     → list_all (stands_before s p) ps ≡ true
     → list_any (λ q. not (same_path p q) && t q) ps ≡ list_any t ps
@@ -131,7 +132,7 @@ none_later s p t (q ∷ ps) h =
     let here = and_parts (stands_before s p q) (list_all (stands_before s p) ps) h in
     rw (same_path-before s p q here.0) (ap (λ b. t q || b) (none_later s p t ps here.1))
 
--- the first path is the second, or stands before it
+-- the first path is equal to the second, or comes before it
 abbrev precedes : Standing → Path → Path → Bool
 precedes s a b = same_path a b || stands_before s a b
 
@@ -143,7 +144,7 @@ precedes_all s p (q ∷ ps) h =
     and_from (precedes s p q) (list_all (precedes s p) ps)
     (or_right (same_path p q) (stands_before s p q) here.0) (precedes_all s p ps here.1)
 
--- a path among those of a serving order that precedes the first is the first
+-- a path of a serving order that is equal to the first one or comes before it is the first one
 precedes_first : (s : Standing) (p x : Path) (ps : List Path)
     → list_all (stands_before s p) ps ≡ true
     → list_any (same_path x) (p ∷ ps) ≡ true
@@ -206,7 +207,7 @@ one_order s (p ∷ ps) cs has ordered =
     let it = first_found s p ps cs has parts.0 in
     rw it.1 (λ i. it.2 i ∷ one_order s ps (without it.0 cs) (others_have s p ps it.0 cs it.2 has parts.0) parts.1 i)
 
--- the order that a turn picks one by one is the only serving order
+-- the order that a turn computes is the only serving order
 pub serving_order-unique : (s : Standing) (cs : List Client) (ps : List Path)
     → IsPermutation (map path_of cs) ps
     → IsTrue (is_serving_order s ps)

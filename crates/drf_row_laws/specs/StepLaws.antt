@@ -1,4 +1,4 @@
--- The step, refused and not.
+-- The step, for refused and accepted events.
 use Rattle.std.specs.Prelude.{◌≡◌, ◌+◌, suc, Bool, true, false, not, ◌||◌, List, [], ◌∷◌, map, Some, None, Contains, nat_lt, nat_le}
 use Rattle.std.specs.List.{list_all, AllByRecursion}
 use Rattle.std.proofs.Common.{refl, ap, subst, ◌∙◌, arith}
@@ -16,12 +16,12 @@ use Rattle.drf_rows.specs.declared.reply.Refusal.{Refusal}
 use Rattle.drf_rows.specs.declared.reply.Reply.TheVariants.{Refused}
 use Rattle.drf_rows.specs.declared.rows.Rows.{Rows}
 
--- the first clause has each event looked at
+-- this first equation makes the prover look at each event
 pub cases_rise : CasesRise
 cases_rise limits rows (AddAgent agent total) = refl
 cases_rise limits rows event = refl
 
--- ---- the first of some cases that rise is the least that holds
+-- ---- the first of the cases in order is the one with the least number
 
 abbrev is_not_below : Refusal → Bool × Refusal → Bool
 is_not_below refusal c = not c.0 || nat_le (refusal_number refusal) (refusal_number c.1)
@@ -50,7 +50,7 @@ least_first ((false, q) ∷ cases) refusal rise found =
     let later = least_first cases refusal parts.1 found in
     ((suc later.0.0, omega (arith, later.0.1), later.0.2), later.1)
 
--- ---- no case of an event that is not refused
+-- ---- no case of an accepted event holds
 
 pub no_case : (cases : List (Bool × Refusal)) → first_case cases ≡ None → AllByRecursion (λ c. c.0 ≡ false) cases
 no_case [] none = tt
@@ -71,7 +71,7 @@ least_is_told limits rows event = (
 
 -- ---- the step
 
--- a refused event is told so, and the rows stay
+-- the reply to a refused event is its refusal, and the state stays the same
 pub reply_to-refused : (limits : LimitNumbers) (rows : Rows) (event : Event) (refusal : Refusal)
     → refusal_of limits rows event ≡ Some refusal → reply_to limits rows event ≡ Refused refusal
 unfolding reply_to
@@ -82,7 +82,7 @@ pub rows_after-refused : (limits : LimitNumbers) (rows : Rows) (event : Event) (
 unfolding rows_after
 rows_after-refused limits rows event refusal case = rw case
 
--- another has its effect, and is counted
+-- an accepted event has its effect, and is counted
 pub reply_to-accepted : (limits : LimitNumbers) (rows : Rows) (event : Event)
     → refusal_of limits rows event ≡ None → reply_to limits rows event ≡ answer rows (effect rows event) event
 unfolding reply_to

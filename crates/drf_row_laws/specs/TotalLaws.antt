@@ -1,4 +1,4 @@
--- No more is held than there is.
+-- No more is held than the agents' totals.
 use Rattle.std.specs.Prelude.{◌≡◌, ℕ, ◌≤◌, List, sum_by}
 use Rattle.std.specs.List.{count_by, list_any}
 use Rattle.std.proofs.Common.{◌∙◌, arith}
@@ -13,7 +13,7 @@ use Rattle.drf_row_laws.specs.MemberLaws.{amount_on, amount-cluster_total}
 use Rattle.drf_rows.specs.declared.rows.AgentRow.{AgentRow}
 use Rattle.drf_rows.specs.declared.rows.Rows.{Rows}
 
--- a holding is on one agent
+-- a holding is on exactly one agent
 pub one_agent : (rows : Rows) (h : Holding) → IsConsistent rows → IsHeld rows.agents rows.frameworks h
     → count_by (λ a. is_on a.name h) rows.agents ≡ 1
 one_agent rows h consistent held =

@@ -1,4 +1,4 @@
--- The rows once a part of an agent moves between everyone and a role, or its total is another; and that they stay consistent.
+-- Reserving, unreserving, and setting a new total: the state afterwards, and that it stays consistent.
 use Rattle.std.specs.Prelude.{◌≡◌, ◌+◌, Bool, true, false, List, [], ◌∷◌, ◌++◌, map, fold, Option, Some, if◌then◌else◌, IsTrue, not, filter}
 use Rattle.std.specs.List.{list_any, AllByRecursion}
 use Rattle.std.specs.Option.{option_map_or}
@@ -38,7 +38,7 @@ use Rattle.drf_rows.specs.Totals.{CanExchange, agent_at, total_at, with_total, e
 use Rattle.drf_rows.specs.declared.rows.AgentRow.{AgentRow}
 use Rattle.drf_rows.specs.declared.rows.Rows.{Rows}
 
--- ---- one part in place of another
+-- ---- one part is exchanged for another
 
 module _ (whole old new : List Resource) (can : CanExchange whole old new) where
   abbrev left : List Resource
@@ -47,7 +47,7 @@ module _ (whole old new : List Resource) (can : CanExchange whole old new) where
   left_bundle : IsBundle left
   left_bundle = bundle-rest whole old can.is_whole
 
-  -- the first part and what it leaves
+  -- the first part and what is left without it
   before_join : IsJoinOf left old whole
   before_join =
       join_some left old whole left_bundle can.is_old
@@ -69,7 +69,7 @@ module _ (whole old new : List Resource) (can : CanExchange whole old new) where
   pub bundle-exchanged : IsBundle (exchanged old new whole)
   bundle-exchanged = subst IsBundle (sym exchanged-is) after_join.1.bundle
 
-  -- wherever units are counted, those of the first part go, and those of the second come
+  -- for any test of keys, the units of the first part are replaced by those of the second
   pub where-exchanged : (test : Key → Bool) (p : Point)
       → units_where test p (exchanged old new whole) + units_where test p old ≡ units_where test p whole + units_where test p new
   where-exchanged test p = omega (
@@ -104,7 +104,7 @@ module _ (whole old new : List Resource) (can : CanExchange whole old new) where
     stocks = λ name p. sym (can.stocks name p);
   }
 
--- and then all is as it was
+-- exchanging back restores the bundle
 pub exchanged-back : (whole old new : List Resource) → CanExchange whole old new → exchanged new old (exchanged old new whole) ≡ whole
 exchanged-back whole old new can =
     let middle : List Resource = exchanged old new whole in
@@ -112,7 +112,7 @@ exchanged-back whole old new can =
     known_by_units (exchanged new old middle) whole (bundle-exchanged middle new old back) can.is_whole
     (λ key p. omega (arith, units-exchanged middle new old back key p, units-exchanged whole old new can key p))
 
--- what is for everyone can be exchanged for what is reserved, and the other way round
+-- an unreserved part can be exchanged for the same part reserved, and back
 module _ (role : Path) (resources : List Resource) (is_role : IsRole role) (read : parts_of (text_of role) ≡ role)
     (is : IsBundle resources) (free : IsTrue (is_unreserved resources)) where
   pub bundle-moved : IsBundle (relabel role resources)
@@ -138,9 +138,9 @@ module _ (role : Path) (resources : List Resource) (is_role : IsRole role) (read
     stocks = λ name p. sym (moved_stocks role resources name p);
   }
 
--- ---- one agent's total is another
+-- ---- the total of one agent changes
 
--- agents with totals as they are told
+-- the agents with totals given by a function
 abbrev total_as : (AgentRow → List Resource) → AgentRow → AgentRow
 total_as total_of a = record a { total = total_of a }
 
@@ -171,7 +171,7 @@ module _ (rows : Rows) (name : Text) (made : List Resource → List Resource) wh
       ap (list_any (λ (a : AgentRow). same_text a.name agent)) with_total-is
       ∙ list_any-map (λ (a : AgentRow). same_text a.name agent) (total_as (total_told name made)) rows.agents
 
-  -- the agent of the name has a bundle, which covers what is held there
+  -- the agent with the name gets a valid bundle that covers what is held there
   pub record IsRightTotal (a : AgentRow) : Type 0 where
     pub agent : IsAgent (record a { total = made a.total })
     pub covered : IsCovered (holdings_of rows) (record a { total = made a.total })
@@ -221,7 +221,7 @@ module _ (rows : Rows) (name : Text) (made : List Resource → List Resource) wh
 
 -- ---- the agent that is found
 
--- others do not change
+-- other agents do not change
 totals_stay : (name : Text) (made : List Resource → List Resource) (agents : List AgentRow)
     → AllByRecursion (λ a. same_text a.name name ≡ false) agents → map (total_at name made) agents ≡ agents
 totals_stay name made [] others = refl
@@ -252,7 +252,7 @@ module _ (rows : Rows) (name : Text) (a : AgentRow) (consistent : IsConsistent r
       (others_of_name (λ (b : AgentRow). b.name) agents_before agents_after a
       (sym (ap (λ (bs : List AgentRow). are_distinct (map (λ b. b.name) bs)) agents_stand) ∙ consistent.agents.names))
 
-  -- it alone changes
+  -- only this agent changes
   pub with_total-place : (made : List Resource → List Resource)
       → with_total rows name made ≡ agents_before ++ record a { total = made a.total } ∷ agents_after
   with_total-place made =
@@ -262,7 +262,7 @@ module _ (rows : Rows) (name : Text) (a : AgentRow) (consistent : IsConsistent r
       ∙ map-append (total_at name made) agents_before (a ∷ agents_after)
       ∙ (λ i. totals_stay name made agents_before parts.0 i ++ here i ∷ totals_stay name made agents_after parts.1 i)
 
-  -- what is asked of the agents of the name is asked of it
+  -- what is true of this agent is true of all with its name
   pub if_named : (P : AgentRow → Type 0) → P a → AllByRecursion (λ b. same_text b.name name ≡ true → P b) rows.agents
   if_named P right =
       let Named : AgentRow → Type 0 = λ b. same_text b.name name ≡ true → P b in
@@ -284,12 +284,12 @@ module _ (rows : Rows) (name : Text) (a : AgentRow) (consistent : IsConsistent r
   pub bundle_free : IsBundle (free_of rows a)
   bundle_free = bundle-free_of rows a is_agent.total
 
-  -- by its units: what is free, and what is held
+  -- free and held units add up to the total
   pub units_free : (key : Key) (p : Point)
       → units (free_of rows a) key p + units_of_all (parts_on a.name (holdings_of rows)) key p ≡ units a.total key p
   units_free key p = omega (arith, units-free_of rows a key p is_agent.total (bundles-consistent rows consistent), is_covered key p)
 
-  -- a part that is free can be exchanged in the total too
+  -- a part of the free resources can be exchanged in the total too
   pub can_in_total : (old new : List Resource) → CanExchange (free_of rows a) old new → CanExchange a.total old new
   can_in_total old new can = record {
     is_whole = is_agent.total;
@@ -320,7 +320,7 @@ module _ (rows : Rows) (name : Text) (a : AgentRow) (consistent : IsConsistent r
           covered = λ key p. omega (arith, units-exchanged a.total old new whole_can key p, can.covered key p, units_free key p);
         }))
 
-    -- in what is free the part is exchanged too
+    -- the part is exchanged in the free resources too
     pub free_of-exchanged :
         free_of (record rows { agents = with_total rows name made }) (record a { total = made a.total }) ≡ exchanged old new (free_of rows a)
     free_of-exchanged =
@@ -338,7 +338,7 @@ module _ (rows : Rows) (name : Text) (a : AgentRow) (consistent : IsConsistent r
           units_free key p,
         ))
 
-    -- of each scalar the cluster has as much as before
+    -- the cluster's total stays the same
     pub cluster_total-exchanged : cluster_total (with_total rows name made) ≡ cluster_total rows.agents
     cluster_total-exchanged =
         ap cluster_total (with_total-place made)
@@ -354,7 +354,7 @@ module _ (rows : Rows) (name : Text) (a : AgentRow) (consistent : IsConsistent r
             → cluster_total (bs ++ b ∷ cs) ≡ cluster_total (bs ++ c ∷ cs)
         same_totals bs b c cs same = same_from [] bs cs b c same
 
--- ---- another total
+-- ---- a new total
 
 no_zeros-added : (start : List Entry) (agents : List AgentRow) → HasNoZeros start → AllByRecursion IsAgent agents
     → HasNoZeros (fold (λ sum a. plus sum (quantities_of a.total)) start agents)
@@ -366,7 +366,7 @@ no_zeros-added start (a ∷ agents) none all =
 pub no_zeros-total : (agents : List AgentRow) → AllByRecursion IsAgent agents → HasNoZeros (cluster_total agents)
 no_zeros-total agents all = no_zeros-added [] agents no_zeros-empty all
 
--- what the others have, and the new total, is what all have then
+-- the cluster's total is then what the other agents have and the new total
 pub cluster_total-other_total : (rows : Rows) (name : Text) (a : AgentRow) (total : List Resource) → IsConsistent rows
     → agent_at rows name ≡ Some a → IsAgent (record a { total = total })
     → plus (cluster_total (filter (λ b. not (same_text b.name name)) rows.agents)) (quantities_of total)

@@ -1,4 +1,4 @@
--- What an event that sets a weight changes: the weight of its role, and no other. Weights stay in their range.
+-- Setting a weight changes the weight of its role and no other. Weights stay in their range.
 use Rattle.std.specs.Prelude.{◌≡◌, ℕ, ◌≤◌, Bool, true, false, not, nat_le, IsTrue, List, [], ◌∷◌, map, Some}
 use Rattle.std.specs.List.{find, AllByRecursion}
 use Rattle.std.proofs.Common.{refl, sym, ap, subst, ◌∙◌, inl, inr, arith}
@@ -18,7 +18,7 @@ use Rattle.drf_rows.specs.declared.event.Event.TheVariants.{SetWeight}
 use Rattle.drf_rows.specs.declared.rows.WeightRow.{WeightRow}
 use Rattle.drf_rows.specs.declared.rows.Rows.{Rows}
 
--- the rows after the event
+-- the state after the event
 abbrev after : Rows → Path → ℕ → Rows
 after rows role weight = effect rows (SetWeight role weight)
 
@@ -30,7 +30,7 @@ weighed_roles rows = map (λ w. w.role) rows.weights
 abbrev pub RoleHasItsWeight : Type 0
 RoleHasItsWeight = (rows : Rows) (role : Path) (weight : ℕ) → weight_of (after rows role weight).weights role ≡ weight
 
--- every other node has the weight that it had
+-- every other node keeps its weight
 abbrev pub OthersKeepTheirWeight : Type 0
 OthersKeepTheirWeight =
     (rows : Rows) (role : Path) (weight : ℕ) (node : Path)
@@ -42,7 +42,7 @@ abbrev pub EachHasOneRow : Type 0
 EachHasOneRow =
     (rows : Rows) (role : Path) (weight : ℕ) → IsConsistent rows → are_distinct_roles (weighed_roles (after rows role weight)) ≡ true
 
--- and so in no run from the start has a role two
+-- so in no run from the start does a role have two rows
 abbrev pub NoRoleHasTwoRows : Type 0
 NoRoleHasTwoRows =
     (limits : LimitNumbers) (events : List Event) → are_distinct_roles (weighed_roles (rows_after_all limits opening events)) ≡ true
@@ -54,7 +54,7 @@ in_range n is =
     let parts = and_parts (nat_le 1 n) (nat_le n 1000000) is in
     (leb-true 1 n parts.0, leb-true n 1000000 parts.1)
 
--- a row that is found has a weight in its range
+-- a row that is found has a weight in the range
 pub weight-found : (p : WeightRow → Bool) (ws : List WeightRow) (w : WeightRow) → IsTrue (are_weights ws)
     → Some w ≡ find p ws → (1 ≤ w.weight) × (w.weight ≤ 1000000)
 weight-found p [] w all is = absurd cc
@@ -68,7 +68,7 @@ weight-found p (x ∷ xs) w all is =
       | inr fails ↦ weight-found p xs w parts.1 (rw fails at is)
     ]
 
--- a node's weight is a row's or 1, and so in the range of weights
+-- the weight of a node is that of its row or 1000 thousandths, and so in the range
 pub weight_of-in_range : (ws : List WeightRow) (node : Path) → IsTrue (are_weights ws)
     → (1 ≤ weight_of ws node) × (weight_of ws node ≤ 1000000)
 weight_of-in_range [] node all = (omega arith, omega arith)
@@ -79,7 +79,7 @@ weight_of-in_range (w ∷ ws) node all =
       | inr past ↦ rw past (weight_of-in_range ws node parts.1)
     ]
 
--- ---- a weight that is set
+-- ---- setting a weight
 
 abbrev role_in : WeightRow → Path
 role_in w = w.role
@@ -105,7 +105,7 @@ module _ (role : Path) (weight : ℕ) where
     ]
   ]
 
-  -- a role that is neither weighed nor has a row has none after it
+  -- a role other than the event's that has no row gets none
   none_has-with : (r : Path) (ws : List WeightRow) → same_path r role ≡ false
       → none_has same_path role_in r ws ≡ true → none_has same_path role_in r (weights_with ws role weight) ≡ true
   none_has-with r [] other none = rw other refl
@@ -133,7 +133,7 @@ module _ (role : Path) (weight : ℕ) where
             (none_has-with w.role ws past parts.0) (distinct-with ws parts.1))
       ]
 
-  -- a weight in its range joins those that are
+  -- setting a valid weight keeps all weights valid
   are_weights-with : (ws : List WeightRow) → is_weight weight ≡ true → are_weights ws ≡ true
       → are_weights (weights_with ws role weight) ≡ true
   are_weights-with [] right all = and_from (is_weight weight) true right refl
@@ -146,7 +146,7 @@ module _ (role : Path) (weight : ℕ) where
             (and_from (is_weight w.weight) (are_weights (weights_with ws role weight)) parts.0 (are_weights-with ws right parts.1))
       ]
 
-  -- a valid role joins those that are
+  -- setting the weight of a valid role keeps all roles valid
   valid-with : IsRole role → (ws : List WeightRow) → AllByRecursion (λ w. IsRole w.role) ws
       → AllByRecursion (λ w. IsRole w.role) (weights_with ws role weight)
   valid-with right [] all = (right, tt)
@@ -189,7 +189,7 @@ each_has_one_row rows role weight consistent = distinct-with role weight rows.we
 
 -- ---- a run
 
--- no other event touches weights
+-- no other event changes weights
 rows_stay_apart : (rows : Rows) (event : Event) → are_distinct_roles (weighed_roles rows) ≡ true
     → are_distinct_roles (weighed_roles (effect rows event)) ≡ true
 unfolding effect

@@ -15,7 +15,7 @@ import (
 	"gateway/internal/mesos/codec"
 )
 
-// operators is where operators ask, or nowhere.
+// operators has the values of the flags for the address at which operators ask the agent.
 type operators struct{ address, cert, key *string }
 
 // listen opens the address, with TLS where there is a certificate, and adds its port to the agent's description.

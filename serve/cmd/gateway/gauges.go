@@ -6,7 +6,7 @@ import "gateway/internal/api"
 
 var isTrue = map[bool]float64{true: 1}
 
-// addEarlyGauges adds the figures that say whether there is a service.
+// addEarlyGauges adds the figures that exist before there is a service.
 func (g *gateway) addEarlyGauges() {
 	g.metrics.Gauge("drf_connected", "Whether this gateway reaches etcd's majority.", func() float64 { return isTrue[g.server.IsConnected()] })
 	g.metrics.Gauge("drf_ready", "Whether this gateway takes events.", func() float64 { return isTrue[g.server.Healthy() == nil] })

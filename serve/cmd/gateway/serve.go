@@ -1,4 +1,4 @@
-// The parts of a gateway, how they are connected, and their lives. Outside the proof.
+// The parts of a gateway, how they are connected, and when they start and end. Outside the proof.
 
 package main
 
@@ -45,7 +45,7 @@ const (
 	committers  = 2               // transactions under way at once
 )
 
-// openData creates the data folder, keeps a second gateway out of it, and creates a token that may do everything where there is none yet.
+// openData creates the data folder, locks it against a second gateway, and creates a token with all rights if there is none yet.
 func (o *options) openData() error {
 	if err := disk.CheckOwner(o.data); err != nil {
 		return fmt.Errorf("the data folder: %w", err)
@@ -180,7 +180,7 @@ func (g *gateway) readCertificate() error {
 	return nil
 }
 
-// reload reads tokens and certificates again at SIGHUP. A file that is wrong changes nothing.
+// reload reads tokens and certificates again at SIGHUP. If a file is wrong, nothing changes.
 func (g *gateway) reload(ctx context.Context) {
 	hangups := make(chan os.Signal, 1)
 	signal.Notify(hangups, syscall.SIGHUP)
@@ -231,7 +231,7 @@ func (g *gateway) runParts(ctx context.Context, journal *allocator.Journal) {
 	run(ctx)
 }
 
-// prepare makes the list be of this gateway's format, as soon as etcd answers.
+// prepare makes the list have this gateway's format, as soon as etcd answers.
 func (g *gateway) prepare(ctx context.Context, list *oplog.Log) bool {
 	var logged time.Time
 	for ctx.Err() == nil {
@@ -269,7 +269,7 @@ func (g *gateway) waitFor(ctx context.Context, cluster *etcd.Cluster) bool {
 	return ctx.Err() == nil
 }
 
-// newArchiver returns the archive's, or nil where there is none.
+// newArchiver returns the archiver, or nil if there is no archive.
 func (g *gateway) newArchiver() *archive.Archiver {
 	if g.archive.Folder == "" {
 		return nil
@@ -277,7 +277,7 @@ func (g *gateway) newArchiver() *archive.Archiver {
 	return archive.New(g.archive)
 }
 
-// build creates the parts and connects them. What it returns runs them until a context ends.
+// build creates the parts and connects them. The function that it returns runs them until a context ends.
 func (g *gateway) build(list *oplog.Log, journal *allocator.Journal) (*api.Service, func(context.Context)) {
 	streams := mesosserver.NewStreams()
 	mesosState := mesos.New(streams.Publish)
@@ -356,7 +356,7 @@ func silentDetails(sessions *session.Manager) api.DetailSource {
 	}
 }
 
-// markEachSecond makes durable how much of the journal was answered, and from time to time who set what.
+// markEachSecond makes durable, each second, how much of the journal was answered, and from time to time which callers made the current settings.
 func markEachSecond(ctx context.Context, journal *allocator.Journal) {
 	for second := 1; ; second++ {
 		select {

@@ -24,7 +24,7 @@ const tokenUsage = `usage:
 rights are admin, operate, clock, read, framework:NAME, role:ROLE, agent:NAME, agent:PREFIX*, user:NAME
 WHEN is 30d, 12h, 2027-01-31 (the end of that day in UTC) or 2027-01-31T12:00:00Z`
 
-// tokenCommand does what the arguments after "token" say. The form before there were names of commands, FILE NAME RIGHT.., still adds one.
+// tokenCommand does what the arguments after "token" say. The older form without a command, FILE NAME RIGHT.., still adds a token.
 func tokenCommand(arguments []string, out, notes io.Writer) error {
 	if len(arguments) == 0 {
 		return errors.New(tokenUsage)
@@ -40,7 +40,7 @@ func tokenCommand(arguments []string, out, notes io.Writer) error {
 	return addToken(arguments, out, time.Now())
 }
 
-// addToken creates a token and prints it. Root does it as the owner of the file's folder, so that the gateway can read the file.
+// addToken creates a token and prints it. If root runs it, the file is written as the owner of its folder, so that the gateway can read it.
 func addToken(arguments []string, out io.Writer, now time.Time) error {
 	flags := flag.NewFlagSet("durzhanok-gateway token add", flag.ContinueOnError)
 	flags.SetOutput(io.Discard)
@@ -95,7 +95,7 @@ func listTokens(arguments []string, out io.Writer, now time.Time) error {
 	return table.Flush()
 }
 
-// revokeToken removes a token from a file. Gateways that run know it until they read the file again.
+// revokeToken removes a token from a file. Running gateways accept it until they read the file again.
 func revokeToken(arguments []string, notes io.Writer) error {
 	if len(arguments) != 2 {
 		return errors.New(tokenUsage)

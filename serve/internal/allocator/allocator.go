@@ -1,5 +1,5 @@
-// Package allocator, outside the proof, runs the proved program as a child: it feeds it the lines of the list in order, compares their
-// echoes, writes the replies to the journal, and makes snapshots. It answers nothing itself.
+// Package allocator, outside the proof, runs the proved program as a child: it feeds it the lines of the list in order, compares their echoes,
+// writes the replies to the journal, and makes snapshots. It computes no reply itself.
 package allocator
 
 import (
@@ -28,7 +28,7 @@ type Config struct {
 	Archive Archive // or nil
 }
 
-// Allocator follows the list with a child of its own. Nobody leads: each gateway has one, and all give the same replies.
+// Allocator follows the list with a child of its own. There is no leader: each gateway has an allocator, and all give the same replies.
 type Allocator struct {
 	config    Config
 	log       *oplog.Log
@@ -45,7 +45,7 @@ type Allocator struct {
 	events   []string // newer ones that the program knows
 }
 
-// New returns an allocator. Run must be called for it to answer. Fail is called when the gateway must stop.
+// New returns an allocator. Run must be called for it to reply. Fail is called when the gateway must stop.
 func New(config Config, log *oplog.Log, journal *Journal, registry *registry.Registry, fail func(error)) *Allocator {
 	a := &Allocator{config: config, log: log, journal: journal, registry: registry, positions: newPositions(), fail: fail}
 	a.snapshots = &snapshots{allocator: a}
@@ -103,7 +103,7 @@ type Status struct {
 	Lag      int64 // messages that came, and whose replies are not applied
 }
 
-// Status returns how far the allocator is.
+// Status returns how far the allocator has got.
 func (a *Allocator) Status() Status {
 	a.mu.Lock()
 	s := Status{Pid: a.pid, Restarts: a.restarts, Lag: a.waiting.Load()}

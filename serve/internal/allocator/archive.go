@@ -13,7 +13,7 @@ import (
 	"gateway/internal/oplog"
 )
 
-// Archive is written from the journal, which is kept for it.
+// Archive receives messages from the journal, which is kept until they are archived.
 type Archive interface {
 	// Needed returns the position from which messages are not archived.
 	Needed() (messages, bytes int64)
@@ -21,13 +21,13 @@ type Archive interface {
 	WaitFor(ctx context.Context, message int64)
 }
 
-// Source gives an archive what it is made from: the journal, who sent the messages, and the states at snapshots.
+// Source gives an archive its content: the journal, the senders of the messages, and the states at snapshots.
 type Source struct{ allocator *Allocator }
 
-// Source returns what an archive is made from.
+// Source returns the source for an archive.
 func (a *Allocator) Source() Source { return Source{a} }
 
-// ReadAt reads at a byte of the journal. It returns audit.ErrNotKept where that is pruned, or not there again after a restart.
+// ReadAt reads from the journal at a byte. It returns audit.ErrNotKept if that byte is pruned, or was not written again yet after a restart.
 func (s Source) ReadAt(text []byte, at int64) (int, error) {
 	n, err := s.allocator.journal.ReadAt(text, at)
 	if errors.Is(err, io.ErrUnexpectedEOF) {
@@ -61,7 +61,7 @@ func (s Source) State(ctx context.Context, message int64) ([]byte, error) {
 	return nil, nil
 }
 
-// Last returns the number of the last message, once all are there that the list had.
+// Last returns the number of the last message, once all messages are present that the list had at the start.
 func (s Source) Last() (message int64, is bool) {
 	return s.allocator.positions.last().Messages, s.allocator.Ready() == nil
 }
@@ -71,7 +71,7 @@ const (
 	archiveTime = 5 * time.Second // for which a snapshot waits for the archive
 )
 
-// waitForArchive waits until the archive has what is pruned with the next snapshot: after that, a restart cannot make it again.
+// waitForArchive waits until the archive has the messages that are pruned with the next snapshot: after that, they could not be replayed.
 func (a *Allocator) waitForArchive(ctx context.Context, upTo oplog.Position) {
 	if a.config.Archive == nil {
 		return
@@ -81,7 +81,7 @@ func (a *Allocator) waitForArchive(ctx context.Context, upTo oplog.Position) {
 	a.config.Archive.WaitFor(ctx, upTo.Messages)
 }
 
-// prunable returns the position up to which the journal is pruned, of a snapshot's: what the archive still needs is kept, up to a size.
+// prunable returns the position up to which the journal can be pruned, at most a snapshot's. What the archive still needs is kept, up to a size.
 func (a *Allocator) prunable(to oplog.Position) (messages, bytes int64) {
 	if a.config.Archive != nil {
 		messages, bytes := a.config.Archive.Needed()

@@ -1,4 +1,4 @@
-// The journal: what the allocator wrote, as it came, in one file. Outside the proof.
+// The journal: the output of the allocator, in order, in one file. Outside the proof.
 
 package allocator
 
@@ -23,8 +23,9 @@ import (
 	"golang.org/x/sys/unix"
 )
 
-// Journal is made from the list alone: each child of the allocator writes it again, from a snapshot on. Bytes are counted from the first that
-// ever was. What was answered must come again, after a restart too: the file `answered`, which is durable, has its length and digest.
+// Journal is derived from the list alone: each child of the allocator writes it again, from a snapshot on. Bytes are counted from the beginning of
+// the first journal. Bytes that were once answered to callers must be the same after a restart: the file `answered`, which is durable, has their
+// number and digest.
 type Journal struct {
 	Audit    *audit.Log      // who sent the messages
 	Settings *audit.Settings // and who set what is set
@@ -41,7 +42,7 @@ type Journal struct {
 	answered      answered
 }
 
-// answered is how much of the journal was once written, and its digest.
+// answered is how much of the journal was once answered to callers, and its digest.
 type answered struct {
 	Bytes  int64  `json:"bytes"`
 	Sha256 string `json:"sha256"`
@@ -117,7 +118,7 @@ func (j *Journal) add(block []byte) error {
 
 func (j *Journal) digest() string { return hex.EncodeToString(j.sum.Sum(nil)) }
 
-// checkWhole is called when all is written that the list had. It returns a *oplog.FatalError when more was once answered.
+// checkWhole is called when everything that the list had is written. It returns a *oplog.FatalError if more was answered before.
 func (j *Journal) checkWhole() error {
 	j.mu.RLock()
 	defer j.mu.RUnlock()
@@ -127,7 +128,7 @@ func (j *Journal) checkWhole() error {
 	return nil
 }
 
-// Mark makes durable how much is written. The file itself need not be: it is made again.
+// Mark makes durable how much is written. The journal itself need not be durable, because it can be written again.
 func (j *Journal) Mark() error {
 	j.mu.RLock()
 	now := answered{j.end, j.digest()}
@@ -172,7 +173,7 @@ func (j *Journal) Bounds() (kept, end int64, sum string) {
 	return j.kept, j.end, j.digest()
 }
 
-// ReadAt reads at a byte of the whole journal. Bytes that are pruned, or not yet there again, are an error and no early end.
+// ReadAt reads from the whole journal at a byte. Bytes that are pruned, or not written again yet, give an error and not an early end.
 func (j *Journal) ReadAt(text []byte, at int64) (int, error) {
 	j.mu.RLock()
 	defer j.mu.RUnlock()

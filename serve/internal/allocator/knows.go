@@ -27,7 +27,7 @@ func (a *Allocator) Events() []string {
 	return a.events
 }
 
-// probe asks a program which of the newer events it knows, in a run of its own that is no part of the list.
+// probe asks a program which of the newer events it knows. It does so in a separate run, whose events are not in the list.
 func probe(ctx context.Context, program string) (events []string, err error) {
 	ctx, cancel := context.WithTimeout(ctx, 10*time.Second)
 	defer cancel()

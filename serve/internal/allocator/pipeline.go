@@ -74,7 +74,7 @@ func (c *child) close() {
 	}
 }
 
-// generation is the life of one child: from a snapshot on, with all messages after it that the list has at a revision, and then those that come.
+// generation is the life of one child: it starts from a snapshot, and takes all later messages that the list has at a revision, and then new ones.
 func (a *Allocator) generation(ctx context.Context, from oplog.Snapshot, revision int64) error {
 	ctx, cancel := context.WithCancel(ctx)
 	defer cancel()
@@ -185,7 +185,7 @@ func (a *Allocator) collect(ctx context.Context, in *bufio.Reader, pipeline <-ch
 	}
 }
 
-// deliver writes what was answered to the journal, applies it to the registry, and then wakes those who wait.
+// deliver writes echoes and replies to the journal, applies them to the registry, and then wakes the callers that wait for them.
 func (a *Allocator) deliver(block []byte, done []*inFlight) error {
 	if err := a.journal.write(block); err != nil {
 		return err

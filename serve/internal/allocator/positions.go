@@ -1,4 +1,4 @@
-// The positions of the messages that were answered, and those who wait for them. Outside the proof.
+// The positions of the messages that were answered, and the callers that wait for them. Outside the proof.
 
 package allocator
 
@@ -21,7 +21,7 @@ func newPositions() *positions {
 	return &positions{fault: "starting", entries: []oplog.Position{{}}, changed: make(chan struct{})}
 }
 
-// set changes what is known, and wakes those who wait for that.
+// set replaces the positions, and wakes those who wait for a change.
 func (p *positions) set(change func()) {
 	p.mu.Lock()
 	defer p.mu.Unlock()

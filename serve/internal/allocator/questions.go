@@ -16,7 +16,7 @@ import (
 	"gateway/internal/oplog"
 )
 
-// ErrNoAnswer reports that a question was not answered: it may be asked again.
+// ErrNoAnswer reports that a question was not answered. It can be asked again.
 var ErrNoAnswer = errors.New("the allocator did not answer")
 
 const (
@@ -48,7 +48,7 @@ type question struct {
 	answer chan Answer // has room for one, and is closed without an answer when none comes
 }
 
-// NewQuestions returns the questions to an allocator. Run must be called for answers to come.
+// NewQuestions returns the questions for an allocator. Run must be called, or no answers come.
 func NewQuestions(a *Allocator) *Questions {
 	return &Questions{allocator: a, queue: make(chan *question)}
 }
@@ -108,7 +108,7 @@ func (q *Questions) Run(ctx context.Context) {
 	}
 }
 
-// gather takes the questions that wait.
+// gather takes the waiting questions.
 func (q *Questions) gather(first *question) []*question {
 	together := []*question{first}
 	for len(together) < maxTogether {
@@ -133,7 +133,7 @@ func (q *Questions) stop() {
 	atomic.StoreInt64(&q.pid, 0)
 }
 
-// answer feeds the child up to the last message, and asks it questions, of equal ones the first.
+// answer feeds the child up to the last message, and asks it questions; of equal questions only the first.
 func (q *Questions) answer(ctx context.Context, together []*question) error {
 	epoch, to := q.allocator.snapshots.epoch(), q.allocator.positions.last()
 	kept, _, _ := q.allocator.journal.Bounds()

@@ -1,4 +1,4 @@
-// Who set what is set, in etcd beside the snapshots, for a gateway that has no file of it. Outside the proof.
+// The settings and who made them, stored in etcd beside the snapshots for gateways that have no file of them. Outside the proof.
 
 package allocator
 
@@ -25,7 +25,7 @@ func (a *Allocator) shareSettings(ctx context.Context) error {
 	return nil
 }
 
-// adoptSettings adds the settings in etcd, when the gateway had no file of its own. Without them, older settings have no name.
+// adoptSettings adds the settings in etcd, if the gateway had no file of its own. Without them, older settings have no sender.
 func (a *Allocator) adoptSettings(ctx context.Context) {
 	if !a.journal.lacksSettings {
 		return

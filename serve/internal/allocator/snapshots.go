@@ -1,4 +1,4 @@
-// Snapshots: what the allocator saves and the registry has is kept as files and in etcd, and what is before them is pruned. Outside the proof.
+// Snapshots: the states of the allocator and of the registry are kept as files and in etcd, and earlier messages are pruned. Outside the proof.
 
 package allocator
 
@@ -21,8 +21,9 @@ import (
 	"gateway/internal/oplog"
 )
 
-// snapshots makes a snapshot at each marker: every gateway reaches it at the same position, and makes the same. The first one puts it into
-// etcd, the others compare. At an epoch's marker all resume from that snapshot, in which numbers begin again.
+// snapshots makes a snapshot at each marker: every gateway reaches the marker at the same position, and makes the same snapshot. The first gateway
+// puts it into etcd, and the others compare theirs with it. At an epoch's marker all gateways resume from that snapshot, in which numbers begin
+// again.
 type snapshots struct {
 	allocator *Allocator
 	making    sync.Mutex // one at a time
@@ -37,7 +38,7 @@ func (s *snapshots) path(kind string, number int) string {
 	return filepath.Join(s.allocator.config.Folder, fmt.Sprintf("%s.%08d", kind, number))
 }
 
-// arguments are the program's to begin from a snapshot.
+// arguments are the program's arguments to start from a snapshot.
 func (s *snapshots) arguments(from oplog.Snapshot) []string {
 	if from.Number == 0 {
 		return nil
@@ -45,7 +46,7 @@ func (s *snapshots) arguments(from oplog.Snapshot) []string {
 	return []string{"--from", s.path("state", from.Number)}
 }
 
-// start returns the last snapshot but one, as the replies since that are kept, or the beginning, and restores the registry from it.
+// start returns the last snapshot but one, because the replies since then are kept, or the beginning, and restores the registry from it.
 func (s *snapshots) start(ctx context.Context) (from oplog.Snapshot, revision int64, err error) {
 	found, revision, err := s.allocator.log.Snapshots(ctx)
 	var content oplog.Content
@@ -147,7 +148,7 @@ func (s *snapshots) onMarker(ctx context.Context, f *inFlight, now oplog.Positio
 	return nil
 }
 
-// adoptConverted makes the registry be what a gateway has that starts at this snapshot, where that was converted and has no registry.
+// adoptConverted gives the registry the state of a gateway that starts at this snapshot, if the snapshot was converted and has no registry.
 func (s *snapshots) adoptConverted(ctx context.Context, marked oplog.Snapshot) error {
 	found, _, err := s.allocator.log.Snapshots(ctx)
 	if err != nil {
@@ -183,11 +184,11 @@ func (s *snapshots) registryAt(marked oplog.Snapshot) ([]byte, error) {
 
 const markerKey = "state/"
 
-// shortApart is the time between snapshots while callers are refused for want of space.
+// shortApart is the time between snapshots while callers are refused because space is short.
 const shortApart = 2 * time.Second
 
-// due returns the marker that is to be appended now, if one is. As the replies before a snapshot are forgotten soon, snapshots are some time
-// apart, unless the list grows too large for that.
+// due returns the marker that is to be appended now, if there is one. Snapshots are some time apart, because the replies before a snapshot are soon
+// forgotten, unless the list grows too large for that.
 func (s *snapshots) due(now oplog.Position, at time.Time) (*oplog.Batch, bool) {
 	c := s.allocator.config
 	s.mu.Lock()
@@ -270,7 +271,7 @@ func (s *snapshots) make(ctx context.Context, marked oplog.Snapshot, registry []
 	return marked, err
 }
 
-// prune removes from etcd what is before a snapshot. The space of what was pruned the last time can then be used again.
+// prune removes from etcd what is older than a snapshot. The space of what was pruned the last time can then be used again.
 func (s *snapshots) prune(ctx context.Context, from oplog.Snapshot) error {
 	if from.Number == 0 {
 		return nil

@@ -1,4 +1,4 @@
-// Who sent what: the records of the audit. Outside the proof.
+// The records of the audit, which say who sent each message. Outside the proof.
 
 package api
 
@@ -36,7 +36,7 @@ func (q *request) audit() error {
 	return out.Encode(page)
 }
 
-// settings writes who set what the cluster has now, the newest first.
+// settings writes the cluster's current settings and who made them, the newest first.
 func (q *request) settings() error {
 	query := q.r.URL.Query()
 	for name := range query {
@@ -54,7 +54,7 @@ func (q *request) settings() error {
 	return out.Encode(map[string]interface{}{"settings": q.Journal.Settings.Find(f.Event, f.Fields, f.Limit)})
 }
 
-// auditBlocks returns the records that this gateway has: first what only its archive has, then what is beside the journal.
+// auditBlocks returns the records that this gateway has: first those that only its archive has, and then those beside the journal.
 func (q *request) auditBlocks() []audit.Block {
 	live := q.Journal.Audit.Blocks(q.Journal)
 	if q.Archive == nil {
@@ -67,7 +67,7 @@ func (q *request) auditBlocks() []audit.Block {
 	return append(q.Archive.Blocks(before), live...)
 }
 
-// auditFilter reads what records a caller asks for.
+// auditFilter reads which records a caller asks for.
 func auditFilter(query url.Values) (f audit.Filter, err error) {
 	f = audit.Filter{Name: query.Get("name"), Address: query.Get("address"), Cause: query.Get("cause"), Event: query.Get("event"), Limit: auditPage, Fields: map[string]string{}}
 	for _, field := range auditFields {

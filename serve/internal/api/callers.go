@@ -12,7 +12,7 @@ import (
 	"gateway/internal/oplog"
 )
 
-// find returns the caller that a request names by a token, if it has one.
+// find returns the caller that a request's token belongs to, if the request has a token.
 func find(callers *auth.Callers, token string, hasToken bool) (*auth.Caller, error) {
 	if !hasToken {
 		return nil, auth.ErrUnknownToken
@@ -20,7 +20,7 @@ func find(callers *auth.Callers, token string, hasToken bool) (*auth.Caller, err
 	return callers.Find(token, time.Now())
 }
 
-// unauthorized is the answer to a request without a token that is valid: why an expired one is not, or what to send.
+// unauthorized is the answer to a request without a valid token: it says that the token has expired, or what to send.
 func unauthorized(err error, what string) error {
 	expired := (*auth.ExpiredError)(nil)
 	if errors.As(err, &expired) {

@@ -1,4 +1,4 @@
-// What the service knows beside the allocator: who is silent, and the frameworks, agents and tasks of Mesos. Outside the proof.
+// What the service knows beyond the allocator: which agents are silent, and the frameworks, agents and tasks of Mesos. Outside the proof.
 
 package api
 
@@ -33,7 +33,7 @@ type Detail struct {
 	Holds []string `json:"holds,omitempty"`
 }
 
-// DetailSource returns rows in an order that stays the same while they do.
+// DetailSource returns rows, in an order that does not change while they exist.
 type DetailSource func(ctx context.Context) ([]Detail, error)
 
 // detailState is rows that some caller has, under a version that no other gateway uses.
@@ -89,7 +89,7 @@ func (c *detailCache) add(rows []string) detailState {
 	return s
 }
 
-// details writes all rows, or with ?since=VERSION what makes them of the rows of that version, as state does.
+// details writes all rows or, with ?since=VERSION, their difference from the rows of that version, as state does.
 func (q *request) details() error {
 	s, isFresh := q.server.detailed.fresh()
 	if !isFresh {

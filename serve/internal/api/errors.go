@@ -1,4 +1,4 @@
-// Errors as answers: the one place where they get statuses. Outside the proof.
+// Errors as answers: the only place where errors get statuses. Outside the proof.
 
 package api
 
@@ -20,7 +20,7 @@ import (
 	"gateway/internal/session"
 )
 
-// Values of the header Drf-Applied, which each answer to a batch has: what this request did.
+// Values of the header Drf-Applied, which each answer to a batch has: they say what this request did.
 const (
 	appliedYes     = "yes"
 	appliedNo      = "no"
@@ -45,7 +45,7 @@ func refusal(status int, format string, values ...interface{}) *answerError {
 
 func formatInt(number int64) string { return strconv.FormatInt(number, 10) }
 
-// answerTo returns the answer to an error. One that is not expected gets an id, which is in the log.
+// answerTo returns the answer to an error. An unexpected error gets an id, which is also in the log.
 func answerTo(err error) *answerError {
 	var (
 		answer      *answerError

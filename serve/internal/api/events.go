@@ -73,8 +73,8 @@ func (q *request) events() error {
 	return nil
 }
 
-// forgotten returns the answer to a batch that was applied, and whose replies are no longer here. Its number is that of its kept key, once
-// its message is pruned.
+// forgotten returns the answer to a batch that was applied and whose replies are no longer kept here. Its number is that of its kept key, once its
+// message is pruned.
 func (q *request) forgotten(ctx context.Context, key string) error {
 	number, _, err := q.Log.Kept.Find(ctx, key)
 	if err != nil {
@@ -83,7 +83,7 @@ func (q *request) forgotten(ctx context.Context, key string) error {
 	return &answerError{http.StatusGone, "these lines were applied; their replies are no longer kept", appliedYes, number, 0}
 }
 
-// key returns the key of the batch: the caller's, or one that it will not send again.
+// key returns the key of the batch: the caller's, or a new one that no caller will send again.
 func (q *request) key() (string, error) {
 	key := q.r.Header.Get("Idempotency-Key")
 	if key == "" {
@@ -104,7 +104,7 @@ func (q *request) key() (string, error) {
 	return q.by.Name + "/" + key, nil
 }
 
-// body reads the request's body. A large one waits until few others are handled; release lets the next one be.
+// body reads the request's body. A large body waits until few others are being handled; release lets the next one continue.
 func (q *request) body() (body []byte, release func(), err error) {
 	reader := http.MaxBytesReader(q.w, q.r.Body, maxBody)
 	release = func() {}
@@ -170,7 +170,7 @@ func (q *request) batch(key string, body []byte) (*oplog.Batch, error) {
 	return b, nil
 }
 
-// registers returns the kind of what an event registers or removes, or an empty text.
+// registers returns the kind of thing that an event registers or removes, or an empty text.
 func registers(event string) string {
 	switch event {
 	case "add_agent", "remove_agent":

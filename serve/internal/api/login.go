@@ -1,4 +1,4 @@
-// One-time codes: a browser gets a token for one, so that no token is in an address. Outside the proof.
+// One-time codes: a browser exchanges one for a token, so that no token is in an address. Outside the proof.
 
 package api
 
@@ -26,7 +26,7 @@ type login struct {
 	until time.Time
 }
 
-// logins has the codes that were not used yet, by their digests. They are lost with the process, and other gateways do not know them.
+// logins has the unused codes, by their digests. They are lost when the process ends, and other gateways do not know them.
 type logins struct {
 	mu    sync.Mutex
 	codes map[string]login
@@ -35,7 +35,7 @@ type logins struct {
 
 func newLogins() *logins { return &logins{codes: map[string]login{}, now: time.Now} }
 
-// create returns a code for a token, or an error when too many are not used.
+// create returns a code for a token, or an error if there are too many unused codes.
 func (l *logins) create(token string) (string, error) {
 	secret := make([]byte, 20)
 	if _, err := rand.Read(secret); err != nil {

@@ -1,4 +1,4 @@
-// Calls of other APIs, which are answered by other packages. Outside the proof.
+// Calls of other APIs, which other packages answer. Outside the proof.
 
 package api
 
@@ -11,14 +11,14 @@ import (
 	"gateway/internal/auth"
 )
 
-// mount says how a path of another API may be called.
+// mount says how a path of another API can be called.
 type mount struct {
 	methods []string
 	isOpen  bool // by anybody
 	isBelow bool // with a name after the path, which may have slashes
 }
 
-// mounts are the paths that a service may have other answers for: those of Mesos' APIs, and the link of agents.
+// mounts are the paths that other packages can answer: those of Mesos' APIs, and the link of agents.
 var mounts = map[string]mount{
 	"/api/v1/scheduler": {methods: []string{"POST"}}, Prefix + "agent-link": {methods: []string{"POST"}}, Prefix + "kill-task": {methods: []string{"POST"}}, "/api/v1": {methods: []string{"POST"}},
 	"/state": {methods: []string{"GET"}}, "/state-summary": {methods: []string{"GET"}}, "/slaves": {methods: []string{"GET"}}, "/frameworks": {methods: []string{"GET"}},
@@ -57,15 +57,16 @@ func (m mount) allows(method string) bool {
 	return false
 }
 
-// isForeign reports whether a page of another site sent a request: browsers add to it what a user entered for HTTP Basic.
+// isForeign reports whether a page of another site sent a request: browsers add the user and password that were entered for HTTP Basic to such
+// requests too.
 func isForeign(r *http.Request) bool {
 	origin := r.Header.Get("Origin")
 	from, err := url.Parse(origin)
 	return origin != "" && (err != nil || from.Host != r.Host)
 }
 
-// Call is a call of another API, of a known caller, while this gateway is in touch with the others. Where the path is open, a caller that is
-// not known has no right.
+// Call is a call of another API, by a known caller, while this gateway is connected to the others. If the path is open, an unknown caller has no
+// rights.
 type Call struct {
 	W http.ResponseWriter
 	R *http.Request
@@ -89,10 +90,10 @@ func (c *Call) Body() (body []byte, release func(), err error) { return c.body()
 // Stream counts a stream of the caller's, until release is called.
 func (c *Call) Stream() (release func(), err error) { return c.server.limiter.Stream(c.by.Name) }
 
-// Send writes a part of a stream, and reports whether it was taken in time.
+// Send writes a part of a stream, and reports whether the caller took it in time.
 func (c *Call) Send(text []byte) bool { return c.send(text) }
 
-// mounted answers a call of another API. Callers may name themselves by HTTP Basic too: the user is the token's name.
+// mounted answers a call of another API. Callers can also authenticate by HTTP Basic: the user is the token's name.
 func (s *Server) mounted(w http.ResponseWriter, r *http.Request, name string, m mount) error {
 	callers := s.callers.Load().(*auth.Callers)
 	token, hasToken := auth.BearerToken(r.Header.Get("Authorization"))

@@ -54,7 +54,7 @@ func (q *request) explain() error {
 	return nil
 }
 
-// readMetrics writes the figures. Those that the allocator must be asked for stay as they were when it does not answer.
+// readMetrics writes the figures. Those that come from the allocator stay as they were if it does not answer.
 func (q *request) readMetrics() error {
 	m := q.server.metrics
 	if q.Service == nil {

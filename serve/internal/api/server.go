@@ -1,5 +1,5 @@
-// Package api answers HTTP calls: it knows callers, paths and statuses, and nothing of how messages are stored. Outside the proof: a reply
-// line in an answer is the allocator's.
+// Package api answers HTTP calls: it knows callers, paths and statuses, but not how messages are stored. Outside the proof: each reply line in an
+// answer comes from the allocator.
 package api
 
 import (
@@ -28,7 +28,7 @@ const Prefix = "/drf/v1/"
 // patience is the time from a batch to its replies.
 const patience = 25 * time.Second
 
-// Service is what a server answers from.
+// Service is the parts of the gateway that a server needs to answer calls.
 type Service struct {
 	Name      string
 	Version   string
@@ -72,7 +72,7 @@ func New(metrics *metrics.Metrics, limiter *limit.Limiter, slots *limit.Slots) *
 	return s
 }
 
-// SetCallers replaces the callers. Streams end, and who still may comes again.
+// SetCallers replaces the callers. All streams end, and callers that still have the right can open them again.
 func (s *Server) SetCallers(callers *auth.Callers) {
 	old := s.callers.Swap(callers).(*auth.Callers)
 	if old.Replaced() != nil {
@@ -100,14 +100,14 @@ type request struct {
 	name    string // the NAME in the path, or empty
 }
 
-// call is by which method and with which right something is asked for, and what answers it.
+// call is a method and the right that it needs, and the function that answers it.
 type call struct {
 	method, right string
 	answer        func(*request) error
 	when          when
 }
 
-// when says which calls are answered by a gateway that is not ready: those that say why it is not.
+// when says which calls a gateway answers that is not ready: those that say why it is not.
 type when int
 
 const (
@@ -192,7 +192,7 @@ func (s *Server) ready() (*Service, error) {
 	return service, nil
 }
 
-// cutOff says why etcd's majority is not reached, or is empty.
+// cutOff says why the majority of etcd's members cannot be reached, or is empty.
 func (service *Service) cutOff() string {
 	if problem := service.Log.Cluster().Problem(); problem != "" {
 		return problem
@@ -203,7 +203,7 @@ func (service *Service) cutOff() string {
 	return ""
 }
 
-// IsConnected reports whether there is a service that reaches etcd's majority.
+// IsConnected reports whether there is a service that reaches the majority of etcd's members.
 func (s *Server) IsConnected() bool {
 	_, err := s.ready()
 	return err == nil
@@ -270,7 +270,7 @@ func (s *Server) HTTPServer(certificate func(*tls.ClientHelloInfo) (*tls.Certifi
 	}
 }
 
-// limitTime bounds the time that a caller may take to send the rest of its request, and to take what is written; 0 is without bound.
+// limitTime bounds the time that a caller may take to send the rest of its request, and to take what is written to it; 0 means no bound.
 func limitTime(r *http.Request, within time.Duration) {
 	until := time.Time{}
 	if within > 0 {
@@ -281,7 +281,7 @@ func limitTime(r *http.Request, within time.Duration) {
 	}
 }
 
-// write writes an answer that is as of a message.
+// write writes an answer that is valid as of a message.
 func (q *request) write(kind string, message int64, text []byte) {
 	q.w.Header().Set("Content-Type", kind)
 	q.w.Header().Set("Drf-Message", formatInt(message))

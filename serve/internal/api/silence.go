@@ -1,4 +1,5 @@
-// Callers of streams that are cut off: what is sent to them is not acknowledged, and nothing says that they are gone. Outside the proof.
+// Callers of streams whose connection is lost: nothing that is sent to them is acknowledged, and nothing reports that they are gone. Outside the
+// proof.
 
 package api
 
@@ -11,8 +12,8 @@ import (
 
 const tcpUserTimeout = 18 // TCP_USER_TIMEOUT of Linux, in milliseconds
 
-// EndWhenSilent makes the request's connection end when the other machine acknowledges nothing for a time. A stream with heartbeats then ends
-// a while after a link failed; without this, the operating system tries for a quarter of an hour.
+// EndWhenSilent closes the request's connection if the other machine acknowledges nothing for some time. So a stream with heartbeats ends soon
+// after a link failed; otherwise the operating system tries for a quarter of an hour.
 func (c *Call) EndWhenSilent(after time.Duration) error {
 	connection, _ := c.R.Context().Value(connectionKey{}).(net.Conn)
 	if secure, is := connection.(*tls.Conn); is {

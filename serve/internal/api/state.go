@@ -1,4 +1,4 @@
-// The rows of the allocator's state, whole or as the difference from a state that the caller has. Outside the proof.
+// The rows of the allocator's state, as a whole or as the difference from an earlier state that the caller has. Outside the proof.
 
 package api
 
@@ -74,7 +74,7 @@ func (c *stateCache) clear() {
 	c.states = nil
 }
 
-// state writes all rows, or with ?since=MESSAGE what makes them of the rows at that message: [FROM,COUNT] for rows that stay, and new rows.
+// state writes all rows or, with ?since=MESSAGE, their difference from the rows at that message: [FROM,COUNT] for rows that stay, and new rows.
 func (q *request) state() error {
 	since := q.r.URL.Query().Get("since")
 	if since == "" {
@@ -122,7 +122,7 @@ func (q *request) writeState(s cachedState, name string, items []string) {
 	q.write("application/json", s.message, []byte(`{"message":`+formatInt(s.message)+`,"`+name+`":[`+strings.Join(items, ",")+"]}\n"))
 }
 
-// edits returns what makes new rows of old ones: runs of old rows, as [FROM,COUNT], and rows that are not among them.
+// edits returns the difference between old and new rows: runs of old rows that stay, as [FROM,COUNT], and new rows.
 func edits(old, new []string) (items []string) {
 	index := make(map[string]int, len(old))
 	for k, row := range old {

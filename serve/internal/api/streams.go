@@ -1,4 +1,4 @@
-// Streams: replies, offers and the journal, as they come. Outside the proof.
+// Streams of replies, of offers and of the journal. Outside the proof.
 
 package api
 
@@ -21,7 +21,7 @@ func (q *request) replies() error {
 	return q.stream(func() (*registry.Subscription, []byte) { return q.Registry.SubscribeReplies(), nil })
 }
 
-// offers streams a framework's offers: those that exist, and then what comes and goes.
+// offers streams a framework's offers: those that exist, and then each that is made or ends.
 func (q *request) offers() error {
 	if !auth.IsName(q.name) || !q.by.Has("framework", q.name) && !q.by.Has("read", "") {
 		return refusal(http.StatusForbidden, "%s has no right to the offers of %q", q.by.Name, q.name)
@@ -29,7 +29,7 @@ func (q *request) offers() error {
 	return q.stream(func() (*registry.Subscription, []byte) { return q.Registry.SubscribeOffers(q.name) })
 }
 
-// stream answers with events until the caller goes, or its token does, or this gateway is cut off.
+// stream sends events until the caller disconnects, its token expires or is revoked, or this gateway is cut off.
 func (q *request) stream(subscribe func() (*registry.Subscription, []byte)) error {
 	release, err := q.server.limiter.Stream(q.by.Name)
 	if err != nil {
@@ -66,7 +66,7 @@ func (q *request) stream(subscribe func() (*registry.Subscription, []byte)) erro
 	return nil
 }
 
-// send writes a part of an answer that continues, to a caller who must take it within some time. It reports whether that was taken.
+// send writes a part of a streamed answer. The caller must take it within some time; send reports whether it did.
 func (q *request) send(text []byte) bool {
 	limitTime(q.r, q.server.inTime)
 	defer limitTime(q.r, 0)
@@ -77,7 +77,7 @@ func (q *request) send(text []byte) bool {
 	return true
 }
 
-// readJournal writes the journal from a byte on, and continues as it grows where that is asked for.
+// readJournal writes the journal from a byte on and, if that is asked for, continues as the journal grows.
 func (q *request) readJournal() error {
 	at, end, _ := q.Journal.Bounds()
 	if text := q.r.URL.Query().Get("from"); text != "" {

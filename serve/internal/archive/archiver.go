@@ -1,4 +1,4 @@
-// Writing the archive as messages come. Outside the proof.
+// Writing the archive as messages arrive. Outside the proof.
 
 package archive
 
@@ -25,7 +25,7 @@ type Config struct {
 	MaxAge  time.Duration // of messages; 0: no limit
 }
 
-// Source is where messages come from.
+// Source is where messages are read from.
 type Source interface {
 	audit.Journal
 	// Records returns some records after a message, in order.
@@ -36,7 +36,7 @@ type Source interface {
 	Last() (message int64, is bool)
 }
 
-// Status is how far an archive is.
+// Status is how far an archive has got.
 type Status struct {
 	Folder   string `json:"folder"`
 	Segment  int    `json:"segment"`  // the last one
@@ -85,17 +85,17 @@ func New(config Config) *Archiver {
 	return &Archiver{config: config, now: time.Now, write: disk.WriteFile, wake: make(chan struct{}, 1), status: Status{Folder: config.Folder, Fault: "it starts"}}
 }
 
-// Status returns how far the archive is.
+// Status returns how far the archive has got.
 func (a *Archiver) Status() Status {
 	a.mu.RLock()
 	defer a.mu.RUnlock()
 	return a.status
 }
 
-// SetSource says where messages come from, before Run is called.
+// SetSource says where messages are read from. It must be called before Run.
 func (a *Archiver) SetSource(source Source) { a.source = source }
 
-// Needed returns the position from which messages are not archived, and are needed.
+// Needed returns the position from which messages are not archived yet, and are still needed.
 func (a *Archiver) Needed() (messages, bytes int64) {
 	a.mu.RLock()
 	defer a.mu.RUnlock()
@@ -128,7 +128,7 @@ func (a *Archiver) Run(ctx context.Context) {
 	}
 }
 
-// WaitFor waits until messages up to one are archived, unless that fails: what is before a snapshot is about to be pruned.
+// WaitFor waits until messages up to one are archived, unless that fails, because messages before a snapshot are about to be pruned.
 func (a *Archiver) WaitFor(ctx context.Context, message int64) {
 	for ctx.Err() == nil && a.Status().Fault == "" {
 		if archived, _ := a.Needed(); archived >= message {
@@ -161,7 +161,7 @@ func (a *Archiver) setFault(err error) {
 // errPruned reports that lines of the open segment were pruned. It is empty then.
 var errPruned = errors.New("lines were pruned before they were archived")
 
-// step archives what came since the last one.
+// step archives the messages that arrived since the last step.
 func (a *Archiver) step(ctx context.Context) error {
 	if a.unlock == nil {
 		if err := a.openFolder(); err != nil {
@@ -225,7 +225,8 @@ func (a *Archiver) seen() int64 {
 	return a.Status().Messages
 }
 
-// isDue reports whether the open segment ends: at a snapshot, from whose state its successor can be checked, or by its size or time.
+// isDue reports whether the open segment is to end: at a snapshot, so that the next segment can be checked from its state, or because of its size
+// or age.
 func (a *Archiver) isDue() bool {
 	n := len(a.open)
 	if n == 0 {
@@ -235,7 +236,7 @@ func (a *Archiver) isDue() bool {
 	return last.Cause == "state" || last.Cause == "epoch" || a.size >= a.config.Bytes || last.At-a.open[0].At >= a.config.Every.Milliseconds()
 }
 
-// checkList returns an error when the list is not the one that was archived, as after an old backup was restored.
+// checkList returns an error if the list is not the one that was archived, for example after an old backup was restored.
 func (a *Archiver) checkList() error {
 	s := a.Status()
 	if s.Messages == 0 {

@@ -1,4 +1,4 @@
-// The folder of an archive: what is in it at a start, a new segment, and what is no longer kept. Outside the proof.
+// The folder of an archive: reading it at a start, adding a segment, and removing old ones. Outside the proof.
 
 package archive
 

@@ -12,8 +12,8 @@ import (
 	"path/filepath"
 )
 
-// Replies checks the replies in segments that follow one another: `drf check` reads the journal from its beginning, or from a state on. It
-// begins again after a gap, and where an epoch begins.
+// Replies checks the replies in consecutive segments: `drf check` reads the journal from its beginning, or from a state. The check begins again
+// after a gap, and at each epoch.
 type Replies struct {
 	Checked   int64 // messages
 	Unchecked int64 // messages before the first state, or after a gap
@@ -33,7 +33,7 @@ type checkRun struct {
 	lines    int64
 }
 
-// checkedPart is where a segment's journal begins in what a run reads.
+// checkedPart is the place of a segment's journal in the input of a run.
 type checkedPart struct {
 	name      string
 	first     int64 // line
@@ -42,10 +42,10 @@ type checkedPart struct {
 	firstLine int64 // event line
 }
 
-// NewReplies returns a check by a program, which keeps states in a folder for temporary files.
+// NewReplies returns a check with a program; states are written to a folder for temporary files.
 func NewReplies(program, folder string) *Replies { return &Replies{program: program, folder: folder} }
 
-// Add checks another segment. Errors come with the run's end.
+// Add checks another segment. Errors are returned by End.
 func (r *Replies) Add(ctx context.Context, s *Segment) error {
 	if r.run != nil && (s.From != r.last.To || r.last.Ends) {
 		if err := r.End(); err != nil {

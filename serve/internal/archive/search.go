@@ -1,4 +1,4 @@
-// Searching what is archived. Outside the proof.
+// Searching the archive. Outside the proof.
 
 package archive
 

@@ -24,8 +24,8 @@ type Report struct {
 	Sha256      string // of the last segment
 }
 
-// Verify checks the segments of a folder one after another, and calls visit with each. The error is a *DamageError for the first segment that
-// is damaged or missing, an error of reading, or visit's. Whether the last segments are missing can be told only by who knows their digests.
+// Verify checks the segments of a folder one after another, and calls visit with each. The error is a *DamageError for the first segment that is
+// damaged or missing, a read error, or visit's. If the last segments are missing, this can be noticed only by comparing with a known digest.
 func Verify(folder string, visit func(*Segment) error) (Report, error) {
 	numbers, err := list(folder)
 	if err != nil {

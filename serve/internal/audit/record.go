@@ -1,5 +1,5 @@
-// Package audit, outside the proof, keeps who sent each message: the token's name and address, the time, and how many events of which kind.
-// Records are made from the list alone, so every gateway has the same, and no reply depends on them.
+// Package audit, outside the proof, records who sent each message: the token's name and address, the time, and how many events of which kind.
+// Records are derived from the list alone, so every gateway has the same, and no reply depends on them.
 package audit
 
 import (
@@ -12,7 +12,7 @@ import (
 	"gateway/internal/registry"
 )
 
-// Record says who sent a message. It has a name, or the cause for which gateways appended the message by themselves.
+// Record says who sent a message. It has a name or, if gateways appended the message by themselves, the cause.
 type Record struct {
 	Message int64          `json:"message"`
 	At      int64          `json:"at"`                // its timestamp in milliseconds

@@ -13,15 +13,16 @@ import (
 	"gateway/internal/registry"
 )
 
-// ErrNotKept reports that records or lines are no longer kept, or not yet there again.
+// ErrNotKept reports that records or lines are no longer kept, or were not written again yet.
 var ErrNotKept = errors.New("no longer kept")
 
-// Journal is where the lines of records are: bytes are counted from the first that ever was. It returns ErrNotKept for those that are pruned.
+// Journal gives the lines of records. Bytes are counted from the beginning of the first journal. ReadAt returns ErrNotKept for bytes that are
+// pruned.
 type Journal interface {
 	ReadAt(text []byte, at int64) (int, error)
 }
 
-// Block is a number of records that are read at once.
+// Block is some records that are read together.
 type Block struct {
 	First, Last int64 // messages: records of others are passed over
 	Until       int64 // the greatest timestamp
@@ -30,7 +31,7 @@ type Block struct {
 	Read        func() ([]byte, error) // returns a line for each record
 }
 
-// Filter says which records are looked for. Empty fields do not restrict.
+// Filter says which records are searched for. Empty fields do not restrict the search.
 type Filter struct {
 	Before        int64 // messages with smaller numbers alone; 0: all
 	From, To      int64 // timestamps in milliseconds, the second one excluded
@@ -42,20 +43,20 @@ type Filter struct {
 	Limit         int               // records of a page
 }
 
-// Line is a line that was looked for, and its reply.
+// Line is a matching line and its reply.
 type Line struct {
 	Number int64           `json:"line"`
 	Text   string          `json:"text"`
 	Reply  json.RawMessage `json:"reply"`
 }
 
-// Found is a record that was looked for. Its lines are those with the event and the fields, where some were asked for.
+// Found is a matching record. If events or fields were asked for, it has only the lines that match them.
 type Found struct {
 	Record
 	Matches []Line `json:"matches,omitempty"`
 }
 
-// Page is a part of what was found, the newest first.
+// Page is a part of the result, the newest first.
 type Page struct {
 	Records []Found `json:"records"`
 	Next    int64   `json:"next,omitempty"` // Before of the next page; 0: this is the last one
@@ -148,7 +149,7 @@ func (s *search) addRecord(journal Journal, r *Record) error {
 	return nil
 }
 
-// takes reports whether a record may be looked for, as far as it says that itself.
+// takes reports whether a record can match, as far as the record itself shows.
 func (s *search) takes(r *Record) bool {
 	switch {
 	case s.From != 0 && r.At < s.From, s.To != 0 && r.At >= s.To, s.Name != "" && r.Name != s.Name, s.Address != "" && r.Address != s.Address:

@@ -1,4 +1,4 @@
-// Who set what the cluster has now: kept for as long as it is so, also when its message is pruned. Outside the proof.
+// Who made each current setting of the cluster. This is kept as long as the setting exists, even after its message is pruned. Outside the proof.
 
 package audit
 
@@ -27,7 +27,7 @@ type Setting struct {
 	Text    string `json:"text"` // of the line
 }
 
-// about says what an event sets: the kind of setting, and the fields that name it.
+// about says what an event sets: the kind of the setting, and the fields that identify it.
 type about struct {
 	kind   string
 	fields []string
@@ -46,7 +46,7 @@ const (
 	maxText     = 2_000 // bytes of a line that are kept
 )
 
-// Settings is what is set. It is a file of the gateway, and a key in etcd for gateways that have no file.
+// Settings is the current settings. They are stored in a file of the gateway, and in etcd for gateways that have no file.
 type Settings struct {
 	path string
 
@@ -119,7 +119,7 @@ func (s *Settings) dropOldest() {
 	}
 }
 
-// DropAfter drops settings of messages that the list does not have, as after an old backup was restored.
+// DropAfter drops settings of messages that the list does not have, for example after an old backup was restored.
 func (s *Settings) DropAfter(message int64) {
 	s.mu.Lock()
 	defer s.mu.Unlock()
@@ -151,7 +151,7 @@ func (s *Settings) Merge(text []byte) error {
 	return nil
 }
 
-// Save writes the file, when something changed. What is lost in a crash comes again from the list.
+// Save writes the file if something changed. Changes that are lost in a crash are read again from the list.
 func (s *Settings) Save() error {
 	s.mu.Lock()
 	isDirty := s.isDirty

@@ -1,4 +1,4 @@
-// Principals of Mesos' credentials files, who name themselves by HTTP Basic. Outside the proof.
+// Principals of Mesos' credentials files, who authenticate by HTTP Basic. Outside the proof.
 
 package auth
 
@@ -29,7 +29,7 @@ const (
 	maxSecret = 4096
 )
 
-// saltedDigest is the digest of a secret that somebody chose: it differs for each principal, and is no token's.
+// saltedDigest is the digest of a secret that a person chose: it is different for each principal, and cannot be used as a token's digest.
 func saltedDigest(salt, name, secret string) string {
 	return disk.Digest([]byte(salt + "\x00" + name + "\x00" + secret))
 }
@@ -188,7 +188,7 @@ func parseJSONCredentials(text []byte, at errorAt) (list []Credential, err error
 	return list, nil
 }
 
-// withoutOffset returns an error of the JSON reader as a text that has nothing of the file.
+// withoutOffset returns an error of the JSON reader as a text that contains nothing of the file.
 func withoutOffset(err error) string {
 	syntax, kind := (*json.SyntaxError)(nil), (*json.UnmarshalTypeError)(nil)
 	switch {

@@ -28,7 +28,7 @@ func (c *Caller) Has(right, name string) bool {
 	return false
 }
 
-// MaySend reports whether a caller may send any line at all.
+// MaySend reports whether a caller has a right to send any lines.
 func (c *Caller) MaySend() bool {
 	for _, r := range c.Rights {
 		if kind, _, _ := strings.Cut(r, ":"); kind != "read" && kind != "user" {
@@ -97,7 +97,7 @@ func encode(value interface{}) ([]byte, error) {
 	return bytes.TrimSuffix(text.Bytes(), []byte("\n")), nil
 }
 
-// mayDo judges an event, and writes what it looked at into the object again.
+// mayDo judges an event, and writes the fields that it examined into the object again.
 func (c *Caller) mayDo(kind string, object map[string]json.RawMessage) bool {
 	for _, key := range []string{"event", "agent", "framework"} {
 		if object[key] != nil {

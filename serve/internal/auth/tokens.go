@@ -185,8 +185,8 @@ func (c *Callers) Replace() { close(c.replaced) }
 // Replaced returns a channel that is closed when the file is read again.
 func (c *Callers) Replaced() <-chan struct{} { return c.replaced }
 
-// Find returns the caller with a token. It looks at every token, so that the time it takes does not depend on which it is. Errors:
-// ErrUnknownToken, *ExpiredError.
+// Find returns the caller with a token. It compares with every token, so that the time does not show which one matches. Errors: ErrUnknownToken,
+// *ExpiredError.
 func (c *Callers) Find(token string, now time.Time) (*Caller, error) {
 	found := (*Caller)(nil)
 	sum := []byte(disk.Digest([]byte(token)))

@@ -1,4 +1,5 @@
-// Package demo, outside the proof, starts a service with a simulated cluster, to look at and to try out. It removes everything at its end.
+// Package demo, outside the proof, starts a service with a simulated cluster, for people who want to try the service. At its end it removes
+// everything.
 package demo
 
 import (

@@ -33,8 +33,8 @@ func (c Config) security() transport.TLSInfo {
 	return transport.TLSInfo{CertFile: c.PeerCert, KeyFile: c.PeerKey, TrustedCAFile: c.PeerCA, ClientCertAuth: c.PeerCA != ""}
 }
 
-// Cluster has a client for each member. It asks the first one until that does not answer: a client of all members would ask one that hangs
-// each third time, for as long as the connection exists.
+// Cluster has a client for each member. It uses the first one until that member does not answer. One client for all members would send each third
+// request to a member that hangs, for as long as the connection exists.
 type Cluster struct {
 	stop       context.CancelFunc
 	isEmbedded bool
@@ -85,7 +85,7 @@ func (c *Cluster) Size(ctx context.Context) (used, file int64, err error) {
 	return answer.DbSizeInUse, answer.DbSize, nil
 }
 
-// statusOf asks a member for its status over the client's connection: the client's own call would connect again, and say again who it is.
+// statusOf asks a member for its status over the client's connection. The client's own call would connect and authenticate again.
 func statusOf(ctx context.Context, client *clientv3.Client) (*clientv3.StatusResponse, error) {
 	maintenance := clientv3.NewMaintenanceFromMaintenanceClient(clientv3.RetryMaintenanceClient(client, client.ActiveConnection()), client)
 	return maintenance.Status(ctx, client.Endpoints()[0])
@@ -121,7 +121,7 @@ func (c *Cluster) WriteSnapshot(ctx context.Context, to io.Writer) error {
 	return err
 }
 
-// Ask returns the client of the member to ask, and a context that ends after a time, or when another member is to be asked.
+// Ask returns the client of the member to ask, and a context that ends after a time, or when another member is to be used.
 func (c *Cluster) Ask(ctx context.Context, patience time.Duration) (*clientv3.Client, context.Context, context.CancelFunc) {
 	c.mu.Lock()
 	client, left := c.clients[0], c.left
@@ -150,7 +150,7 @@ func (c *Cluster) Leave(client *clientv3.Client, reason error) {
 	}
 }
 
-// watch leaves a member that does not answer what it can answer without a leader.
+// watch leaves a member that does not answer a request for which no leader is needed.
 func (c *Cluster) watch(ctx context.Context) {
 	for ctx.Err() == nil {
 		client, asked, cancel := c.Ask(ctx, 500*time.Millisecond)

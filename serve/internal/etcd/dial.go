@@ -46,7 +46,7 @@ func (c *Cluster) dial(ctx context.Context, config Config) error {
 	return nil
 }
 
-// connector returns what connects to a member.
+// connector returns the function that connects to a member.
 func connector(config Config) (func(url string) (*clientv3.Client, error), error) {
 	var security *tls.Config
 	if config.PeerCert != "" || config.PeerCA != "" {
@@ -63,7 +63,7 @@ func connector(config Config) (func(url string) (*clientv3.Client, error), error
 	}, nil
 }
 
-// connectAll connects to members, and returns those that could not be reached. The error is of a wrong address or user.
+// connectAll connects to members, and returns those that could not be reached. An error means a wrong address or user.
 func (c *Cluster) connectAll(connect func(string) (*clientv3.Client, error), urls []string, config Config) (missing []string, err error) {
 	for _, url := range urls {
 		client, err := connect(url)

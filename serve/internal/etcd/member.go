@@ -1,4 +1,4 @@
-// The etcd member inside this process: its settings, and what it lacks while it does not work. Outside the proof.
+// The etcd member inside this process: its settings, and why it does not work. Outside the proof.
 
 package etcd
 
@@ -23,7 +23,7 @@ const (
 	raftEntries   = 1_000 // applied entries after which a member writes a snapshot of its own, and those that it then still holds in memory
 )
 
-// embed starts a member in this process. Without other members it listens on no port: its one socket is in the data folder, for etcdctl.
+// embed starts a member in this process. Without other members it listens on no port: its only socket is in the data folder, for etcdctl.
 func (c *Cluster) embed(ctx context.Context, o Config) error {
 	config := embed.NewConfig()
 	config.Name, config.Dir = o.Name, filepath.Join(o.Folder, "etcd")
@@ -68,7 +68,7 @@ func (c *Cluster) embed(ctx context.Context, o Config) error {
 //go:norace
 func limitCatchUp(server *embed.Etcd) { server.Server.Cfg.SnapshotCatchUpEntries = raftEntries }
 
-// follow keeps the reason why the member does not work.
+// follow records why the member does not work.
 func (c *Cluster) follow(ctx context.Context, server *embed.Etcd, o Config) {
 	defer close(c.closed)
 	remind := time.NewTicker(10 * time.Second)
@@ -98,7 +98,7 @@ func (c *Cluster) follow(ctx context.Context, server *embed.Etcd, o Config) {
 	}
 }
 
-// closeInTime stops the member, unless that takes longer than a process may take to end.
+// closeInTime stops the member, or gives up after the time that a process has to end.
 func closeInTime(server *embed.Etcd) {
 	done := make(chan struct{})
 	go func() {

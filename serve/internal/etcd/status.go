@@ -1,4 +1,4 @@
-// What is known of each member of etcd. Outside the proof.
+// The status of each member of etcd. Outside the proof.
 
 package etcd
 
@@ -12,7 +12,7 @@ import (
 	"go.etcd.io/etcd/version"
 )
 
-// MemberStatus is what is known of a member of etcd.
+// MemberStatus is the status of a member of etcd, as far as it is known.
 type MemberStatus struct {
 	ID        string   `json:"id"`
 	Name      string   `json:"name"`
@@ -31,8 +31,7 @@ type MemberStatus struct {
 // statusPatience is the time that a member has to answer.
 const statusPatience = time.Second
 
-// Members returns what is known of each member: of the embedded one at first hand, or of an external etcd's by asking them. Members that do
-// not answer are not Reachable.
+// Members returns the status of each member: the embedded one's directly, and others' by asking them. Members that do not answer are not Reachable.
 func (c *Cluster) Members(ctx context.Context) ([]MemberStatus, error) {
 	if c.isEmbedded {
 		return c.embeddedMembers(), nil
@@ -83,7 +82,7 @@ func (c *Cluster) Members(ctx context.Context) ([]MemberStatus, error) {
 
 func idText(id uint64) string { return fmt.Sprintf("%x", id) }
 
-// embeddedMembers returns the members that the embedded one knows. It is asked directly, because its client panics where it was removed.
+// embeddedMembers returns the members that the embedded one knows. It is asked directly, because its client panics if the member was removed.
 func (c *Cluster) embeddedMembers() (found []MemberStatus) {
 	server := c.member.Server
 	for _, m := range server.Cluster().Members() {

@@ -24,7 +24,7 @@ import (
 	"gateway/internal/mesos/resources"
 )
 
-// What the allocator has room for.
+// The capacities of the allocator.
 const (
 	maxAgents     = 4096
 	maxFrameworks = 1024
@@ -34,24 +34,24 @@ const (
 	maxScalars    = 32
 	maxTasks      = 16 // of an accept
 	maxLine       = 65_536
-	// An accept has fewer tasks where their text is longer than this.
+	// If the tasks of an accept have a longer text than this, the accept has fewer tasks.
 	maxTexts = 48 << 10
 )
 
-// The smallest offer has so much of cpus or of mem, in thousandths.
+// The smallest offer has this much of cpus or of mem, in thousandths.
 const leastCPUs, leastMem = 10, 32_000
 
-// Names says which names agents and frameworks get.
+// Names says how agents and frameworks are named.
 type Names int
 
 const (
 	// ByID names agents and frameworks by their ids.
 	ByID Names = iota
-	// ByName names them by their host names and names, where these are valid and no other has the same.
+	// ByName names them by their host names and names, if these are valid and unique.
 	ByName
 )
 
-// Lines returns the event lines, in order, and what they leave out beyond what the cluster leaves out already.
+// Lines returns the event lines, in order, and what they leave out in addition to what the cluster already leaves out.
 func Lines(cluster *document.Cluster, names Names) ([]byte, []document.LeftOut) {
 	w := &writer{cluster: cluster, isAgent: make([]bool, len(cluster.Agents))}
 	w.encoder = json.NewEncoder(&w.lines)
@@ -172,7 +172,7 @@ func (w *writer) frameworks() {
 	}
 }
 
-// rolesOf returns the roles of a framework: if there are too many, those that hold something first.
+// rolesOf returns the roles of a framework. If there are too many, those in which it holds something come first.
 func rolesOf(f document.Framework) []string {
 	holds := map[string]bool{}
 	for _, h := range f.Holdings {
@@ -249,7 +249,7 @@ func count(groups []group) (tasks int) {
 	return tasks
 }
 
-// groups returns for each agent what each client holds there, at most as much as fits into one accept.
+// groups returns for each agent what each client holds there, in groups that fit into one accept.
 func (w *writer) groups() [][]group {
 	onAgent := make([][]group, len(w.cluster.Agents))
 	for k, f := range w.cluster.Frameworks {
@@ -311,7 +311,7 @@ func needsMore(total resources.Bundle, groups []group) bool {
 	return false
 }
 
-// fill lets a client hold what is in the group.
+// fill makes a client hold what is in the group.
 func (w *writer) fill(g group) {
 	name := w.frameworkNames[g.framework]
 	tasks := make([]task, len(g.holdings))

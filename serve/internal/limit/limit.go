@@ -1,4 +1,4 @@
-// Package limit bounds what one caller, and all callers together, may ask of a gateway. Outside the proof.
+// Package limit bounds how much one caller, and all callers together, can ask of a gateway. Outside the proof.
 package limit
 
 import (
@@ -7,7 +7,7 @@ import (
 	"time"
 )
 
-// Rates are the limits of each caller. A burst may have as much as some seconds allow.
+// Rates are the limits of each caller. In a burst, a caller can use as much as it could in some seconds.
 type Rates struct {
 	Requests, Bytes, Lines float64 // a second; 0 is without limit
 	Burst                  time.Duration
@@ -24,7 +24,7 @@ func (e *Error) Error() string {
 	return fmt.Sprintf("%s: try again in %v", e.What, e.RetryAfter.Round(100*time.Millisecond))
 }
 
-// Limiter keeps what each caller used.
+// Limiter records what each caller has used.
 type Limiter struct {
 	rates Rates
 	now   func() time.Time
@@ -38,7 +38,7 @@ type usage struct {
 	streams                int
 }
 
-// bucket holds what may be used at once. It may go below zero, for what is larger than a burst, and then needs time to fill.
+// bucket holds what can be used at once. A request larger than a burst makes it negative; then it needs time to fill again.
 type bucket struct {
 	level float64
 	at    time.Time

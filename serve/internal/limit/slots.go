@@ -9,7 +9,8 @@ import (
 	"time"
 )
 
-// Slots bounds how many large bodies are handled at once. A caller has at most half of them: one that sends slowly must not keep out all others.
+// Slots bounds how many large bodies are handled at once. A caller has at most half of the slots, so that one that sends slowly cannot keep out all
+// others.
 type Slots struct {
 	free chan struct{}
 	wait time.Duration
@@ -18,12 +19,12 @@ type Slots struct {
 	own map[string]chan struct{}
 }
 
-// NewSlots returns some slots, for which callers wait at most a time.
+// NewSlots returns some slots, for which callers wait for at most a given time.
 func NewSlots(count int, wait time.Duration) *Slots {
 	return &Slots{free: make(chan struct{}, count), wait: wait, own: map[string]chan struct{}{}}
 }
 
-// Take waits for a slot for a caller, which release gives back.
+// Take waits for a slot for a caller. Release returns the slot.
 func (s *Slots) Take(ctx context.Context, name string) (release func(), err error) {
 	ctx, cancel := context.WithTimeout(ctx, s.wait)
 	defer cancel()

@@ -1,5 +1,5 @@
-// Package members, outside the proof, has what each gateway and each member of etcd reports of itself, so that any gateway can say it of all.
-// No reply and no right depends on it.
+// Package members, outside the proof, has the reports of each gateway and each member of etcd, so that any gateway can show all of them. No reply
+// and no right depends on them.
 package members
 
 import (
@@ -16,7 +16,7 @@ import (
 	"go.etcd.io/etcd/clientv3"
 )
 
-// Gateway is what a gateway reports of itself, and what the one that is asked makes of it.
+// Gateway is the report of a gateway, completed by the gateway that shows it.
 type Gateway struct {
 	Name          string   `json:"name"`
 	Version       string   `json:"version"`
@@ -37,7 +37,7 @@ type Gateway struct {
 	SilentMS int64 `json:"silent_ms"` // since its last report
 }
 
-// All is what is known of all gateways and members, each in order of their names.
+// All is the reports of all gateways and members, each in order of their names.
 type All struct {
 	Gateways []Gateway           `json:"gateways"`
 	Etcd     []etcd.MemberStatus `json:"etcd"`
@@ -78,8 +78,8 @@ const (
 	latest    = 1 << 62 // is after every revision
 )
 
-// New returns the table of a gateway with a name, whose keys in etcd begin with a prefix. Own returns what this gateway reports of itself,
-// and running the names of the other gateways that run, of whatever version.
+// New returns the table of a gateway with a name, whose keys in etcd begin with a prefix. Own returns this gateway's report, and running the names
+// of the other gateways that run, of whatever version.
 func New(cluster *etcd.Cluster, prefix, name string, own func() Gateway, running func() []string) *Table {
 	return &Table{cluster: cluster, prefix: prefix, name: name, own: own, running: running, records: map[string]record{}}
 }
@@ -115,7 +115,7 @@ func (t *Table) describe(now time.Time) Gateway {
 	return g
 }
 
-// report writes what this gateway reports of itself, and reads the others' reports.
+// report writes this gateway's report, and reads the others' reports.
 func (t *Table) report(ctx context.Context, now time.Time) error {
 	client, ctx, cancel := t.cluster.Ask(ctx, 2*time.Second)
 	defer cancel()
@@ -148,7 +148,8 @@ func (t *Table) report(ctx context.Context, now time.Time) error {
 	return nil
 }
 
-// see takes a report that was read from etcd. One that was written before this gateway started is as old as it says. The lock is held.
+// see takes a report that was read from etcd. If it was written before this gateway started, its own timestamp says how old it is. The lock is
+// held.
 func (t *Table) see(name string, text []byte, revision int64, now time.Time) {
 	old, isKnown := t.records[name]
 	if isKnown && old.revision == revision {
@@ -171,7 +172,7 @@ func (t *Table) see(name string, text []byte, revision int64, now time.Time) {
 	}
 }
 
-// AllReport reports whether each gateway that runs is of a version that reports. Older ones share the list, and know less of it.
+// AllReport reports whether each running gateway has a version that writes reports. Older ones share the list, and know fewer events.
 func (t *Table) AllReport() bool {
 	names := t.running()
 	t.mu.Lock()
@@ -184,7 +185,7 @@ func (t *Table) AllReport() bool {
 	return true
 }
 
-// AllKnow reports whether the allocator of each gateway that runs knows an event. One that does not would reply otherwise than the others.
+// AllKnow reports whether the allocator of each running gateway knows an event. One that does not know it would reply differently from the others.
 func (t *Table) AllKnow(event string) bool {
 	names := t.running()
 	if own := t.own(); !own.knows(event) {
@@ -218,7 +219,7 @@ func (t *Table) Lag() int64 {
 	return atLeast(own.Lag, t.most(latest).messages-own.Messages)
 }
 
-// List returns what is known of all gateways and members.
+// List returns the reports of all gateways and members.
 func (t *Table) List() All { return t.list(time.Now()) }
 
 func (t *Table) list(now time.Time) All {

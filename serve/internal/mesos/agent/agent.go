@@ -1,5 +1,5 @@
-// Package agent runs tasks on a machine: it registers at a gateway, starts the commands that it gets, and reports what becomes of them until
-// that is acknowledged. Outside the proof.
+// Package agent runs tasks on a machine: it registers at a gateway, starts the commands that it gets, and reports their states until these are
+// acknowledged. Outside the proof.
 package agent
 
 import (
@@ -22,7 +22,7 @@ import (
 	"gateway/internal/mesos/codec"
 )
 
-// Config says what an agent is.
+// Config says how an agent runs.
 type Config struct {
 	Folder    string   // of its id and its tasks
 	Name      string   // that its id begins with
@@ -59,7 +59,7 @@ type Agent struct {
 	executors map[string]*executor
 }
 
-// New opens an agent's folder, and takes up the tasks in it.
+// New opens an agent's folder, and resumes the tasks in it.
 func New(config Config) (*Agent, error) {
 	a := &Agent{config: config, tasks: map[string]*task{}, executors: map[string]*executor{}, client: &http.Client{Transport: &http.Transport{ResponseHeaderTimeout: 25 * time.Second, MaxIdleConnsPerHost: 16}}}
 	folder, err := filepath.Abs(config.Folder) // tasks get to know it
@@ -205,7 +205,7 @@ func (a *Agent) link(ctx context.Context) error {
 	}
 }
 
-// do does what an event says.
+// do handles an event.
 func (a *Agent) do(e codec.Message) {
 	switch e.Enum("type") {
 	case "REGISTERED":
@@ -242,7 +242,7 @@ func (a *Agent) do(e codec.Message) {
 	}
 }
 
-// expect compares a task that the gateway knows with what this agent does, and reports whether it is to be started.
+// expect compares a task that the gateway knows with the tasks of this agent, and reports whether it is to be started.
 func (a *Agent) expect(one codec.Message) bool {
 	known := a.find(keyOf(one)) != nil || a.repeat(one)
 	switch {
@@ -257,7 +257,7 @@ func (a *Agent) expect(one codec.Message) bool {
 	return false
 }
 
-// endOthers kills what the gateway does not know: tasks of frameworks that were removed, or that were said to be lost.
+// endOthers kills tasks that the gateway does not know: tasks of frameworks that were removed, or that were reported as lost.
 func (a *Agent) endOthers(expected map[string]bool) {
 	a.mu.Lock()
 	var others []*task
@@ -283,8 +283,8 @@ func (a *Agent) find(key string) *task {
 	return a.tasks[key]
 }
 
-// report sends a status until a gateway acknowledges it; from then on the service repeats it. One that no gateway takes, as too many wait for
-// the framework, is skipped when the task has ended: its end does not wait.
+// report sends a status until a gateway acknowledges it; from then on the service repeats it. A status is skipped if no gateway takes it because
+// too many are waiting for the framework and the task has ended, so that the report of the end is not delayed.
 func (a *Agent) report(ctx context.Context, t *task, status codec.Message) bool {
 	call := a.call("UPDATE").Set("framework_id.value", t.framework).Set("launch", t.launch).Set("status", status)
 	return a.sendUnless(ctx, call, func(err error) bool {

@@ -14,7 +14,7 @@ import (
 	"time"
 )
 
-// probes are calls that change nothing, by the right that a gateway asks for them.
+// probes are calls that change nothing, by the right that a gateway requires for them.
 var probes = map[string]string{"read": `{"type":"GET_VERSION"}`, "operate": `{"type":"UPDATE_WEIGHTS","update_weights":{}}`}
 
 const (
@@ -37,7 +37,7 @@ func NewAuthorizer(a *Agent) *Authorizer {
 	return &Authorizer{agent: a, slots: make(chan bool, maxAsked), known: map[[32]byte]time.Time{}}
 }
 
-// Denied is why a caller may not ask: the gateway's answer.
+// Denied is why a caller has no right: the gateway's answer.
 type Denied struct {
 	Status int
 	Text   string
@@ -45,7 +45,8 @@ type Denied struct {
 
 func (d *Denied) Error() string { return d.Text }
 
-// Check returns nil when a caller, by the header Authorization, has a right; a *Denied when not; or another error when no gateway answers.
+// Check returns nil if a caller, identified by the header Authorization, has a right; a *Denied if it has not; or another error if no gateway
+// answers.
 func (z *Authorizer) Check(ctx context.Context, authorization, right string) error {
 	if authorization == "" {
 		return &Denied{http.StatusUnauthorized, "no known principal: send HTTP Basic with a token's name and the token, or `Authorization: Bearer TOKEN`"}

@@ -22,10 +22,10 @@ import (
 	"gateway/internal/mesos/codec"
 )
 
-// localhost is where a task's ports are.
+// localhost is the address of a task's ports.
 const localhost = "127.0.0.1"
 
-// checked is what the checks of a command have found so far.
+// checked is the result of a command's checks so far.
 type checked struct {
 	Count  int    `json:"count"`             // of changes
 	Reason string `json:"reason"`            // of the last change
@@ -77,7 +77,7 @@ func (c *checks) end() {
 
 func seconds(value float64) time.Duration { return time.Duration(value * float64(time.Second)) }
 
-// wait waits, and reports whether the context has not ended. Checks without an interval leave others some time.
+// wait waits, and reports whether the context is still valid. Checks without an interval wait for some time, so that others can run.
 func wait(ctx context.Context, d time.Duration) bool {
 	if d < 20*time.Millisecond {
 		d = 20 * time.Millisecond
@@ -124,7 +124,7 @@ func (c *checks) runHealthCheck(ctx context.Context, check codec.Message) {
 
 func boolean(value bool) *bool { return &value }
 
-// set changes what was found, durably.
+// set stores a changed result durably.
 func (f *checked) set(c *checks, reason string, change func(*checked)) {
 	c.mu.Lock()
 	defer c.mu.Unlock()
@@ -159,7 +159,7 @@ func (c *checks) healthError(ctx context.Context, check codec.Message) error {
 	return dial(ctx, timeout, check.Uint("tcp.port"))
 }
 
-// runCheck reports each result that differs from the one before. One that could not be found out is empty.
+// runCheck reports each result that differs from the one before. A result that could not be determined is empty.
 func (c *checks) runCheck(ctx context.Context, check codec.Message) {
 	defer c.done.Done()
 	last := string(emptyCheckStatus(check).Protobuf())
@@ -194,7 +194,7 @@ func emptyCheckStatus(check codec.Message) codec.Message {
 	return status
 }
 
-// run runs a command as the task's own is run, and returns its exit code. Its output goes to the task's stderr.
+// run runs a command in the same way as the task's own, and returns its exit code. Its output goes to the task's stderr.
 func (c *checks) run(ctx context.Context, timeout float64, info codec.Message) (int, error) {
 	command, err := c.s.process.commandOf(info, c.s.sandbox())
 	if err != nil {
@@ -230,7 +230,7 @@ func (c *checks) run(ctx context.Context, timeout float64, info codec.Message) (
 	return 0, err
 }
 
-// get returns the status of an answer, where redirections end. Certificates are not checked, as by Mesos.
+// get returns the status of an answer, after following redirections. As in Mesos, certificates are not checked.
 func get(ctx context.Context, timeout float64, scheme string, port uint64, path string) (int, error) {
 	transport := &http.Transport{TLSClientConfig: &tls.Config{InsecureSkipVerify: true}, DisableKeepAlives: true}
 	client := &http.Client{Transport: transport, Timeout: seconds(timeout)}

@@ -24,7 +24,7 @@ import (
 // maxCall is the size of a call of an executor.
 const maxCall = 16 << 20
 
-// httpError is an answer with an error's status. The texts are Mesos'.
+// httpError is an answer with an error status. The texts are those of Mesos.
 type httpError struct {
 	status int
 	text   string
@@ -45,7 +45,7 @@ type peer struct {
 
 type peerKey struct{}
 
-// listen opens the port of executors. It stays the same after a restart, as executors that run know it.
+// listen opens the port for executors. It stays the same after a restart, because running executors know it.
 func (a *Agent) listen() (net.Listener, error) {
 	path := filepath.Join(a.config.Folder, "executor-port")
 	text, _ := os.ReadFile(path)
@@ -177,8 +177,8 @@ func validate(call codec.Message) error {
 	return nil
 }
 
-// callingExecutor returns the executor that a call is of. It has that executor's token, or where it has none, one of the executor's processes
-// sent it.
+// callingExecutor returns the executor that sends a call: the call has that executor's token or, if the executor has no token, was sent by one of
+// its processes.
 func (a *Agent) callingExecutor(r *http.Request, call codec.Message) (*executor, error) {
 	framework, id := call.Text("framework_id.value"), call.Text("executor_id.value")
 	var found *executor
@@ -211,7 +211,7 @@ func (a *Agent) callingExecutor(r *http.Request, call codec.Message) (*executor,
 	return found, nil
 }
 
-// isOf reports whether a process of an executor has the other end.
+// isOf reports whether the other end belongs to a process of an executor.
 func (p *peer) isOf(e *executor) bool {
 	p.mu.Lock()
 	defer p.mu.Unlock()
@@ -267,7 +267,7 @@ func (a *Agent) subscribeExecutor(w http.ResponseWriter, r *http.Request, e *exe
 	}
 }
 
-// report hands a message to the framework of an executor; as by Mesos, nobody promises that it arrives.
+// report passes a message to the framework of an executor. As in Mesos, delivery is not guaranteed.
 func (e *executor) report(data []byte) {
 	select {
 	case e.outbox <- data:
@@ -275,7 +275,7 @@ func (e *executor) report(data []byte) {
 	}
 }
 
-// sendMessages sends what an executor has for its framework, in order.
+// sendMessages sends the messages of an executor to its framework, in order.
 func (a *Agent) sendMessages(ctx context.Context, e *executor) {
 	for {
 		select {

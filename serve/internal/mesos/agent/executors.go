@@ -72,7 +72,7 @@ func (a *Agent) takeUpExecutor(folder string) error {
 	return err
 }
 
-// adopt gives executors the tasks that they had before a restart of the agent's program.
+// adopt gives executors the tasks that they had before the agent's program was restarted.
 func (a *Agent) adopt() {
 	queued := map[string][]*task{}
 	for _, t := range a.tasks {
@@ -98,7 +98,7 @@ func (a *Agent) adopt() {
 	}
 }
 
-// startByExecutor hands tasks to their executor, which is started where there is none.
+// startByExecutor passes tasks to their executor, which is started if it does not run.
 func (a *Agent) startByExecutor(list []codec.Message) {
 	var tasks []*task
 	for _, one := range list {
@@ -188,7 +188,7 @@ func mesosDuration(d time.Duration) string {
 	return fmt.Sprintf("%dns", d.Nanoseconds())
 }
 
-// tend waits for the end of an executor, ends one that does not subscribe in time, and reports its end when those of its tasks are reported.
+// tend waits for the end of an executor, ends one that does not subscribe in time, and reports its end after those of its tasks.
 func (a *Agent) tend(ctx context.Context, e *executor) {
 	ctx, cancel := context.WithCancel(ctx)
 	defer cancel()
@@ -253,7 +253,7 @@ func (e *executor) setReason(reason, why string) {
 	}
 }
 
-// dueToEnd reports whether an executor is to be killed: one that did not subscribe, or did not end, in time.
+// dueToEnd reports whether an executor is to be killed, because it did not subscribe or did not end in time.
 func (e *executor) dueToEnd(registration time.Duration) (grace time.Duration, isDue bool) {
 	e.mu.Lock()
 	defer e.mu.Unlock()
@@ -295,7 +295,7 @@ func (e *executor) close(how exit) {
 	failAll(tasks, "TASK_FAILED", reason, why)
 }
 
-// run hands tasks to an executor: now where it is subscribed, or else when it subscribes.
+// run passes tasks to an executor: at once if it is subscribed, or else when it subscribes.
 func (e *executor) run(tasks []*task) {
 	e.mu.Lock()
 	defer e.mu.Unlock()
@@ -310,14 +310,14 @@ func (e *executor) run(tasks []*task) {
 	}
 }
 
-// shutDown asks an executor to end. It is killed when it does not in time.
+// shutDown asks an executor to end. It is killed if it does not end in time.
 func (e *executor) shutDown() {
 	e.mu.Lock()
 	defer e.mu.Unlock()
 	e.beginEnd()
 }
 
-// beginEnd is called with the lock held.
+// beginEnd asks an executor to end, once, and records when. The lock is held.
 func (e *executor) beginEnd() {
 	if e.ending.IsZero() {
 		e.ending = time.Now()
@@ -325,7 +325,7 @@ func (e *executor) beginEnd() {
 	}
 }
 
-// killByExecutor asks an executor to end a task. One that it did not get is ended at once, with its group.
+// killByExecutor asks an executor to end a task. A task that the executor did not get yet is ended at once, with its group.
 func (a *Agent) killByExecutor(t *task, one codec.Message) {
 	a.mu.Lock()
 	e := a.executors[t.runner]
@@ -363,7 +363,7 @@ func (a *Agent) findExecutor(framework, id string) (found *executor) {
 	return found
 }
 
-// endOtherExecutors shuts down what the gateway does not know, such as executors of frameworks that were removed.
+// endOtherExecutors shuts down executors that the gateway does not know, such as those of frameworks that were removed.
 func (a *Agent) endOtherExecutors(expected map[string]bool) {
 	a.mu.Lock()
 	var others []*executor
@@ -379,7 +379,7 @@ func (a *Agent) endOtherExecutors(expected map[string]bool) {
 	}
 }
 
-// expectExecutor shuts an executor down where the gateway says so. The end of one that is not here is reported.
+// expectExecutor shuts an executor down if the gateway asks for that. If the executor is not here, its end is reported.
 func (a *Agent) expectExecutor(one codec.Message) {
 	a.mu.Lock()
 	e := a.executors[filepath.Base(executorFolder(a, one))]

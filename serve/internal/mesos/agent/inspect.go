@@ -1,4 +1,4 @@
-// What operators see of an agent: its tasks and executors, those that run and those whose folders are kept. Outside the proof.
+// What operators see of an agent: its tasks and executors that run, and those whose folders are kept. Outside the proof.
 
 package agent
 
@@ -11,7 +11,7 @@ import (
 	"gateway/internal/mesos/codec"
 )
 
-// States of a task on its way.
+// States of a task on the agent.
 const (
 	Queued     = iota // its executor did not get it yet
 	Launched          // it runs, or is about to
@@ -114,7 +114,7 @@ func (a *Agent) see(t *task, one codec.Message) Seen {
 	return seen
 }
 
-// seeUpdates looks at the statuses of a task that an executor runs.
+// seeUpdates reads the statuses of a task that an executor runs.
 func (t *task) seeUpdates(seen *Seen) {
 	isOver := false
 	seen.Status, isOver = t.lastUpdate()
@@ -126,7 +126,7 @@ func (t *task) seeUpdates(seen *Seen) {
 	}
 }
 
-// seeCommand looks at the files of a command. It changes nothing.
+// seeCommand reads the files of a command. It changes nothing.
 func (t *task) seeCommand(seen *Seen) {
 	t.mu.Lock()
 	seen.Status = t.rejected

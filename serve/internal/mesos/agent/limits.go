@@ -1,4 +1,4 @@
-// Limits of processors and memory by cgroup v2: each process that has a supervisor has a group. Outside the proof.
+// Limits of processors and memory by cgroup v2: each supervised process has a group. Outside the proof.
 
 package agent
 
@@ -26,8 +26,8 @@ const (
 	controller = "+cpu +memory"
 )
 
-// FindCgroups returns the folder in which groups can be made: that of a flag, or the usual one for "auto". It returns nothing for "none", and
-// for "auto" where limits cannot be set, with the reason.
+// FindCgroups returns the folder in which groups can be made: that of a flag, or the usual one for "auto". It returns nothing for "none", and, with
+// the reason, for "auto" if limits cannot be set.
 func FindCgroups(flag string) (folder string, reason error, err error) {
 	switch flag {
 	case "none":
@@ -41,7 +41,7 @@ func FindCgroups(flag string) (folder string, reason error, err error) {
 	return flag, nil, prepareCgroups(flag)
 }
 
-// prepareCgroups makes the folder of groups, and lets its groups have limits.
+// prepareCgroups makes the folder of groups, and allows limits in it.
 func prepareCgroups(folder string) error {
 	parent := filepath.Dir(folder)
 	if hasControllers(folder) != nil {
@@ -110,7 +110,7 @@ func (a *Agent) newCgroup(key string, cpus, mem float64) (cgroup, error) {
 	return g, nil
 }
 
-// limit sets limits, of memory in MiB. As by Mesos, memory in use is not taken away.
+// limit sets limits, of memory in MiB. As in Mesos, memory in use is not taken away.
 func (g cgroup) limit(cpus, mem float64) error {
 	if g == "" {
 		return nil
@@ -131,7 +131,7 @@ func (g cgroup) limit(cpus, mem float64) error {
 	return g.write("memory.max", strconv.FormatInt(bytes, 10))
 }
 
-// enter starts something in the group: the supervisor is in it meanwhile, so that nothing is ever outside.
+// enter starts something in the group: the supervisor is in the group meanwhile, so that no process is ever outside of it.
 func (g cgroup) enter(start func() error) error {
 	if g == "" {
 		return start()
@@ -197,7 +197,7 @@ func (a *Agent) startIn(s supervised, p *process, user string, cpus, mem float64
 	return s.start(a.config.Program, p)
 }
 
-// limit gives an executor what it and its tasks use. The lock is held.
+// limit gives an executor the resources of the executor and its tasks. The lock is held.
 func (e *executor) limit() {
 	group := e.cgroup()
 	if group == "" {

@@ -11,7 +11,7 @@ import (
 	"time"
 )
 
-// output writes what comes out of a pipe to a file. Where that would become too large, it is renamed to NAME.1, which becomes NAME.2, and so on.
+// output writes the output of a pipe to a file. When the file would become too large, it is renamed to NAME.1, which becomes NAME.2, and so on.
 type output struct {
 	process *process
 	path    string
@@ -74,7 +74,7 @@ func (all *outputs) end() {
 	}
 }
 
-// Write never fails, so that a full disk does not stop a task: what cannot be written is lost.
+// Write never fails, so that a full disk does not stop a task. Output that cannot be written is lost.
 func (o *output) Write(text []byte) (int, error) {
 	if o.size > 0 && o.size+int64(len(text)) > o.process.OutputBytes {
 		o.rotate()
@@ -84,7 +84,7 @@ func (o *output) Write(text []byte) (int, error) {
 	return len(text), nil
 }
 
-// rotate begins a new file. Where the old one cannot be renamed, what it has is lost.
+// rotate begins a new file. If the old file cannot be renamed, its content is lost.
 func (o *output) rotate() {
 	name := func(k int) string {
 		if k == 0 {

@@ -1,4 +1,4 @@
-// What /proc says of processes. Outside the proof.
+// Reads /proc about processes. Outside the proof.
 
 package agent
 
@@ -11,7 +11,7 @@ import (
 	"strings"
 )
 
-// bootID names the time since this machine started: numbers of processes are used again after that.
+// bootID identifies the current boot of this machine: process numbers are used again after the next one.
 func bootID() string {
 	text, _ := os.ReadFile("/proc/sys/kernel/random/boot_id")
 	return strings.TrimSpace(string(text))
@@ -64,7 +64,7 @@ func processesOf(is func(procStat) bool) (pids []int) {
 	return pids
 }
 
-// descendants returns the processes that a process started, and those that they started.
+// descendants returns the processes that a process started, directly and indirectly.
 func descendants(pid int) (pids []int) {
 	children := map[int][]procStat{}
 	for _, about := range allProcesses() {
@@ -78,7 +78,7 @@ func descendants(pid int) (pids []int) {
 	return pids
 }
 
-// isPeer reports whether something that a supervisor runs has the other end of a connection on this machine.
+// isPeer reports whether a process below a supervisor has the other end of a connection on this machine.
 func isPeer(conn net.Conn, supervisor int) bool {
 	local, isTCP := conn.LocalAddr().(*net.TCPAddr)
 	remote, _ := conn.RemoteAddr().(*net.TCPAddr)

@@ -1,4 +1,4 @@
-// What a supervisor runs: a command with its sandbox and its environment. Outside the proof.
+// The process that a supervisor runs: a command with its sandbox and its environment. Outside the proof.
 
 package agent
 
@@ -51,7 +51,7 @@ func processOf(one codec.Message, sandbox string) *process {
 		Environment: append(environment(sandbox, one.Text("framework_id.value"), info.Text("agent_id.value"), executor), "MESOS_TASK_ID="+task)}
 }
 
-// environment returns what Mesos sets for every process of a framework.
+// environment returns the variables that Mesos sets for every process of a framework.
 func environment(sandbox, framework, agent, executor string) []string {
 	return []string{"PATH=" + os.Getenv("PATH"), "MESOS_SANDBOX=" + sandbox, "MESOS_DIRECTORY=" + sandbox, "MESOS_FRAMEWORK_ID=" + framework,
 		"MESOS_AGENT_ID=" + agent, "MESOS_SLAVE_ID=" + agent, "MESOS_EXECUTOR_ID=" + executor, "LIBPROCESS_PORT=0"}

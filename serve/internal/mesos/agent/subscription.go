@@ -1,4 +1,4 @@
-// Streams of executors: what they get, in order. Outside the proof.
+// Streams of executors: the events that they get, in order. Outside the proof.
 
 package agent
 
@@ -15,7 +15,7 @@ type subscription struct {
 	over   chan struct{} // closed when it is to end
 }
 
-// push gives an executor an event, if it is subscribed. An executor that does not read ends its stream. The lock is held.
+// push gives an executor an event, if it is subscribed. If the executor does not read, its stream is ended. The lock is held.
 func (e *executor) push(event codec.Message) {
 	if e.stream == nil {
 		return
@@ -51,8 +51,8 @@ func (e *executor) leave(s *subscription) {
 	}
 }
 
-// subscribe gives an executor a stream, or returns nil where it has ended. What it got before and did not answer is compared with what it
-// says that it has: a task that it never got is dropped, as by Mesos.
+// subscribe gives an executor a stream, or returns nil if the executor has ended. The tasks that it got before and did not answer are compared with
+// those that it says it has. As in Mesos, a task that it never got is dropped.
 func (e *executor) subscribe(call, agentInfo codec.Message) *subscription {
 	e.mu.Lock()
 	defer e.mu.Unlock()
@@ -95,7 +95,8 @@ func (e *executor) subscribe(call, agentInfo codec.Message) *subscription {
 	return one
 }
 
-// sendQueue sends tasks that wait for their executor. That they were sent is durable before: they are not sent twice. The lock is held.
+// sendQueue sends tasks that wait for their executor. It stores durably that they were sent before it sends them, so that they are not sent twice.
+// The lock is held.
 func (e *executor) sendQueue() {
 	queue := e.queue
 	e.queue = nil
@@ -131,7 +132,8 @@ func (e *executor) markSent(tasks []*task) error {
 	return nil
 }
 
-// take stores a status, and acknowledges it to the executor. One of a task that has ended or is not known is acknowledged too. The lock is held.
+// take stores a status, and acknowledges it to the executor. A status of a task that has ended or is not known is acknowledged too. The lock is
+// held.
 func (e *executor) take(status codec.Message) error {
 	uuid := status.Bytes("uuid")
 	if t := e.sent[status.Text("task_id.value")]; t != nil {
@@ -154,7 +156,7 @@ func (e *executor) update(status codec.Message) error {
 	return e.take(status)
 }
 
-// tell gives an executor a message of its framework; as by Mesos, nobody promises that it arrives.
+// tell gives an executor a message of its framework. As in Mesos, delivery is not guaranteed.
 func (e *executor) tell(data []byte) {
 	e.mu.Lock()
 	defer e.mu.Unlock()

@@ -1,5 +1,5 @@
-// The supervisor of a process: a process of its own, so that what it runs outlives the agent's program, and its exit is not lost. Outside
-// the proof.
+// The supervisor of a process. It is a separate process, so that what it runs outlives the agent's program, and its exit status is not lost.
+// Outside the proof.
 
 package agent
 
@@ -23,7 +23,8 @@ import (
 	"gateway/internal/disk"
 )
 
-// supervisor runs a process, and all that this starts: what loses its parent becomes the supervisor's child, so it is found in the end.
+// supervisor runs a process and its descendants: a process that loses its parent becomes the supervisor's child, so the supervisor can find all of
+// them in the end.
 type supervisor struct {
 	supervised
 	process *process
@@ -34,8 +35,8 @@ type supervisor struct {
 	own map[int]bool // children that a call of Wait waits for
 }
 
-// Supervise runs the process of a folder, and writes how it ended. SIGTERM ends the process: first gently, and after its time of grace for
-// good. The folder's lock, which the agent took, is inherited: whoever finds it free knows that the process does not run.
+// Supervise runs the process of a folder, and writes how it ended. SIGTERM ends the process: first gently, and after its time of grace by SIGKILL.
+// The supervisor inherits the folder's lock, which the agent took: if the lock is free, the process does not run.
 func Supervise(folder string) error {
 	s := &supervisor{supervised: supervised{folder}, process: &process{}, signals: make(chan os.Signal, 64), own: map[int]bool{}}
 	signal.Notify(s.signals, syscall.SIGTERM, syscall.SIGINT, syscall.SIGHUP, syscall.SIGCHLD)
@@ -91,7 +92,7 @@ func (s *supervisor) run() exit {
 	return ended
 }
 
-// wait waits until a command has ended, which signals may ask for, and its health check.
+// wait waits until a command has ended, possibly because of a signal or its health check.
 func (s *supervisor) wait(command *exec.Cmd, isUnhealthy <-chan struct{}) (ended exit) {
 	group, done := -command.Process.Pid, make(chan struct{})
 	go func() {
@@ -152,7 +153,7 @@ func (s *supervisor) forget(pid int) {
 	delete(s.own, pid)
 }
 
-// reap takes the exits of processes that lost their parents.
+// reap collects the exit statuses of processes that lost their parents.
 func (s *supervisor) reap() {
 	s.mu.Lock()
 	defer s.mu.Unlock()
@@ -167,7 +168,7 @@ func (s *supervisor) reap() {
 	}
 }
 
-// killDescendants kills what the command left behind, until nothing is left.
+// killDescendants kills all processes that remain of the command.
 func (s *supervisor) killDescendants() {
 	for end := time.Now().Add(10 * time.Second); time.Now().Before(end); time.Sleep(5 * time.Millisecond) {
 		left := descendants(os.Getpid())

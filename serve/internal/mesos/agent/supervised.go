@@ -1,5 +1,5 @@
-// Folders of processes: of a task, or of an executor. Each process has a supervisor, so that it is started once and its exit is not lost,
-// whatever becomes of the agent's program. Outside the proof.
+// Folders of processes: of a task, or of an executor. Each process has a supervisor, so that it is started once and its exit status is not lost,
+// even if the agent's program ends. Outside the proof.
 
 package agent
 
@@ -35,7 +35,7 @@ func (s supervised) number(name string) int {
 	return number
 }
 
-// start starts the supervisor. The lock is taken before and inherited, so it is free only when no supervisor runs.
+// start starts the supervisor. The supervisor inherits the lock, which was taken before, so the lock is free only when no supervisor runs.
 func (s supervised) start(program []string, p *process) error {
 	text, err := json.Marshal(p)
 	if err != nil {

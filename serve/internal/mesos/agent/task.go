@@ -1,4 +1,4 @@
-// Tasks: each has a folder, so that it is started once and its end is reported, whatever becomes of the agent's program. Outside the proof.
+// Tasks: each has a folder, so that it is started once and its end is reported, even if the agent's program ends. Outside the proof.
 
 package agent
 
@@ -110,7 +110,7 @@ func (a *Agent) takeUp(folder string) error {
 	return nil
 }
 
-// repeat reports the end of a task again which a gateway acknowledged and does not know, as after the restore of an old backup.
+// repeat reports the end of a task again, if a gateway had acknowledged it but does not know it, for example after an old backup was restored.
 func (a *Agent) repeat(one codec.Message) bool {
 	folder := filepath.Join(a.config.Folder, "tasks", keyOf(one))
 	t := newTask(folder, one)
@@ -193,7 +193,7 @@ func (a *Agent) start(one codec.Message) {
 	go a.watch(context.Background(), t)
 }
 
-// kill ends a task. One that never arrived is killed before it starts.
+// kill ends a task. A task that has not arrived yet is killed before it starts.
 func (a *Agent) kill(one codec.Message) {
 	t := a.find(keyOf(one))
 	switch {
@@ -206,8 +206,8 @@ func (a *Agent) kill(one codec.Message) {
 	}
 }
 
-// reject reports the end of a task that does not run. It keeps its folder, so it is not started later. Where there is no room for the folder of a
-// command, the report alone says that it ended.
+// reject reports the end of a task that does not run. It keeps the task's folder, so that the task is not started later. If there is no room for
+// the folder of a command, only the report says that it ended.
 func (a *Agent) reject(one codec.Message, state, reason, message string) {
 	t, err := a.add(one)
 	if err != nil {
@@ -240,14 +240,14 @@ func (a *Agent) reject(one codec.Message, state, reason, message string) {
 	go a.watch(context.Background(), t)
 }
 
-// status returns a status. The same step of a task has the same uuid, so one that is sent again is known.
+// status returns a status. The same step of a task has the same uuid, so a status that is sent again is recognized.
 func (t *task) status(step, state string) codec.Message {
 	sum := sha256.Sum256([]byte(t.framework + "/" + t.key + "/" + step))
 	return codec.New("mesos.TaskStatus").Set("task_id.value", t.id).Set("state", state).Set("source", "SOURCE_EXECUTOR").Set("uuid", sum[:16]).
 		Set("executor_id.value", t.executor).Set("timestamp", float64(time.Now().UnixMilli())/1000)
 }
 
-// watch reports what becomes of a task, until its end is taken.
+// watch reports the steps of a task, until its end is acknowledged.
 func (a *Agent) watch(ctx context.Context, t *task) {
 	if t.isRunBy {
 		a.watchUpdates(ctx, t)
@@ -315,7 +315,7 @@ func (t *task) current(reported string) (step string, status codec.Message) {
 
 func (t *task) hasChecks() bool { return t.info.Has("health_check") || t.info.Has("check") }
 
-// running returns the status of a command that runs. When its checks find something else, it is another one.
+// running returns the status of a command that runs. When its checks have a new result, it is a new status.
 func (t *task) running(found checked) codec.Message {
 	step := "running"
 	if found.Count > 0 {

@@ -1,5 +1,5 @@
-// Statuses of the tasks of custom executors: they are durable before their executor knows that they were taken, and are reported in order.
-// Outside the proof.
+// Statuses of the tasks of custom executors: they are durable before they are acknowledged to the executor, and are reported in order. Outside the
+// proof.
 
 package agent
 

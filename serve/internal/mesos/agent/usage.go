@@ -1,4 +1,4 @@
-// What processes use, as /proc and their cgroups say. Outside the proof.
+// The resource usage of processes, read from /proc and their cgroups. Outside the proof.
 
 package agent
 
@@ -22,8 +22,8 @@ type Usage struct {
 	ThrottledFor       float64 // seconds
 }
 
-// Usage returns what the processes below a supervisor use now, whose sandbox is below the work folder. Without a cgroup, processes that ended
-// count in their parents' times, as far as these waited.
+// Usage returns the current usage of the processes below a supervisor, whose sandbox is below the work folder. Without a cgroup, processes that
+// ended count in their parents' times, as far as these waited for them.
 func (a *Agent) Usage(sandbox string, supervisor int) (u Usage) {
 	for _, pid := range descendants(supervisor) {
 		u.add(pid)
@@ -53,7 +53,7 @@ func (a *Agent) Usage(sandbox string, supervisor int) (u Usage) {
 	return u
 }
 
-// ticks is how often a second the kernel counts times in /proc, on all machines of Linux.
+// ticks is the frequency at which the kernel counts times in /proc, on all machines with Linux.
 const ticks = 100
 
 // add adds a process: of /proc/PID/stat the times of the process and of children that it waited for, its threads and its resident pages.

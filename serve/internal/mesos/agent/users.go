@@ -1,4 +1,4 @@
-// Users that tasks run as, where the agent is root. Outside the proof.
+// The users as which tasks run, if the agent is root. Outside the proof.
 
 package agent
 
@@ -49,7 +49,7 @@ func findAccount(name string) (*account, error) {
 	return a, nil
 }
 
-// credential returns what a process of a user runs with, or nil for the agent's own.
+// credential returns the credential with which a process of a user runs, or nil for the agent's own user.
 func (a *account) credential() *syscall.Credential {
 	if a == nil {
 		return nil
@@ -57,8 +57,8 @@ func (a *account) credential() *syscall.Credential {
 	return &syscall.Credential{Uid: a.UID, Gid: a.GID, Groups: a.Groups}
 }
 
-// accountFor returns the user that a process is to run as, and gives it the sandbox: nil where the agent does not change users. The gateway
-// named only a user that the framework may run as.
+// accountFor returns the user as which a process is to run, and gives it the sandbox; or nil if the agent does not change users. The gateway only
+// names users as which the framework may run tasks.
 func (a *Agent) accountFor(name, sandbox string) (*account, error) {
 	if !a.config.SwitchUser {
 		return nil, nil
@@ -81,7 +81,7 @@ func (a *Agent) accountFor(name, sandbox string) (*account, error) {
 	return found, os.Chown(sandbox, int(found.UID), int(found.GID))
 }
 
-// openOutput opens a file for output in a sandbox. Whoever owns the sandbox may have put something else there, which is not followed.
+// openOutput opens a file for output in a sandbox. The owner of the sandbox may have put a link there, which is not followed.
 func (p *process) openOutput(path string) (*os.File, error) {
 	file, err := os.OpenFile(path, os.O_CREATE|os.O_APPEND|os.O_WRONLY|syscall.O_NOFOLLOW|syscall.O_NONBLOCK, 0o644)
 	if err != nil || p.User == nil {
@@ -104,8 +104,8 @@ func (p *process) openOutput(path string) (*os.File, error) {
 	return file, nil
 }
 
-// Fetch fetches the URIs of the command that it reads, into a folder. It is a process of its own where the command runs as another user, so it
-// reads and writes what that user may.
+// Fetch fetches the URIs of the command that it reads, into a folder. If the command runs as another user, Fetch is a separate process, so that it
+// has only the permissions of that user.
 func Fetch(ctx context.Context, sandbox string, in io.Reader) error {
 	text, err := io.ReadAll(in)
 	if err != nil {

@@ -1,4 +1,4 @@
-// Package agentapi answers what operators ask a Mesos agent: the operator API (`POST /api/v1`), and the classic endpoints `/state`,
+// Package agentapi answers operators' requests to a Mesos agent: the operator API (`POST /api/v1`), and the classic endpoints `/state`,
 // `/files/browse`, `/files/read` and `/monitor/statistics`. It changes nothing. Outside the proof.
 package agentapi
 
@@ -24,7 +24,7 @@ const (
 	version = "1.11.0" // of Mesos, whose API this is
 )
 
-// Authorize returns nil when a caller, by the header Authorization, has a right.
+// Authorize returns nil if a caller, identified by the header Authorization, has a right.
 type Authorize func(ctx context.Context, authorization, right string) error
 
 // Server answers operators.
@@ -35,7 +35,7 @@ type Server struct {
 	started   time.Time
 }
 
-// New returns a server of an agent's.
+// New returns a server for an agent.
 func New(a *agent.Agent, authorize Authorize) *Server {
 	return &Server{agent: a, files: sandbox.New(a.Folder()), authorize: authorize, started: time.Now()}
 }
@@ -64,13 +64,13 @@ func refuse(status int, format string, values ...interface{}) error {
 	return &refusal{status, fmt.Sprintf(format, values...)}
 }
 
-// endpoint is what a path needs, and its answer. An empty right needs none.
+// endpoint is the right that a path needs, and the function that answers it. An empty right means that none is needed.
 type endpoint struct {
 	method, right string
 	answer        func(*Server, http.ResponseWriter, *http.Request) error
 }
 
-// endpoints are the calls by their paths. Files may have what others must not see: they need the right to operate.
+// endpoints are the calls by their paths. Files can contain secrets, so they need the right to operate.
 var endpoints = map[string]endpoint{
 	"/api/v1":             {http.MethodPost, "read", (*Server).call},
 	"/state":              {http.MethodGet, "read", (*Server).state},
@@ -139,7 +139,7 @@ func sendJSON(w http.ResponseWriter, value interface{}) error {
 	return writer.Encode(value)
 }
 
-// newer are calls of newer agents, whose numbers are not among the messages.
+// newer are calls of newer Mesos agents. The messages of this service have no numbers for them.
 var newer = map[string]bool{"LAUNCH_CONTAINER": true, "WAIT_CONTAINER": true, "KILL_CONTAINER": true, "REMOVE_CONTAINER": true, "PRUNE_IMAGES": true,
 	"GET_OPERATIONS": true, "GET_RESOURCE_PROVIDERS": true, "ADD_RESOURCE_PROVIDER_CONFIG": true, "UPDATE_RESOURCE_PROVIDER_CONFIG": true,
 	"REMOVE_RESOURCE_PROVIDER_CONFIG": true, "MARK_RESOURCE_PROVIDER_GONE": true}

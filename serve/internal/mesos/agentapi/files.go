@@ -20,10 +20,10 @@ import (
 	"gateway/internal/sandbox"
 )
 
-// maxRead is how much one answer has of a file, as by Mesos.
+// maxRead is the largest part of a file in one answer, as in Mesos.
 var maxRead = 16 * os.Getpagesize()
 
-// locate splits a path into a sandbox, below the work folder, and what is in it.
+// locate splits a path into a sandbox, below the work folder, and a path within it.
 func (s *Server) locate(name string) (box, inside string, err error) {
 	clean := path.Clean("/" + name)
 	if rest := strings.TrimPrefix(clean, filepath.Clean(s.agent.Folder())+"/"); rest != clean {
@@ -199,7 +199,7 @@ func (s *Server) read(w http.ResponseWriter, r *http.Request) error {
 	return sendJSON(w, object{"data": string(data), "offset": offset})
 }
 
-// numberOf reads a number that is at least -1, which it also is where there is none.
+// numberOf reads a number that is at least -1. Without a number it returns -1.
 func numberOf(text, what string) (int64, error) {
 	if text == "" {
 		return -1, nil

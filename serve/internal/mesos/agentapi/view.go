@@ -10,17 +10,17 @@ import (
 	"gateway/internal/mesos/codec"
 )
 
-// box is a sandbox and whose it is. A command has one of its own, also in a group, where its default executor has an id.
+// box is a sandbox and its owner. A command has its own sandbox, even in a group, whose default executor has an id.
 type box struct{ framework, executor, group, key, path string }
 
-// container is a process that runs, of a command or of an executor.
+// container is a running process of a command or of an executor.
 type container struct {
 	framework, executor, name, key, sandbox string
 	supervisor                              int
 	resources                               []codec.Message
 }
 
-// view is what the agent has now.
+// view is the agent's current tasks and executors.
 type view struct {
 	agent  *agent.Agent
 	folder string
@@ -103,8 +103,8 @@ func (v *view) executors() codec.Message {
 	return m
 }
 
-// frameworkInfos returns the frameworks, and whether each has something that is not completed. Of one with commands alone the agent knows
-// the id and the user.
+// frameworkInfos returns the frameworks, and whether each has something that is not completed. If a framework has only commands, the agent knows
+// only its id and its user.
 func (v *view) frameworkInfos() (order []string, infos map[string]codec.Message, isActive map[string]bool) {
 	infos, isActive = map[string]codec.Message{}, map[string]bool{}
 	add := func(id string, info codec.Message, active bool) {
@@ -162,7 +162,7 @@ func (v *view) running() (list []container) {
 	return list
 }
 
-// statistics writes what a container uses, and what it may use as far as that is said.
+// statistics writes what a container uses, and its limits as far as they are known.
 func (v *view) statistics(c container) codec.Message {
 	usage := v.agent.Usage(c.sandbox, c.supervisor)
 	m := codec.New("mesos.ResourceStatistics").Set("timestamp", float64(time.Now().UnixMilli())/1000).Set("processes", usage.Processes).Set("threads", usage.Threads).

@@ -17,14 +17,14 @@ import (
 	"google.golang.org/protobuf/reflect/protoreflect"
 )
 
-// What the other encoding does not know is carried by a field of its own: in protobuf rawField has a JSON object with the members that were
-// not understood, and in JSON rawMember has, in base64, the fields that were not understood.
+// Fields that one encoding does not know are carried by a field in the other: in protobuf, rawField has a JSON object with the members that were
+// not understood, and in JSON, rawMember has, in base64, the fields that were not understood.
 const (
 	rawField  = protowire.Number(1<<29 - 1)
 	rawMember = "@protobuf"
 )
 
-// ReadJSON reads a message of a type. Members that the type does not have, and enums' names that are not known, are kept.
+// ReadJSON reads a message of a type. Members that the type does not have, and unknown names of enums, are kept.
 func ReadJSON(name string, text []byte) (Message, error) {
 	m := New(name)
 	if !json.Valid(text) {
@@ -269,8 +269,8 @@ func sortedNames(raw map[string]json.RawMessage) (names []string) {
 	return names
 }
 
-// splitUnknown returns the members that came from JSON, and the fields that came from protobuf. A member that the type has is none of
-// these, whoever sent it: it would be read as that field.
+// splitUnknown returns the members that came from JSON, and the fields that came from protobuf. A member that the type has is in neither, whoever
+// sent it, because it would be read as that field.
 func splitUnknown(m protoreflect.Message) (raw map[string]json.RawMessage, rest []byte) {
 	for unknown := m.GetUnknown(); len(unknown) > 0; {
 		number, kind, size := protowire.ConsumeField(unknown)

@@ -58,7 +58,7 @@ func (m Message) field(name string) protoreflect.FieldDescriptor {
 	return field
 }
 
-// find returns the message that has the last field of a path, and that field. The message is absent when one on the way is.
+// find returns the message that has the last field of a path, and that field. The message is absent if one on the path is.
 func (m Message) find(path string) (Message, protoreflect.FieldDescriptor) {
 	names := strings.Split(path, ".")
 	for _, name := range names[:len(names)-1] {
@@ -78,7 +78,7 @@ func (m Message) Has(path string) bool {
 	return in.m != nil && in.m.Has(field)
 }
 
-// Sub returns the message in a field, which is absent where the field is not set.
+// Sub returns the message in a field, which is absent if the field is not set.
 func (m Message) Sub(path string) Message {
 	if strings.Contains(path, ".") {
 		in, field := m.find(path)
@@ -147,7 +147,8 @@ func (m Message) Uint(path string) uint64 {
 	return 0
 }
 
-// Enum returns the name of an enum's value: of one that the type does not have, its number; of a field that is not set, the default's name.
+// Enum returns the name of an enum's value. For a value that the type does not have, it returns the number; for a field that is not set, the name
+// of the default.
 func (m Message) Enum(path string) string {
 	in, field := m.find(path)
 	if in.m == nil {
@@ -163,7 +164,7 @@ func enumName(field protoreflect.FieldDescriptor, number protoreflect.EnumNumber
 	return fmt.Sprint(number)
 }
 
-// Name returns the name of an enum's value, also one that came in JSON and that the type does not have, and whether the field is set.
+// Name returns the name of an enum's value, even if it came in JSON and the type does not have it, and whether the field is set.
 func (m Message) Name(path string) (name string, is bool) {
 	in, field := m.find(path)
 	if in.m == nil || in.m.Has(field) {
@@ -194,8 +195,8 @@ func (m Message) Texts(path string) (list []string) {
 	return list
 }
 
-// Set sets a field and returns the message. Messages on the way of a path are created. A value is a string, []byte, float64, bool, int,
-// int64, uint64, Message, or for an enum the name of its value. An absent Message changes nothing.
+// Set sets a field and returns the message. Messages on the path are created. A value is a string, []byte, float64, bool, int, int64, uint64,
+// Message, or for an enum the name of its value. An absent Message changes nothing.
 func (m Message) Set(path string, value interface{}) Message {
 	in := m
 	names := strings.Split(path, ".")

@@ -10,7 +10,7 @@ import (
 	"gateway/internal/mesos/resources"
 )
 
-// summary reads resources without reservations, such as {"cpus":4.0,"ports":"[1-9]"}. What cannot be carried over is said if isSaid.
+// summary reads resources without reservations, such as {"cpus":4.0,"ports":"[1-9]"}. If isSaid, it reports what cannot be carried over.
 func (r *reader) summary(v value, isSaid bool) resources.Bundle {
 	b := resources.Bundle{}
 	object := v.object()
@@ -32,7 +32,7 @@ func isZero(v value) bool {
 	return !isText && v.number() == 0
 }
 
-// add adds a resource, unless the allocator cannot have its name or its role.
+// add adds a resource, unless the allocator cannot represent its name or its role.
 func (r *reader) add(b resources.Bundle, at value, key resources.Key, v resources.Value) {
 	if err := resources.Check(key, v); err != nil {
 		r.leaveOut(at, "the resource "+key.Name, err.Error())
@@ -87,7 +87,7 @@ func (r *reader) port(v value, text string) uint64 {
 	return number
 }
 
-// total reads all resources of an agent. `detailed` has what the agent's answer says of reservations and volumes.
+// total reads all resources of an agent. `detailed` has the reservations and volumes of the agent's own answer.
 func (r *reader) total(v, detailed value) resources.Bundle {
 	b := resources.Bundle{}
 	r.summary(v.field("resources"), false)
@@ -116,7 +116,7 @@ func (r *reader) total(v, detailed value) resources.Bundle {
 	return b
 }
 
-// full adds resources in the form of messages to b. What cannot be carried over is said if isSaid.
+// full adds resources in the form of messages to b. If isSaid, it reports what cannot be carried over.
 func (r *reader) full(b resources.Bundle, list value, isSaid bool) {
 	for _, v := range list.list() {
 		v.only("a resource", resourceFields)

@@ -1,5 +1,5 @@
-// Package document reads what a Mesos master says of its cluster: the answers of /state, /slaves, /roles, /weights and /quota, of the
-// versions 1.4 to 1.11. Outside the proof.
+// Package document reads the answers in which a Mesos master describes its cluster: /state, /slaves, /roles, /weights and /quota, of the versions
+// 1.4 to 1.11. Outside the proof.
 package document
 
 import (
@@ -9,7 +9,7 @@ import (
 	"gateway/internal/mesos/resources"
 )
 
-// Cluster is what the allocator can have of a Mesos cluster.
+// Cluster is the part of a Mesos cluster that the allocator can represent.
 type Cluster struct {
 	Version    string
 	Agents     []Agent     // in the order in which they registered
@@ -47,7 +47,7 @@ type Holding struct {
 	IsExecutor bool
 }
 
-// LeftOut is a thing that the allocator cannot have, or can have only in another form.
+// LeftOut is something that the allocator cannot represent, or can represent only in another form.
 type LeftOut struct {
 	Place  string // such as `state.json: slaves[3].attributes`
 	What   string
@@ -61,7 +61,7 @@ type Error struct{ Place, Problem string }
 
 func (e *Error) Error() string { return e.Place + ": " + e.Problem }
 
-// Answer is the body of an answer, and the name under which errors mention it. An answer without a body was not given.
+// Answer is the body of an answer, and the name under which errors mention it. Without a body, the answer was not given.
 type Answer struct {
 	Name string
 	Body []byte
@@ -105,7 +105,7 @@ func (r *reader) leaveOut(v value, what, reason string) {
 	r.cluster.LeftOut = append(r.cluster.LeftOut, LeftOut{v.place, what, reason})
 }
 
-// name returns the allocator's name for an id, which must be the only one of its scope.
+// name returns the allocator's name for an id, which must be unique in its scope.
 func (r *reader) name(v value, scope, kind, id string) string {
 	name := id
 	if !resources.IsName(id) {
@@ -119,7 +119,7 @@ func (r *reader) name(v value, scope, kind, id string) string {
 	return name
 }
 
-// role reports whether the allocator can have a role, and leaves out what is in it otherwise.
+// role reports whether the allocator can have a role. If not, it leaves out everything in the role.
 func (r *reader) role(v value, role, what string) bool {
 	if resources.IsRole(role) {
 		return true
@@ -144,7 +144,7 @@ func (r *reader) amount(v value, isSaid bool) uint64 {
 	return rounded
 }
 
-// isWhole reports whether a number is whole but for what adding decimal fractions in binary leaves.
+// isWhole reports whether a number is whole, up to the error of adding decimal fractions in binary.
 func isWhole(number float64) bool {
 	rest := number - float64(int64(number+0.5))
 	return rest < 1e-6+number*1e-12 && -rest < 1e-6+number*1e-12

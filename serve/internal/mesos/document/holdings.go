@@ -1,4 +1,4 @@
-// What tasks and executors use, and of which reservations. Outside the proof.
+// The resources that tasks and executors use, and the reservations that they come from. Outside the proof.
 
 package document
 
@@ -11,7 +11,7 @@ import (
 	"gateway/internal/mesos/resources"
 )
 
-// claim is what a task or an executor of a framework uses, before it is known of which reservations.
+// claim is the resources that a task or an executor of a framework uses, before it is known which reservations they come from.
 type claim struct {
 	framework int
 	place     value
@@ -51,7 +51,7 @@ func (r *reader) claims(framework int, v value) (claims []claim) {
 	return claims
 }
 
-// claim completes a claim, and appends it if the allocator can have it. Another role is taken if it does not say its own.
+// claim completes a claim, and appends it if the allocator can represent it. The given role is used if the claim does not name its own.
 func (r *reader) claim(claims []claim, c claim, framework value, other string) []claim {
 	slave, role := c.place.field("slave_id"), c.place.field("role")
 	c.Role = role.text()
@@ -77,7 +77,7 @@ func (r *reader) claim(claims []claim, c claim, framework value, other string) [
 	return claims
 }
 
-// settle decides of which reservations each claim is, and adds the holdings to their frameworks.
+// settle decides which reservations each claim comes from, and adds the holdings to their frameworks.
 func (r *reader) settle(claims []claim) {
 	sort.SliceStable(claims, func(i, j int) bool {
 		a, b := &claims[i], &claims[j]
@@ -119,7 +119,7 @@ type pools struct {
 	free   resources.Bundle            // everything else
 }
 
-// take moves what a role wants out of the pools, and returns it. What remains in wanted is not there.
+// take moves the resources that a role wants out of the pools, and returns them. Resources that the pools lack remain in wanted.
 func (p *pools) take(role string, wanted resources.Bundle) resources.Bundle {
 	taken := p.byRole[role].TakeFor(role, wanted)
 	taken.Add(p.free.TakeFor(role, wanted))

@@ -50,8 +50,8 @@ func (r *reader) weight(v value, role string) {
 	r.cluster.Weights[role] = rounded
 }
 
-// quota reads the answer of /quota, or if it was not given the quotas in the answer of /roles. Masters before 1.9 have guarantees alone,
-// which are limits too.
+// quota reads the answer of /quota or, if it was not given, the quotas in the answer of /roles. Masters before 1.9 have only guarantees, which are
+// limits too.
 func (r *reader) quota(roles, quota value) {
 	switch {
 	case quota.root().field("configs").exists():

@@ -25,7 +25,7 @@ func (r *reader) version(v value) {
 	r.fail(v, "the version %q: expected 1.%d to 1.%d", r.cluster.Version, firstVersion, lastVersion)
 }
 
-// state reads the answer of /state, and what /slaves says of reservations if it was given.
+// state reads the answer of /state, and the reservations in the answer of /slaves, if it was given.
 func (r *reader) state(document, slaves value) {
 	document, slaves = document.root(), slaves.root()
 	r.version(document.field("version"))
@@ -48,7 +48,7 @@ func (r *reader) state(document, slaves value) {
 	}
 }
 
-// byTime returns values in the order of their registration; those of the same time, or without one, in the order of the document.
+// byTime returns values in the order of their registration; values with the same time, or without one, in the order of the document.
 func byTime(list []value) []value {
 	times := make([]float64, len(list))
 	order := make([]int, len(list))

@@ -1,4 +1,4 @@
-// What operators do to agents: deactivate, reactivate, drain, and mark as gone. Outside the proof.
+// Operators' changes to agents: deactivate, reactivate, drain, and mark as gone. Outside the proof.
 
 package operator
 
@@ -12,7 +12,7 @@ import (
 	"gateway/internal/registry/mesos"
 )
 
-// agentCall appends a line about an agent with a note. Build gets the agent as it is.
+// agentCall appends a line about an agent, with a note. Build gets the agent's current state.
 func (o *Operator) agentCall(ctx context.Context, c *api.Call, id, event string, build func(mesos.Agent) (*mesos.Note, error)) error {
 	line := server.Line{"event": event, "agent": id}
 	if err := mayAppend(c, line); err != nil {
@@ -55,7 +55,7 @@ func (o *Operator) deactivateAgent(ctx context.Context, c *api.Call, call codec.
 	})
 }
 
-// reactivateAgent ends a deactivation or a drain, also of an agent that was removed as it stayed away.
+// reactivateAgent ends a deactivation or a drain, even of an agent that was removed because it stayed away.
 func (o *Operator) reactivateAgent(ctx context.Context, c *api.Call, call codec.Message) error {
 	id := call.Text("reactivate_agent.agent_id.value")
 	isAway := false
@@ -100,7 +100,7 @@ func (o *Operator) drainAgent(ctx context.Context, c *api.Call, call codec.Messa
 	return o.agentCall(ctx, c, id, "deactivate_agent", func(a mesos.Agent) (*mesos.Note, error) { return note, exists(a) })
 }
 
-// markAgentGone removes an agent for good. Its tasks are lost, and the agent ends them if it comes again.
+// markAgentGone removes an agent for good. Its tasks are lost, and the agent ends them if it connects again.
 func (o *Operator) markAgentGone(ctx context.Context, c *api.Call, call codec.Message) error {
 	id, isGone := call.Text("mark_agent_gone.agent_id.value"), false
 	err := o.agentCall(ctx, c, id, "remove_agent", func(a mesos.Agent) (*mesos.Note, error) {

@@ -1,4 +1,4 @@
-// The operator API: which calls there are, what they need, and what those that read answer. Outside the proof.
+// The operator API: its calls, the rights that they need, and the answers of those that read. Outside the proof.
 
 package operator
 
@@ -12,7 +12,7 @@ import (
 	"gateway/internal/mesos/server"
 )
 
-// invalid is the error of a call that Mesos' validation refuses.
+// invalid is the error of a call that does not pass Mesos' validation.
 func invalid(format string, values ...interface{}) error {
 	return api.Refuse(http.StatusBadRequest, "Failed to validate master::Call: "+format, values...)
 }

@@ -55,7 +55,7 @@ func (o *Operator) classic(render func(*Operator, *view, url.Values) interface{}
 
 func (o *Operator) version(c *api.Call) error { return sendJSON(c, object{"version": server.Version}) }
 
-// redirect answers as a leading master does: any gateway takes any call.
+// redirect answers as a leading master does, because any gateway takes any call.
 func redirect(c *api.Call) error {
 	c.W.Header().Set("Location", "//"+c.R.Host)
 	c.W.WriteHeader(http.StatusTemporaryRedirect)
@@ -72,7 +72,7 @@ func (o *Operator) flags(c *api.Call) error {
 // seconds writes a time in milliseconds as Mesos does.
 func seconds(ms int64) float64 { return float64(ms) / 1000 }
 
-// about is what the whole state and its summary say of the master.
+// about is the part about the master in the whole state and in its summary.
 func (o *Operator) about(v *view) object {
 	master := o.server.MasterInfo()
 	return object{"hostname": master.Text("hostname"), "id": v.Cluster, "pid": master.Text("pid"), "leader": master.Text("pid"),
@@ -163,7 +163,7 @@ func sortedSet(set map[string]bool) []string {
 	return list
 }
 
-// page returns a page of tasks, the latest first where the caller does not say otherwise. A number that is none is the default, as by Mesos.
+// page returns a page of tasks, the latest first unless the caller asks for another order. As in Mesos, an invalid number means the default.
 func (v *view) page(q url.Values) []object {
 	type dated struct {
 		at   int64

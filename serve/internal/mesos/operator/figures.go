@@ -1,4 +1,4 @@
-// The figures of `metrics/snapshot` and GET_METRICS, under Mesos' names where these mean the same. Outside the proof.
+// The figures of `metrics/snapshot` and GET_METRICS, under Mesos' names if they mean the same. Outside the proof.
 
 package operator
 

@@ -93,7 +93,7 @@ func attributes(list []codec.Message) object {
 	return m
 }
 
-// agentSummary is what `/state-summary` has of an agent.
+// agentSummary is the part of `/state-summary` about an agent.
 func (v *view) agentSummary(a mesos.Agent) object {
 	info, row := codec.MustReadProtobuf("mesos.AgentInfo", a.Info), v.rows.agents[a.ID]
 	m := object{"id": a.ID, "hostname": info.Text("hostname"), "port": info.Int("port"), "attributes": attributes(info.List("attributes")), "pid": pidOf(info),
@@ -134,7 +134,7 @@ func (v *view) classicAgents(id string) []object {
 	return list
 }
 
-// describe writes what a framework says of itself.
+// describe writes a framework's description of itself.
 func describe(id string, sub mesos.Subscription) object {
 	info := frameworkInfo(sub)
 	capabilities := append([]string{}, sub.Capabilities...)
@@ -151,7 +151,7 @@ func describe(id string, sub mesos.Subscription) object {
 	return m
 }
 
-// frameworkSummary is what `/state-summary` has of a framework.
+// frameworkSummary is the part of `/state-summary` about a framework.
 func (v *view) frameworkSummary(f mesos.KnownFramework) object {
 	m := describe(f.ID, f.Subscription)
 	m["active"], m["connected"], m["recovered"] = f.IsConnected, f.IsConnected, false

@@ -1,5 +1,5 @@
-// Package operator answers what operators ask a Mesos master: the operator API (`POST /api/v1`) and the classic endpoints such as `/state`.
-// Reads are rendered from the registry and from the allocator's rows; writes become event lines, as those of our own API. Outside the proof.
+// Package operator answers operators' requests to a Mesos master: the operator API (`POST /api/v1`) and the classic endpoints such as `/state`.
+// Reads are rendered from the registry and from the allocator's rows; writes become event lines, like those of our own API. Outside the proof.
 package operator
 
 import (
@@ -18,7 +18,7 @@ import (
 // patience is how long an answer may take.
 const patience = 25 * time.Second
 
-// Config says what GET_FLAGS answers.
+// Config has the answer to GET_FLAGS.
 type Config struct {
 	Flags map[string]string // Mesos' names of flags
 }
@@ -33,7 +33,7 @@ type Operator struct {
 	started   time.Time
 }
 
-// New returns an operator's side of a server. It watches the state, so it is to be called before the first message.
+// New returns an operator's side of a server. It must be called before the first message, because it watches the state.
 func New(config Config, server *server.Server, state *mesos.State, questions *allocator.Questions) *Operator {
 	o := &Operator{config: config, server: server, state: state, questions: questions, watchers: newWatchers(), started: time.Now()}
 	state.Watch(o.watchers.publish)
@@ -58,7 +58,7 @@ func mayRead(c *api.Call) error {
 	return api.Refuse(http.StatusForbidden, "%s has no right to read", c.By().Name)
 }
 
-// view returns what operators see, after all that any gateway answered before.
+// view returns the state as operators see it, after everything that any gateway answered before.
 func (o *Operator) view(ctx context.Context) (*view, error) {
 	ctx, cancel := context.WithTimeout(ctx, patience)
 	defer cancel()

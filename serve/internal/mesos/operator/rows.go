@@ -1,4 +1,4 @@
-// The allocator's rows, as sums that operators ask for. Outside the proof.
+// The allocator's rows, summed up as operators ask for them. Outside the proof.
 
 package operator
 
@@ -43,7 +43,7 @@ type offerRow struct {
 	resources resources.Bundle
 }
 
-// rows is what the allocator has.
+// rows is the content of the allocator's state.
 type rows struct {
 	agents            map[string]agentRow
 	used, offered     map[string]byRole // by agent
@@ -92,7 +92,7 @@ func readRows(text string) *rows {
 	return r
 }
 
-// parse reads what the allocator wrote.
+// parse reads the allocator's rows.
 func parse(text string) resources.Bundle {
 	b, _ := resources.Parse(text)
 	return b
@@ -105,7 +105,7 @@ func addTo(m map[string]byRole, key, role string, more resources.Bundle) {
 	m[key].add(role, more)
 }
 
-// free returns what is neither used nor offered on an agent.
+// free returns the resources of an agent that are neither used nor offered.
 func (r *rows) free(agent string) resources.Bundle {
 	free := r.agents[agent].total.Copy()
 	free.Take(r.used[agent].sum())
@@ -133,11 +133,11 @@ func (r *rows) limit(role string) map[string]float64 {
 	return amounts
 }
 
-// isIn reports whether a role is another, or below it.
+// isIn reports whether a role is another role, or below it.
 func isIn(role, above string) bool { return role == above || strings.HasPrefix(role, above+"/") }
 
-// consumed returns what Mesos calls the consumption of a role and those below it: unreserved resources that tasks use, and all that is
-// reserved. To the allocator, offers count too.
+// consumed returns the consumption, in Mesos' sense, of a role and those below it: unreserved resources that tasks use, and everything that is
+// reserved. In the allocator, offers count too.
 func (r *rows) consumed(role string) resources.Bundle {
 	all := resources.Bundle{}
 	for of, bundle := range r.usedIn {
@@ -153,7 +153,7 @@ func (r *rows) consumed(role string) resources.Bundle {
 	return all
 }
 
-// reserved returns what agents have reserved, by role, as unreserved resources.
+// reserved returns the reservations of all agents, by role, as unreserved resources.
 func (r *rows) reserved() byRole {
 	all := byRole{}
 	for _, a := range r.agents {
@@ -174,7 +174,7 @@ func unreserved(b resources.Bundle) resources.Bundle {
 	return some
 }
 
-// reservations returns what is reserved, by role, as unreserved resources.
+// reservations returns the reservations, by role, as unreserved resources.
 func reservations(b resources.Bundle) byRole {
 	all := byRole{}
 	for key, value := range b {

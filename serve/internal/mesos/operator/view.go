@@ -1,4 +1,4 @@
-// What operators see, as messages of the operator API. Outside the proof.
+// The state as operators see it, as messages of the operator API. Outside the proof.
 
 package operator
 
@@ -12,7 +12,7 @@ import (
 	"gateway/internal/registry/mesos"
 )
 
-// view is the registry's rows, and the allocator's, which may be a little newer.
+// view is the registry's rows, and the allocator's, which can be a little newer.
 type view struct {
 	mesos.Known
 	rows *rows
@@ -232,7 +232,7 @@ func (v *view) roles() (names []string) {
 	return names
 }
 
-// held returns what a role has been offered and uses.
+// held returns the resources that a role has been offered or uses.
 func (v *view) held(role string) resources.Bundle {
 	held := resources.Bundle{}
 	held.Add(v.rows.usedIn[role])

@@ -1,4 +1,4 @@
-// SUBSCRIBE: the whole state, and then what changes. Outside the proof.
+// SUBSCRIBE: the whole state, and then each change. Outside the proof.
 
 package operator
 
@@ -13,7 +13,7 @@ import (
 	"gateway/internal/registry/mesos"
 )
 
-// maxWaiting is how many changes may wait for a stream. One that is slower ends: its caller comes again, and gets the whole state.
+// maxWaiting is how many changes can wait for a stream. A slower stream is ended: its caller subscribes again, and gets the whole state.
 const maxWaiting = 8192
 
 // watchers are the streams of operators that are open.
@@ -24,7 +24,7 @@ type watchers struct {
 
 func newWatchers() *watchers { return &watchers{open: map[chan mesos.Change]bool{}} }
 
-// publish is what the registry calls. When all was replaced, streams end.
+// publish is called by the registry. If the whole state was replaced, streams are ended.
 func (w *watchers) publish(change mesos.Change) {
 	w.mu.Lock()
 	defer w.mu.Unlock()
@@ -80,7 +80,7 @@ func (o *Operator) subscribe(c *api.Call, form codec.Form) error {
 	return nil
 }
 
-// stream writes changes until the caller goes, or its token does, or this gateway is cut off.
+// stream writes changes until the caller disconnects, its token expires or is revoked, or this gateway is cut off.
 func (o *Operator) stream(c *api.Call, form codec.Form, changes <-chan mesos.Change, text, heartbeat []byte) {
 	beat := time.NewTicker(server.Heartbeat * time.Second)
 	defer beat.Stop()

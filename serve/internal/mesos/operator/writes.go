@@ -1,5 +1,5 @@
-// What operators change in the allocator: weights, limits, reservations and frameworks. Each becomes event lines, with the rights that our
-// own API asks for these lines. Outside the proof.
+// Operators' changes in the allocator: weights, limits, reservations and frameworks. Each becomes event lines, and needs the rights that our own
+// API requires for these lines. Outside the proof.
 
 package operator
 
@@ -26,7 +26,7 @@ var (
 	errStatic      = errors.New("a reservation by a call is DYNAMIC, not STATIC")
 )
 
-// mayAppend returns an error unless a caller may send some lines.
+// mayAppend returns an error unless a caller has the rights to send some lines.
 func mayAppend(c *api.Call, lines ...server.Line) error {
 	for _, one := range lines {
 		text, err := json.Marshal(one)
@@ -40,7 +40,7 @@ func mayAppend(c *api.Call, lines ...server.Line) error {
 	return nil
 }
 
-// refusals are the allocator's refusals in words, with their statuses.
+// refusals are the texts for the allocator's refusals, with their statuses.
 var refusals = map[string]struct {
 	status int
 	text   string
@@ -68,7 +68,7 @@ func refusalOf(name string, line server.Line) error {
 	return api.Refuse(about.status, "%v: %s (%s)", line["event"], about.text, name)
 }
 
-// apply appends lines that a caller may send. The first refusal is the answer.
+// apply appends lines that a caller has the rights to send. The first refusal is the answer.
 func (o *Operator) apply(ctx context.Context, c *api.Call, lines ...server.Line) error {
 	if err := mayAppend(c, lines...); err != nil {
 		return err
@@ -88,7 +88,7 @@ func (o *Operator) apply(ctx context.Context, c *api.Call, lines ...server.Line)
 	return nil
 }
 
-// checkRole returns an error unless a role may have what a call gives it.
+// checkRole returns an error unless a role can have what a call gives it.
 func checkRole(role string) error {
 	switch {
 	case role == "":
@@ -127,8 +127,8 @@ func (o *Operator) updateQuota(ctx context.Context, c *api.Call, call codec.Mess
 	return o.setLimits(ctx, c, call.List("update_quota.quota_configs"), call.Bool("update_quota.force"))
 }
 
-// setLimits sets the limits of roles. An empty list of limits removes those of its role. One below what its role consumes needs force, as by
-// Mesos.
+// setLimits sets the limits of roles. An empty list of limits removes those of its role. As in Mesos, a limit below a role's consumption needs
+// force.
 func (o *Operator) setLimits(ctx context.Context, c *api.Call, configs []codec.Message, isForced bool) error {
 	if err := mayAppend(c, server.Line{"event": "set_limit"}); err != nil {
 		return err
@@ -169,7 +169,7 @@ func (o *Operator) setLimits(ctx context.Context, c *api.Call, configs []codec.M
 	return o.apply(ctx, c, lines...)
 }
 
-// checkLimits returns an error for a limit below what its role consumes.
+// checkLimits returns an error for a limit below the consumption of its role.
 func (r *rows) checkLimits(configs []codec.Message) error {
 	for _, one := range configs {
 		role := one.Text("role")
@@ -221,10 +221,10 @@ func (o *Operator) unreserveResources(ctx context.Context, c *api.Call, call cod
 	return o.move(ctx, c, "unreserve", call.Text("unreserve_resources.agent_id.value"), call.List("unreserve_resources.resources"))
 }
 
-// moveTries is how often reservations are tried, where new offers take what others had been rescinded for.
+// moveTries is how often a reservation is tried, if new offers take resources for which others had been rescinded.
 const moveTries = 5
 
-// move makes or ends reservations on an agent. Where too little is free, it rescinds offers there, as Mesos does.
+// move makes or ends reservations on an agent. If too little is free, it rescinds offers there, as Mesos does.
 func (o *Operator) move(ctx context.Context, c *api.Call, event, agent string, list []codec.Message) error {
 	if err := mayAppend(c, server.Line{"event": event}); err != nil {
 		return err
@@ -269,7 +269,7 @@ func (o *Operator) move(ctx context.Context, c *api.Call, event, agent string, l
 	}
 }
 
-// rescinds returns lines that rescind offers on an agent so that what is to be moved is free, and whether that can be. If not, there are none.
+// rescinds returns lines that rescind enough offers on an agent for a move, and whether that is possible. If not, there are no lines.
 func (r *rows) rescinds(event, agent string, wanted byRole) (lines []server.Line, isThere bool) {
 	missing := resources.Bundle{}
 	for role, some := range wanted {

@@ -14,8 +14,8 @@ var isName = regexp.MustCompile(`^[A-Za-z0-9_.-]{1,64}$`)
 // IsName reports whether the allocator takes a text as the name of an agent, a framework or a task.
 func IsName(text string) bool { return isName.MatchString(text) }
 
-// NameOf returns the allocator's name for an id: the id, or a digest where it is too long or has other characters. No id gets the name of
-// another, as one that begins with `x.` gets a digest too.
+// NameOf returns the allocator's name for an id: the id itself, or a digest if it is too long or has other characters. Two ids never get the same
+// name, because an id that begins with `x.` gets a digest too.
 func NameOf(id string) string {
 	if IsName(id) && !strings.HasPrefix(id, "x.") {
 		return id

@@ -68,7 +68,7 @@ func (b Bundle) put(key Key, value Value) {
 	}
 }
 
-// Add adds resources. Numbers and items that both have count once.
+// Add adds resources. Numbers and items that are in both count once.
 func (b Bundle) Add(more Bundle) {
 	for key, v := range more {
 		mine := b[key]
@@ -76,7 +76,7 @@ func (b Bundle) Add(more Bundle) {
 	}
 }
 
-// Take moves resources out of b: as much of those that are wanted as there is. It returns what it moved, and removes that from wanted.
+// Take moves the wanted resources out of b, as far as b has them. It returns what it moved, and removes it from wanted.
 func (b Bundle) Take(wanted Bundle) Bundle {
 	taken := Bundle{}
 	for key, w := range wanted.Copy() {
@@ -92,8 +92,9 @@ func (b Bundle) Take(wanted Bundle) Bundle {
 	return taken
 }
 
-// TakeFor moves out of b what a role wants, which is without reservations, and returns it. What b lacks remains in wanted. Reservations for the
-// role come first, then those for the roles above it, then what is unreserved: so nothing is taken that fewer roles could have spared.
+// TakeFor moves the resources that a role wants (without reservations) out of b, and returns them. What b lacks remains in wanted. Reservations for
+// the role are used first, then those for the roles above it, and then unreserved resources, so that no resources are taken that more roles could
+// use.
 func (b Bundle) TakeFor(role string, wanted Bundle) Bundle {
 	taken := Bundle{}
 	for _, reservation := range reservationsFor(role) {
@@ -251,7 +252,7 @@ func AmountText(thousandths uint64) string {
 
 var isPiece = regexp.MustCompile(`^\s*([^():;\s]+)\s*(?:\(\s*([^():;]+?)\s*\))?\s*:\s*(.*?)\s*$`)
 
-// Parse reads the allocator's text, and what people write as the resources of a machine.
+// Parse reads the allocator's text, and resources as people write them for a machine.
 func Parse(text string) (Bundle, error) {
 	b := Bundle{}
 	for _, piece := range strings.Split(text, ";") {

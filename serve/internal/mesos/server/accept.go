@@ -31,7 +31,7 @@ type part struct {
 	uses  map[string]resources.Bundle
 }
 
-// acceptance is an ACCEPT on its way to a message.
+// acceptance is an ACCEPT while it is turned into a message.
 type acceptance struct {
 	*framework
 	epoch     int
@@ -98,7 +98,7 @@ func (s *Server) knowOffers(framework string, ids []string) (known bool) {
 	return known
 }
 
-// acceptance looks the offers up. The texts are Mesos'.
+// acceptance finds the offers. The texts are those of Mesos.
 func (s *Server) acceptance(f *framework, ids []string) *acceptance {
 	a := &acceptance{framework: f, known: map[string]bool{}, executors: map[string]bool{}, runners: map[string]*runner{}, note: &mesos.Note{Kind: mesos.NoteAccept, Framework: f.id}}
 	if len(ids) == 0 {
@@ -143,7 +143,7 @@ func (s *Server) refusal(filters codec.Message) int64 {
 	return int64(math.Min(ms, float64(s.config.MaxRefuse.Milliseconds())))
 }
 
-// groupReasons are the reasons of a group where Mesos has another than for a task.
+// groupReasons are the reasons for a group, if they differ in Mesos from those for a task.
 var groupReasons = map[string]string{"REASON_TASK_INVALID": "REASON_TASK_GROUP_INVALID", "REASON_TASK_UNAUTHORIZED": "REASON_TASK_GROUP_UNAUTHORIZED"}
 
 func (a *acceptance) operation(op codec.Message) error {
@@ -185,8 +185,8 @@ func (a *acceptance) refuse(task codec.Message, state, reason, why string) {
 	a.note.Refused = append(a.note.Refused, mesos.Status{Task: task.Text("task_id.value"), Agent: task.Text("agent_id.value"), State: state, Reason: reason, Message: why})
 }
 
-// launch adds a task, or the tasks of a group with their executor; or returns why not. The tasks of a group share what they hold, with a
-// DEFAULT executor. A custom executor has its own.
+// launch adds a task, or the tasks of a group with their executor, or returns why it cannot. The tasks of a group with a DEFAULT executor share
+// what they hold. A custom executor has its own resources.
 func (a *acceptance) launch(tasks []codec.Message, executor codec.Message, group string) (state, reason, why string) {
 	switch {
 	case a.invalid != "":
@@ -265,7 +265,7 @@ func (a *acceptance) left() resources.Bundle {
 	return all
 }
 
-// missing returns what the offers do not have of what is wanted.
+// missing returns the wanted resources that the offers do not have.
 func (a *acceptance) missing(wanted ...resources.Bundle) resources.Bundle {
 	trial := resources.Bundle{}
 	for _, some := range wanted {

@@ -1,5 +1,5 @@
-// What the frameworks of one principal may keep in the replicated state: without a limit, one that acknowledges nothing could fill it for all.
-// Outside the proof.
+// The space that the frameworks of one principal can use in the replicated state. Without a limit, a principal that acknowledges nothing could fill
+// it for all. Outside the proof.
 
 package server
 
@@ -19,13 +19,13 @@ type budget struct {
 	held map[string]*held
 }
 
-// held is what a principal has in the state: as counted at a time, and what it added here since.
+// held is the space that a principal uses: as counted at a time, and what was added here since then.
 type held struct {
 	at    time.Time
 	bytes int64
 }
 
-// take reports whether a principal may add so many bytes, and counts them if it may.
+// take reports whether a principal may add this many bytes, and counts them if so.
 func (b *budget) take(principal string, bytes int64) bool {
 	if b.max == 0 {
 		return true

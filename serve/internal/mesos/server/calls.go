@@ -1,4 +1,4 @@
-// The calls that are notes or few lines. Outside the proof.
+// The calls that become notes, or only few lines. Outside the proof.
 
 package server
 
@@ -37,7 +37,7 @@ func (s *Server) kill(ctx context.Context, f *framework, call codec.Message) err
 	return s.note(ctx, n)
 }
 
-// graceOf returns the time between SIGTERM and SIGKILL in milliseconds. A negative one is none.
+// graceOf returns the time between SIGTERM and SIGKILL in milliseconds. A negative time means 0.
 func graceOf(policy codec.Message) int64 {
 	if !policy.Has("grace_period") {
 		return defaultGrace
@@ -52,7 +52,7 @@ func (s *Server) shutdown(ctx context.Context, f *framework, call codec.Message)
 	return s.note(ctx, &mesos.Note{Kind: mesos.NoteShutdown, Framework: f.id, Agent: call.Text("shutdown.agent_id.value"), Executor: call.Text("shutdown.executor_id.value"), GraceMS: defaultGrace})
 }
 
-// message hands a message on; as by Mesos, nobody promises that it arrives.
+// message passes a message on. As in Mesos, delivery is not guaranteed.
 func (s *Server) message(ctx context.Context, f *framework, call codec.Message) error {
 	return s.note(ctx, &mesos.Note{Kind: mesos.NoteMessage, Framework: f.id, Agent: call.Text("message.agent_id.value"), Executor: call.Text("message.executor_id.value"), Data: call.Bytes("message.data")})
 }
@@ -65,7 +65,7 @@ func (s *Server) reconcile(ctx context.Context, f *framework, call codec.Message
 	return s.note(ctx, n)
 }
 
-// acknowledge answers before the list has it: a status whose acknowledgement is lost is sent again.
+// acknowledge answers before the acknowledgement is in the list: a status whose acknowledgement is lost is sent again.
 func (s *Server) acknowledge(ctx context.Context, f *framework, call codec.Message) error {
 	select {
 	case s.acks <- mesos.Ack{Framework: f.id, Task: call.Text("acknowledge.task_id.value"), UUID: call.Bytes("acknowledge.uuid")}:
@@ -106,7 +106,7 @@ func (s *Server) suppress(ctx context.Context, f *framework, call codec.Message)
 	return s.ofRoles(ctx, f, "suppress", call.Texts("suppress.roles"))
 }
 
-// ofRoles appends an event for some roles of a framework, or for all.
+// ofRoles appends an event for some roles of a framework, or for all of them.
 func (s *Server) ofRoles(ctx context.Context, f *framework, event string, roles []string) error {
 	if len(roles) == 0 {
 		roles = f.Roles
@@ -126,7 +126,7 @@ func (s *Server) teardown(ctx context.Context, f *framework, _ codec.Message) er
 	return s.remove(ctx, f.id, "", "teardown")
 }
 
-// remove removes a framework; where a stream is named, only while that is its last and has ended.
+// remove removes a framework. If a stream is named, it does so only if this is the framework's last stream and has ended.
 func (s *Server) remove(ctx context.Context, id, stream, why string) error {
 	_, err := s.putGuarded(ctx, guardOf("framework", id), func() (m *message, err error) {
 		s.state.Read(func() {

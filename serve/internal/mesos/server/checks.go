@@ -1,4 +1,4 @@
-// What health checks and checks of tasks must be. The texts are Mesos'. Outside the proof.
+// The requirements for health checks and checks of tasks. The texts are those of Mesos. Outside the proof.
 
 package server
 

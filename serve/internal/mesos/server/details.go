@@ -19,7 +19,7 @@ import (
 // named has the names of tasks, agents and frameworks that were decoded before.
 type named map[string]string
 
-// of returns the name under a key, which is decoded when it was not there before. Kept has what is to be kept for the next time.
+// of returns the name under a key. It is decoded if it was not known before. Kept collects the names to be kept for the next time.
 func (n named) of(kept named, key string, decode func() string) string {
 	name, is := n[key]
 	if !is {
@@ -152,7 +152,7 @@ func (s *Server) killTask(c *api.Call) error {
 	return nil
 }
 
-// stateOf returns the principal of a framework and the state of its task, each empty where it is not known.
+// stateOf returns the principal of a framework and the state of its task, each empty if it is not known.
 func (s *Server) stateOf(framework, task string) (principal, state string) {
 	s.state.Read(func() {
 		f := s.state.Frameworks[framework]

@@ -36,7 +36,7 @@ func (s *Server) Run(ctx context.Context) {
 	}
 }
 
-// atOnce is how many deeds are done at once: when a gateway with thousands of streams ends, there are as many.
+// atOnce is how many actions are performed at once: when a gateway with thousands of streams ends, there are as many.
 const atOnce = 32
 
 func (s *Server) doAll(ctx context.Context, deeds []deed) {
@@ -57,7 +57,7 @@ func (s *Server) doAll(ctx context.Context, deeds []deed) {
 	group.Wait()
 }
 
-// hasEnded reports whether the process that had a stream runs no more, or is this one and has not got it.
+// hasEnded reports whether the process that had a stream no longer runs, or is this process and does not have the stream.
 func (s *Server) hasEnded(owner, stream string, live map[string]bool) bool {
 	name, _, _ := strings.Cut(owner, "/")
 	switch {
@@ -127,7 +127,7 @@ func (s *Server) dueNow() (deeds []deed) {
 	return deeds
 }
 
-// rescinds ends offers that were made while their framework left.
+// rescinds ends offers that were made while their framework was leaving.
 func (s *Server) rescinds(framework string) (deeds []deed) {
 	for _, o := range s.state.OffersOf(framework) {
 		m := &message{key: fmt.Sprintf("rescind/%d/%d", s.state.Epoch, o.Offer), isInternal: true}
@@ -158,7 +158,7 @@ func (s *Server) deed(m *message) deed {
 	}
 }
 
-// removeAgent removes an agent that stays away. Its tasks are lost.
+// removeAgent removes an agent that stayed away for too long. Its tasks are lost.
 func (s *Server) removeAgent(ctx context.Context, id, stream string) error {
 	_, err := s.putGuarded(ctx, guardOf("agent", id), func() (m *message, err error) {
 		s.state.Read(func() {

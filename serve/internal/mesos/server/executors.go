@@ -1,4 +1,4 @@
-// Executors of ACCEPT: what they must be, and what they use. Outside the proof.
+// Executors of ACCEPT: their requirements, and the resources that they use. Outside the proof.
 
 package server
 
@@ -53,7 +53,7 @@ type runner struct {
 // isLaunched reports whether an executor is known to run on the agent.
 func (a *acceptance) isLaunched(executor string) bool { return a.executors[executor] }
 
-// runBy adds what a custom executor uses to what is taken out of the offers, unless that was done.
+// runBy adds a custom executor's resources to what is taken out of the offers, unless that was done.
 func (a *acceptance) runBy(executor codec.Message, use resources.Bundle) *runner {
 	id := executor.Text("executor_id.value")
 	if a.runners[id] == nil {

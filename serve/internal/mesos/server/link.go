@@ -1,4 +1,4 @@
-// The link of agents: they register by a call that is answered with a stream, and send statuses by others. Outside the proof.
+// The link of agents: they register by a call that is answered with a stream, and send statuses by other calls. Outside the proof.
 
 package server
 
@@ -98,8 +98,8 @@ func (s *Server) register(c *api.Call, id string, call codec.Message) error {
 	return nil
 }
 
-// registerMessage builds the message of a registration. An agent that comes again with the resources that it had keeps what was reserved
-// there, and one that an operator deactivated stays so.
+// registerMessage builds the message of a registration. An agent that registers again with the same resources keeps its reservations, and stays
+// deactivated if an operator had deactivated it.
 func (s *Server) registerMessage(n *mesos.Note, total resources.Bundle) (m *message, err error) {
 	last := "activate_agent"
 	m = &message{note: n}
@@ -120,13 +120,13 @@ func (s *Server) registerMessage(n *mesos.Note, total resources.Bundle) (m *mess
 	return m, err
 }
 
-// totalOf returns the resources of an AgentInfo that was taken before.
+// totalOf returns the resources of an AgentInfo that was accepted before.
 func totalOf(info []byte) resources.Bundle {
 	total, _ := resources.FromMessages(codec.MustReadProtobuf("mesos.AgentInfo", info).List("resources"))
 	return total
 }
 
-// writeLink writes what an agent gets, until its link ends.
+// writeLink writes the events for an agent, until its link ends.
 func (s *Server) writeLink(c *api.Call, form codec.Form, one *stream) {
 	beat, lost := time.NewTicker(heartbeatSeconds*time.Second/3), s.log.Clock.Lost()
 	defer beat.Stop()
@@ -156,7 +156,7 @@ func (s *Server) writeLink(c *api.Call, form codec.Form, one *stream) {
 	}
 }
 
-// leaveAgent ends an agent's link in the registry: its offers end, and it gets no more.
+// leaveAgent ends an agent's link in the registry: its offers end, and it gets no more offers.
 func (s *Server) leaveAgent(ctx context.Context, id, stream string) error {
 	_, err := s.putGuarded(ctx, guardOf("agent", id), func() (m *message, err error) {
 		s.state.Read(func() {
@@ -173,8 +173,8 @@ func (s *Server) leaveAgent(ctx context.Context, id, stream string) error {
 	return err
 }
 
-// update appends a status. From its answer on the service repeats it, and the agent need not. What the task alone holds is finished in the
-// same message; what is shared, or is not known here, by another one.
+// update appends a status. From its answer on, the service repeats the status, and the agent need not. Resources that only the task holds are
+// finished in the same message; resources that are shared, or not known here, in another one.
 func (s *Server) update(ctx context.Context, agent string, call codec.Message) error {
 	status := call.Sub("status")
 	task, state := status.Text("task_id.value"), status.Enum("state")

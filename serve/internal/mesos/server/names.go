@@ -22,8 +22,8 @@ func (i *ids) next() string {
 // nameOf returns the allocator's name for an id.
 func nameOf(id string) string { return resources.NameOf(id) }
 
-// ownName returns the allocator's name for a framework whose id the framework brought. It depends on the principal: whatever id a principal
-// brings, it does not get a name that another principal's framework, or one of the event API, has or may come to have.
+// ownName returns the allocator's name for a framework that brought its own id. The name depends on the principal: whatever id a principal brings,
+// it does not get the present or a later name of another principal's framework, or of one of the event API.
 func ownName(principal, id string) string {
 	return resources.Digest(principal + "\x00" + id)
 }

@@ -1,4 +1,4 @@
-// What operators' calls, which another package answers, need of the list. Outside the proof.
+// Access to the list for operators' calls, which another package answers. Outside the proof.
 
 package server
 
@@ -27,7 +27,7 @@ func (s *Server) Append(ctx context.Context, lines []Line) ([]string, error) {
 	return s.put(ctx, &message{lines: lines})
 }
 
-// AppendFor appends what an operator does to an agent, unless something came between: then it is built again.
+// AppendFor appends an operator's change to an agent. If another message came in between, the change is built again.
 func (s *Server) AppendFor(ctx context.Context, agent string, build func() (*mesos.Note, []Line, error)) ([]string, error) {
 	return s.putGuarded(ctx, guardOf("agent", agent), func() (*message, error) {
 		note, lines, err := build()
@@ -40,7 +40,8 @@ func (s *Server) Teardown(ctx context.Context, id string) error {
 	return s.remove(ctx, id, "", "teardown")
 }
 
-// CatchUp waits until this gateway has applied all that any gateway answered before. What that needs is the gateway's own, and nobody's call.
+// CatchUp waits until this gateway has applied everything that any gateway answered before. A message that this needs is recorded as the
+// gateway's own, and not as a caller's.
 func (s *Server) CatchUp(ctx context.Context) error {
 	return s.catchUp(oplog.WithSender(ctx, oplog.Sender{}))
 }
@@ -60,7 +61,7 @@ func RenderOffer(framework string, o mesos.OfferOf) codec.Message { return rende
 // RenderStatus writes a status of a task.
 func RenderStatus(status mesos.Status) codec.Message { return renderStatus(status) }
 
-// removeDrained removes an agent for good that is drained, where the operator asked for that.
+// removeDrained removes a drained agent for good, if the operator asked for that.
 func (s *Server) removeDrained(ctx context.Context, id string, drain int64) error {
 	_, err := s.putGuarded(ctx, guardOf("agent", id), func() (m *message, err error) {
 		s.state.Read(func() {
@@ -77,7 +78,7 @@ func (s *Server) removeDrained(ctx context.Context, id string, drain int64) erro
 // errGone reports that an agent was marked gone.
 var errGone = errors.New("the agent was marked gone")
 
-// refuseGone answers an agent that was marked gone: it is to end its tasks, and gets none.
+// refuseGone answers an agent that was marked gone: it has to end its tasks, and gets no new ones.
 func refuseGone(c *api.Call, form codec.Form) error {
 	setHeaders(c, form, "")
 	text := form.Record(renderLink(mesos.Event{Kind: "REGISTERED"}))

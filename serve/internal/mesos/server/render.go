@@ -90,7 +90,7 @@ func renderOffer(framework string, o mesos.OfferOf) codec.Message {
 	return m
 }
 
-// renderStatus writes a status: one of an agent as it came, but for a reconciliation with the state alone.
+// renderStatus writes a status. A status of an agent is written as it came, except that a reconciliation has only the state.
 func renderStatus(status mesos.Status) codec.Message {
 	m := codec.New("mesos.TaskStatus")
 	if status.Raw != nil {

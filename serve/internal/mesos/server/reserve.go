@@ -11,7 +11,7 @@ import (
 	"gateway/internal/mesos/resources"
 )
 
-// move adds the line of a reservation: what the offers had is free before it. What is refused is refused with the whole call.
+// move adds the line of a reservation; the resources of the offers are free before it. If it is refused, the whole call is refused.
 func (a *acceptance) move(op codec.Message) error {
 	kind := op.Enum("type")
 	list := op.List(strings.ToLower(kind) + ".resources")

@@ -21,8 +21,9 @@ const (
 	rolePause = 30 * time.Second // after a role could not be left: somebody else launched a task there
 )
 
-// changeRoles adds the lines by which a framework has some roles: its offers in roles that it leaves are rescinded, and roles in which its tasks
-// run are suppressed, and left when the last one ends. It returns the latter. The state is read; that is no time to ask whether the event can be sent.
+// changeRoles adds the lines that change the roles of a framework. Its offers in roles that it leaves are rescinded. A role in which its tasks run
+// is suppressed, and left when the last of them ends; changeRoles returns these roles. It is called while the state is read, so it cannot ask
+// whether the event can be sent.
 func (s *Server) changeRoles(m *message, f *mesos.Framework, roles []string, canSet bool) (leaving []string, err error) {
 	held := f.HeldRoles()
 	if sameRoles(held, roles) || sameRoles(f.Roles, roles) && !canSet {
@@ -62,7 +63,7 @@ func sameRoles(a, b []string) bool {
 	return strings.Join(a, " ") == strings.Join(b, " ")
 }
 
-// restoreRoles makes up for lines of a change that was refused: roles that it suppressed get offers again, and a framework that is away gets none.
+// restoreRoles undoes the lines of a change that was refused: roles that were suppressed get offers again, and a framework that is away gets none.
 func (s *Server) restoreRoles(ctx context.Context, id string, suppressed []string) error {
 	m := &message{isInternal: true}
 	s.state.Read(func() {
@@ -85,7 +86,7 @@ func (s *Server) restoreRoles(ctx context.Context, id string, suppressed []strin
 	return err
 }
 
-// setSuppressed adds the lines by which a framework gets offers in its roles but some.
+// setSuppressed adds the lines after which a framework gets offers in all of its roles except some.
 func (m *message) setSuppressed(name string, roles []string, suppressed map[string]bool, isNew bool) {
 	for _, role := range roles {
 		if suppressed[role] {
@@ -96,7 +97,7 @@ func (m *message) setSuppressed(name string, roles []string, suppressed map[stri
 	}
 }
 
-// updateFramework answers UPDATE_FRAMEWORK. As by Mesos, the user and whether the framework checkpoints stay.
+// updateFramework answers UPDATE_FRAMEWORK. As in Mesos, the user and the checkpoint flag do not change.
 func (s *Server) updateFramework(ctx context.Context, f *framework, call codec.Message) error {
 	if !s.config.CanSetFramework() {
 		return api.Refuse(http.StatusNotImplemented, "the call type UPDATE_FRAMEWORK is not supported")
@@ -128,7 +129,7 @@ func (s *Server) updateFramework(ctx context.Context, f *framework, call codec.M
 	return s.putUpdate(ctx, f, &sub, suppressed)
 }
 
-// putUpdate appends an update until no offer comes in between.
+// putUpdate appends an update, and tries again while offers come in between.
 func (s *Server) putUpdate(ctx context.Context, f *framework, sub *mesos.Subscription, suppressed map[string]bool) error {
 	for try := 1; ; try++ {
 		leaving, canSet := []string(nil), s.config.CanSetFramework()
@@ -161,7 +162,7 @@ func (s *Server) putUpdate(ctx context.Context, f *framework, sub *mesos.Subscri
 	}
 }
 
-// hasRoles reports whether a framework is subscribed in some roles, and no others.
+// hasRoles reports whether a framework is subscribed in exactly these roles.
 func (s *Server) hasRoles(id string, roles []string) (is bool) {
 	s.state.Read(func() {
 		f := s.state.Frameworks[id]
@@ -178,7 +179,7 @@ func asStatus(err error) error {
 	return err
 }
 
-// pauses are the frameworks whose roles are not to be left for a while.
+// pauses are the frameworks whose roles are not left for some time.
 type pauses struct {
 	mu    sync.Mutex
 	until map[string]time.Time

@@ -101,7 +101,7 @@ func uuid() string {
 // patience is the time from a message to its replies.
 const patience = 20 * time.Second
 
-// message is what is put into the list.
+// message is what a call puts into the list.
 type message struct {
 	key   string // by which several gateways append a message once
 	note  *mesos.Note
@@ -119,8 +119,8 @@ func (m *message) add(event string, fields ...interface{}) {
 	m.lines = append(m.lines, one)
 }
 
-// put appends a message under its key, or a random one. With a blank in it, it is no caller's key, and is not kept when its message is
-// pruned: the registry ignores what comes again. It returns the answers to the lines, names of refusals or ok, or nil where they are no longer kept.
+// put appends a message under its key, or under a random one. A key with a blank is no caller's key, and is not kept when its message is pruned:
+// the registry ignores repeated messages. It returns the answers to the lines, names of refusals or ok, or nil if they are no longer kept.
 func (s *Server) put(ctx context.Context, m *message, conditions ...oplog.Condition) ([]string, error) {
 	ctx, cancel := context.WithTimeout(ctx, patience)
 	defer cancel()
@@ -182,7 +182,7 @@ func registers(event interface{}) string {
 	return ""
 }
 
-// guards is how many names there are for messages that touch. Each is a key in etcd; where many agents come at once, few share one.
+// guards is the number of names for messages that touch. Each is a key in etcd. If many agents register at once, few of them share one.
 const guards = 4096
 
 // guardOf returns the name of the guard that is touched by messages that change which gateway has a stream. Several frameworks or agents share one
@@ -193,8 +193,8 @@ func guardOf(kind, id string) string {
 	return fmt.Sprintf("mesos/%d", sum.Sum32()%guards)
 }
 
-// putGuarded builds a message from what is known and appends it, when nothing came between; else it builds it again. Build returns nil where
-// nothing is to be done.
+// putGuarded builds a message from the current state and appends it if no other message came in between; otherwise it builds it again. Build
+// returns nil if there is nothing to do.
 func (s *Server) putGuarded(ctx context.Context, guard string, build func() (*message, error)) ([]string, error) {
 	for try := 0; try < 8; try++ {
 		applied := s.registry.Info().Revision // before what is built from
@@ -214,13 +214,13 @@ func (s *Server) putGuarded(ctx context.Context, guard string, build func() (*me
 	return nil, api.Refuse(http.StatusServiceUnavailable, "other calls came between: try again")
 }
 
-// sync waits until this gateway has applied all that any gateway answered before.
+// sync waits until this gateway has applied everything that any gateway answered before.
 func (s *Server) sync(ctx context.Context) error {
 	_, err := s.put(ctx, &message{isInternal: true})
 	return err
 }
 
-// catchUp is to be called before it is said that something does not exist: another gateway may have answered that it does.
+// catchUp is called before an answer that something does not exist: another gateway may have answered that it does.
 func (s *Server) catchUp(ctx context.Context) error {
 	if s.config.Alone {
 		return s.allocator.WaitReady(ctx)
@@ -228,7 +228,7 @@ func (s *Server) catchUp(ctx context.Context) error {
 	return s.sync(ctx)
 }
 
-// isSettled reports whether an error says that another gateway did it, or that it is no longer to be done.
+// isSettled reports whether an error means that another gateway has done it, or that there is nothing to do any more.
 func isSettled(err error) bool {
 	conflict := (*oplog.ConflictError)(nil)
 	return errors.Is(err, oplog.ErrNotDue) || errors.As(err, &conflict)

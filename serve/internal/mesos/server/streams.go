@@ -1,4 +1,4 @@
-// Streams: what the registry publishes for them waits here until it is written. Outside the proof.
+// Streams: events that the registry publishes for them wait here until they are written. Outside the proof.
 
 package server
 
@@ -8,8 +8,8 @@ import (
 	"gateway/internal/registry/mesos"
 )
 
-// maxWaiting is how many events may wait for a stream. One that is slower ends: its caller comes again, and gets what exists. It is more than a
-// reconciliation of all tasks that the allocator has room for.
+// maxWaiting is how many events can wait for a stream. A slower stream is ended: its caller subscribes again, and gets the current state. The
+// number is larger than a reconciliation of all tasks for which the allocator has room.
 const maxWaiting = 1 << 17
 
 // Streams are the streams that this gateway has.
@@ -58,7 +58,7 @@ func (s *Streams) end(one *stream, reason string) {
 	delete(s.open, one.id)
 }
 
-// Publish is what the registry calls.
+// Publish is called by the registry.
 func (s *Streams) Publish(e mesos.Event) {
 	s.mu.Lock()
 	defer s.mu.Unlock()

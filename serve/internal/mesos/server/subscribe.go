@@ -24,7 +24,8 @@ const (
 	repeatAfter = 10 * time.Second // a status that is not acknowledged
 )
 
-// refusedSubscription is why a SUBSCRIBE is refused. As by Mesos, its stream has an ERROR event alone: an error status would be tried again.
+// refusedSubscription is why a SUBSCRIBE is refused. As in Mesos, its stream has only an ERROR event, because clients would repeat the call after
+// an error status.
 type refusedSubscription struct {
 	status int // of other calls
 	reason string
@@ -41,7 +42,7 @@ func (s *Server) subscription(c *api.Call, call codec.Message) (id string, sub m
 	return readSubscription(c.By(), call.Sub("subscribe.framework_info"), call.Texts("subscribe.suppressed_roles"))
 }
 
-// readSubscription reads a FrameworkInfo, and which roles get no offers.
+// readSubscription reads a FrameworkInfo, and the roles that get no offers.
 func readSubscription(by *auth.Caller, info codec.Message, without []string) (id string, sub mesos.Subscription, suppressed map[string]bool, err error) {
 	id = info.Text("id.value")
 	failover := info.Float("failover_timeout")
@@ -174,7 +175,7 @@ func (s *Server) stream(c *api.Call, form codec.Form, call codec.Message) error 
 	return nil
 }
 
-// putSubscription appends a subscription, until no offer comes in a role that it leaves, and returns its stream.
+// putSubscription appends a subscription, tries again while offers come in roles that it leaves, and returns its stream.
 func (s *Server) putSubscription(ctx context.Context, id string, sub mesos.Subscription, suppressed map[string]bool) (*stream, error) {
 	for try := 1; ; try++ {
 		one, leaving := s.streams.add(uuid()), []string(nil)
@@ -210,7 +211,7 @@ func setHeaders(c *api.Call, form codec.Form, stream string) {
 	}
 }
 
-// nameCluster gives the cluster an id, where it has none.
+// nameCluster gives the cluster an id, if it has none.
 func (s *Server) nameCluster(ctx context.Context) error {
 	hasName := false
 	s.state.Read(func() { hasName = s.state.Cluster != "" })
@@ -221,8 +222,8 @@ func (s *Server) nameCluster(ctx context.Context) error {
 	return err
 }
 
-// subscribeMessage builds the message of a subscription. A framework that comes again keeps its name, and as by Mesos its user and whether it
-// checkpoints.
+// subscribeMessage builds the message of a subscription. A framework that subscribes again keeps its name and, as in Mesos, its user and its
+// checkpoint flag.
 func (s *Server) subscribeMessage(id, stream string, sub mesos.Subscription, suppressed map[string]bool) (m *message, leaving []string, err error) {
 	canSet := s.config.CanSetFramework()
 	m = &message{note: &mesos.Note{Kind: mesos.NoteSubscribe, Framework: id, Stream: stream, Gateway: s.session, Subscription: &sub}}
@@ -250,13 +251,13 @@ func (s *Server) subscribeMessage(id, stream string, sub mesos.Subscription, sup
 	return m, leaving, err
 }
 
-// overBudget says that a principal may keep nothing more in the state.
+// overBudget says that a principal cannot use more space in the state.
 func (s *Server) overBudget(principal string) string {
 	return fmt.Sprintf("the frameworks of the principal '%s' have %d bytes in the state, and may have no more: acknowledge statuses, or end tasks", principal, s.config.MaxBytes)
 }
 
-// hasManyFrameworks reports whether a principal has as many frameworks as it may have, with those that are away: one principal must not fill
-// the allocator's table.
+// hasManyFrameworks reports whether a principal has as many frameworks as it can have, including those that are away. One principal must not be
+// able to fill the allocator's table.
 func (s *Server) hasManyFrameworks(principal string) bool {
 	count := 0
 	for _, f := range s.state.Frameworks {
@@ -267,7 +268,7 @@ func (s *Server) hasManyFrameworks(principal string) bool {
 	return s.config.MaxFrameworks > 0 && count >= s.config.MaxFrameworks
 }
 
-// run writes a framework's stream until it ends, and then lets the registry know.
+// run writes a framework's stream until it ends, and then reports that to the registry.
 func (s *Server) run(c *api.Call, form codec.Form, one *stream, id string) {
 	hasLeft := s.write(c, form, one, id)
 	if one.isOver() { // the registry knows
@@ -280,7 +281,7 @@ func (s *Server) run(c *api.Call, form codec.Form, one *stream, id string) {
 	}
 }
 
-// write writes what a stream gets, and reports whether its caller ended it.
+// write writes the events of a stream, and reports whether its caller ended it.
 func (s *Server) write(c *api.Call, form codec.Form, one *stream, id string) (hasLeft bool) {
 	beat, repeat := time.NewTicker(heartbeatSeconds*time.Second), time.NewTicker(repeatAfter/4)
 	defer beat.Stop()
@@ -360,7 +361,7 @@ func (s *Server) due(id, stream string, sent map[string]sentStatus) (list []meso
 	return list
 }
 
-// leave ends a framework's stream in the registry: its offers end, and it gets no more.
+// leave ends a framework's stream in the registry: its offers end, and it gets no more offers.
 func (s *Server) leave(ctx context.Context, id, stream string, isOurs bool) error {
 	_, err := s.putGuarded(ctx, guardOf("framework", id), func() (m *message, err error) {
 		s.state.Read(func() {

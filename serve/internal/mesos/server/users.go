@@ -9,13 +9,13 @@ import (
 	"gateway/internal/registry/mesos"
 )
 
-// userAttribute is the attribute by which an agent says as which user tasks run: anyUser, or the agent's own.
+// userAttribute is the attribute in which an agent names the user as which its tasks run: anyUser, or the agent's own.
 const (
 	userAttribute = "task_user"
 	anyUser       = "*"
 )
 
-// agentUser returns as which user tasks run on an agent, or nothing where that is not known. The registry's lock is held.
+// agentUser returns the user as which tasks run on an agent, or nothing if it is not known. The registry's lock is held.
 func agentUser(a *mesos.Agent) string {
 	if a == nil {
 		return ""
@@ -28,7 +28,7 @@ func agentUser(a *mesos.Agent) string {
 	return ""
 }
 
-// userOf returns the user that a task may run as, which is nobody in particular where the agent does not change users; or why not.
+// userOf returns the user as which a task can run, or an error. The user is empty if the agent does not change users.
 func (a *acceptance) userOf(task, executor codec.Message) (user, state, reason, why string) {
 	command := executor.Sub("command")
 	if command.IsAbsent() {

@@ -1,4 +1,4 @@
-// What a task must be. The texts are Mesos' where it has one; what this service does not support is named. Outside the proof.
+// The requirements for a task. The texts are those of Mesos, if it has one; unsupported fields are named. Outside the proof.
 
 package server
 
@@ -10,7 +10,7 @@ import (
 	"gateway/internal/mesos/resources"
 )
 
-// validate returns what a task uses. The tasks of a group for a custom executor need no command.
+// validate returns the resources that a task uses. The tasks of a group for a custom executor need no command.
 func (a *acceptance) validate(task codec.Message, isGrouped, isCustom bool) (resources.Bundle, error) {
 	id, agent := task.Text("task_id.value"), task.Text("agent_id.value")
 	use, err := resources.FromMessages(task.List("resources"))

@@ -28,7 +28,7 @@ held_where-cons test h hs label = elim (cases_Bool (test h)) [
   | inr past ↦ rw past (omega arith)
 ]
 
--- the bundles that are held on an agent
+-- ---- the bundles that are held on an agent
 
 pub parts_on-append : (agent : Text) (hs gs : List Holding) → parts_on agent (hs ++ gs) ≡ parts_on agent hs ++ parts_on agent gs
 parts_on-append agent hs gs =

@@ -1,4 +1,5 @@
--- Siblings come apart by no more than one agent: each turn gives all that is free to one who is ahead of its siblings.
+-- Siblings are at most one agent apart: each turn gives everything that is free to a client that is ahead of its
+-- siblings.
 use Rattle.std.specs.Prelude.{◌≡◌, ℕ, ◌+◌, ◌*◌, ◌≤◌, Bool, true, false, List, [], ◌∷◌, ◌++◌, map, slice_get, if◌then◌else◌, nat_lt}
 use Rattle.std.specs.List.{AllByRecursion, list_any}
 use Rattle.std.proofs.Common.{refl, sym, ap, subst, ◌∙◌, inl, inr, cond, arith}
@@ -51,7 +52,7 @@ module _ (rows : Rows) where
   pub some_largest : SomeWhole (largest_agent rows)
   some_largest = greatest_some (λ a. share_of_bundle rows a.total) some_whole rows.agents
 
-  -- what is free on an agent is no more
+  -- the free resources of an agent are at most the largest agent
   free_at_most : (agent : AgentRow) → Has rows.agents agent → IsConsistent rows → AtMost (share_of_bundle rows (free_of rows agent)) (largest_agent rows)
   free_at_most agent at consistent =
       let total : IsBundle agent.total = (each_at IsAgent rows.agents at.0 agent consistent.agents.each at.1).total in
@@ -62,7 +63,7 @@ module _ (rows : Rows) where
       (dominant_grows (amount_of (quantities_of free)) (amount_of (quantities_of agent.total)) below (cluster_total rows.agents))
       (greatest_of (λ a. share_of_bundle rows a.total) some_whole rows.agents at.0 agent at.1)
 
--- ---- one offer of all that is free
+-- ---- one offer of everything that is free
 
 module _ (rows : Rows) (agent : AgentRow) (at : Has rows.agents agent) (consistent : IsConsistent rows) (c : Client) (others : List Client)
     (order : turn_order rows ≡ c ∷ others) (apart : AreOneAgentApart rows) where
@@ -168,7 +169,7 @@ cycle_apart rows at consistent early is_open apart =
     turns_apart (at_moment rows at) (at_moment rows at) (active_agents rows) (all_at rows at consistent early) (begin rows at consistent early)
     is_open (λ parent a b takes. apart parent a b takes)
 
--- ---- where nothing is held
+-- ---- states in which nothing is held
 
 pub none_held : (es : List Entry) → (dominant_of (λ label. 0) es).part ≡ 0
 none_held [] = refl

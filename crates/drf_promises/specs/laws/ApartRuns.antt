@@ -1,4 +1,4 @@
--- Siblings stay one agent apart over a run of cycles, reports, accepts of whole offers and agents that become active.
+-- Siblings stay at most one agent apart in runs of cycles, reports, accepts of whole offers and activations of agents.
 use Rattle.std.specs.Prelude.{◌≡◌, ℕ, max, Bool, true, false, not, ◌&&◌, List, [], ◌∷◌, ◌++◌, map, Option, Some, None, if◌then◌else◌, nat_lt}
 use Rattle.std.specs.List.{AllByRecursion, list_any}
 use Rattle.std.specs.Option.{option_map_or}
@@ -45,7 +45,7 @@ use Rattle.drf_promises.specs.Siblings.{child, AtMostSum}
 use Rattle.drf_promises.specs.laws.Apart.{cycle_apart}
 use Rattle.drf_promises.specs.laws.Unfiltered.{unfiltered_later}
 
--- ---- rows in which everybody holds the same
+-- ---- two states in which every client holds the same
 
 module _ (rows after : Rows) (held : (node : Path) (label : Text) → held_by after node label ≡ held_by rows node label)
     (active : active_clients after ≡ active_clients rows) (weights : after.weights ≡ rows.weights)
@@ -96,7 +96,7 @@ module _ (limits : LimitNumbers) (rows : Rows) (consistent : IsConsistent rows) 
       by true [] none = refl
       by true (r ∷ rs) none = cc
 
--- ---- an agent that becomes active
+-- ---- activating an agent
 
 module _ (rows : Rows) (name : Text) where
   abbrev activated : Rows

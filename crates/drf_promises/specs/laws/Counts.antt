@@ -1,4 +1,4 @@
--- An offer raises the counts of the nodes of its client, each by one, and no others.
+-- An offer raises the counts of its client's nodes by one, and no others.
 use Rattle.std.specs.Prelude.{◌≡◌, ℕ, ◌+◌, Bool, true, false, ◌&&◌, List, map, filter, count_by, sum_by, if◌then◌else◌}
 use Rattle.std.proofs.Common.{refl, sym, ap, ◌∙◌, inl, inr, cond, arith}
 use Rattle.std.proofs.lemmas.Bool.{cases_Bool}

@@ -1,4 +1,5 @@
--- A cycle leaves nothing to anybody, so that a second one makes no offer, and each offer goes to the first who may have something.
+-- After a cycle no client would be granted anything, so a second one makes no offer; and each offer goes to the first
+-- client that would be granted something.
 use Rattle.std.specs.Prelude.{◌≡◌, ℕ, ◌≤◌, max, List, [], ◌∷◌, length, map, filter, drop, Option}
 use Rattle.std.specs.List.{AllByRecursion}
 use Rattle.std.specs.Option.{option_map_or}
@@ -36,7 +37,7 @@ filters_of : (rows : Rows) → IsConsistent rows → AllByRecursion (λ f. IsBun
 filters_of rows consistent =
     each_from (IsFilter rows.agents rows.frameworks) (λ f. IsBundle f.bundle) rows.filters (λ f is. is.bundle) consistent.filters
 
--- whoever is active is tried in a turn
+-- every active client is tried in a turn
 pub everybody : (P : Client → Type 0) (rows : Rows) → IsConsistent rows → AllByRecursion P (turn_order rows) → AllByRecursion P (active_clients rows)
 everybody P rows consistent all =
     recursion_from_All P (active_clients rows)
@@ -110,9 +111,9 @@ module _ (rows : Rows) (at : ℕ) (consistent : IsConsistent rows) (early : at �
 pub cycles_leave_nothing : CyclesLeaveNothing
 cycles_leave_nothing = nothing_is_left
 
--- ---- a cycle behind it
+-- ---- a second cycle
 
--- where nobody would be granted anything, nothing is offered
+-- if no client would be granted anything, nothing is offered
 none_tried : (rows : Rows) (agent : AgentRow) (clients : List Client) → AllByRecursion (GetsNothing rows agent) clients → all_tried rows agent clients ≡ rows
 none_tried rows agent [] none = refl
 none_tried rows agent (client ∷ clients) none =
@@ -136,7 +137,7 @@ second_cycles_are_idle rows at later consistent early before =
     let still : at_moment after later ≡ after = λ i. record after { clock = stays i } in
     ap (λ (r : Rows). turns r (active_agents after)) still ∙ idle_turns after (active_agents after) (nothing_is_left rows at consistent early)
 
--- so nothing is told to be granted
+-- so an explanation reports no grant
 pub nothing_is_explained : NothingIsExplained
 nothing_is_explained rows at later consistent early before =
     let after : Rows = cycle rows at in
@@ -146,7 +147,7 @@ nothing_is_explained rows at later consistent early before =
     ∙ ap (λ (r : Rows). map offered (new_offers after r)) (second_cycles_are_idle rows at later consistent early before)
     ∙ ap (map offered) seam
 
--- ---- who comes first
+-- ---- the first client
 
 pub nobody_is_passed : NobodyIsPassed
 nobody_is_passed rows agent earlier later client consistent total order =

@@ -1,4 +1,4 @@
--- Of equal agents a cycle gives each role at the top its part, in whole agents.
+-- With equal agents, a cycle gives each top-level role its part in whole agents.
 use Rattle.std.specs.Prelude.{◌≡◌, ℕ, ◌+◌, ◌*◌, ◌<◌, ◌≤◌, Bool, true, false, List, [], ◌∷◌, ◌++◌, length, map, filter, sum_by, nat_lt, nat_le, codes, IsTrue, if◌then◌else◌}
 use Rattle.std.specs.List.{AllByRecursion, list_all}
 use Rattle.std.proofs.Common.{refl, sym, ap, subst, ◌∙◌, inl, inr, cond, arith, append-nil}
@@ -40,7 +40,7 @@ use Rattle.drf_promises.specs.laws.Shared.{adds, everyone, fair_shares, gone}
 
 -- ---- shares of multiples
 
--- a fraction is at most k of m
+-- the fraction is at most k/m
 abbrev IsAtMost : ℕ → ℕ → Fraction → Type 0
 IsAtMost k m f = f.part * m ≤ k * f.whole
 
@@ -52,7 +52,7 @@ greatest_within k m (f ∷ fs) each = by (is_less f (greatest fs)) each.0 (great
     by true one others = others
     by false one others = one
 
--- in order each entry has the amount of its label
+-- in a sorted list each amount is that of its label
 own_amounts : (es : List Entry) → IsTrue (is_in_order es) → AllByRecursion (λ e. amount_of es e.label ≡ e.amount) es
 own_amounts [] ordered = tt
 own_amounts (e ∷ es) ordered =
@@ -66,7 +66,7 @@ own_amounts (e ∷ es) ordered =
         let parts = and_parts (text_below e.label f.label) _ below in
         (ap (λ b. cond b e.amount (amount_of es f.label)) (below_other e.label f.label parts.0) ∙ own.0, behind fs parts.1 own.1)
 
--- k times what there is m times
+-- k times an amount, of m times as much in all
 multiple_within : (held : Text → ℕ) (a : Text → ℕ) (k m : ℕ) (all : List Entry) → ((label : Text) → held label ≡ k * a label)
     → ((label : Text) → amount_of all label ≡ m * a label) → (es : List Entry) → AllByRecursion (λ e. amount_of all e.label ≡ e.amount) es
     → IsAtMost k m (dominant_of held es)
@@ -113,7 +113,7 @@ equal_total total label (a ∷ agents) each =
 
 -- ---- the cycle
 
--- something there is of a scalar
+-- some scalar is not 0
 some_scalar : (total : List Resource) → is_allocatable total ≡ true → (label : Text) × (0 < amount_of (quantities_of total) label)
 some_scalar total worth =
     elim (or_cases (nat_le 10 (amount_of (quantities_of total) (codes "cpus"))) (nat_le 32000 (amount_of (quantities_of total) (codes "mem"))) worth) [

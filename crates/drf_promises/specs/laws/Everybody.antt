@@ -1,4 +1,5 @@
--- In as many rounds as there are clients each is offered what is free: each round leaves one less who is not held back.
+-- In as many rounds as there are active clients, each is offered the free resources: after each round one client fewer
+-- has no filter.
 use Rattle.std.specs.Prelude.{◌≡◌, ℕ, zero, suc, ◌+◌, ◌<◌, ◌≤◌, min, max, Bool, true, false, not, ◌||◌, List, [], ◌∷◌, ◌++◌, length, count_by}
 use Rattle.std.specs.List.{AllByRecursion, list_any}
 use Rattle.std.proofs.Common.{refl, sym, ap, subst, ◌∙◌, inl, inr, cond, arith}
@@ -26,7 +27,7 @@ use Rattle.drf_laws.specs.laws.Cycles.{each_is_at}
 use Rattle.drf_promises.specs.laws.Rounds.{is_held, next, OutOrLasts, Waits}
 use Rattle.drf_promises.specs.laws.Unfiltered.{ran_out, unheld}
 
--- ---- one less
+-- ---- one client fewer
 
 some_count : {X : Type 0} (p : X → Bool) (xs : List X) (x : X) → Has xs x → p x ≡ true → 1 ≤ count_by p xs
 some_count p [] x (place, at) passes = cc

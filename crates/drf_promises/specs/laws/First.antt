@@ -1,4 +1,4 @@
--- The first client of a turn is ahead, at each node, of all siblings that take part.
+-- The first client of a turn is, at each node of its path, ahead of all active siblings.
 use Rattle.std.specs.Prelude.{◌≡◌, ℕ, Bool, true, false, List, [], ◌∷◌, ◌++◌, length, drop}
 use Rattle.std.specs.List.{AllByRecursion, list_any}
 use Rattle.std.proofs.Common.{refl, sym, ap, subst, ◌∙◌, inl, inr, ◌⊎◌, append-nil, append_assoc}
@@ -33,14 +33,14 @@ through path parent a begins =
           ∙ append_assoc parent (a ∷ []) (drop n path),
     )
 
--- where two paths part, the siblings decide
+-- where two paths part, the order of the siblings decides
 pub decided : (s : Standing) (before parent : Path) (a b : Text) (x y : Path) → same_text a b ≡ false
     → stands_before_below s before (parent ++ a ∷ x) (parent ++ b ∷ y) ≡ is_ahead s (before ++ parent) a b
 decided s before [] a b x y other = rw other (ap (λ (p : Path). is_ahead s p a b) (sym (append-nil before)))
 decided s before (z ∷ parent) a b x y other =
     rw (same_itself z) (decided s (before ++ z ∷ []) parent a b x y other ∙ ap (λ (p : Path). is_ahead s p a b) (append_assoc before (z ∷ []) parent))
 
--- ---- the first
+-- ---- the first client
 
 pub some_of : {X : Type 0} (p : X → Bool) (Q : X → Type 0) (xs : List X) → list_any p xs ≡ true → AllByRecursion Q xs → (x : X) × (p x ≡ true) × Q x
 some_of p Q [] any each = cc
@@ -53,7 +53,7 @@ module _ (rows : Rows) (consistent : IsConsistent rows) (c : Client) (others : L
   abbrev s : Standing
   s = rows_word.standing_of rows
 
-  -- it stands before everybody else
+  -- the first client comes before every other
   abbrev ItOrBehind : Client → Type 0
   ItOrBehind d = (path_of d ≡ path_of c) ⊎ Before s c d
 

@@ -1,4 +1,4 @@
--- Clusters that stand alike do so over runs that differ in names alone.
+-- Clusters that are alike except for names stay alike in runs that differ only in names.
 use Rattle.std.specs.Prelude.{◌≡◌, ℕ, ◌+◌, ◌==◌, max, Bool, true, false, not, ◌&&◌, ◌||◌, List, [], ◌∷◌, ◌++◌, map, filter, drop, find, is_some, length, sum_by, flat_map, Option, Some, None, nat_lt}
 use Rattle.std.specs.List.{AllByRecursion, list_any}
 use Rattle.std.specs.Option.{option_map, option_map_or}
@@ -103,7 +103,7 @@ module _ (rows : Rows) (framework : Text) (roles : List Path) where
         no_counts (λ c. begins_with (path_of (client_of new c)) node) (distinct roles),
       )
 
-  -- the role is one of those in which it comes
+  -- the role is one of those in which the new framework registers
   abbrev is_new_part : List Path → Path → Bool
   is_new_part ds role =
       list_any (λ (c : Client). same_path c.role role) (map (client_of new) (filter (λ c. not c.suppressed) (map new_client ds)) ++ [])
@@ -123,7 +123,7 @@ module _ (rows : Rows) (framework : Text) (roles : List Path) where
         | inr later ↦ new_part role ds all.1 later
       ]
 
--- in one of the two, or in both
+-- the framework registers in one of the two clusters, or in both
 module _ (rows other : Rows) (alike : StandAlike rows other) (framework : Text) (roles : List Path) where
   comes-other : AllByRecursion (λ role. has_part other role ≡ true) roles → StandAlike rows (effect other (AddFramework framework roles))
   unfolding effect
@@ -166,10 +166,10 @@ module _ (rows other : Rows) (alike : StandAlike rows other) (framework : Text) 
 pub one_more_stands_alike : OneMoreStandsAlike
 one_more_stands_alike rows other framework roles alike have = comes-other rows other alike framework roles have
 
--- ---- rows that go and rows that are found
+-- ---- removed rows and rows that are found
 
 module _ {X Y : Type 0} (u : X → Y) where
-  -- of two lists whose elements are alike, what passes the same test place by place is alike
+  -- if two lists are alike and the same places pass a test, what passes is alike
   left-alike : (p q : X → Bool) (xs ys : List X) → map u ys ≡ map u xs → map q ys ≡ map p xs
       → map u (filter (λ y. not (q y)) ys) ≡ map u (filter (λ x. not (p x)) xs)
   left-alike p q [] [] same tests = refl
@@ -189,7 +189,7 @@ module _ {X Y : Type 0} (u : X → Y) where
             rw (stays, stood) (λ i. first i ∷ later i)
       ]
 
-  -- what is found by a test that the alike pass alike is alike
+  -- if a test gives the same for elements that are alike, the elements that it finds are alike
   found-alike : (p : X → Bool) → ((x y : X) → u y ≡ u x → p y ≡ p x) → (xs ys : List X) → map u ys ≡ map u xs
       → option_map u (find p ys) ≡ option_map u (find p xs)
   found-alike p tells [] [] same = refl
@@ -209,9 +209,9 @@ module _ {X Y : Type 0} (u : X → Y) where
             rw (past, too) later
       ]
 
--- ---- what ends
+-- ---- release of resources
 
--- the same offers and the same tasks end
+-- the same offers and tasks end
 module _ (rows other : Rows) (alike : StandAlike rows other) where
   ended-alike : (ending same : Ending) → map (ends_offer same) other.offers ≡ map (ends_offer ending) rows.offers
       → map (ends_task same) other.tasks ≡ map (ends_task ending) rows.tasks → StandAlike (without_ended rows ending) (without_ended other same)
@@ -228,7 +228,7 @@ module _ (rows other : Rows) (alike : StandAlike rows other) where
     unfiltered_too = alike.unfiltered_too;
   }
 
-  -- tests that tell no names
+  -- tests that do not depend on names
   tests-offers : (p : OfferRow → Bool) → ((o : OfferRow) → p (unnamed_offer o) ≡ p o) → map p other.offers ≡ map p rows.offers
   tests-offers p blind =
       (λ i. map (λ o. sym (blind o) i) other.offers)
@@ -298,7 +298,7 @@ module _ (rows other : Rows) (alike : StandAlike rows other) where
     unfiltered_too = alike.unfiltered_too;
   }
 
-  -- filters, the clock and the number of events are other ones
+  -- the two states with other filters, clocks and numbers of events are still alike
   settled : (now too : List FilterRow) (clock late events more : ℕ) → in_force clock now ≡ [] → in_force late too ≡ []
       → StandAlike (record rows { filters = now; clock = clock; events = events }) (record other { filters = too; clock = late; events = more })
   settled now too clock late events more none none_too = record {
@@ -314,7 +314,7 @@ module _ (rows other : Rows) (alike : StandAlike rows other) where
     unfiltered_too = none_too;
   }
 
--- ---- what becomes of an offer
+-- ---- accepting and declining an offer
 
 abbrev renamed : Names → List Start → List Start
 renamed names starts = map (λ s. (names.task s.0, s.1)) starts
@@ -453,7 +453,7 @@ module _ (limits : LimitNumbers) (rows other : Rows) (consistent : IsConsistent 
   effect-alike (Cycle at) names keeps accepted finishes none = cycle-alike rows other at consistent right (early_cycle limits rows at accepted) alike
   effect-alike Report names keeps accepted finishes none = alike
 
--- ---- what is told
+-- ---- replies
 
 abbrev told_to_roles : Reply → List OfferLine
 told_to_roles reply = map to_role (lines_told reply)
@@ -519,7 +519,7 @@ module _ (limits : LimitNumbers) (rows other : Rows) (consistent : IsConsistent 
       by (Some refusal) None refused accepted =
           absurd (true≢false (sym (ap (is_some {T = Refusal}) refused) ∙ sym comes.refused ∙ ap (is_some {T = Refusal}) accepted))
 
--- who comes in the other run alone
+-- a framework registers only in the other run
 comes-alike : (limits : LimitNumbers) (rows other : Rows) (framework : Text) (roles : List Path) → StandAlike rows other
     → AllByRecursion (λ role. has_part other role ≡ true) roles → StandAlike rows (rows_after limits other (AddFramework framework roles))
 comes-alike limits rows other framework roles alike have = by (refusal_of limits other event) refl
@@ -535,7 +535,7 @@ comes-alike limits rows other framework roles alike have = by (refusal_of limits
         after.unfiltered after.unfiltered_too)
     by (Some refusal) refused = subst (StandAlike rows) (sym (rows_after-refused limits other event refusal refused)) alike
 
--- and is told nothing
+-- the reply to it makes no offer
 comes_untold : (limits : LimitNumbers) (other : Rows) (framework : Text) (roles : List Path)
     → told_to_roles (reply_to limits other (AddFramework framework roles)) ≡ []
 comes_untold limits other framework roles = by (refusal_of limits other event) refl

@@ -1,4 +1,4 @@
--- In clusters that stand alike each turn, and so each cycle, makes the same offers to roles.
+-- In clusters that are alike except for names, each turn, and so each cycle, makes the same offers to roles.
 use Rattle.std.specs.Prelude.{◌≡◌, ℕ, ◌≤◌, max, true, List, [], ◌∷◌, ◌++◌, filter, length, slice_get, Option, Some, None}
 use Rattle.std.specs.List.{AllByRecursion}
 use Rattle.std.specs.Option.{option_map_or}
@@ -45,17 +45,17 @@ all_granted rows agent [] = rows
 all_granted rows agent (g ∷ gs) = all_granted (granted_to rows agent g) agent gs
 
 module _ (rows : Rows) (agent : AgentRow) where
-  -- another client is granted nothing more, is the client, or stands behind it
+  -- the other client is granted nothing more, is this client, or comes after it
   abbrev EnoughOrBehind : Rows → Client → Client → Type 0
   EnoughOrBehind mid c other = GetsNothing mid agent other ⊎ ((other ≡ c) ⊎ Before (rows_word.standing_of rows) c other)
 
-  -- a grant to a client that takes part, as those ahead of it have enough
+  -- a grant to an active client, when those before it would be granted nothing more
   record IsNext (mid : Rows) (g : Grant) : Type 0 where
     has : Has (active_clients rows) g.0
     granted : grant mid agent g.0 ≡ Some g.1
     others : AllByRecursion (EnoughOrBehind mid g.0) (active_clients rows)
 
-  -- such grants, until nobody is granted anything
+  -- a list of such grants, after which no client would be granted anything
   abbrev AreNext : Rows → List Grant → Type 0
   AreNext mid [] = AllByRecursion (GetsNothing mid agent) (active_clients rows)
   AreNext mid (g ∷ gs) = IsNext mid g × AreNext (granted_to mid agent g) gs
@@ -127,7 +127,7 @@ module _ (rows : Rows) (agent : AgentRow) (consistent : IsConsistent rows) (tota
 
 -- ---- the same grants to roles
 
--- of the clients that take part in a role, one of which something holds
+-- one of the active clients in a role, with a property
 one_of : (Q : Client → Type 0) (rows : Rows) (role : Path) → has_part rows role ≡ true → AllByRecursion Q (active_clients rows)
     → (c : Client) × (c.role ≡ role) × Q c
 one_of Q rows role has each =
@@ -142,7 +142,7 @@ none_is_not_some x found other some same none = cc
 
 module _ (rows other : Rows) (agent : AgentRow) (at : Has rows.agents agent) (at_other : Has other.agents agent) (consistent : IsConsistent rows)
     (right : IsConsistent other) (alike : StandAlike rows other) where
-  -- what is granted in both goes to one role
+  -- what is granted in both clusters goes to the same role
   module _ (mid late : Rows) (now : StandAlike mid late) (g h : Grant) (next : IsNext rows agent mid g) (later : IsNext other agent late h) where
     abbrev c : Client
     c = g.0

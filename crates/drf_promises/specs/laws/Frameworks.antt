@@ -1,4 +1,5 @@
--- Of two clusters that stand alike, each role would be granted the same, and the same roles stand before others.
+-- In two clusters that are alike except for names, each role would be granted the same, and the same roles come before
+-- others.
 use Rattle.std.specs.Prelude.{◌≡◌, ◌≢◌, ℕ, ◌+◌, Bool, true, false, not, ◌&&◌, List, [], ◌∷◌, ◌++◌, map, filter, sum_by, codes, Option, Some, None, if◌then◌else◌}
 use Rattle.std.specs.List.{AllByRecursion, flat_map, list_any}
 use Rattle.std.proofs.Common.{refl, sym, ap, ◌∙◌, inl, inr, cond, arith}
@@ -62,7 +63,7 @@ no_dots-child : (parent : Path) (part : Text) → NoDots parent → part ≢ cod
 no_dots-child [] part dots other = (other, tt)
 no_dots-child (p ∷ parent) part dots other = (dots.0, no_dots-child parent part dots.1 other)
 
--- ---- which role stands first
+-- ---- which role comes first
 
 module _ (s t : Standing) (held : (node : Path) → IsOfRoles node → (label : Text) → t.held node label ≡ s.held node label)
     (count : (node : Path) → IsOfRoles node → t.count node ≡ s.count node) (weight : t.weight ≡ s.weight) (total : t.total ≡ s.total) where
@@ -91,9 +92,9 @@ module _ (s t : Standing) (held : (node : Path) → IsOfRoles node → (label : 
         (of_roles-role (child parent y) (no_dots-child parent y dots dots_b.0)))
   ]
 
--- ---- what is held
+-- ---- holdings
 
--- a holding, but for its framework
+-- the holding without its framework
 abbrev unnamed : Holding → Holding
 unnamed h = record h { client = record h.client { framework = [] } }
 
@@ -145,9 +146,9 @@ module _ (rows other : Rows) (alike : StandAlike rows other) where
       (sym (sum_by-map of_one unnamed (holdings_of other)) ∙ ap (sum_by of_one) holdings-alike ∙ sum_by-map of_one unnamed (holdings_of rows)) i
       + reserved_for (is_within role) (alike.agents i) label
 
-  -- ---- what is granted
+  -- ---- grants
 
-  -- a bundle that is worth an offer
+  -- the bundle, if it is large enough to be offered
   abbrev if_worth : List Resource → Option (List Resource)
   if_worth bundle = if is_allocatable bundle && not false then Some bundle else None
 
@@ -160,7 +161,7 @@ module _ (rows other : Rows) (alike : StandAlike rows other) where
       ∙ (λ i. let bundle : List Resource = entitlement rows (free_of rows agent) c in
       if is_allocatable bundle && not (sym (unheld rows.clock rows.filters alike.unfiltered rows.clock (omega arith) c agent.name bundle) i) then Some bundle else None)
 
-  -- ---- which client stands first
+  -- ---- which client comes first
 
   pub stands-alike : (a b c d : Client) → NoDots a.role → NoDots b.role → same_path a.role b.role ≡ false → c.role ≡ a.role → d.role ≡ b.role
       → stands_before_below (rows_word.standing_of other) [] (path_of c) (path_of d) ≡ stands_before_below (rows_word.standing_of rows) [] (path_of a) (path_of b)
@@ -205,7 +206,7 @@ offer-alike rows other agent c d bundle consistent right alike same known regist
     once : times_registered other.frameworks d ≡ times_registered rows.frameworks c
     once = registered_once other.frameworks d right.frameworks registered ∙ sym (registered_once rows.frameworks c consistent.frameworks known)
 
--- ---- who takes part has a role
+-- ---- an active client has a role
 
 pub roles_of : (rows : Rows) → IsConsistent rows → AllByRecursion (λ c. NoDots c.role) (active_clients rows)
 roles_of rows consistent = all rows.frameworks consistent.frameworks.each

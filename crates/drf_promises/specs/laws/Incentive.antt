@@ -1,4 +1,4 @@
--- Where siblings are one agent apart each has its part by weight, but for an agent a sibling.
+-- If siblings are one agent apart, each has its part by weight, less one agent for each sibling.
 use Rattle.std.specs.Prelude.{◌≡◌, ℕ, ◌+◌, ◌*◌, ◌≤◌, List, [], ◌∷◌, length, sum_by}
 use Rattle.std.proofs.Common.{refl, sym, ap, subst, arith}
 use Rattle.std.proofs.Math.Nat.{mul-le-mul_right, le_of_mul-le-mul_right, one-le-mul}
@@ -20,10 +20,10 @@ use Rattle.drf_promises.specs.Siblings.{child, AtMost, AtMostSum}
 use Rattle.drf_promises.specs.laws.Apart.{none_held}
 use Rattle.drf_promises.specs.laws.Shares.{SomeWhole, dominant_grows, dominant_sum}
 
--- ---- so many times one fraction, and another
+-- ---- sums of multiples of two fractions
 
 module _ (k : ℕ) (g h : Fraction) where
-  -- k times a fraction is at most a times the one and b times the other
+  -- k times f is at most a times g and b times h together
   abbrev pub Mix : Fraction → ℕ → ℕ → Type 0
   Mix f a b = AtMostSum (times k f) (times a g) (times b h)
 
@@ -46,7 +46,7 @@ module _ (k : ℕ) (g h : Fraction) where
   mix_none : (f : Fraction) (a b : ℕ) → f.part ≡ 0 → Mix f a b
   mix_none f a b none = omega (arith, ap (λ n. k * n * (g.whole * h.whole)) none)
 
--- a sibling that is one agent apart
+-- a sibling that is at most one agent apart
 apart_mix : (f g h : Fraction) (w k : ℕ) → 1 ≤ w → AtMostSum (weigh f w) (weigh g k) (weigh h w) → Mix k g h f w k
 apart_mix f g h w k some apart =
     le_of_mul-le-mul_right {m = k * f.part * (g.whole * h.whole)} {n = (w * g.part * h.whole + k * h.part * g.whole) * f.whole} {k = 1000 * w}

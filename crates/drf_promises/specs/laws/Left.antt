@@ -1,4 +1,5 @@
--- What a turn leaves is granted to nobody: who was granted something has nothing left, and all others have less than they were denied.
+-- After a turn no client would be granted anything: a client that was granted something has taken all it could have,
+-- and for the others less is left than they were refused.
 use Rattle.std.specs.Prelude.{◌≡◌, ℕ, ◌+◌, ◌-◌, ◌≤◌, min, Bool, true, false, not, ◌&&◌, List, [], ◌∷◌, Some, None, if◌then◌else◌}
 use Rattle.std.specs.List.{AllByRecursion}
 use Rattle.std.specs.Option.{option_map_or}
@@ -28,7 +29,7 @@ use Rattle.drf_rows.specs.declared.rows.Rows.{Rows}
 use Rattle.drf_promises.specs.Cycles.{GetsNothing}
 use Rattle.drf_promises.specs.laws.Less.{IsBelow, LeavesLess, worth_falls, cut_falls, less_than_itself, less_and_less, nothing_stays}
 
--- ---- one more offer leaves less to all
+-- ---- one more offer leaves less for every client
 
 module _ (rows : Rows) (offer : OfferRow) (each : AreBundles (holdings_of rows)) (right : IsBundle offer.bundle) where
   free_falls : (agent : AgentRow) → IsBundle agent.total → IsBelow (free_of (with_offer rows offer) agent) (free_of rows agent)
@@ -52,7 +53,7 @@ module _ (rows : Rows) (offer : OfferRow) (each : AreBundles (holdings_of rows))
     clock = refl;
   }
 
--- ---- who was granted all that it may have has nothing left
+-- ---- a client that was granted its whole entitlement has none left
 
 module _ (rows : Rows) (agent : AgentRow) (client : Client) (total : IsBundle agent.total) (each : AreBundles (holdings_of rows)) where
   abbrev free : List Resource
@@ -90,7 +91,7 @@ module _ (rows : Rows) (agent : AgentRow) (client : Client) (total : IsBundle ag
   unfolding with_offer
   limits_stay = refl
 
-  -- of so many free units, those that it has not got are none that it may have
+  -- of the free units that it did not get, the client can have none
   spent : (key : Key) (p : Point) (n e : ℕ) → e ≡ units part key p → e ≡ units_for rows client.role key p n
       → units_for after client.role key p (n - e) ≡ 0
   spent (label, []) Thousandths n e of_part its =
@@ -164,7 +165,7 @@ module _ (agent : AgentRow) (total : IsBundle agent.total) where
       (tried_leaves_less rows agent client total each other right)
       (all_tried_less (tried rows agent client) clients other right (tried_bundles rows agent client total each))
 
-  -- those who were tried have nothing left
+  -- the clients that were tried would be granted nothing more
   pub all_get_nothing : (rows : Rows) (clients : List Client) → AreBundles (holdings_of rows) → AllByRecursion (λ f. IsBundle f.bundle) rows.filters
       → AllByRecursion (GetsNothing (all_tried rows agent clients) agent) clients
   all_get_nothing rows [] each filters = tt

@@ -1,5 +1,5 @@
--- Rows that leave less to a client grant it nothing more: what it may have falls with what is free and with what limits leave, and a filter that
--- holds a bundle back holds back less of it.
+-- A state that leaves less for a client grants it nothing more: its entitlement falls with the free resources and the
+-- headroom, and a filter that covers a bundle covers less of it too.
 use Rattle.std.specs.Prelude.{◌≡◌, ℕ, ◌+◌, ◌-◌, ◌≤◌, min, Bool, true, false, not, ◌&&◌, ◌||◌, codes, List, [], ◌∷◌, fold, Some, None, if◌then◌else◌}
 use Rattle.std.specs.List.{reduce, AllByRecursion}
 use Rattle.std.specs.Option.{option_map_or}
@@ -31,7 +31,7 @@ use Rattle.drf_promises.specs.Cycles.{GetsNothing}
 
 -- ---- less of a bundle
 
--- where one test of a filter, or of those behind it, still passes, so does some
+-- if the test of a filter, or of those after it in the list, is still passed, some filter passes
 some_still : (force whose there old new before after : Bool) → (old ≡ true → new ≡ true) → (before ≡ true → after ≡ true)
     → ((force && (whose && (there && old))) || before) ≡ true → ((force && (whose && (there && new))) || after) ≡ true
 some_still force whose there old new before after here later either = grind (arith, nat_tests)
@@ -111,7 +111,7 @@ module _ (before after : Consumed) (role : Path) (label : Text) (e : ℕ)
         )
   ]
 
--- ---- rows that leave less on an agent
+-- ---- a state that leaves less on an agent
 
 pub record LeavesLess (rows less : Rows) (agent : AgentRow) : Type 0 where
   pub free : IsBelow (free_of less agent) (free_of rows agent)
@@ -176,7 +176,7 @@ module _ (rows less : Rows) (agent : AgentRow) (client : Client) (leaves : Leave
   none_falls true false true false little back none = cc
   none_falls false held true false little back none = cc (little refl)
 
-  -- who was granted nothing is granted nothing
+  -- a client that was granted nothing is granted nothing
   pub nothing_stays : AllByRecursion (λ f. IsBundle f.bundle) rows.filters → GetsNothing rows agent client → GetsNothing less agent client
   nothing_stays each nothing =
       let is_old : IsBundle old = bundle-entitlement rows (free_of rows agent) client (bundle-free_of rows agent total) in

@@ -1,4 +1,4 @@
--- Where nothing is reserved, limited or refused, a turn offers all that is free to the first client, or nothing to anybody.
+-- In an open cluster, a turn offers everything that is free to the first client, or nothing to any client.
 use Rattle.std.specs.Prelude.{◌≡◌, ℕ, ◌≤◌, max, Bool, true, false, not, ◌&&◌, List, [], ◌∷◌, filter, Option, Some, None, if◌then◌else◌, nat_lt}
 use Rattle.std.specs.List.{AllByRecursion, list_all}
 use Rattle.std.proofs.Common.{refl, sym, ap, subst, ◌∙◌, inl, inr, ◌⊎◌, arith}
@@ -27,7 +27,7 @@ use Rattle.drf_promises.specs.Cycles.{active_agents, AllIsHandedOut, GetsNothing
 use Rattle.drf_promises.specs.laws.Cycles.{cycles_leave_nothing, end}
 use Rattle.drf_promises.specs.laws.Unfiltered.{unheld}
 
--- ---- what is left of an unreserved bundle
+-- ---- the rest of an unreserved bundle
 
 unreserved-rest : (whole part : List Resource) → is_unreserved whole ≡ true → is_unreserved (rest whole part) ≡ true
 unreserved-rest [] part none = refl
@@ -48,7 +48,7 @@ for_each role (r ∷ rs) none =
     let parts = and_parts (is_default r.role) (is_unreserved rs) none in
     and_from (is_for role r) (list_all (is_for role) rs) (or_left (is_default r.role) (begins_with role r.role) parts.0) (for_each role rs parts.1)
 
--- every client may have all that is free
+-- every client can have everything that is free
 pub entitled_to_all : (rows : Rows) (agent : AgentRow) (client : Client) → IsBundle agent.total → is_unreserved agent.total ≡ true → rows.limits ≡ []
     → entitlement rows (free_of rows agent) client ≡ free_of rows agent
 unfolding free_of
@@ -72,7 +72,7 @@ module _ (rows : Rows) (is_open : IsOpen rows) (agent : AgentRow) (total : IsBun
       ap (λ (b : List Resource). if is_allocatable b && not (is_held_back rows.filters rows.clock client agent.name b) then Some b else None) whole
       ∙ (λ i. if worth i && not (held i) then Some free else None)
 
-  -- the turn offers all that is free to the first in its order
+  -- the turn offers everything that is free to the first client in its order
   pub record OffersAll : Type 0 where
     pub first : Client
     pub others : List Client
@@ -97,7 +97,7 @@ module _ (rows : Rows) (is_open : IsOpen rows) (agent : AgentRow) (total : IsBun
 
 -- ---- a cycle
 
--- filters stay in a cycle, and the clock is at its moment
+-- a cycle changes no filters and moves the clock to its timestamp
 kept-cycle : (rows : Rows) (at : ℕ) → ((cycle rows at).filters ≡ rows.filters) × ((cycle rows at).clock ≡ max rows.clock at)
 unfolding cycle
 kept-cycle rows at = kept-turns (at_moment rows at) (active_agents rows)

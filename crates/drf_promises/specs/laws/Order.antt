@@ -1,4 +1,5 @@
--- The order of a turn: each client stands before all later ones, and each offer goes to the first who may have something.
+-- The order of a turn: each client comes before all later ones, and each offer goes to the first client that would be
+-- granted something.
 use Rattle.std.specs.Prelude.{◌≡◌, ℕ, zero, suc, Bool, true, false, ◌||◌, List, [], ◌∷◌, ◌++◌, length, find, drop, Option, Some, None}
 use Rattle.std.specs.List.{AllByRecursion, list_all}
 use Rattle.std.specs.Option.{option_map_or}
@@ -43,7 +44,7 @@ passes t (d ∷ ds) c found = by (t d) refl found (passes t ds c)
         subst (λ (x : Client). t x ≡ true) same here
     by false past is later = later is
 
--- the first stands before all others
+-- the first client comes before all others
 before_others : (s : Standing) (c : Client) (ds : List Client)
     → list_all (λ d. same_path (path_of c) (path_of d) || stands_before s (path_of c) (path_of d)) ds ≡ true → AllByRecursion (Before s c) (without c ds)
 before_others s c [] first = tt
@@ -77,7 +78,7 @@ module _ (rows : Rows) (agent : AgentRow) (consistent : IsConsistent rows) (tota
   abbrev s : Standing
   s = rows_word.standing_of rows
 
-  -- who stands before a client that is tried was tried
+  -- a client that comes before one that is tried was tried before it
   nobody_ahead : (earlier later : List Client) (c : Client) → turn_order rows ≡ earlier ++ c ∷ later
       → AllByRecursion (λ d. Before s d c → GetsNothing (all_tried rows agent earlier) agent d) (active_clients rows)
   nobody_ahead earlier later c order =
@@ -90,7 +91,7 @@ module _ (rows : Rows) (agent : AgentRow) (consistent : IsConsistent rows) (tota
       (before_later s earlier later c (subst (InOrder s) order (served_in_order s (length (active_clients rows)) (active_clients rows)))) in
       everybody Enough rows consistent (subst (AllByRecursion Enough) (sym order) (each_append Enough earlier (c ∷ later) tried (itself, behind)))
 
-  -- what is offered between two rows
+  -- the offers that are made between two states
   record Offers (before after : Rows) : Type 0 where
     made : List OfferRow
     offers : after.offers ≡ before.offers ++ made

@@ -1,4 +1,5 @@
--- Over runs of cycles, reports, accepts of whole offers and agents that become active, nobody comes before a client of whose own nodes none gets anything.
+-- In runs of cycles, reports, accepts of whole offers and activations of agents, no other client overtakes a client whose
+-- own nodes get nothing.
 use Rattle.std.specs.Prelude.{◌≡◌, ℕ, ◌≤◌, true, List, [], ◌∷◌, Option, Some, None}
 use Rattle.std.specs.List.{AllByRecursion}
 use Rattle.std.specs.Option.{option_map_or}
@@ -37,7 +38,7 @@ use Rattle.drf_promises.specs.laws.ApartRuns.{held-accepted}
 use Rattle.drf_promises.specs.laws.Counts.{count-with_offer}
 use Rattle.drf_promises.specs.laws.Siblings.{more_is_later}
 
--- nobody comes to hold less or to have got fewer offers, and what there is and the weights stay
+-- no node holds less or has received fewer offers, and totals and weights stay
 record Grows (rows after : Rows) : Type 0 where
   held : (node : Path) (label : Text) → held_by rows node label ≤ held_by after node label
   count : (node : Path) → count_of rows node ≤ count_of after node

@@ -1,4 +1,4 @@
--- In a run a child that gets nothing is passed in no more turns than the others' lead allows.
+-- In a run, a child that is offered nothing is passed over in at most as many turns as the lead of the others allows.
 use Rattle.std.specs.Prelude.{◌≡◌, ℕ, ◌+◌, ◌≤◌, true, List, [], ◌∷◌, Option, Some, None}
 use Rattle.std.specs.List.{AllByRecursion, list_any}
 use Rattle.std.specs.Option.{option_map_or}
@@ -72,7 +72,7 @@ module _ (limits : LimitNumbers) (rows : Rows) (consistent : IsConsistent rows) 
   abbrev names : List Text
   names = one ∷ others
 
-  -- what an event leaves: no count falls, clients take part as before, and its passes are used up
+  -- an event lowers no count, keeps the active clients, and uses up as much of the lead as it has passes
   record Goes (event : Event) (passes : ℕ) (after : Rows) : Type 0 where
     rises : count_of rows its ≤ count_of after its
     clients : AreClientsOf rows parent names → AreClientsOf after parent names

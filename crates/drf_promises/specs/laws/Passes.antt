@@ -1,4 +1,5 @@
--- Who holds nothing is passed by none who got more offers, so that each pass uses up some lead of the others.
+-- A node that holds nothing is passed over only by nodes that received at most as many offers, so each pass uses up a
+-- part of the others' lead.
 use Rattle.std.specs.Prelude.{◌≡◌, ℕ, zero, suc, ◌+◌, ◌-◌, ◌*◌, ◌≤◌, ◌==◌, Bool, true, false, ◌&&◌, ◌||◌, List, [], ◌∷◌, length, slice_get, is_some, Option, Some, None, nat_lt}
 use Rattle.std.specs.List.{list_any}
 use Rattle.std.specs.Option.{option_map_or}
@@ -37,7 +38,7 @@ use Rattle.drf_promises.specs.laws.Counts.{count-with_offer}
 after_grant : Rows → AgentRow → Client → Option (List Resource) → Rows
 after_grant rows agent c granted = option_map_or (λ bundle. with_offer rows (new_offer rows agent c bundle)) granted rows
 
--- no count falls as a client is tried
+-- no count falls when a client is tried
 count-tried : (rows : Rows) (agent : AgentRow) (c : Client) (node : Path) → count_of rows node ≤ count_of (tried rows agent c) node
 count-tried rows agent c node = by (grant rows agent c)
   where
@@ -49,7 +50,7 @@ pub count-all_tried : (rows : Rows) (agent : AgentRow) (cs : List Client) (node 
 count-all_tried rows agent [] node = omega arith
 count-all_tried rows agent (c ∷ cs) node = omega (arith, count-tried rows agent c node, count-all_tried (tried rows agent c) agent cs node)
 
--- one that is granted something counts one more at its nodes
+-- a grant to a client raises the counts of its nodes by one
 count-granted : (rows : Rows) (agent : AgentRow) (c : Client) (bundle : List Resource) (node : Path) → IsConsistent rows
     → is_registered rows.frameworks c ≡ true → grant rows agent c ≡ Some bundle → begins_with (path_of c) node ≡ true
     → count_of (tried rows agent c) node ≡ count_of rows node + 1
@@ -64,7 +65,7 @@ module _ (parent : Path) (one : Text) where
   abbrev node : Path
   node = child parent one
 
-  -- where counts rise, but that of the node, the lead falls
+  -- if counts rise except that of the node, the lead falls
   lead_falls : (old new : Rows) (others : List Text) → count_of new node ≡ count_of old node
       → ((name : Text) → count_of old (child parent name) ≤ count_of new (child parent name)) → lead_of new parent one others ≤ lead_of old parent one others
   lead_falls old new [] same rise = omega arith
@@ -78,7 +79,7 @@ module _ (parent : Path) (one : Text) where
         lead_falls old new others same rise,
       )
 
-  -- and falls by one at least where one of the others counts one more, and did not count more than the node
+  -- it falls by at least one if one of the others that was not ahead in count receives an offer
   lead_used : (old new : Rows) (others : List Text) (own : Text → Bool) → count_of new node ≡ count_of old node
       → ((name : Text) → count_of old (child parent name) ≤ count_of new (child parent name))
       → ((name : Text) → own name ≡ true → (count_of new (child parent name) ≡ count_of old (child parent name) + 1) × (count_of old (child parent name) ≤ count_of old node))
@@ -92,7 +93,7 @@ module _ (parent : Path) (one : Text) where
         | inr later ↦ omega (arith, before, after, same, rise name, lead_used old new others own same rise more later)
       ]
 
--- ahead of one that holds nothing is none who got more offers
+-- a sibling that comes before a node which holds nothing has received at most as many offers
 ahead_of_nothing : (s : Standing) (parent : Path) (a b : Text) → (weighted_share_of s (child parent b)).part ≡ 0 → is_ahead s parent a b ≡ true
     → s.count (child parent a) ≤ s.count (child parent b)
 unfolding is_ahead
@@ -110,9 +111,9 @@ ahead_of_nothing s parent a b none ahead =
           ]
     ]
 
--- ---- a turn that passes a node
+-- ---- a turn that passes over a node
 
--- the first who is granted something, up to one who would be
+-- the first client that is granted something, before or at one that would be
 record FirstGranted (rows : Rows) (agent : AgentRow) (cs : List Client) (d : Client) : Type 0 where
   c : Client
   has : Has cs c
@@ -184,7 +185,7 @@ module _ (rows : Rows) (agent : AgentRow) (parent : Path) (one : Text) (others :
     unfolding turn
     next_rises n = omega (arith, count-all_tried next agent first.later n, ap (λ (r : Rows). count_of r n) first.rest)
 
-    -- it is no client of the node
+    -- it is not a client of the node
     not_mine : begins_with (path_of c) mine ≡ false
     not_mine = elim (cases_Bool (begins_with (path_of c) mine)) [
       | inl here ↦
@@ -192,7 +193,7 @@ module _ (rows : Rows) (agent : AgentRow) (parent : Path) (one : Text) (others :
       | inr past ↦ past
     ]
 
-    -- and got no more offers, at its own node
+    -- its own node has received at most as many offers
     no_more : (name : Text) → begins_with (path_of c) (child parent name) ≡ true → count_of rows (child parent name) ≤ count_of rows mine
     unfolding rows_word.standing_of
     no_more name its =

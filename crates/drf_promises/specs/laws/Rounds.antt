@@ -1,4 +1,4 @@
--- A cycle whose offer is declined for long leaves all as it was, but that one client more is held back.
+-- A cycle whose offer is declined with a long filter changes nothing, except that one more client has a filter.
 use Rattle.std.specs.Prelude.{◌≡◌, ℕ, ◌+◌, ◌-◌, ◌<◌, ◌≤◌, ◌==◌, min, max, Bool, true, false, not, ◌&&◌, ◌||◌, List, [], ◌∷◌, ◌++◌, length, map, filter, drop, Option, Some, nat_lt}
 use Rattle.std.specs.List.{AllByRecursion}
 use Rattle.std.specs.Option.{option_map_or}
@@ -49,7 +49,7 @@ use Rattle.drf_promises.specs.laws.Waiting.{GoesTo, goes_to}
 
 -- ---- an offer that is declined
 
--- no offer has the next number
+-- no offer has the next number yet
 none_next : (rows : Rows) → IsConsistent rows → AllByRecursion (λ o. (o.number == rows.next_offer) ≡ false) rows.offers
 none_next rows consistent =
     let last : ℕ = rows.next_offer - 1 in
@@ -79,7 +79,7 @@ module _ (rows : Rows) (agent : AgentRow) (client : Client) (bundle : List Resou
   unfolding with_offer
   found = find_only is_next rows.offers [] o (none_next rows consistent) itself
 
-  -- the rows are as they were, but for counts, the next number, the clock and one filter
+  -- the state is unchanged except for counts, the next offer number, the clock and one filter
   abbrev pub refused : Rows
   refused = record rows {
     frameworks = made.frameworks;
@@ -113,11 +113,11 @@ module _ (rows : Rows) (agent : AgentRow) (client : Client) (bundle : List Resou
 
 -- ---- a round
 
--- the filter ran out before some moments, or lasts beyond them
+-- the filter expired before the rounds, or lasts beyond them
 abbrev pub OutOrLasts : ℕ → ℕ → FilterRow → Type 0
 OutOrLasts begun last f = (f.until ≤ begun) ⊎ (last < f.until)
 
--- such filters hold the same back at each of these moments
+-- such filters cover the same at each time of the rounds
 held_alike : (fs : List FilterRow) (begun now last : ℕ) (client : Client) (agent : List ℕ) (bundle : List Resource) → begun ≤ now → now ≤ last
     → AllByRecursion (OutOrLasts begun last) fs → is_held_back fs now client agent bundle ≡ is_held_back fs last client agent bundle
 held_alike [] begun now last client agent bundle late early each = refl
@@ -147,15 +147,15 @@ module _ (start : Rows) (agent : AgentRow) (first last ms : ℕ) (right : IsCons
   abbrev free : List Resource
   free = free_of start agent
 
-  -- the rounds begin at this moment or later
+  -- the rounds begin at this time or later
   abbrev begin : ℕ
   begin = max start.clock first
 
-  -- whom filters hold back, as long as any does that had not run out
+  -- whether a filter that had not expired then covers the free resources for the client
   abbrev pub is_held : Rows → Client → Bool
   is_held rows client = is_held_back rows.filters last client agent.name free
 
-  -- rows after some rounds
+  -- the state after some rounds
   pub record Waits (rows : Rows) : Type 0 where
     pub consistent : IsConsistent rows
     pub agents : rows.agents ≡ start.agents
@@ -167,7 +167,7 @@ module _ (start : Rows) (agent : AgentRow) (first last ms : ℕ) (right : IsCons
     pub clock : rows.clock ≤ last
     pub lasting : AllByRecursion (OutOrLasts begin last) rows.filters
 
-  -- a round: its offer goes to one who was not held back, and who is from then on
+  -- a round: its offer goes to a client without such a filter, which has one from then on
   pub record Offers (rows : Rows) (at : ℕ) : Type 0 where
     pub offer : OfferRow
     pub made : made_at rows at ≡ offer ∷ []
@@ -200,7 +200,7 @@ module _ (start : Rows) (agent : AgentRow) (first last ms : ℕ) (right : IsCons
     free_bundle : IsBundle free
     free_bundle = bundle-free_of start agent total
 
-    -- whom filters hold back in the turn
+    -- whether a filter covers the free resources for the client in this turn
     abbrev held_then : Client → Bool
     held_then client = is_held_back mid.filters mid.clock client agent.name (free_of mid agent)
 

@@ -1,4 +1,4 @@
--- A cycle on an empty cluster gives each role at the top its part.
+-- In an empty cluster, a cycle gives each top-level role its part.
 use Rattle.std.specs.Prelude.{◌≡◌, ℕ, ◌+◌, ◌*◌, ◌<◌, ◌≤◌, Bool, true, not, List, [], ◌∷◌, ◌++◌, length, map, slice_get, sum_by, Option, Some, None, nat_lt}
 use Rattle.std.specs.List.{AllByRecursion, list_all, list_any}
 use Rattle.std.proofs.Common.{sym, ap, subst, ◌∙◌, inl, inr, cond, arith}
@@ -43,7 +43,7 @@ use Rattle.drf_promises.specs.laws.Incentive.{mix_less, sharing_incentive}
 use Rattle.drf_promises.specs.laws.Open.{OffersAll, all_or_nothing, grants_all}
 use Rattle.drf_promises.specs.laws.Shares.{greater_first, greater_second, most_trans}
 
--- ---- who holds all of a scalar has it all
+-- ---- a client that holds everything of a scalar has the share 1
 
 abbrev whole : Fraction
 whole = record { part = 1; whole = 1 }
@@ -87,7 +87,7 @@ sum_rises own old new u grows (name ∷ names) =
 
 -- ---- a turn
 
--- an agent that is worth an offer is handed out
+-- an agent that is large enough to be offered is offered
 handed_out : (rows : Rows) (agent : AgentRow) (node : Path) (is_open : IsOpen rows) (consistent : IsConsistent rows) (total : IsBundle agent.total)
     (none : is_unreserved agent.total ≡ true) → is_allocatable (free_of rows agent) ≡ true → TakesPart rows node
     → OffersAll rows is_open agent total none (bundles-consistent rows consistent)
@@ -137,7 +137,7 @@ module _ (names : List Text) (label : Text) where
   offered_whole P rows agent c all whole each =
       each_append (λ o. P o.bundle) rows.offers (new_offer rows agent c (free_of rows agent) ∷ []) each (subst P (sym all) whole, tt)
 
-  -- what is left for later turns is as fresh
+  -- the agents of later turns are still untouched
   fresh_still : (rows : Rows) (agent : AgentRow) (c : Client) (agents : List AgentRow)
       → list_all (λ t. not (same_text agent.name t)) (map (λ a. a.name) agents) ≡ true → AllByRecursion (Fresh rows) agents
       → AllByRecursion (Fresh (with_offer rows (new_offer rows agent c (free_of rows agent)))) agents

@@ -1,4 +1,4 @@
--- Dominant shares as fractions: they grow with what is held, and that of a sum is at most the sum of those of its parts.
+-- Dominant shares as fractions: they grow with what is held, and the share of a sum is at most the sum of the shares.
 use Rattle.std.specs.Prelude.{◌≡◌, ℕ, zero, suc, Bool, true, false, if◌then◌else◌, map, slice_get, Some, ◌+◌, ◌*◌, ◌≤◌, List, [], ◌∷◌, nat_lt}
 use Rattle.std.proofs.Common.{subst, ap, inl, inr, arith}
 use Rattle.std.proofs.Math.Nat.{mul-le-mul_right, le_of_mul-le-mul_right, one-le-mul}
@@ -32,7 +32,7 @@ greater_second f g = elim (cases_Bool (is_less f g)) [
   | inr past ↦ rw past (let more = ltb-false (f.part * g.whole) (g.part * f.whole) past in omega (arith, more))
 ]
 
--- more of both is above what was above
+-- a sum of two greater fractions is an upper bound too
 pub sum_grows : (f g h k l : Fraction) → SomeWhole g → SomeWhole h → AtMostSum f g h → AtMost g k → AtMost h l → AtMostSum f k l
 sum_grows f g h k l one two sum first second =
     le_of_mul-le-mul_right {m = f.part * (k.whole * l.whole)} {n = (k.part * l.whole + l.part * k.whole) * f.whole} {k = g.whole * h.whole}
@@ -44,7 +44,7 @@ sum_grows f g h k l one two sum first second =
     ))
     (one-le-mul one two)
 
--- ---- the greatest of some
+-- ---- the greatest of some fractions
 
 module _ {X : Type 0} (f : X → Fraction) (some : (x : X) → SomeWhole (f x)) where
   pub greatest_some : (xs : List X) → SomeWhole (greatest (map f xs))
@@ -64,10 +64,10 @@ module _ {X : Type 0} (f : X → Fraction) (some : (x : X) → SomeWhole (f x)) 
       most_trans (f x) (greatest (map f ys)) (greatest (map f (y ∷ ys))) (greatest_some ys) (greatest_of ys place x at)
       (greater_second (f y) (greatest (map f ys)))
 
--- ---- of what is held
+-- ---- shares of what is held
 
 module _ (u v : Text → ℕ) (below : (label : Text) → u label ≤ v label) where
-  -- who holds more has no less a share
+  -- a node that holds more has at least as great a share
   pub dominant_grows : (es : List Entry) → AtMost (dominant_of u es) (dominant_of v es)
   dominant_grows [] = omega arith
   dominant_grows (e ∷ es) = elim (cases_Bool (nat_lt 0 e.amount)) [
@@ -111,14 +111,14 @@ dominant_sum u v w adds (e ∷ es) = elim (cases_Bool (nat_lt 0 e.amount)) [
       | inr past ↦ rw past (sum_grows f g h (greater g s) (greater h t) one two first (greater_first g s) (greater_first h t))
     ]
 
--- ---- by weights
+-- ---- weighted shares
 
--- a share by less weight is no less
+-- with a smaller weight a share is at least as great
 pub weighed_grows : (f g : Fraction) (w v : ℕ) → AtMost f g → v ≤ w → AtMost (weigh f w) (weigh g v)
 weighed_grows f g w v most less =
     omega (arith, mul-le-mul_right (1000 * v) most, mul-le-mul_right (1000 * (g.part * f.whole)) less)
 
--- past a sibling by no more than what was got
+-- a node passes a sibling by at most what it received
 pub weighed_sum : (S H B Y : Fraction) (a b : ℕ) → SomeWhole H → AtMostSum S H B → AtMost (weigh H a) (weigh Y b)
     → AtMostSum (weigh S a) (weigh Y b) (weigh B a)
 weighed_sum S H B Y a b one sum before =

@@ -1,4 +1,4 @@
--- How far siblings come apart by one offer, that sums alone order them, and that who holds more is served later.
+-- How far siblings come apart by one offer; only sums decide their order; and a client that holds more is served later.
 use Rattle.std.specs.Prelude.{◌≡◌, ℕ, ◌*◌, ◌≤◌, Bool, true, false, ◌&&◌, ◌||◌, List, [], ◌∷◌, ◌++◌, nat_lt, ◌==◌}
 use Rattle.std.proofs.Common.{refl, sym, ap, subst, ◌∙◌, inl, inr, arith, append_assoc, cond}
 use Rattle.std.proofs.lemmas.Bool.{cases_Bool, and_parts, or_cases, ltb-true, ltb-false, eqb-true, true≢false}
@@ -27,7 +27,7 @@ use Rattle.drf_promises.specs.Siblings.{child, AtMost, AtMostSum, OneOfferApart,
 use Rattle.drf_promises.specs.laws.Counts.{count-with_offer}
 use Rattle.drf_promises.specs.laws.Shares.{dominant_grows, dominant_sum, weighed_grows, weighed_sum, most_trans}
 
--- who is ahead has no greater weighted share
+-- a node that is ahead has at most the same weighted share
 pub ahead_at_most : (s : Standing) (parent : Path) (a b : Text) → is_ahead s parent a b ≡ true
     → AtMost (weighted_share_of s (child parent a)) (weighted_share_of s (child parent b))
 unfolding is_ahead
@@ -39,7 +39,7 @@ ahead_at_most s parent a b ahead =
       | inr tied ↦ let same = eqb-true (A.part * B.whole) (B.part * A.whole) (and_parts (is_same A B) _ tied).0 in omega (arith, same)
     ]
 
--- what is true of its share, weight and total, by those that it has then
+-- in terms of the new share, weight and total
 pub one_offer_apart : OneOfferApart
 one_offer_apart s t parent a b amounts ahead more =
     let A : Path = child parent a in
@@ -49,7 +49,7 @@ one_offer_apart s t parent a b amounts ahead more =
     (weighed_sum (dominant_of (t.held A) s.total) (share_of s A) (dominant_of amounts s.total) (share_of s B) (s.weight A) (s.weight B)
     (greatest_above (s.held A) s.total) (dominant_sum (t.held A) (s.held A) amounts more.held s.total) (ahead_at_most s parent a b ahead))
 
--- ---- sums alone
+-- ---- only sums decide
 
 pub sums_decide : SumsDecide
 unfolding is_ahead
@@ -58,7 +58,7 @@ sums_decide s t parent a b same_a same_b total = λ i.
     let B : Fraction = weigh (dominant_of (λ label. same_b.held label i) (total i)) (same_b.weight i) in
     is_less A B || (is_same A B && (nat_lt (same_a.count i) (same_b.count i) || (same_a.count i == same_b.count i && text_below a b)))
 
--- ---- who holds more
+-- ---- holding more
 
 less_stays : (A B C D : Fraction) → 1 ≤ A.whole → 1 ≤ B.whole → 1 ≤ C.whole → 1 ≤ D.whole → AtMost C A → AtMost B D → is_less A B ≡ true → is_less C D ≡ true
 less_stays A B C D a b c d first second less = elim (cases_Bool (is_less C D)) [
@@ -69,7 +69,7 @@ less_stays A B C D a b c d first second less = elim (cases_Bool (is_less C D)) [
       absurd (omega (arith, most, ltb-true (A.part * B.whole) (B.part * A.whole) less))
 ]
 
--- by shares p and q, then counts m and n, then names
+-- comparing shares p and q, then counts m and n, then names
 rank_stays : (p q r s m n j k : ℕ) (l : Bool) → (nat_lt p q ≡ true → nat_lt r s ≡ true) → ((p == q) ≡ true → r ≤ s) → j ≤ m → n ≤ k
     → (nat_lt p q || ((p == q) && (nat_lt m n || ((m == n) && l)))) ≡ true
     → (nat_lt r s || ((r == s) && (nat_lt j k || ((j == k) && l)))) ≡ true
@@ -163,7 +163,7 @@ offer_is_later rows offer first consistent before =
     weighs : (node : Path) → 1 ≤ weight_of rows.weights node
     weighs node = (weight_of-in_range rows.weights node consistent.weights.each).0
 
-    -- at a node that is not its own nothing changes
+    -- at nodes that are not its own nothing changes
     held : (node : Path) (label : Text) → begins_with (path_of client) node ≡ false → held_by after node label ≤ held_by rows node label
     held node label other =
         omega (

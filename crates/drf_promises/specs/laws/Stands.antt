@@ -1,4 +1,5 @@
--- What stands stays until an event that ends it, and what is reserved is held by its role and those below it.
+-- Offers and tasks stay until an event ends them, and reserved resources are held only by their role and those below
+-- it.
 use Rattle.std.specs.Prelude.{◌≡◌, zero, suc, Bool, true, false, List, [], ◌∷◌, ◌++◌, map, filter, Option, Some, None}
 use Rattle.std.specs.Option.{option_map_or}
 use Rattle.std.proofs.Common.{refl, sym, ap, subst, ◌∙◌, inl, inr, cond}
@@ -20,7 +21,7 @@ use Rattle.drf_rows.specs.declared.rows.Rows.{Rows}
 use Rattle.drf_laws.specs.laws.Runs.{own_after_all}
 use Rattle.drf_promises.specs.Runs.{Has, SparesOffer, SparesTask, OffersStand, TasksStand, ReservedIsItsRoles}
 
--- ---- who is in a list
+-- ---- membership in a list
 
 has_before : {X : Type 0} (xs ys : List X) (x : X) → Has xs x → Has (xs ++ ys) x
 has_before [] ys x (place, at) = cc
@@ -39,7 +40,7 @@ has_passed p (y ∷ ys) x (suc place, at) passes =
       | inr past ↦ rw past later
     ]
 
--- what is left alone of a list is left of each
+-- an element that passes a filter on its own passes it in a list
 has_spared : {X : Type 0} (p : X → Bool) (xs : List X) (x : X) → Has xs x → filter p (x ∷ []) ≡ x ∷ [] → Has (filter p xs) x
 has_spared {X} p xs x has spared = has_passed p xs x has (by (p x) spared)
   where
@@ -84,7 +85,7 @@ others_have_task (RemoveFramework framework) ts t has spared = has_spared _ ts t
 others_have_task (Finish framework task) ts t has spared = has_spared _ ts t has spared
 others_have_task other ts t has spared = has
 
--- an accept puts its tasks behind those that run
+-- an accept adds its tasks after those that run
 accept_has : (rows : Rows) (a : accepting.Accept) (t : TaskRow) → Has rows.tasks t → (found : Option OfferRow) → offer_at rows a.offer ≡ found
     → HasTask t (effect rows (Accept a))
 unfolding effect
@@ -104,7 +105,7 @@ tasks_stand limits rows (event ∷ events) t has spared =
     tasks_stand limits (rows_after limits rows event) events t
     (step_keeps (HasTask t) limits rows event has (task_stays rows event t has spared.0)) spared.1
 
--- ---- what is reserved
+-- ---- reserved resources
 
 pub reserved_is_its_roles : ReservedIsItsRoles
 reserved_is_its_roles limits events given = own_after_all limits opening events IsConsistent-opening given tt

@@ -1,4 +1,4 @@
--- Where no filter is in force nothing is held back, and none is in force later but by one that is set.
+-- If no filter is in force, nothing is covered by one, and later none is in force except those that are set.
 use Rattle.std.specs.Prelude.{◌≡◌, ℕ, ◌≤◌, Bool, true, false, List, [], ◌∷◌, ◌++◌, filter, if◌then◌else◌, nat_lt}
 use Rattle.std.specs.List.{AllByRecursion}
 use Rattle.std.proofs.Common.{refl, sym, ap, ◌∙◌, inl, inr, arith}
@@ -23,7 +23,7 @@ module _ (now : ℕ) (fs : List FilterRow) (none : in_force now fs ≡ []) where
   pub unfiltered_left : (p : FilterRow → Bool) → in_force now (filter p fs) ≡ []
   unfiltered_left p = sym (in_force-left now now p fs (omega arith)) ∙ ap (λ (gs : List FilterRow). in_force now (filter p gs)) none
 
--- they all ran out
+-- all of them have expired
 pub ran_out : (now : ℕ) (fs : List FilterRow) → in_force now fs ≡ [] → AllByRecursion (λ f. f.until ≤ now) fs
 ran_out now [] none = tt
 ran_out now (f ∷ fs) none = elim (cases_Bool (nat_lt now f.until)) [
@@ -31,12 +31,12 @@ ran_out now (f ∷ fs) none = elim (cases_Bool (nat_lt now f.until)) [
   | inr past ↦ (grind (arith, nat_tests), ran_out now fs (rw past at none))
 ]
 
--- a filter that is set for any time is in force
+-- a filter that is set with a positive `refuse_ms` is in force
 pub set_in_force : (clock refuse_ms : ℕ) → nat_lt 0 refuse_ms ≡ true → nat_lt clock (filtered_until clock refuse_ms) ≡ true
 set_in_force clock refuse_ms some = lt-ltb clock (filtered_until clock refuse_ms) (omega (arith, ltb-true 0 refuse_ms some))
 
 module _ (now : ℕ) where
-  -- so none was set, where none is in force then
+  -- so if none is in force afterwards, none was set
   pub no_filter : (b : Bool) (fs : List FilterRow) (f : FilterRow) → (b ≡ true → nat_lt now f.until ≡ true)
       → in_force now (if b then fs ++ f ∷ [] else fs) ≡ [] → b ≡ false
   no_filter false fs f lasts none = refl

@@ -1,4 +1,5 @@
--- Who declines is held back, so that in as many cycles as there are clients each is offered what is free.
+-- A client that declines has a filter, so in as many cycles as there are active clients each is offered the free
+-- resources.
 use Rattle.std.specs.Prelude.{◌≡◌, suc, Bool, true, false, not, ◌&&◌, List, [], ◌∷◌, Option, Some, None, if◌then◌else◌}
 use Rattle.std.specs.List.{AllByRecursion}
 use Rattle.std.specs.Option.{option_map_or}
@@ -15,7 +16,7 @@ use Rattle.drf_rows.specs.declared.rows.Rows.{Rows}
 use Rattle.drf_promises.specs.Runs.{Has}
 use Rattle.drf_promises.specs.laws.Open.{entitled_to_all}
 
--- ---- a turn goes to the first who is not held back
+-- ---- a turn goes to the first client without a filter
 
 module _ (rows : Rows) (agent : AgentRow) (total : IsBundle agent.total) (none : is_unreserved agent.total ≡ true) (limits : rows.limits ≡ [])
     (each : AreBundles (holdings_of rows)) (worth : is_allocatable (free_of rows agent) ≡ true) where

@@ -14,7 +14,7 @@ import (
 	"go.etcd.io/etcd/mvcc/mvccpb"
 )
 
-// MaxLine is the longest line that the allocator reads, in bytes. Of a longer one it echoes a byte more.
+// MaxLine is the length, in bytes, of the longest line that the allocator reads. Of a longer line it echoes one byte more.
 const MaxLine = 65536
 
 // Markers of messages that gateways append for themselves. They have no lines.
@@ -23,8 +23,8 @@ const (
 	MarkerEpoch    = "epoch"
 )
 
-// Revision orders messages: the revision of the transaction that appended one, and its index among the transaction's batches. etcd reports
-// the first alone, so the second is part of the value.
+// Revision orders messages: the revision of the transaction that appended a message, and the message's index in the transaction. etcd reports only
+// the first, so the second is part of the value.
 type Revision struct {
 	Main int64 `json:"revision"`
 	Sub  int   `json:"index"`
@@ -35,7 +35,7 @@ func (r Revision) Before(other Revision) bool {
 	return r.Main < other.Main || r.Main == other.Main && r.Sub < other.Sub
 }
 
-// Position is how far the list was answered: its last message, and the number of messages, event lines and journal bytes up to there.
+// Position is how far the list was answered: the last answered message, and the numbers of messages, event lines and journal bytes up to it.
 type Position struct {
 	Revision `json:"place"`
 	Messages int64 `json:"messages"`
@@ -43,7 +43,7 @@ type Position struct {
 	Bytes    int64 `json:"bytes"`
 }
 
-// Batch is what is appended as one message: event lines, or a marker, and an opaque note beside them.
+// Batch is appended as one message: event lines or a marker, and an opaque note.
 type Batch struct {
 	Key        string      // OWNER/KEY: a second batch with this key is not appended
 	Marker     string      // MarkerSnapshot, MarkerEpoch or empty
@@ -116,7 +116,7 @@ func (b *Batch) bodyAt(at int64) []byte {
 	return append(append([]byte(nil), b.Note...), text...)
 }
 
-// header is the first line of a value. Its checksum is of what follows: etcd does not notice that a member's store was damaged.
+// header is the first line of a value. It has a checksum of what follows, because etcd does not notice if a member's store was damaged.
 type header struct {
 	At     int64  `json:"at"`
 	Index  int    `json:"index"`

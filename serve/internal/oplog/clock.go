@@ -1,4 +1,4 @@
-// The clock that gateways share: no message has a timestamp far from the time of most of them. Outside the proof.
+// The clock that gateways share. It ensures that no message has a timestamp far from the clocks of most gateways. Outside the proof.
 
 package oplog
 
@@ -46,7 +46,7 @@ type Clock struct {
 	lost    chan struct{} // closed while etcd has not answered for a lease
 }
 
-// otherClock is what is known of another gateway's clock.
+// otherClock is the clock of another gateway, as far as it is known.
 type otherClock struct {
 	revision int64
 	seen     time.Duration // when its record last changed
@@ -99,14 +99,14 @@ func (c *Clock) refused() error {
 	return &ClockError{fmt.Sprintf("its clock is more than %v from the service's", c.bound)}
 }
 
-// Fault says why this gateway may not append, or is empty.
+// Fault says why this gateway cannot append, or is empty.
 func (c *Clock) Fault() string {
 	c.mu.Lock()
 	defer c.mu.Unlock()
 	return c.fault
 }
 
-// Warning says what is odd about a clock that is used all the same, or is empty.
+// Warning says what is unusual about a clock that is used nevertheless, or is empty.
 func (c *Clock) Warning() string {
 	c.mu.Lock()
 	defer c.mu.Unlock()
@@ -146,7 +146,7 @@ func (c *Clock) Run(ctx context.Context) {
 	}
 }
 
-// checkLost closes the channel that says that this gateway is cut off, when it is.
+// checkLost closes the channel of Lost, if this gateway is cut off.
 func (c *Clock) checkLost() {
 	c.mu.Lock()
 	defer c.mu.Unlock()
@@ -279,7 +279,7 @@ func (c *Clock) warn(warning string) {
 	c.warning = warning
 }
 
-// advance moves the shared clock forward. Another gateway may do it first.
+// advance moves the shared clock forward, unless another gateway has done it.
 func (c *Clock) advance(ctx context.Context, client *clientv3.Client, revision, to int64) error {
 	condition := clientv3.Compare(clientv3.ModRevision(c.key()), "=", revision)
 	answer, err := client.Txn(ctx).If(condition).Then(clientv3.OpPut(c.key(), stamp(to))).Commit()
@@ -316,7 +316,7 @@ func (c *Clock) Live() []string {
 	return c.live
 }
 
-// setLive is called by Run alone, which owns the records of others.
+// setLive sets the names of the other gateways that run. Only Run calls it, which owns the records of others.
 func (c *Clock) setLive() {
 	var names []string
 	for name, other := range c.others {

@@ -1,4 +1,4 @@
-// Conversion of the keys in etcd that gateways had before this format, once, after a backup. Outside the proof.
+// Conversion of the keys in etcd from the older format. It is done once, after a backup. Outside the proof.
 
 package oplog
 
@@ -19,8 +19,8 @@ import (
 	"go.etcd.io/etcd/clientv3"
 )
 
-// Older gateways kept each snapshot, its text included, under `s/`, each key of a pruned message under `k/`, and their clock under `clock`.
-// The key of the format is under `s/` too, where they cannot read it: an older gateway that is started by mistake never becomes ready.
+// Older gateways kept each snapshot, with its text, under `s/`, each key of a pruned message under `k/`, and their clock under `clock`. The key
+// that names the new format is under `s/` too, where older gateways cannot read it: one that is started by mistake never becomes ready.
 const (
 	formatKey  = "s/format"
 	formatText = "2: this list needs a newer gateway"
@@ -28,11 +28,11 @@ const (
 	backupName = "backup-1"
 )
 
-// ErrOlderGateway reports that a gateway runs that is too old to share a list with this one.
+// ErrOlderGateway reports that another gateway is too old to share a list with this one.
 var ErrOlderGateway = errors.New("a gateway of an older version runs: stop all of them before a newer one starts")
 
-// Prepare makes the keys in etcd be of this format: it marks a new list, and converts an older one after writing a backup to a folder. It
-// returns ErrOlderGateway while an older gateway runs.
+// Prepare brings the keys in etcd into this format: it marks a new list, and converts an older one after writing a backup to a folder. It returns
+// ErrOlderGateway while an older gateway runs.
 func (l *Log) Prepare(ctx context.Context, folder string, alone bool) error {
 	for {
 		isCurrent, isOld, err := l.format(ctx)
@@ -85,7 +85,7 @@ func (l *Log) format(ctx context.Context) (isCurrent, isOld bool, err error) {
 	return isCurrent, isOld, nil
 }
 
-// waitForOlder returns ErrOlderGateway when the older gateways' clock advances.
+// waitForOlder returns ErrOlderGateway if the older gateways' clock advances.
 func (l *Log) waitForOlder(ctx context.Context) error {
 	revision := int64(-1)
 	for start := time.Now(); time.Since(start) < oldPause; {

@@ -36,7 +36,7 @@ type TooLargeError struct{}
 
 func (*TooLargeError) Error() string { return "the batch is larger than etcd takes in one request" }
 
-// FullError reports that the store has no room for another batch at present, or no more keys can be kept. The batch was not appended.
+// FullError reports that the store has no room for another batch at present, or that no more keys can be kept. The batch was not appended.
 type FullError struct {
 	What string
 	Keys bool // the number of kept keys is at its limit, or that of the caller's
@@ -59,12 +59,12 @@ func (e *UnavailableError) Error() string {
 
 func (e *UnavailableError) Unwrap() error { return e.Err }
 
-// ClockError reports that this gateway may not append, as its clock disagrees with the other gateways' clocks.
+// ClockError reports that this gateway cannot append, because its clock disagrees with the other gateways' clocks.
 type ClockError struct{ Reason string }
 
 func (e *ClockError) Error() string { return "this gateway takes no events: " + e.Reason }
 
-// FatalError reports that data contradict each other: the gateway stops rather than answer from them.
+// FatalError reports contradicting data: the gateway stops rather than answer from them.
 type FatalError struct{ Err error }
 
 func (e *FatalError) Error() string { return e.Err.Error() }

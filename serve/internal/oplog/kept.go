@@ -1,4 +1,4 @@
-// The idempotency keys of pruned messages: digests in sorted segments, which are dropped whole. Outside the proof.
+// The idempotency keys of pruned messages: digests in sorted segments. Segments are dropped as a whole. Outside the proof.
 
 package oplog
 
@@ -105,7 +105,7 @@ func (s segment) newest() (at int64) {
 	return at
 }
 
-// keptSet is all kept keys as of a revision of the guard, which each change of them writes.
+// keptSet is all kept keys as of a revision of the guard, a key in etcd that each change of the kept keys writes.
 type keptSet struct {
 	guard    string
 	revision int64
@@ -117,7 +117,7 @@ type keptSet struct {
 
 func (s *keptSet) count() int { return s.entries }
 
-// isCurrent is the condition that no key was added or dropped since.
+// isCurrent is the condition that no key was added or dropped since then.
 func (s *keptSet) isCurrent() clientv3.Cmp {
 	return clientv3.Compare(clientv3.ModRevision(s.guard), "=", s.revision)
 }
@@ -204,7 +204,7 @@ func (k *Kept) Find(ctx context.Context, key string) (message int64, is bool, er
 	return e.message, is, nil
 }
 
-// forget drops a copy that is out of date, or whatever copy there is.
+// forget drops a copy that is out of date or, for nil, whatever copy there is.
 func (k *Kept) forget(set *keptSet) {
 	k.mu.Lock()
 	defer k.mu.Unlock()
@@ -213,7 +213,7 @@ func (k *Kept) forget(set *keptSet) {
 	}
 }
 
-// load returns the copy, which it reads from etcd where there is none.
+// load returns the copy, which it reads from etcd if there is none.
 func (k *Kept) load(ctx context.Context) (*keptSet, error) {
 	k.mu.Lock()
 	defer k.mu.Unlock()

@@ -1,4 +1,4 @@
-// Appending to the list: batches that wait together become one transaction. Outside the proof.
+// Appending to the list: batches that wait at the same time become one transaction. Outside the proof.
 
 package oplog
 
@@ -23,8 +23,8 @@ type Log struct {
 	Kept  *Kept // the keys of pruned messages
 	Space *Space
 
-	// KeepSenders reports whether messages are to say who sent them, or nil: they do. A gateway that does not know senders takes a batch that
-	// comes again for another one.
+	// KeepSenders reports whether messages are to name their senders; nil means that they do. If a batch is sent again, a gateway that does not know
+	// senders mistakes it for a different batch.
 	KeepSenders func() bool
 
 	cluster *etcd.Cluster
@@ -40,10 +40,10 @@ func New(cluster *etcd.Cluster, prefix string, clock *Clock, space *Space, maxKe
 	return l
 }
 
-// Cluster returns the etcd that stores the list.
+// Cluster returns the etcd cluster that stores the list.
 func (l *Log) Cluster() *etcd.Cluster { return l.cluster }
 
-// Path returns the key in etcd of something beside the list.
+// Path returns the key in etcd of something that is stored beside the list.
 func (l *Log) Path(name string) string { return l.prefix + name }
 
 func (l *Log) messages(key string) string { return l.prefix + "m/" + key }
@@ -54,19 +54,19 @@ type Condition struct {
 	touched string // the name that no message may touch, or empty
 }
 
-// Unchanged holds while a key of Path was last written at a revision.
+// Unchanged returns the condition that a key of Path was last written at a revision.
 func (l *Log) Unchanged(key string, revision int64) Condition {
 	return Condition{compare: clientv3.Compare(clientv3.ModRevision(key), "=", revision)}
 }
 
-// Untouched holds while no message after a revision touches a name.
+// Untouched returns the condition that no message after a revision touches a name.
 func (l *Log) Untouched(name string, revision int64) Condition {
 	return Condition{clientv3.Compare(clientv3.ModRevision(l.touched(name)), "<", revision+1), name}
 }
 
 func (l *Log) touched(name string) string { return l.prefix + "touched/" + name }
 
-// pending is a batch on its way into the list.
+// pending is a batch that is being appended.
 type pending struct {
 	*Batch
 	done     chan struct{}
@@ -121,8 +121,8 @@ func (l *Log) Run(ctx context.Context) {
 	}
 }
 
-// gather takes what waits, as far as it fits into one transaction, which has each key once; and returns the first batch that does not. etcd
-// judges all conditions of a transaction before it writes, so a batch does not fit after one that touches what it is conditional on.
+// gather takes the waiting batches that fit into one transaction, with each key only once, and returns the first batch that does not fit. etcd
+// judges all conditions of a transaction before it writes, so a batch does not fit after one that touches a name of the batch's conditions.
 func (l *Log) gather(first *pending) (group []*pending, next *pending) {
 	keys, touched, size := map[string]bool{}, map[string]bool{}, 0
 	for next = first; ; {
@@ -152,8 +152,8 @@ func (b *Batch) dependsOn(touched map[string]bool) bool {
 	return false
 }
 
-// commit tries a group until it is committed: a member may die with a transaction, and the keys make it safe to send it again. A transaction
-// that a dead leader has is lost without notice, so patience is short at first.
+// commit tries a group until it is committed: a member may stop during a transaction, and the keys make it safe to send the transaction again. A
+// transaction that a failed leader has is lost without notice, so patience is short at first.
 func (l *Log) commit(ctx context.Context, group []*pending) error {
 	start, patience := time.Now(), 500*time.Millisecond
 	for {
@@ -177,11 +177,11 @@ func (l *Log) commit(ctx context.Context, group []*pending) error {
 	}
 }
 
-// errKeptChanged reports that messages were pruned since this gateway last read their keys.
+// errKeptChanged reports that messages were pruned after this gateway last read the kept keys.
 var errKeptChanged = errors.New("messages were pruned")
 
-// tryCommit is one transaction. While its timestamp is within bounds, and no message was pruned whose key this gateway does not know, each
-// batch with a new key is put, each in a transaction of its own inside.
+// tryCommit sends one transaction. If its timestamp is within bounds, and no message was pruned whose key this gateway does not know, each batch
+// with a new key is put, each in a nested transaction.
 func (l *Log) tryCommit(ctx context.Context, group []*pending, patience time.Duration) error {
 	kept, err := l.Kept.load(ctx)
 	if err != nil {
@@ -233,7 +233,7 @@ func (l *Log) tryCommit(ctx context.Context, group []*pending, patience time.Dur
 	return nil
 }
 
-// check returns why a batch is not put now, whatever the list has: its key is that of a pruned message, or there is no room.
+// check returns why a batch cannot be put now, whatever the list has: its key is that of a pruned message, or there is no room.
 func (l *Log) check(kept *keptSet, b *pending) error {
 	if entry, is := kept.find(b.Key); is {
 		return entry.compare(b.Batch)
@@ -255,7 +255,7 @@ func (l *Log) check(kept *keptSet, b *pending) error {
 	return nil
 }
 
-// settle records what became of a batch. A message that the list still has decides before anything else.
+// settle records the result for a batch. If the list still has the message, that takes precedence.
 func (l *Log) settle(p *pending, kept *keptSet, at Revision, wasPut bool, found []*mvccpb.KeyValue) {
 	switch {
 	case p.err == nil && wasPut:
@@ -268,7 +268,7 @@ func (l *Log) settle(p *pending, kept *keptSet, at Revision, wasPut bool, found 
 	}
 }
 
-// again compares a batch with the message that has its key. It may come from another address.
+// again compares a batch with the message that has its key. It can come from another address.
 func (l *Log) again(b *Batch, kv *mvccpb.KeyValue) (Revision, error) {
 	m, err := l.decode(kv)
 	if err == nil && b.value(m.At, m.Revision.Sub, m.Sender) != string(kv.Value) {

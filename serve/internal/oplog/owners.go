@@ -1,4 +1,4 @@
-// How many idempotency keys each owner has: one caller must not use up the keys that can be kept. Outside the proof.
+// The number of idempotency keys that each owner has: one caller must not use up all the keys that can be kept. Outside the proof.
 
 package oplog
 
@@ -37,7 +37,7 @@ func numberOf(owner string) ownerNumber {
 // isLimited reports whether a batch needs a key of its owner's share.
 func (b *Batch) isLimited() bool { return b.Limited && !b.Internal && !isAnonymous(b.Key) }
 
-// mostOfOne returns how many keys one owner may have, in the list and kept.
+// mostOfOne returns how many keys one owner can have, in the list and kept.
 func (l *Log) mostOfOne() int { return (l.Kept.max + 1) / 2 }
 
 const (
@@ -45,9 +45,8 @@ const (
 	refusedFresh = time.Second      // while the owner is refused
 )
 
-// owners is what this gateway knows of the owners' keys. Other gateways append too, so it counts again before it has appended a quarter of
-// what an owner has left. Transactions that are on their way at the same time do not count each other's keys, so an owner may have a few hundred
-// more.
+// owners is what this gateway knows of the owners' keys. Other gateways append too, so it counts again before it has appended a quarter of what an
+// owner has left. Transactions that run at the same time do not count each other's keys, so an owner can have a few hundred more.
 type owners struct {
 	mu     sync.Mutex
 	byName map[string]*ownedKeys
@@ -62,8 +61,8 @@ type ownedKeys struct {
 
 func newOwners() *owners { return &owners{byName: map[string]*ownedKeys{}} }
 
-// due reports whether an owner's keys are to be counted before some more are added. Those that were counted with other kept keys are:
-// messages may have left the list meanwhile.
+// due reports whether an owner's keys are to be counted before more are added. They are also counted again if the kept keys changed, because
+// messages may have left the list.
 func (o *owners) due(name string, more, most int, revision int64, now time.Time) bool {
 	o.mu.Lock()
 	defer o.mu.Unlock()
@@ -85,7 +84,7 @@ func (o *owners) set(name string, keys int, revision int64, now time.Time) {
 	o.byName[name] = &ownedKeys{keys: keys, counted: now, revision: revision}
 }
 
-// take adds a key of an owner, unless the owner has as many as it may have.
+// take adds a key of an owner, unless the owner has as many as it can have.
 func (o *owners) take(name string, most int) bool {
 	o.mu.Lock()
 	defer o.mu.Unlock()

@@ -1,4 +1,4 @@
-// Reading the list: all messages after a revision, in order and in bounded memory, and then those that come. Outside the proof.
+// Reading the list: all messages after a revision, in order and in bounded memory, and then new ones. Outside the proof.
 
 package oplog
 
@@ -13,7 +13,7 @@ import (
 	"go.etcd.io/etcd/mvcc/mvccpb"
 )
 
-// errCompacted reports that etcd has forgotten the messages that are to be followed.
+// errCompacted reports that etcd has discarded the messages that are to be followed.
 var errCompacted = errors.New("etcd no longer has the messages")
 
 const (
@@ -111,7 +111,7 @@ func (l *Log) Follow(ctx context.Context, after int64, hand func([]Message) erro
 	return ctx.Err()
 }
 
-// watch follows at one member. It returns an error only when another watch would be of no use.
+// watch follows the list at one member. It returns an error only if another watch would not help.
 func (l *Log) watch(ctx context.Context, after *int64, hand func([]Message) error) error {
 	client, ctx, cancel := l.cluster.Ask(ctx, 24*time.Hour)
 	defer cancel()

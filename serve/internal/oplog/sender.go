@@ -1,4 +1,4 @@
-// Who sent a batch, which is kept with its message. Outside the proof.
+// The sender of a batch, which is stored with its message. Outside the proof.
 
 package oplog
 
@@ -8,7 +8,7 @@ import (
 	"strings"
 )
 
-// Sender is who sent a batch: the name of the token, never the token, and the address that the request came from.
+// Sender is the sender of a batch: the name of the token, never the token, and the address that the request came from.
 type Sender struct {
 	Name    string
 	Address string // an IP address, or empty where it is not known
@@ -34,7 +34,7 @@ func WithSender(ctx context.Context, s Sender) context.Context {
 	return context.WithValue(ctx, senderKey{}, s)
 }
 
-// SenderOf returns who sent the request of a context. It is empty in what a gateway does by itself.
+// SenderOf returns the sender of the request of a context. It is empty for actions of the gateway itself.
 func SenderOf(ctx context.Context) Sender {
 	s, _ := ctx.Value(senderKey{}).(Sender)
 	return s

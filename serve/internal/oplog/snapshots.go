@@ -1,4 +1,4 @@
-// Snapshots in etcd: what the allocator and the registry are at a position, in parts of at most 1 MiB. Outside the proof.
+// Snapshots in etcd: the states of the allocator and the registry at a position, in parts of at most 1 MiB. Outside the proof.
 
 package oplog
 
@@ -30,7 +30,7 @@ type Snapshot struct {
 	Registry string `json:"registry"` // digest of the registry's state, or empty where the snapshot has none
 }
 
-// Content is what a snapshot has: the allocator's state as `drf save` writes it, and the registry's.
+// Content is the content of a snapshot: the allocator's state as `drf save` writes it, and the registry's state.
 type Content struct{ State, Registry []byte }
 
 // stored is a description in etcd.
@@ -47,7 +47,7 @@ func (l *Log) part(number int, packed string, part int) string {
 	return fmt.Sprintf("%sparts/%08d/%.16s/%04d", l.prefix, number, packed, part)
 }
 
-// Snapshots returns the snapshots in etcd, in order, and the revision of etcd at which these are all.
+// Snapshots returns the snapshots in etcd, in order, and a revision of etcd at which these are all.
 func (l *Log) Snapshots(ctx context.Context) ([]Snapshot, int64, error) {
 	found, revision, err := l.stored(ctx)
 	if err != nil {

@@ -1,4 +1,4 @@
-// The space of etcd's store: batches of callers leave a reserve for snapshots and pruning. Outside the proof.
+// The space of etcd's store: callers' batches leave a reserve for snapshots and pruning. Outside the proof.
 
 package oplog
 
@@ -17,14 +17,14 @@ import (
 	"go.etcd.io/etcd/etcdserver/etcdserverpb"
 )
 
-// Shares of the quota: a snapshot is due when the messages since the last one have a sixteenth; callers may fill half of it. The rest is for
-// snapshots, and for what was pruned and etcd has not given back yet.
+// Shares of the quota: a snapshot is due when the messages since the last one take a sixteenth; callers can fill half of it. The rest is for
+// snapshots, and for pruned data whose space etcd has not released yet.
 const (
 	snapshotShare = 16
 	callerShare   = 2
 )
 
-// Space watches how full etcd's store is.
+// Space measures how full etcd's store is.
 type Space struct {
 	cluster *etcd.Cluster
 	quota   int64
@@ -33,7 +33,7 @@ type Space struct {
 	used int64 // bytes of the store that are not free for reuse, when they were last counted
 	file int64 // bytes of its file
 
-	// What was appended here in this period, and in the one before: etcd counts it when it has written it to its file.
+	// The bytes appended here in this period, and in the one before: etcd counts them once it has written them to its file.
 	appended, before int64
 	period           time.Time
 }
@@ -55,10 +55,10 @@ func (s *Space) Usage() (used, quota int64) {
 	return s.used, s.quota
 }
 
-// taken returns the used bytes, with those that etcd may not have counted. The lock is held.
+// taken returns the used bytes, including those that etcd may not have counted yet. The lock is held.
 func (s *Space) taken() int64 { return s.used + s.appended + s.before }
 
-// add counts what was appended.
+// add counts appended bytes.
 func (s *Space) add(bytes int) {
 	if s == nil {
 		return
@@ -68,10 +68,10 @@ func (s *Space) add(bytes int) {
 	s.appended += int64(bytes)
 }
 
-// IsShort reports whether callers are refused for want of space: it is time to prune.
+// IsShort reports whether callers are refused because space is short: it is time to prune.
 func (s *Space) IsShort() bool { return s.check() != nil }
 
-// check returns a *FullError when only the reserve is left.
+// check returns a *FullError if only the reserve is left.
 func (s *Space) check() error {
 	if s == nil {
 		return nil
@@ -152,7 +152,7 @@ func (s *Space) recover(ctx context.Context, client *clientv3.Client, endpoint s
 	return nil
 }
 
-// Compact makes etcd forget the history before a revision, so that the space of pruned messages can be used again.
+// Compact makes etcd discard the history before a revision, so that the space of pruned messages can be used again.
 func (l *Log) Compact(ctx context.Context, revision int64) error {
 	_, err := l.cluster.Client().Compact(ctx, revision)
 	if err != nil && !errors.Is(err, rpctypes.ErrCompacted) {

@@ -1,4 +1,4 @@
-// Package periodic, outside the proof, appends the messages that gateways add by themselves: cycles, the end of late offers, and markers of
+// Package periodic, outside the proof, appends the messages that gateways add by themselves: cycles, rescinds of late offers, and markers of
 // snapshots.
 package periodic
 
@@ -15,14 +15,14 @@ import (
 	"gateway/internal/registry"
 )
 
-// Config says what is appended when.
+// Config says which messages are appended, and when.
 type Config struct {
 	Cycle        time.Duration // between cycles; 0: callers send them
 	OfferTimeout time.Duration // after which an offer is rescinded; 0: never
 	Window       time.Duration // for which keys of pruned messages are kept
 }
 
-// Runner appends messages under keys that name their cause, so that each gateway may append one and it is appended once.
+// Runner appends messages under keys that name their cause. So each gateway can append a message, and it is in the list only once.
 type Runner struct {
 	config    Config
 	log       *oplog.Log
@@ -36,7 +36,7 @@ func New(config Config, log *oplog.Log, allocator *allocator.Allocator, registry
 	return &Runner{config, log, allocator, registry, ready}
 }
 
-// append appends an event, unless another gateway did.
+// append appends an event, unless another gateway has done so.
 func (r *Runner) append(ctx context.Context, key string, event map[string]interface{}) {
 	line, err := json.Marshal(event)
 	if err == nil {
@@ -60,7 +60,7 @@ func (r *Runner) put(ctx context.Context, b *oplog.Batch) error {
 	return err
 }
 
-// RunCycles appends a cycle in each slot of time. While nothing happens one slot in ten is enough, for refusals that expire.
+// RunCycles appends a cycle in each slot of time. While nothing happens, one slot in ten is enough, for filters that expire.
 func (r *Runner) RunCycles(ctx context.Context) {
 	for ctx.Err() == nil {
 		now := r.log.Clock.Now().UnixNano()

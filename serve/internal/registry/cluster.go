@@ -22,7 +22,7 @@ type heldOffer struct {
 	Made int64 `json:"made"`
 }
 
-// Kinds of what registers and sends heartbeats.
+// Kinds of owners that register and send heartbeats.
 const (
 	Agents     = "agents"
 	Frameworks = "frameworks"
@@ -56,10 +56,10 @@ func (c *cluster) clear() {
 
 func (c *cluster) Name() string { return "cluster" }
 
-// Begin ends all offers: numbers begin again.
+// Begin ends all offers, because numbers begin again.
 func (c *cluster) Begin(int) { c.end("epoch", c.sorted(nil)) }
 
-// Apply follows the events that were answered without a refusal.
+// Apply applies the events that were accepted.
 func (c *cluster) Apply(m *Message) {
 	for k, line := range m.Lines {
 		if reply := m.Replies[k]; answerOf(reply) == "ok" {
@@ -168,7 +168,7 @@ func take(index map[string]numbers, name string, number uint64) {
 	}
 }
 
-// end removes offers, and reports that to who listens.
+// end removes offers, and notifies those who follow them.
 func (c *cluster) end(reason string, ended []heldOffer) {
 	for _, o := range ended {
 		number := o.Offer.Offer

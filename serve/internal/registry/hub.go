@@ -1,4 +1,4 @@
-// Subscriptions, indexed by topic, so that an event costs nothing to those who did not ask for it. Outside the proof.
+// Subscriptions, indexed by topic, so that an event costs nothing for those who did not subscribe to it. Outside the proof.
 
 package registry
 
@@ -14,7 +14,7 @@ const AllReplies = ""
 // OffersOf returns the topic of a framework's offers.
 func OffersOf(framework string) string { return "offers/" + framework }
 
-// maxWaiting is how many events may wait for a subscriber. One that is slower is dropped: it may come again, and gets what exists.
+// maxWaiting is how many events can wait for a subscriber. A slower subscriber is dropped: it can subscribe again, and gets the current state.
 const maxWaiting = 8192
 
 // Subscription is one listener of a topic. Its channel is closed when the listener is dropped.
@@ -63,7 +63,7 @@ func (h *hub) drop(s *Subscription) {
 	}
 }
 
-// publish sends an event to the subscribers of a topic. It is made only when there are any.
+// publish sends an event to the subscribers of a topic. The event is built only if there are any.
 func (h *hub) publish(topic string, event func() []byte) {
 	h.mu.Lock()
 	defer h.mu.Unlock()

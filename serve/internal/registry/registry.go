@@ -1,5 +1,5 @@
-// Package registry, outside the proof, is the state that is derived from messages and the allocator's replies: offers, frameworks, agents,
-// and who listens to them. It does no IO and reads no clock, so every gateway derives the same. No reply depends on it.
+// Package registry, outside the proof, has the state that is derived from messages and the allocator's replies: offers, frameworks, agents, and
+// subscriptions to them. It does no IO and reads no clock, so every gateway derives the same. No reply depends on it.
 package registry
 
 import (
@@ -45,7 +45,7 @@ type Observer interface {
 	FrameworkRemoved(framework string)
 }
 
-// Registry applies each message once, in order, to all its states. After a restart of the allocator messages come again, and are skipped.
+// Registry applies each message once, in order, to all its states. After a restart of the allocator, messages are repeated, and skipped.
 type Registry struct {
 	hub      *hub
 	observer Observer
@@ -60,7 +60,7 @@ type Registry struct {
 	idle     bool // the last event was a cycle without offers
 }
 
-// New returns an empty registry with more states beside its own.
+// New returns an empty registry, with additional states.
 func New(observer Observer, more ...State) *Registry {
 	r := &Registry{hub: newHub(), observer: observer}
 	r.cluster = newCluster(r.hub, observer)
@@ -68,7 +68,7 @@ func New(observer Observer, more ...State) *Registry {
 	return r
 }
 
-// Info is how far the registry is.
+// Info is how far the registry has got.
 type Info struct {
 	Applied, Revision, Now int64
 	Epoch                  int
@@ -76,14 +76,14 @@ type Info struct {
 	Offers, Agents, Tasks  int
 }
 
-// Info returns how far the registry is.
+// Info returns how far the registry has got.
 func (r *Registry) Info() Info {
 	r.mu.RLock()
 	defer r.mu.RUnlock()
 	return Info{r.applied, r.revision, r.now, r.epoch, r.idle, len(r.cluster.offers), len(r.cluster.agents), r.cluster.countTasks()}
 }
 
-// Apply takes a message, unless it was applied before.
+// Apply applies a message, unless it was applied before.
 func (r *Registry) Apply(m *Message) {
 	r.mu.Lock()
 	defer r.mu.Unlock()
@@ -124,7 +124,7 @@ func (r *Registry) Begin(epoch int) {
 	}
 }
 
-// Snapshot returns the states as one text, when the last message is the one with a number.
+// Snapshot returns the states as one text, if the last message has this number.
 func (r *Registry) Snapshot(number int64) (snapshot []byte, is bool) {
 	r.mu.RLock()
 	defer r.mu.RUnlock()
@@ -141,8 +141,8 @@ func (r *Registry) Snapshot(number int64) (snapshot []byte, is bool) {
 	return snapshot, err == nil
 }
 
-// Restore resumes from a snapshot after a message, unless the registry is there already: who listens must come again, and gets what exists.
-// An empty snapshot is replaced by the rows of the allocator's state, as snapshots of older gateways have nothing else.
+// Restore resumes from a snapshot after a message, unless the registry is already there. Subscribers must subscribe again, and get the current
+// state. An empty snapshot is replaced by the rows of the allocator's state, because snapshots of older gateways have nothing else.
 func (r *Registry) Restore(snapshot, rows []byte, message, at int64, epoch int) error {
 	r.mu.Lock()
 	defer r.mu.Unlock()
@@ -167,7 +167,7 @@ func (r *Registry) Restore(snapshot, rows []byte, message, at int64, epoch int) 
 	return nil
 }
 
-// ResetRows replaces the cluster by the rows of the allocator's state after a message, when that is the last one.
+// ResetRows replaces the cluster by the rows of the allocator's state after a message, if that is the last message.
 func (r *Registry) ResetRows(rows []byte, message, at int64) {
 	r.mu.Lock()
 	defer r.mu.Unlock()
@@ -195,7 +195,8 @@ func TextOf(line []byte, key string) string {
 	return Text(Fields(line), key)
 }
 
-// Fields reads a line as the allocator does: exact keys, of equal ones the last. It is nil when the line is no object.
+// Fields reads a line as the allocator does: keys must match exactly, and of equal keys the last counts. It returns nil if the line is not an
+// object.
 func Fields(line []byte) map[string]json.RawMessage {
 	var object map[string]json.RawMessage
 	if json.Unmarshal(line, &object) != nil {

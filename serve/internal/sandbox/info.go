@@ -1,4 +1,4 @@
-// What is known of a file. Outside the proof.
+// Information about a file. Outside the proof.
 
 package sandbox
 

@@ -1,5 +1,5 @@
-// Package sandbox reads files in the folders of tasks. A task may put there what it likes, such as symbolic links, pipes, and others in place
-// of its folder: nothing outside is ever opened. Outside the proof.
+// Package sandbox reads files in the folders of tasks. A task can put anything there, such as symbolic links or pipes, or replace its folder:
+// nothing outside of it is ever opened. Outside the proof.
 package sandbox
 
 import (
@@ -21,14 +21,14 @@ var (
 	ErrFolder  = errors.New("it is a folder")
 )
 
-// Root is a folder in which sandboxes are.
+// Root is the folder that contains the sandboxes.
 type Root struct{ folder string }
 
 // New returns a root. The path is absolute.
 func New(folder string) Root { return Root{filepath.Clean(folder)} }
 
-// Open opens a file or a folder at a path within a sandbox, which is a folder below the root. Links within the sandbox are followed, as long
-// as they stay there; the sandbox itself may not be reached by a link. The caller closes it.
+// Open opens a file or a folder at a path within a sandbox, which is a folder below the root. Links within the sandbox are followed as long as they
+// stay there; the path to the sandbox itself must not contain a link. The caller closes it.
 func (r Root) Open(box, path string) (*os.File, error) {
 	if !isLocal(box) {
 		return nil, ErrOutside
@@ -46,7 +46,7 @@ func (r Root) Open(box, path string) (*os.File, error) {
 	return openIn(in, filepath.Join(r.folder, box), path)
 }
 
-// openIn opens a path below an open folder. A pipe does not block, and is refused like all that is neither file nor folder.
+// openIn opens a path below an open folder. A pipe does not block, and is refused, as is everything that is neither a file nor a folder.
 func openIn(in int, name, path string) (*os.File, error) {
 	path = strings.TrimLeft(filepath.Clean("/"+path), "/")
 	if path == "" {
@@ -63,8 +63,8 @@ func openIn(in int, name, path string) (*os.File, error) {
 	return os.NewFile(uintptr(fd), filepath.Join(name, path)), nil
 }
 
-// check returns an error for what is neither file nor folder, and for a file that has other names too and is not of the sandbox's owner:
-// where the kernel lets a user link to files of others, such a link would show them.
+// check returns an error for what is neither a file nor a folder, and for a file that has several names and does not belong to the sandbox's owner:
+// if the kernel lets a user link to others' files, such a link would show them.
 func check(in, fd int) error {
 	var box, about unix.Stat_t
 	if err := unix.Fstat(in, &box); err != nil {
@@ -104,7 +104,7 @@ type Entry struct {
 	Info os.FileInfo
 }
 
-// List returns the entries of a folder, in order of their names. One that disappears meanwhile is left out.
+// List returns the entries of a folder, in order of their names. An entry that disappears meanwhile is left out.
 func (r Root) List(box, path string) (entries []Entry, err error) {
 	folder, err := r.Open(box, path)
 	if err != nil {

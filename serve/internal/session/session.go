@@ -18,10 +18,10 @@ import (
 	"go.etcd.io/etcd/etcdserver/api/v3rpc/rpctypes"
 )
 
-// Removals is the kind of an agent that was deactivated, and is removed after another time.
+// Removals is the kind for agents that were deactivated, and are removed after a further time.
 const Removals = "removals"
 
-// ending is what follows when a session ends: an event, and perhaps another session, which nobody keeps alive.
+// ending is what follows when a session ends: an event, and possibly another session, which gets no heartbeats.
 type ending struct{ event, field, next string }
 
 var endings = map[string]ending{
@@ -50,7 +50,7 @@ type Config struct {
 }
 
 // Manager has the sessions. Each has a key under `sessions/watched/KIND/` with the message that registered its owner, and one under
-// `sessions/alive/KIND/` with a lease: when that ends an event is due.
+// `sessions/alive/KIND/` with a lease: when the lease expires, an event is due.
 type Manager struct {
 	config   Config
 	log      *oplog.Log
@@ -76,7 +76,7 @@ func New(config Config, log *oplog.Log, registry *registry.Registry, ready func(
 // ErrNotWatched reports that heartbeats of a kind have no effect.
 var ErrNotWatched = errors.New("this service does not watch for heartbeats of this kind")
 
-// UnknownError reports a heartbeat of who is not registered.
+// UnknownError reports a heartbeat of an owner that is not registered.
 type UnknownError struct{ Kind, Name string }
 
 func (e *UnknownError) Error() string {
@@ -178,7 +178,7 @@ const (
 	forgetEvery = time.Minute
 )
 
-// observe notes when heartbeats may have been lost that were sent: time-outs start again then.
+// observe records when heartbeats may have been lost on the way: then the time-outs start again.
 func (m *Manager) observe() {
 	now := m.running()
 	m.tokens += m.config.Rate * (now - m.lastRun).Seconds()
@@ -205,7 +205,7 @@ func isMissing(before, now []string) bool {
 	return false
 }
 
-// mayEnd reports whether a session without a lease may be ended: nothing kept its owner's heartbeats from arriving.
+// mayEnd reports whether a session without a lease can be ended, because nothing kept its owner's heartbeats from arriving.
 func (m *Manager) mayEnd(kind, key string) bool {
 	now, grace := m.running(), m.config.Timeouts[kind]
 	if grace < minGrace {
@@ -257,7 +257,7 @@ func (m *Manager) endSilent(ctx context.Context, kind string) error {
 	return nil
 }
 
-// end appends the event of a silent session, and forgets the session. One whose owner left or registered again is only forgotten.
+// end appends the event of a silent session, and removes the session. A session whose owner left or registered again is only removed.
 func (m *Manager) end(ctx context.Context, kind, name, key string, revision, registration, applied int64, isCurrent bool) error {
 	how, then := endings[kind], []clientv3.Op{clientv3.OpDelete(key)}
 	if isCurrent {

@@ -1,4 +1,4 @@
-// Who is silent, and since when. Outside the proof.
+// Which agents are silent, and since when. Outside the proof.
 
 package session
 
@@ -14,13 +14,13 @@ import (
 	"go.etcd.io/etcd/clientv3"
 )
 
-// Silent is an agent whose heartbeats ceased.
+// Silent is an agent whose heartbeats have stopped.
 type Silent struct {
 	Agent string
 	Since int64 // milliseconds, about when the last heartbeat came; 0 while that is not known
 }
 
-// note returns the operation that stores since when an agent is silent. It stays until a heartbeat comes. Who was removed leaves no note.
+// note returns the operation that records since when an agent is silent. The note stays until a heartbeat arrives or the agent is removed.
 func (m *Manager) note(kind, name, key string, registration int64) clientv3.Op {
 	if kind != registry.Agents {
 		return clientv3.OpDelete(m.key("silent", registered(kind), name))
@@ -29,8 +29,8 @@ func (m *Manager) note(kind, name, key string, registration int64) clientv3.Op {
 	return clientv3.OpPut(m.key("silent", kind, name), fmt.Sprintf("%d %d", since, registration))
 }
 
-// Silent returns the agents that sent heartbeats and ceased, in the order of their names: those that were deactivated for that, and those
-// that are about to be.
+// Silent returns the agents whose heartbeats have stopped, in the order of their names: those that were deactivated for that, and those that are
+// about to be.
 func (m *Manager) Silent(ctx context.Context) ([]Silent, error) {
 	silent := []Silent{}
 	if m.config.Timeouts[registry.Agents] == 0 {

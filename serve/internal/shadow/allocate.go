@@ -1,4 +1,4 @@
-// What the allocator gives to the demand of a cluster. Outside the proof.
+// Computes what the allocator gives to the demand of a cluster. Outside the proof.
 
 package shadow
 
@@ -13,14 +13,14 @@ import (
 	"gateway/internal/mesos/resources"
 )
 
-// A client that wants tasks without end accepts one of them of an offer, or this part of those that fit: so shares grow step by step, and a
-// large cluster is filled in some hundred cycles.
+// A client with endless demand accepts one task of an offer or, if more fit, the tasks that fit divided by this number. So shares grow step by
+// step, and a large cluster is filled in some hundred cycles.
 const part = 20
 
-// A filter of this length lasts for the whole run, in which the clock stands still.
+// A filter of this length lasts for the whole run, because the clock does not advance in the run.
 const refuseMS = 1_000_000
 
-// allocation is what clients hold in the end.
+// allocation is what each client holds at the end.
 type allocation struct {
 	held  []resources.Bundle // of each client, with what it holds on agents that get no offers
 	unmet []int              // of each client: tasks that found no place; endless for those that want more
@@ -39,7 +39,7 @@ type run struct {
 	encoder *json.Encoder
 }
 
-// allocate lets the allocator give the clients of a cluster what they want, from nothing.
+// allocate lets the allocator give the clients of a cluster what they want, starting from nothing.
 func allocate(ctx context.Context, program string, cluster *document.Cluster, clients []*client, wantMore bool) (*allocation, error) {
 	a, err := startAllocator(ctx, program)
 	if err != nil {

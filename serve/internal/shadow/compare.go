@@ -1,4 +1,4 @@
-// Roles side by side, and why they differ. Outside the proof.
+// Compares roles, and explains their differences. Outside the proof.
 
 package shadow
 
@@ -35,7 +35,7 @@ type Part struct {
 	bundle    resources.Bundle   // with reservations
 }
 
-// Role is a role in Mesos, with the same demand in the allocator, and in the allocator if its active frameworks wanted tasks without end.
+// Role is a role in Mesos, in the allocator with the same demand, and in the allocator if its active frameworks had endless demand.
 type Role struct {
 	Role   string             `json:"role"`
 	Weight float64            `json:"weight"`
@@ -48,7 +48,7 @@ type Role struct {
 	Why    []Reason           `json:"why,omitempty"`
 }
 
-// comparison is what the reasons are found from.
+// comparison is the data from which the reasons are found.
 type comparison struct {
 	cluster    *document.Cluster
 	clients    []*client
@@ -154,10 +154,10 @@ func (c *comparison) unit(indexes []int) (greatest float64) {
 	return greatest
 }
 
-// least is a difference of shares that the table does not show.
+// least is the largest difference of shares that the table does not show.
 const least = 0.0005
 
-// reasons says why what a role holds in Mesos is not its fair part, and why tasks that it has in Mesos find no place.
+// reasons says why a role in Mesos does not hold its fair part, and why tasks that it has in Mesos find no place.
 func (c *comparison) reasons(role *Role) (why []Reason) {
 	clients := c.of(role)
 	difference := role.Mesos.Share - role.Fair.Share
@@ -249,7 +249,7 @@ func reserved(b resources.Bundle) resources.Bundle {
 	return own
 }
 
-// blocked says why clients whose wishes are not fulfilled get no more in an allocation. The weight is the reason that is left.
+// blocked says why clients whose wishes are not fulfilled get no more in an allocation. If nothing else applies, the reason is the weight.
 func (c *comparison) blocked(role *Role, clients []int, a *allocation) Reason {
 	for _, k := range clients {
 		size := c.smallest(k, a)
@@ -295,7 +295,7 @@ func (c *comparison) smallest(k int, a *allocation) resources.Bundle {
 	return c.clients[k].wishes[len(c.clients[k].wishes)-1].size
 }
 
-// exceeds reports whether a task more takes a role over its limit.
+// exceeds reports whether one more task exceeds the limit of a role.
 func (c *comparison) exceeds(name string, limit map[string]uint64, size resources.Bundle, a *allocation) bool {
 	consumed := resources.Bundle{}
 	for k, client := range c.clients {

@@ -1,4 +1,5 @@
-// Package shadow compares what a Mesos cluster has allocated with what the allocator would, without touching the cluster. Outside the proof.
+// Package shadow compares what a Mesos cluster has allocated with what the allocator would allocate, without touching the cluster. Outside the
+// proof.
 package shadow
 
 import (
@@ -14,7 +15,7 @@ import (
 	"gateway/internal/mesos/document"
 )
 
-// maxAnswer is the size of an answer above which it is refused.
+// maxAnswer is the size above which an answer is refused.
 const maxAnswer = 1 << 30
 
 // Master is a Mesos master that is asked for its state. Redirects to the leading master are followed, but no other host gets the secret.
@@ -49,7 +50,7 @@ func (e *statusError) Error() string {
 	return text
 }
 
-// Ask gets all answers. A master that does not have /slaves, or does not let the principal see it, is taken without.
+// Ask gets all answers. If a master does not have /slaves, or does not show it to the principal, this answer is left out.
 func (m *Master) Ask(ctx context.Context) (answers document.Answers, err error) {
 	ctx, cancel := context.WithTimeout(ctx, m.Timeout)
 	defer cancel()
@@ -107,7 +108,7 @@ func (m *Master) get(ctx context.Context, path string) (answer document.Answer, 
 	return answer, nil
 }
 
-// describe says of a time-out what was waited for.
+// describe adds to a time-out what was being waited for.
 func (m *Master) describe(name string, err error) error {
 	if errors.Is(err, context.DeadlineExceeded) {
 		return fmt.Errorf("%s: no whole answer within %v", name, m.Timeout)

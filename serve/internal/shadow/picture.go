@@ -11,7 +11,7 @@ import (
 const (
 	pictureWidth, barLeft, barWidth = 860, 150, 300
 	pictureHead, rowHeight          = 84, 58
-	// The letters of a reason that fit into a line; there are two lines.
+	// The number of letters of a reason that fit into a line; there are two lines.
 	lineLetters = 62
 )
 
@@ -76,7 +76,7 @@ func (r *Report) picture() []byte {
 	return b.Bytes()
 }
 
-// cut cuts a text at a blank into a line of at most so many letters, and the rest.
+// cut cuts a text at a blank into a line of at most this many letters, and the rest.
 func cut(text string, letters int) (line, rest string) {
 	if len(text) <= letters {
 		return text, ""

@@ -1,4 +1,4 @@
-// Polling a master, and writing what was found. Outside the proof.
+// Polls a master, and writes the results. Outside the proof.
 
 package shadow
 
@@ -34,7 +34,7 @@ type Shadow struct {
 	failure string          // that was last reported
 }
 
-// Report is what one poll finds.
+// Report is the result of one poll.
 type Report struct {
 	At      time.Time `json:"at"`
 	Master  string    `json:"master"`
@@ -117,7 +117,7 @@ func (s *Shadow) Once(ctx context.Context, out, notes io.Writer) error {
 	return s.write(report, out, notes)
 }
 
-// Follow polls until the context ends. A poll that fails is reported, once while the reason stays the same, and tried again.
+// Follow polls until the context ends. A failed poll is tried again; its reason is reported once until it changes.
 func (s *Shadow) Follow(ctx context.Context, out, notes io.Writer) error {
 	ticker := time.NewTicker(s.Interval)
 	defer ticker.Stop()

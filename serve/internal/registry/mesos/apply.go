@@ -1,4 +1,4 @@
-// The fold: what lines and notes do to the rows. A note takes effect where the replies to its own lines allow it. Outside the proof.
+// How lines and notes change the rows. A note takes effect if the replies to its own lines allow it. Outside the proof.
 
 package mesos
 
@@ -17,7 +17,7 @@ func (s *State) Begin(epoch int) {
 	s.Epoch = epoch
 }
 
-// Apply takes a message and its replies.
+// Apply applies a message with its replies.
 func (s *State) Apply(m *registry.Message) {
 	s.mu.Lock()
 	defer s.mu.Unlock()
@@ -34,7 +34,7 @@ func (s *State) Apply(m *registry.Message) {
 	}
 }
 
-// follow looks at a line, whoever sent it.
+// follow applies a line, whoever sent it.
 func (s *State) follow(kind string, line, reply []byte, isOK bool) {
 	switch {
 	case kind == "finish": // where it is refused, there is no such hold
@@ -180,7 +180,7 @@ func (s *State) removeFramework(name string) {
 	}
 }
 
-// complete moves a terminal task to those that nobody waits for.
+// complete moves a terminal task to the completed ones, which nobody waits for.
 func (s *State) complete(f *Framework, t *Task) {
 	delete(f.Tasks, t.Task)
 	done := Completed{Framework: f.ID, Task: t.Task, Agent: t.Agent, State: t.State, Call: t.Call, At: s.at, Executor: t.OwnExecutor(), Role: t.Role, Info: brief(t.Info), Moments: t.Moments}
@@ -221,10 +221,10 @@ func (s *State) removeAgent(id string) {
 	}
 }
 
-// goneState is the state of tasks of an agent that was removed, by whether an operator said that it does not come again.
+// goneState is the state of the tasks of a removed agent. It depends on whether an operator said that the agent does not return.
 var goneState = map[bool]string{false: "TASK_GONE", true: "TASK_GONE_BY_OPERATOR"}
 
-// lost returns a state, or TASK_LOST for a framework that does not know the former.
+// lost returns a state, or TASK_LOST for a framework that does not know that state.
 func (s *State) lost(f *Framework, state string) string {
 	if f.Has("PARTITION_AWARE") {
 		return state
@@ -247,7 +247,8 @@ func (s *State) add(f *Framework, t *Task, status Status) {
 	}
 }
 
-// leaveHold takes a user from a hold. One without users is to be finished, by a message of its own: who is last is not known before.
+// leaveHold removes a user from a hold. A hold without users is to be finished by a separate message, because it is not known in advance which user
+// is the last.
 func (s *State) leaveHold(key string) {
 	users, is := s.Users[key]
 	if !is {

@@ -1,4 +1,4 @@
-// Custom executors: each has what it uses for itself from its first task until its end is reported. Outside the proof.
+// Custom executors: each has resources of its own, from its first task until its end is reported. Outside the proof.
 
 package mesos
 
@@ -19,7 +19,7 @@ type Executor struct {
 	IsEnding bool   `json:"ending,omitempty"` // it is to be shut down
 }
 
-// ExecutorOf is an executor as an agent gets it.
+// ExecutorOf is an executor as it is sent to an agent.
 type ExecutorOf struct {
 	Framework     string
 	FrameworkInfo []byte
@@ -43,7 +43,7 @@ func (f *Framework) ExecutorKeys() []string {
 	return keys
 }
 
-// checkExecutor returns why a task cannot run on its executor, as a status without a message where it can.
+// checkExecutor returns, as a status, why a task cannot run on its executor. The status has no message if it can.
 func (s *State) checkExecutor(f *Framework, l *Launch) (state, reason, why string) {
 	e := f.Executors[ExecutorKey(l.Agent, l.Executor)]
 	switch {
@@ -59,8 +59,8 @@ func (s *State) checkExecutor(f *Framework, l *Launch) (state, reason, why strin
 	return "", "", ""
 }
 
-// useExecutor returns the number of a task's executor, which is launched where it does not exist. Where it does, what the ACCEPT took for it
-// is to be finished.
+// useExecutor returns the number of a task's executor, and launches it if it does not exist. If it exists, the resources that the ACCEPT took for
+// it are to be finished.
 func (s *State) useExecutor(f *Framework, l *Launch) int64 {
 	if len(l.ExecutorInfo) == 0 {
 		return 0
@@ -95,7 +95,7 @@ func (s *State) endExecutor(f *Framework, n *Note) {
 	s.toFramework(f, Event{Kind: "FAILURE", Agent: n.Agent, Executor: n.Executor, Code: n.Code})
 }
 
-// dropExecutors removes the executors of a framework, on one agent or on all. Their holds went with the framework or the agent.
+// dropExecutors removes the executors of a framework, on one agent or on all. Their holds were removed with the framework or the agent.
 func (s *State) dropExecutors(f *Framework, agent string) {
 	for _, key := range f.ExecutorKeys() {
 		e := f.Executors[key]
@@ -134,7 +134,7 @@ func (s *State) executorsOn(agent string) (list []*ExecutorOf) {
 	return list
 }
 
-// endDefault reports the end of a default executor, which is that of its last task.
+// endDefault reports the end of a default executor, which ends with its last task.
 func (s *State) endDefault(f *Framework, t *Task) {
 	if t.Group == "" || t.RunBy != 0 || s.Agents[t.Agent] == nil {
 		return

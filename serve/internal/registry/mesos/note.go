@@ -1,6 +1,6 @@
-// Package mesos is what Mesos knows and the allocator does not: descriptions of frameworks and agents, tasks, and statuses that are not
-// acknowledged. It is derived from the list's messages, their notes and the allocator's replies alone, so every gateway derives the same.
-// Outside the proof.
+// Package mesos has the state that Mesos knows and the allocator does not: descriptions of frameworks and agents, tasks, and unacknowledged
+// statuses. It is derived only from the list's messages, their notes and the allocator's replies, so every gateway derives the same. Outside the
+// proof.
 package mesos
 
 import "encoding/json"
@@ -28,7 +28,7 @@ const (
 	NoteReactivate = "reactivate"  // an agent that is away is not to be deactivated when it comes again
 )
 
-// Note is what a message says beside its lines.
+// Note is the part of a message that is not event lines.
 type Note struct {
 	Kind      string `json:"mesos"`
 	ID        string `json:"id,omitempty"`
@@ -56,7 +56,7 @@ type Note struct {
 	MarkGone     bool          `json:"mark_gone,omitempty"`    // of a drain
 }
 
-// Subscription is what is known of a framework from its last SUBSCRIBE.
+// Subscription is the description of a framework, from its last SUBSCRIBE or update.
 type Subscription struct {
 	Name         string   `json:"name"` // the allocator's
 	Principal    string   `json:"principal"`
@@ -118,7 +118,7 @@ type Ack struct {
 	UUID      []byte `json:"uuid"`
 }
 
-// Asked is a task of RECONCILE.
+// Asked is a task in a RECONCILE.
 type Asked struct {
 	Task  string `json:"task"`
 	Agent string `json:"agent,omitempty"`
@@ -130,7 +130,7 @@ func (n *Note) Encode() []byte {
 	return text
 }
 
-// decode reads a note, unless it is another part's.
+// decode reads a note, unless it is for another part of the registry.
 func decode(text []byte) (n Note, is bool) {
 	return n, len(text) > 0 && json.Unmarshal(text, &n) == nil && n.Kind != ""
 }

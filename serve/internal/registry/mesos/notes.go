@@ -1,4 +1,4 @@
-// What each kind of note does. Outside the proof.
+// The effect of each kind of note. Outside the proof.
 
 package mesos
 
@@ -8,7 +8,7 @@ import (
 	"fmt"
 )
 
-// apply is the effect of a note. Answers are the names of refusals of the message's lines, or ok.
+// apply applies a note. Answers are the names of refusals of the message's lines, or ok.
 func (s *State) apply(n *Note, answers []string) {
 	f := s.Frameworks[n.Framework]
 	switch n.Kind {
@@ -198,7 +198,7 @@ func (s *State) launch(f *Framework, n *Note, answers []string) {
 	}
 }
 
-// wasLaunched reports whether a task was launched by an ACCEPT of the same offers: that came again.
+// wasLaunched reports whether a task was launched by an earlier ACCEPT of the same offers, which was sent again.
 func (s *State) wasLaunched(f *Framework, task, call string) bool {
 	if t := f.Tasks[task]; t != nil && t.Call == call {
 		return true
@@ -232,7 +232,7 @@ func (s *State) uuid(f *Framework, task string) []byte {
 	return sum[:16]
 }
 
-// unknown is the status of a task that is not known. As messages are applied in order, nothing is missed that came before.
+// unknown is the status of a task that is not known. Messages are applied in order, so all earlier messages are known.
 func (s *State) unknown(f *Framework, task, agent string) Status {
 	status := Status{Task: task, Agent: agent, State: s.lost(f, "TASK_UNKNOWN"), Reason: "REASON_RECONCILIATION", Message: "Reconciliation: Task is unknown", At: s.at}
 	if s.Agents[agent] != nil {
@@ -264,7 +264,7 @@ func (s *State) reconcile(f *Framework, asked []Asked) {
 	}
 }
 
-// status takes a status from an agent, unless the task has ended or the status came before.
+// status applies a status from an agent, unless the task has ended or the status is already known.
 func (s *State) status(f *Framework, n *Note) {
 	t := f.Tasks[n.Task]
 	if t == nil || n.Status == nil || t.Number != n.Launch || t.Agent != n.Agent || IsTerminal(t.State) || t.Last != nil && bytes.Equal(t.Last.UUID, n.Status.UUID) {

@@ -1,4 +1,4 @@
-// What operators do to agents: deactivation, drains, and agents that are gone for good. Outside the proof.
+// Operators' changes to agents: deactivation, drains, and agents that are gone for good. Outside the proof.
 
 package mesos
 
@@ -25,20 +25,20 @@ type Drain struct {
 	MarkGone   bool   `json:"mark_gone,omitempty"`    // the agent is removed for good when it is drained
 }
 
-// Gone is an agent that was marked gone: it does not come again.
+// Gone is an agent that was marked gone: it cannot register again.
 type Gone struct {
 	ID string `json:"id"`
 	At int64  `json:"at"`
 }
 
-// Kept is an agent that was removed, as it stayed away, while an operator had deactivated it: it is deactivated when it comes again.
+// Kept is an agent that was removed because it stayed away, while an operator had deactivated it. It is deactivated when it registers again.
 type Kept struct {
 	ID    string `json:"id"`
 	At    int64  `json:"at"`
 	Drain *Drain `json:"drain,omitempty"`
 }
 
-// IsDeactivated reports whether an operator deactivated an agent, which may be away.
+// IsDeactivated reports whether an operator deactivated an agent, even one that is away.
 func (s *State) IsDeactivated(agent string) bool {
 	if a := s.Agents[agent]; a != nil {
 		return a.IsDeactivated
@@ -51,7 +51,7 @@ func (s *State) IsDeactivated(agent string) bool {
 	return false
 }
 
-// keep remembers what an operator did to an agent that is removed.
+// keep records an operator's changes to an agent that is removed.
 func (s *State) keep(a *Agent) {
 	if !a.IsDeactivated || s.isGone {
 		return
@@ -61,7 +61,7 @@ func (s *State) keep(a *Agent) {
 	}
 }
 
-// takeKept returns what was kept of an agent, and forgets it.
+// takeKept returns the record of an agent, and drops it.
 func (s *State) takeKept(agent string) (found Kept, is bool) {
 	kept := s.Kept[:0:0]
 	for _, one := range s.Kept {
@@ -88,7 +88,7 @@ func (s *State) comeAgain(a *Agent) {
 	}
 }
 
-// IsGone reports whether an agent was marked gone, as long as that is known.
+// IsGone reports whether an agent was marked gone, as long as this is recorded.
 func (s *State) IsGone(agent string) bool {
 	for _, one := range s.Gone {
 		if one.ID == agent {
@@ -98,7 +98,7 @@ func (s *State) IsGone(agent string) bool {
 	return false
 }
 
-// operate is the effect of an operator's note, when its last line was answered `ok`.
+// operate applies an operator's note, if its last line was answered `ok`.
 func (s *State) operate(n *Note, answers []string) {
 	if n.Kind == NoteReactivate { // of an agent that is away
 		s.takeKept(n.Agent)
@@ -123,7 +123,7 @@ func (s *State) operate(n *Note, answers []string) {
 	}
 }
 
-// reactivate ends what an operator did to an agent, when it gets offers again.
+// reactivate ends an operator's changes to an agent when it gets offers again.
 func (s *State) reactivate(agent string) {
 	s.takeKept(agent)
 	if a := s.Agents[agent]; a != nil {

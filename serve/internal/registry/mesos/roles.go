@@ -1,4 +1,4 @@
-// The roles that frameworks have in the allocator, and those that they left while tasks of theirs ran there. Outside the proof.
+// The roles that frameworks have in the allocator, including those that they left while tasks of theirs ran there. Outside the proof.
 
 package mesos
 
@@ -37,7 +37,7 @@ func hasRole(roles []string, role string) bool {
 	return false
 }
 
-// hold notes the roles that a framework has in the allocator.
+// hold records the roles that a framework has in the allocator.
 func (f *Framework) hold(roles []string) {
 	held := append([]string(nil), roles...)
 	sort.Strings(held)
@@ -46,7 +46,7 @@ func (f *Framework) hold(roles []string) {
 	}
 }
 
-// setRoles follows an event that sets the roles of a framework, whoever sent it.
+// setRoles applies an event that sets the roles of a framework, whoever sent it.
 func (s *State) setRoles(line []byte) {
 	fields := registry.Fields(line)
 	f := s.Frameworks[s.IDs[registry.Text(fields, "framework")]]
@@ -63,7 +63,7 @@ func (s *State) setRoles(line []byte) {
 	f.hold(once)
 }
 
-// canTake reports whether the allocator has all roles of a subscription for a framework. Where it does not, the message's event was refused.
+// canTake reports whether the allocator has all roles of a subscription for a framework. If it has not, the message's event was refused.
 func (f *Framework) canTake(sub *Subscription) bool {
 	held := f.HeldRoles()
 	for _, role := range sub.Roles {
@@ -74,7 +74,7 @@ func (f *Framework) canTake(sub *Subscription) bool {
 	return true
 }
 
-// take replaces the subscription of a framework. What it had in the allocator, it still has.
+// take replaces the subscription of a framework. The framework keeps the roles that it had in the allocator.
 func (f *Framework) take(sub *Subscription) {
 	held := f.HeldRoles()
 	f.Subscription = *sub
@@ -90,8 +90,8 @@ func (s *State) updateFramework(f *Framework, n *Note) {
 	s.changed(Change{Kind: FrameworkUpdated, Framework: *f})
 }
 
-// UsedRoles reports which roles a framework's tasks and executors have resources in, among some roles. What is to be finished, and executors of
-// which no role is known, may be in any of them.
+// UsedRoles reports in which of some roles a framework's tasks and executors have resources. Resources that are to be finished, and executors whose
+// role is not known, can be in any of them.
 func (s *State) UsedRoles(f *Framework, among []string) map[string]bool {
 	used, isAny := map[string]bool{}, false
 	for _, t := range f.Tasks {

@@ -1,4 +1,4 @@
-// How much of the rows the frameworks of one principal take. Outside the proof.
+// The space that the frameworks of one principal take in the rows. Outside the proof.
 
 package mesos
 

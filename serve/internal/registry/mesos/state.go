@@ -1,4 +1,4 @@
-// The rows, snapshots, and what is published. Outside the proof.
+// The rows, snapshots, and published events. Outside the proof.
 
 package mesos
 
@@ -86,14 +86,14 @@ type Completed struct {
 	Moments  []Moment `json:"moments,omitempty"`
 }
 
-// Removed is a framework that was removed: its id is not used again.
+// Removed is a framework that was removed: its id cannot be used again.
 type Removed struct {
 	ID string `json:"id"`
 	At int64  `json:"at"`
 	Subscription
 }
 
-// rows is what a snapshot has.
+// rows is the content of a snapshot.
 type rows struct {
 	Cluster    string                `json:"cluster,omitempty"`
 	Epoch      int                   `json:"epoch,omitempty"`
@@ -122,7 +122,7 @@ type State struct {
 	at      int64
 }
 
-// New returns an empty state. Publish is called with what streams are to get, with the state's lock held.
+// New returns an empty state. Publish is called with the events for streams, with the state's lock held.
 func New(publish func(Event)) *State {
 	s := &State{publish: publish}
 	s.clear()
@@ -134,7 +134,7 @@ func (s *State) clear() {
 	s.fill()
 }
 
-// fill creates the maps that a snapshot leaves out when they are empty.
+// fill creates the maps that a snapshot leaves out because they are empty.
 func (s *State) fill() {
 	if s.Frameworks == nil {
 		s.Frameworks = map[string]*Framework{}
@@ -183,7 +183,7 @@ func (s *State) Snapshot() []byte {
 	return text
 }
 
-// Restore replaces the rows by a snapshot's; an empty one has none. All streams end: their callers come again.
+// Restore replaces the rows by those of a snapshot; an empty snapshot has none. All streams end, and their callers subscribe again.
 func (s *State) Restore(snapshot []byte) error {
 	s.mu.Lock()
 	defer s.mu.Unlock()
@@ -199,13 +199,13 @@ func (s *State) Restore(snapshot []byte) error {
 	return nil
 }
 
-// Kinds of events that are not named as Mesos' are.
+// Kinds of events that do not have the name of a Mesos event.
 const (
 	EventEnd   = "END"   // the stream ends, with an ERROR where there is a message
 	EventReset = "RESET" // all streams end
 )
 
-// Event is what a stream is to get. Kinds are those of Mesos' events, of the link's events, or one of the above.
+// Event is an event for a stream. Its kind is one of Mesos' events, of the link's events, or one of the above.
 type Event struct {
 	Kind   string
 	Stream string
@@ -222,7 +222,7 @@ type Event struct {
 	Code      int64 // with which an executor ended
 }
 
-// OfferOf is an offer with what a framework gets to know of its agent.
+// OfferOf is an offer, with what its framework learns about the agent.
 type OfferOf struct {
 	ID string
 	Offer
@@ -230,7 +230,7 @@ type OfferOf struct {
 	AgentInfo []byte
 }
 
-// TaskOf is a task as an agent gets it.
+// TaskOf is a task as it is sent to an agent.
 type TaskOf struct {
 	Framework, User, Task, Group, State string
 	Info                                []byte
@@ -277,7 +277,7 @@ func (s *State) offersWith(is func(Offer) bool) (offers []Offer) {
 	return offers
 }
 
-// WasRemoved reports whether a framework was removed, as long as that is known.
+// WasRemoved reports whether a framework was removed, as long as this is recorded.
 func (s *State) WasRemoved(framework string) bool {
 	for _, one := range s.Removed {
 		if one.ID == framework {

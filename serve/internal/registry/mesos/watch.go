@@ -1,4 +1,4 @@
-// What operators see: copies of the rows, and what changes in them. Outside the proof.
+// What operators see: copies of the rows, and changes to them. Outside the proof.
 
 package mesos
 
@@ -20,7 +20,7 @@ const (
 	AllReplaced      = "ALL_REPLACED" // a snapshot was restored
 )
 
-// Change is something that changed. What it has are copies.
+// Change is a change of the rows. It has copies.
 type Change struct {
 	Kind      string
 	Framework Framework
@@ -37,7 +37,7 @@ type Moment struct {
 
 const maxMoments = 16 // of a task: the first, and the latest ones
 
-// Watch sets what is called with each change, with the state's lock held. It is to be called before the first message.
+// Watch sets the function that is called with each change, with the state's lock held. It must be called before the first message.
 func (s *State) Watch(watch func(Change)) { s.watch = watch }
 
 func (s *State) changed(c Change) {
@@ -56,7 +56,7 @@ func (s *State) taskChanged(f *Framework, t *Task, status *Status) {
 	s.changed(Change{Kind: TaskUpdated, Framework: *f, Task: *t, Status: *status})
 }
 
-// remember adds the state that a task took.
+// remember records that a task entered a state.
 func (t *Task) remember(state string, at int64) {
 	if n := len(t.Moments); n > 0 && t.Moments[n-1].State == state {
 		return
@@ -70,7 +70,7 @@ func (t *Task) remember(state string, at int64) {
 
 const maxBrief = 1 << 10 // bytes of a description that is kept of a completed task
 
-// brief returns what operators see of a completed task's TaskInfo, or less where that is long.
+// brief returns the part of a completed task's TaskInfo that operators see, or less if that is long.
 func brief(info []byte) []byte {
 	whole, err := codec.ReadProtobuf("mesos.TaskInfo", info)
 	if err != nil {

@@ -1,4 +1,4 @@
--- The definitions, computed on a pool of 3000 thousandths of which 2000 are out.
+-- The definitions computed for a pool of 3000 thousandths, of which 2000 are taken.
 use Rattle.std.proofs.Common.{◌≡◌, ℕ, ◌-◌, ◌^◌, ◌++◌, [], ◌∷◌, Some, None, refl}
 use Rattle.std.specs.Map.{keys_of}
 use Rattle.drf_amount.specs.declared.algebra.AlgebraFault.TheVariants.{TooLarge}
@@ -19,11 +19,11 @@ refused = refl
 whole : IsWhole scalar_join (pool_of 3000 1000 ((0, 2000) ∷ []) 1)
 whole = refl
 
--- less than the total is no whole
+-- an amount less than the total is not the join
 lost : joined_with scalar_join 500 ((0, 2000) ∷ []) ≡ Some 2500
 lost = refl
 
--- shrunk to 500 and given back
+-- shrunk to 500, and given back
 shrunk : parts_with {A = ℕ} ((0, 2000) ∷ []) 0 500 ≡ (0, 500) ∷ []
 shrunk = refl
 
@@ -36,7 +36,7 @@ given_back = refl
 unknown : part_at {A = ℕ} [] 0 ≡ None
 unknown = refl
 
--- of the 2000 that are out, 700 and 800 go on as parts of their own
+-- of the 2000 that are taken, 700 and 800 become parts of their own
 wanted : joined_all scalar_join 0 (700 ∷ 800 ∷ []) ≡ Some 1500
 wanted = refl
 
@@ -46,11 +46,11 @@ split_numbers = refl
 whole_split : IsWhole scalar_join (pool_of 3000 1500 (parts_without ((0, 2000) ∷ []) 0 ++ numbered 1 (700 ∷ 800 ∷ [])) 3)
 whole_split = refl
 
--- split into nothing, all of it is free
+-- after a split into no parts, everything is free
 whole_of_none : IsWhole scalar_join (pool_of 3000 3000 (parts_without ((0, 2000) ∷ []) 0 ++ numbered 1 []) 1)
 whole_of_none = refl
 
--- three amounts of which the third is too much
+-- three amounts, of which the third makes the join too large
 stops : StopsAt scalar_join scalar_refusal 0 (1 ∷ (2 ^ 64 - 2) ∷ 1 ∷ 5 ∷ []) TooLarge
 stops = record {
   before = 1 ∷ (2 ^ 64 - 2) ∷ [];

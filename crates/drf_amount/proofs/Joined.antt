@@ -1,4 +1,4 @@
--- What a base makes with parts, from the laws alone.
+-- Joining parts to a base, for any type of amounts.
 use Rattle.std.proofs.Common.{◌≡◌, ℕ, List, [], ◌∷◌, ◌++◌, Option, Some, None, Bool, true, false, cond, option_and_then, IfSome, All, refl, sym, ap, ◌∙◌}
 use Rattle.std.specs.Map.{lookup, remove_entry, values_of}
 use Rattle.std.proofs.lemmas.List.Elements.{All-head, All-tail}
@@ -8,7 +8,7 @@ use Rattle.drf_amount.specs.declared.algebra.AlgebraFault.{AlgebraFault}
 use Rattle.drf_amount.specs.Algebra.{AlgebraLaws}
 use Rattle.drf_amount.specs.Pool.{joined_with}
 
--- one step of a chain after another
+-- one step of a chain of options after another
 pub and_then-and_then : {A B C : Type 0} (f : A → Option B) (g : B → Option C) (o : Option A) → option_and_then (λ a. option_and_then g (f a)) o ≡ option_and_then g (option_and_then f o)
 and_then-and_then f g None = refl
 and_then-and_then f g (Some a) = refl
@@ -32,7 +32,7 @@ module _ {A : Type 0} {is_given : A → Type 0} {empty : A} {join : A → A → 
   IfSome-and_then None b _ _ = tt
   IfSome-and_then (Some a) b a_given b_given = IfSome-join a b a_given b_given
 
-  -- what a base makes with parts, if anything, is given
+  -- the join of a base and parts is given, if there is one
   pub IfSome-joined_with : (base : A) (parts : List (ℕ × A)) → is_given base → All is_given (values_of parts) → IfSome (joined_with join base parts) is_given
   IfSome-joined_with base [] base_given _ = base_given
   IfSome-joined_with base (part ∷ parts) base_given given =
@@ -45,13 +45,13 @@ module _ {A : Type 0} {is_given : A → Type 0} {empty : A} {join : A → A → 
   pub given-without : (test : ℕ → Bool) (parts : List (ℕ × A)) → All is_given (values_of parts) → All is_given (values_of (remove_entry test parts))
   given-without test parts given = All-map-remove_entry test (λ (part : ℕ × A). part.1) is_given parts given
 
-  -- two amounts are joined in either order
+  -- two amounts can be joined in either order
   in_either_order : (o : Option A) (b c : A) → IfSome o is_given → is_given b → is_given c → option_and_then (λ ab. join ab c) (option_and_then (λ a. join a b) o) ≡ option_and_then (λ ac. join ac b) (option_and_then (λ a. join a c) o)
   in_either_order None b c _ _ _ = refl
   in_either_order (Some a) b c a_given b_given c_given =
       laws.associative a b c a_given b_given c_given ∙ ap (option_and_then (join a)) (laws.commutative b c b_given c_given) ∙ sym (laws.associative a c b a_given c_given b_given)
 
-  -- what is joined to the base may as well be joined last
+  -- an amount that is joined to the base can be joined last instead
   pub joined_with-base : (base b : A) (parts : List (ℕ × A)) → is_given base → is_given b → All is_given (values_of parts) → option_and_then (λ more. joined_with join more parts) (join base b) ≡ option_and_then (λ whole. join whole b) (joined_with join base parts)
   joined_with-base base b [] base_given b_given _ = and_then-Some (join base b)
   joined_with-base base b (part ∷ parts) base_given b_given given =
@@ -61,7 +61,7 @@ module _ {A : Type 0} {is_given : A → Type 0} {empty : A} {join : A → A → 
       ∙ ap (option_and_then (λ rest. join rest part.1)) (joined_with-base base b parts base_given b_given rest_given)
       ∙ in_either_order (joined_with join base parts) b part.1 (IfSome-joined_with base parts base_given rest_given) b_given part_given
 
-  -- a part of the list may as well be joined last
+  -- a part of the list can be joined last instead
   pub joined_with-without : (base : A) (parts : List (ℕ × A)) (test : ℕ → Bool) (part : A) → is_given base → All is_given (values_of parts) → lookup test parts ≡ Some part → joined_with join base parts ≡ option_and_then (λ whole. join whole part) (joined_with join base (remove_entry test parts))
   joined_with-without base [] test part base_given given found = cc
   joined_with-without base (first ∷ parts) test part base_given given found =

@@ -1,3 +1,4 @@
+-- Lemmas about joins, parts and pools, and computed examples.
 mod Examples
 pub mod Joined
 pub mod Kept

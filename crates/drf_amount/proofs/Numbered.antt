@@ -1,4 +1,4 @@
--- Parts whose numbers rise.
+-- Lists of parts whose numbers rise.
 use Rattle.std.proofs.Common.{◌≡◌, ℕ, ◌+◌, ◌<◌, ◌≤◌, List, [], ◌∷◌, ◌++◌, Some, None, true, false, cond, refl, sym, ap, ◌∙◌, arith}
 use Rattle.std.specs.BTreeMap.{is_at, insert_entry}
 use Rattle.std.specs.Ordering.{nat_cmp}
@@ -8,19 +8,19 @@ use Rattle.std.proofs.lemmas.Cmp.{by_ranked, ranked}
 use Rattle.std.proofs.lemmas.Option.{none-some}
 use Rattle.drf_amount.specs.Pool.{NumbersRise, part_at, parts_with, parts_without}
 
--- no part has a number at which the next one is not above
+-- the lower bound is at most the next number
 NumbersRise-le : {A : Type 0} (low next : ℕ) (parts : List (ℕ × A)) → NumbersRise low parts next → low ≤ next
 NumbersRise-le low next [] rise = rise
 NumbersRise-le low next (part ∷ parts) rise = let above = NumbersRise-le (part.0 + 1) next parts rise.1 in let here = rise.0 in omega arith
 
--- the next part stands last
+-- a part with the next number is inserted last
 pub insert_entry-last : {A : Type 0} (low next : ℕ) (parts : List (ℕ × A)) (part : A) → NumbersRise low parts next → insert_entry nat_cmp parts next part ≡ parts ++ (next, part) ∷ []
 insert_entry-last low next [] part rise = refl
 insert_entry-last low next (first ∷ parts) part rise =
     let above : first.0 < next = omega (arith, NumbersRise-le (first.0 + 1) next parts rise.1) in
     rw (← nat_cmp_is next first.0 Greater above) (ap (λ rest. first ∷ rest) (insert_entry-last (first.0 + 1) next parts part rise.1))
 
--- a lower bound may be lowered
+-- the lower bound can be replaced by a smaller one
 NumbersRise-lower : {A : Type 0} (low lower next : ℕ) (parts : List (ℕ × A)) → lower ≤ low → NumbersRise low parts next → NumbersRise lower parts next
 NumbersRise-lower low lower next [] below rise = omega arith
 NumbersRise-lower low lower next (part ∷ parts) below rise = (omega (arith, rise.0), rise.1)
@@ -45,14 +45,14 @@ NumbersRise-with low next number (first ∷ parts) part rise =
       | false ↦ (rise.0, NumbersRise-with (first.0 + 1) next number parts part rise.1)
     ]
 
--- a number below each of the parts has none
+-- there is no part with a number below all of them
 pub part_at-below : {A : Type 0} (low next number : ℕ) (parts : List (ℕ × A)) → number < low → NumbersRise low parts next → part_at parts number ≡ None
 part_at-below low next number [] below rise = refl
 part_at-below low next number (first ∷ parts) below rise =
     let less : number < first.0 = omega (arith, rise.0) in
     rw (← nat_cmp_is number first.0 Less less) (part_at-below (first.0 + 1) next number parts (omega arith) rise.1)
 
--- to put a part in the place of one that is there replaces it
+-- inserting a part under a number that exists replaces the part
 pub insert_entry-there : {A : Type 0} (low next number : ℕ) (parts : List (ℕ × A)) (was part : A) → NumbersRise low parts next → part_at parts number ≡ Some was → insert_entry nat_cmp parts number part ≡ parts_with parts number part
 insert_entry-there low next number [] was part rise found = cc
 insert_entry-there low next number (first ∷ parts) was part rise found =

@@ -1,4 +1,4 @@
--- Several parts in the place of one.
+-- Replacing a part by several parts (`Pool::split`).
 use Rattle.std.proofs.Common.{◌≡◌, ℕ, suc, ◌+◌, ◌<◌, ◌≤◌, List, [], ◌∷◌, ◌++◌, length, take, drop, get_or, append_assoc, drop-cons, Option, Some, None, Bool, true, false, cond, option_and_then, All, refl, sym, ap, subst, ◌∙◌, arith}
 use Rattle.std.specs.BTreeMap.{is_at, insert_entry}
 use Rattle.std.specs.Ordering.{nat_cmp}
@@ -24,7 +24,7 @@ numbered-push first (other ∷ amounts) amount =
     let same : (first + 1) + length amounts ≡ first + length (other ∷ amounts) = omega arith in
     ap (λ rest. (first, other) ∷ rest) (numbered-push (first + 1) amounts amount ∙ ap (λ number. numbered (first + 1) amounts ++ (number, amount) ∷ []) same)
 
--- the numbers behind those of the parts rise too
+-- the numbers after those of the parts rise too
 NumbersRise-numbered : {A : Type 0} (low first : ℕ) (amounts : List A) → low ≤ first → NumbersRise low (numbered first amounts) (first + length amounts)
 NumbersRise-numbered low first [] below = omega arith
 NumbersRise-numbered low first (amount ∷ amounts) below =
@@ -35,16 +35,16 @@ pub NumbersRise-behind : {A : Type 0} (low next : ℕ) (parts : List (ℕ × A))
 NumbersRise-behind low next [] amounts rise = NumbersRise-numbered low next amounts rise
 NumbersRise-behind low next (part ∷ parts) amounts rise = (rise.0, NumbersRise-behind (part.0 + 1) next parts amounts rise.1)
 
--- the numbers before a part are below its own
+-- the numbers before a part are less than its own
 NumbersRise-before : {A : Type 0} (low number next : ℕ) (before after : List (ℕ × A)) (part : A) → NumbersRise low (before ++ (number, part) ∷ after) next → NumbersRise low before number
 NumbersRise-before low number next [] after part rise = rise.0
 NumbersRise-before low number next (first ∷ before) after part rise = (rise.0, NumbersRise-before (first.0 + 1) number next before after part rise.1)
 
--- a part is put behind those that stand before it
+-- a part is inserted after those with lower numbers
 pub insert_entry-before : {A : Type 0} (number next : ℕ) (before after : List (ℕ × A)) (part : A) → NumbersRise 0 (before ++ (number, part) ∷ after) next → insert_entry nat_cmp before number part ≡ before ++ (number, part) ∷ []
 insert_entry-before number next before after part rise = insert_entry-last 0 number before part (NumbersRise-before 0 number next before after part rise)
 
--- ---- the amounts so far
+-- ---- the amounts that were handled
 
 amounts_more : {A : Type 0} (amounts : List A) (i : ℕ) (amount : A) → i < length amounts → get_or amounts i amount ≡ amount → take (i + 1) amounts ≡ take i amounts ++ amount ∷ []
 amounts_more amounts i amount below is = take_more amounts i amount below ∙ ap (λ a. take i amounts ++ a ∷ []) is
@@ -54,7 +54,7 @@ numbered-more first i number amounts amount below is number_is =
     let here : first + length (take i amounts) ≡ number = omega (arith, length-take-le i amounts (omega arith)) in
     ap (numbered first) (amounts_more amounts i amount below is) ∙ numbered-push first (take i amounts) amount ∙ ap (λ number. numbered first (take i amounts) ++ (number, amount) ∷ []) here
 
--- one more is put
+-- one more part is put
 pub put_more : {A : Type 0} (start parts new : List (ℕ × A)) (first i number : ℕ) (amounts : List A) (amount copy : A) → i < length amounts → get_or amounts i amount ≡ amount → NumbersRise 0 start first → number ≡ first + i → parts ≡ start ++ numbered first (take i amounts) → copy ≡ amount → new ≡ insert_entry nat_cmp parts number copy → new ≡ start ++ numbered first (take (i + 1) amounts)
 put_more {A = A} start parts new first i number amounts amount copy below is rise number_is parts_are copy_is new_is =
     let here : first + length (take i amounts) ≡ number = omega (arith, length-take-le i amounts (omega arith)) in
@@ -73,7 +73,7 @@ numbers_more {A = A} numbers new first i number amounts amount below is number_i
     ∙ sym (map-append (λ (part : ℕ × A). part.0) (numbered first (take i amounts)) ((number, amount) ∷ []))
     ∙ ap keys_of (sym (numbered-more first i number amounts amount below is number_is))
 
--- one more is copied
+-- one more part is copied
 pub copy_more : {A : Type 0} (whole copied iterator rest new : List (ℕ × A)) (next number : ℕ) (part copy : A) → NumbersRise 0 whole next → copied ++ iterator ≡ whole → iterator ≡ (number, part) ∷ rest → copy ≡ part → new ≡ insert_entry nat_cmp copied number copy → new ++ rest ≡ whole
 copy_more {A = A} whole copied iterator rest new next number part copy rise all turn copy_is new_is =
     let split : copied ++ (number, part) ∷ rest ≡ whole = ap (λ (ps : List (ℕ × A)). copied ++ ps) (sym turn) ∙ all in
@@ -91,7 +91,7 @@ values_of-append : {A : Type 0} (parts more : List (ℕ × A)) → values_of (pa
 values_of-append [] more = refl
 values_of-append (part ∷ parts) more = ap (λ rest. part.1 ∷ rest) (values_of-append parts more)
 
--- what stands behind a part that goes stays
+-- removing a part keeps the parts after it
 pub remove_entry-front : {A : Type 0} (test : ℕ → Bool) (parts more : List (ℕ × A)) (part : A) → lookup test parts ≡ Some part → remove_entry test (parts ++ more) ≡ remove_entry test parts ++ more
 remove_entry-front test [] more part found = absurd (none-some part found)
 remove_entry-front test (first ∷ parts) more part found =
@@ -114,7 +114,7 @@ pub joined_all-more : {A : Type 0} (join : A → A → Option A) (base whole mor
 joined_all-more join base whole more amounts i amount below is so_far joined =
     ap (joined_all join base) (amounts_more amounts i amount below is) ∙ joined_all-push join base (take i amounts) amount ∙ ap (option_and_then (λ whole. join whole amount)) so_far ∙ joined
 
--- the join of all stops at a fault of a join
+-- joining all amounts stops at the first error of a join
 pub stops_at : {A : Type 0} (join : A → A → Option A) (refusal : A → A → Option AlgebraFault) (empty whole : A) (amounts : List A) (i : ℕ) (amount : A) (fault : AlgebraFault) → i < length amounts → get_or amounts i amount ≡ amount → joined_all join empty (take i amounts) ≡ Some whole → refusal whole amount ≡ Some fault → StopsAt join refusal empty amounts fault
 stops_at join refusal empty whole amounts i amount fault below is so_far refused = record {
   before = take i amounts;
@@ -133,7 +133,7 @@ join_all_fault join refusal empty whole amounts i amount TooLarge below is so_fa
 join_all_fault join refusal empty whole amounts i amount NotCovered below is so_far refused = refused
 join_all_fault join refusal empty whole amounts i amount Memory below is so_far refused = tt
 
--- first the parts behind, and then those before
+-- joining two lists of parts: first the later ones, then the earlier ones
 joined_with-append : {A : Type 0} (join : A → A → Option A) (base : A) (parts more : List (ℕ × A)) → joined_with join base (parts ++ more) ≡ option_and_then (λ whole. joined_with join whole parts) (joined_with join base more)
 joined_with-append join base [] more = sym (and_then-Some (joined_with join base more))
 joined_with-append join base (part ∷ parts) more =
@@ -148,7 +148,7 @@ module _ {A : Type 0} {is_given : A → Type 0} {empty : A} {join : A → A → 
       let steps = both_steps (λ more. joined_all join more amounts) (join base first) whole joined in
       given-joined_all steps.0 whole amounts (laws.join_given base first steps.0 base_given (All-head is_given first amounts given) steps.1) (All-tail is_given first amounts given) steps.2
 
-  -- to join all to a base is to join their join to it
+  -- joining all amounts to a base is joining their join to it
   joined_all-base : (base amount : A) (amounts : List A) → is_given base → is_given amount → All is_given amounts → option_and_then (λ more. joined_all join more amounts) (join base amount) ≡ option_and_then (join base) (joined_all join amount amounts)
   joined_all-base base amount [] base_given amount_given given = and_then-Some (join base amount)
   joined_all-base base amount (first ∷ amounts) base_given amount_given given =
@@ -161,7 +161,7 @@ module _ {A : Type 0} {is_given : A → Type 0} {empty : A} {join : A → A → 
         | Some both ↦ λ joined. joined_all-base base both amounts base_given (laws.join_given amount first both amount_given first_given joined) rest_given
       ] refl
 
-  -- parts with numbers are joined as the amounts are
+  -- parts with numbers are joined as their amounts are
   joined_with-numbered : (base : A) (first : ℕ) (amounts : List A) → is_given base → All is_given amounts → joined_with join base (numbered first amounts) ≡ joined_all join base amounts
   joined_with-numbered base first [] base_given given = refl
   joined_with-numbered base first (amount ∷ amounts) base_given given =
@@ -173,7 +173,7 @@ module _ {A : Type 0} {is_given : A → Type 0} {empty : A} {join : A → A → 
         | Some more ↦ λ joined. joined_with-numbered more (first + 1) amounts (laws.join_given base amount more base_given amount_given joined) rest_given
       ] refl
 
-  -- all that are numbered are joined to a base as their join is
+  -- joining numbered parts to a base is joining the join of their amounts to it
   joined_with-whole : (base whole : A) (first : ℕ) (amounts : List A) → is_given base → All is_given amounts → joined_all join empty amounts ≡ Some whole → joined_with join base (numbered first amounts) ≡ join base whole
   joined_with-whole base whole first amounts base_given given joined =
       joined_with-numbered base first amounts base_given given
@@ -181,7 +181,7 @@ module _ {A : Type 0} {is_given : A → Type 0} {empty : A} {join : A → A → 
       ∙ joined_all-base base empty amounts base_given laws.empty_given given
       ∙ ap (option_and_then (join base)) joined
 
-  -- the rest of the part with a number can be joined to what is free
+  -- the rest of the part with a number can be joined to the free amount
   pub split_joins : (pool : PoolContent A) (number : ℕ) (part whole rest : A) → IsPool is_given join pool → part_at pool.parts number ≡ Some part → is_given whole → IsRest is_given join part whole rest → (more : A) × (join pool.free rest ≡ Some more)
   split_joins pool number part whole rest kept found whole_given is_rest =
       let joins = part_joins laws pool number part kept found in
@@ -189,7 +189,7 @@ module _ {A : Type 0} {is_given : A → Type 0} {empty : A} {join : A → A → 
       (laws.associative pool.free rest whole kept.free_given is_rest.given whole_given ∙ ap (option_and_then (join pool.free)) is_rest.joined ∙ joins.1) in
       (steps.0, steps.1)
 
-  -- after `split`
+  -- the invariant of the pool after `split`
   pub IsPool-split : (pool : PoolContent A) (number : ℕ) (part whole rest free : A) (wanted : List A) → IsPool is_given join pool → part_at pool.parts number ≡ Some part → All is_given wanted → joined_all join empty wanted ≡ Some whole → IsRest is_given join part whole rest → join pool.free rest ≡ Some free → IsPool is_given join (record { total = pool.total; free = free; parts = parts_without pool.parts number ++ numbered pool.next wanted; next = pool.next + length wanted })
   IsPool-split pool number part whole rest free wanted kept found given joined is_rest freed =
       let others = parts_without pool.parts number in

@@ -1,4 +1,4 @@
--- Both kinds of clashes at once: where there is neither, there is none of each.
+-- Both kinds of clashes in one test: if it finds none, there is none of either kind.
 use Rattle.std.specs.Prelude.{◌≡◌, ◌&&◌, ◌||◌, Bool, true, false, not, List, [], ◌∷◌, Some, None}
 use Rattle.std.specs.List.{list_any}
 use Rattle.std.proofs.Common.{refl, sym, ap, ◌∙◌, inl, inr, cond}
@@ -25,7 +25,7 @@ none_of_test p q each (r ∷ rs) none = elim (cases_Bool (p r)) [
       rw (each r here) (none_of_test p q each rs later)
 ]
 
--- where there is neither, there is none of a kind
+-- if there is no clash of either kind, there is none of this kind
 none_of : (clash : Clash) → ((v w : Value) → clash_in Either v w ≡ false → clash_in clash v w ≡ false) → (a b : List Resource)
     → have_clash Either a b ≡ false → have_clash clash a b ≡ false
 none_of clash each a b none =
@@ -50,7 +50,7 @@ no_members a b none = none_of Members (λ v w. second (not (is_same_kind v w)) (
     second true y none = absurd (true≢false none)
     second false y none = none
 
--- ---- the fault of a clash is told before all others
+-- ---- the error of a clash comes before all others
 
 pub fault_first : (a b : List Resource) (f : AlgebraFault) → clash_fault a b ≡ Some f → Some f ≡ refusal a b
 fault_first a b f is = by (have_clash Kinds a b) (have_clash Members a b) is

@@ -1,4 +1,4 @@
--- The first resource of a name: where it goes, and that nothing refuses it.
+-- The first resource of a name: where it is inserted, and that nothing refuses it.
 use Rattle.std.specs.Prelude.{◌≡◌, ℕ, ◌+◌, ◌-◌, ◌&&◌, slice_get, Bool, false, List, [], ◌∷◌, length, None, Some, IsTrue, IfSome, not}
 use Rattle.std.specs.List.{list_any}
 use Rattle.std.specs.List.Sorted.{IsSearchInRange, IsBinarySearchResult, IsNonDecreasingBy}
@@ -34,7 +34,7 @@ module _ (rs : List Resource) (name : Text) (ordered : IsTrue (is_in_order rs)) 
         | inr same ↦ ap is_lt (ap (λ (t : Text). slice_cmp nat_cmp later.label t) same.0 ∙ cmp_itself later.label)
       ])
 
-  -- a search by name that finds nothing ends at the gap for it
+  -- a search by name that finds nothing ends at the place where the name would be inserted
   pub name_searched : (r : Result ℕ ℕ) → IsSearchInRange r (length rs)
       → IsBinarySearchResult (λ s. slice_cmp nat_cmp s.label name) rs r → IfSome (result_err r) (IsNameGap rs name)
   name_searched (Ok at) in_range equal = tt
@@ -44,7 +44,7 @@ module _ (rs : List Resource) (name : Text) (ordered : IsTrue (is_in_order rs)) 
     greater_after = λ k d le lt. above_from_cmp (get_or rs k d).label name ((parted comparisons_rise).1 k d le lt);
   }
 
--- a name that the last one stands before goes behind all
+-- a name that comes after that of the last resource belongs at the end
 pub name_behind : (rs : List Resource) (name : Text) → IsTrue (is_in_order rs) → (r : Resource) → slice_get rs (length rs - 1) ≡ Some r → IsTrue (text_below r.label name) → IsNameGap rs name (length rs)
 name_behind rs name ordered r last below = record {
   in_range = omega arith;
@@ -63,7 +63,7 @@ name_behind rs name ordered r last below = record {
     last_below : (d : Resource) → IsTrue (text_below (get_or rs (length rs - 1) d).label name)
     last_below d = rw (get_or_from_slice_get rs (length rs - 1) r d last) below
 
--- it is the gap for any reservation of the name
+-- it is the place for each reservation of the name
 pub key_gap : (rs : List Resource) (key : Key) (i : ℕ) → IsNameGap rs key.0 i → IsKeyGap rs key i
 key_gap rs key i gap = record {
   in_range = gap.in_range;

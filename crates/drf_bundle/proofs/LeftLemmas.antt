@@ -1,4 +1,4 @@
--- What parts that are taken one after another leave of a bundle, resource by resource.
+-- What is left of a bundle after parts are removed one after another, resource by resource.
 use Rattle.std.specs.Prelude.{◌≡◌, ◌-◌, ◌≤◌, ◌<◌, List, [], ◌∷◌, map, Option, Some, None}
 use Rattle.std.specs.List.{AllByRecursion}
 use Rattle.std.proofs.Common.{refl, sym, ◌∙◌, arith}

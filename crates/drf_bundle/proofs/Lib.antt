@@ -1,3 +1,4 @@
+-- Lemmas for the loops and searches of the code.
 mod ChangeLemmas
 mod ClashLemmas
 mod FirstLemmas

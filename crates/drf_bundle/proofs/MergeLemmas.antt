@@ -1,4 +1,4 @@
--- The steps of the walks through two lists of resources.
+-- The steps of walking through two lists of resources.
 use Rattle.std.specs.Prelude.{◌≡◌, ℕ, ◌+◌, ◌-◌, ◌<◌, ◌≤◌, ◌^◌, ◌&&◌, ◌||◌, Bool, true, false, not, List, [], ◌∷◌, ◌++◌, length, take, drop, Some, None, IsTrue}
 use Rattle.std.specs.List.{list_all}
 use Rattle.std.proofs.Common.{Ordering, Less, Equal, Greater, refl, sym, ap, ◌∙◌, subst, inl, inr, arith, get_or, append_assoc, take_all, add-one}
@@ -71,14 +71,14 @@ step_both (r ∷ rs) (s ∷ ss) y z side is other =
     let first : merged (r ∷ rs) (s ∷ ss) ≡ both_of r s ∷ merged rs ss = rw (side_equal (key_cmp (key_of r) (key_of s)) side) refl in
     first ∙ (λ i. both_of (sym is i) (sym other i) ∷ merged (sym (tail_is r rs) i) (sym (tail_is s ss) i))
 
--- what fits together with all fits with what is left
+-- if two lists fit together, so do their remaining parts
 pub fits_left : (a b : List Resource) → FitTogether a b → FitTogether (tail a) b
 fits_left a b fits = fits_less (stock_of_both a b) (stock_of_both (tail a) b) fits (λ name p. omega (arith, stock_tail a name p))
 
 pub fits_right : (a b : List Resource) → FitTogether a b → FitTogether a (tail b)
 fits_right a b fits = fits_less (stock_of_both a b) (stock_of_both a (tail b)) fits (λ name p. omega (arith, stock_tail b name p))
 
--- so the scalars of two that are united are not too large together
+-- so the scalars of two resources that are united are not too large together
 pub small_together : (a b : List Resource) (y z : Resource) → next_side a b ≡ Some Both → y ≡ get_or a 0 y → z ≡ get_or b 0 z
     → FitTogether a b → units_in y.value Thousandths + units_in z.value Thousandths < 2 ^ 64
 small_together [] [] y z side is other fits = cc
@@ -97,7 +97,7 @@ small_together (r ∷ rs) (s ∷ ss) y z side is other fits =
       fits.at_most r.label Thousandths,
     )
 
--- what is found and what is left make the whole
+-- what was found and what remains make the whole
 pub pushed : (found left more whole : List Resource) (x y : Resource) → found ++ left ≡ whole → left ≡ y ∷ more → x ≡ y
     → (found ++ x ∷ []) ++ more ≡ whole
 pushed found left more whole x y known is same =
@@ -117,7 +117,7 @@ test_of clash r s = same_text r.label s.label && clash_in clash r.value s.value
 below_itself : (t : Text) → text_below t t ≡ false
 below_itself t = rw (cmp_itself t) refl
 
--- in order, no name stands before that of the first
+-- in a list in order, no name comes before that of the first resource
 names_after : (r : Resource) (rs : List Resource) → IsTrue (stands_first (key_of r) rs)
     → IsTrue (none_before r.label rs)
 names_after r [] first = refl
@@ -140,7 +140,7 @@ none_before_first r s ss ordered same =
     let parts = and_parts (stands_first (key_of s) ss) (is_in_order ss) ordered in
     subst (λ (t : Text). IsTrue (none_before t (s ∷ ss))) (sym same) (and_from _ _ (ap not (below_itself s.label)) (names_after s ss parts.0))
 
--- no name after a greater one is this one
+-- no name after a greater one is equal to this one
 pub none_from : (clash : Clash) (r s : Resource) (ss : List Resource) → IsTrue (is_in_order (s ∷ ss))
     → IsTrue (text_below r.label s.label) → clashes_with_some clash r (s ∷ ss) ≡ false
 none_from clash r s ss ordered below =
@@ -160,14 +160,14 @@ none_from clash r s ss ordered below =
         ] in
         rw (below_other r.label t.label later) (none_after ts parts.1)
 
--- the resource that is read is the first of those that are left
+-- the resource that is read is the first of the remaining ones
 pub next_of : {A : Type 0} (xs : List A) (i : ℕ) (x : A) → i < length xs → x ≡ get_or xs i x
     → drop i xs ≡ x ∷ drop (i + 1) xs
 next_of {A} xs i x in_range read =
     let split : drop i xs ≡ get_or xs i x ∷ drop (i + 1) xs = rw (add-one) (drop-cons xs i x in_range) in
     split ∙ ap (λ (y : A). y ∷ drop (i + 1) xs) (sym read)
 
--- what a walk through the others has kept
+-- what is true while the walk goes through the other resources
 pub record SoFar (clash : Clash) (r : Resource) (others left : List Resource) : Type 0 where
   pub same : clashes_with_some clash r left ≡ clashes_with_some clash r others
   pub in_order : IsTrue (is_in_order left)
@@ -185,7 +185,7 @@ module _ (clash : Clash) (r : Resource) (others : List Resource) (i : ℕ) (s : 
   names_here : IsTrue (none_before r.label (s ∷ drop (i + 1) others))
   names_here = subst (λ (l : List Resource). IsTrue (none_before r.label l)) (next_of others i s in_range read) not_before
 
-  -- behind another name there is none of this one
+  -- after another name, this one does not occur any more
   pub past_name : same_text s.label r.label ≡ false → false ≡ clashes_with_some clash r others
   past_name other =
       let after = and_parts (not (text_below s.label r.label)) (none_before r.label (drop (i + 1) others)) names_here in
@@ -244,7 +244,7 @@ past_left clash (r ∷ rs) (s ∷ ss) names ordered =
     let whole : have_clash clash (r ∷ rs) (s ∷ ss) ≡ have_clash clash rs (s ∷ ss) = ap (λ (x : Bool). x || have_clash clash rs (s ∷ ss)) none in
     ap (λ (l : List Resource). have_clash clash l (s ∷ ss)) (tail_is r rs) ∙ sym whole
 
--- a name that stands before all of the list clashes with none
+-- a name that comes before all names of a list clashes with none of them
 above_all : (clash : Clash) (s : Resource) (ss a : List Resource)
     → IsTrue (list_all (λ r. text_below s.label r.label) a) → have_clash clash a ss ≡ have_clash clash a (s ∷ ss)
 above_all clash s ss [] below = refl

@@ -1,4 +1,4 @@
--- The resources of one name, which stand together in a list in order.
+-- The resources of one name, which are neighbours in a list in order.
 use Rattle.std.specs.Prelude.{◌≡◌, ℕ, ◌+◌, ◌-◌, ◌<◌, ◌&&◌, ◌||◌, Bool, true, false, List, [], ◌∷◌, length, take, drop, filter, IsTrue}
 use Rattle.std.specs.List.{list_any}
 use Rattle.std.specs.List.Sorted.{IsPartitionedBy, IsPartitionPoint}
@@ -14,7 +14,7 @@ use Rattle.drf_bundle.specs.laws.KeyLaws.{cases_below}
 use Rattle.drf_bundle.specs.declared.resource.Resource.{Resource}
 use Rattle.drf_bundle.proofs.SearchLemmas.{in_order_at}
 
--- ---- filters of lists of which the passing elements stand together
+-- ---- filters of lists whose passing elements are neighbours
 
 pub any-filter : {A : Type 0} (p test : A → Bool) (xs : List A)
     → list_any test (filter p xs) ≡ list_any (λ x. p x && test x) xs
@@ -24,7 +24,7 @@ any-filter p test (x ∷ xs) = elim (cases_Bool (p x)) [
   | inr fails ↦ rw fails (any-filter p test xs)
 ]
 
--- what stands before those that pass is left out
+-- elements before those that pass are dropped
 filter-past : {A : Type 0} (p : A → Bool) (xs : List A) (i : ℕ)
     → ((k : ℕ) (d : A) → k < i → k < length xs → p (get_or xs k d) ≡ false) → filter p (drop i xs) ≡ filter p xs
 filter-past p xs zero before = refl
@@ -55,7 +55,7 @@ abbrev pub has_name : Text → Resource → Bool
 has_name name r = same_text r.label name
 
 module _ (rs : List Resource) (name : Text) (ordered : IsTrue (is_in_order rs)) where
-  -- lesser names stand first
+  -- smaller names come first
   pub names_rise : IsPartitionedBy (is_before name) rs
   names_rise i j d le in_range below = elim (cases_lt i j) [
     | inl before ↦ elim (cases_below (key_of (get_or rs i d)) (key_of (get_or rs j d)) (in_order_at rs i j d ordered before in_range)) [
@@ -72,7 +72,7 @@ module _ (rs : List Resource) (name : Text) (ordered : IsTrue (is_in_order rs)) 
     long : length rest ≡ length rs - start
     long = ap length is_rest ∙ length-drop start rs
 
-    -- and those of the name are the first of the others
+    -- resources with the name are the first of the others
     pub named_rise : IsPartitionedBy (has_name name) rest
     named_rise i j d le in_range named = elim (cases_lt i j) [
       | inl before ↦

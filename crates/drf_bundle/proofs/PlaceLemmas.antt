@@ -1,4 +1,4 @@
--- What a search by label finds, and what an edit at that place does.
+-- What a search by label finds, and what a change at that place does.
 use Rattle.std.proofs.Common.{◌≡◌, ℕ, zero, suc, ◌+◌, ◌-◌, ◌<◌, ◌≤◌, Bool, cond, true, false, List, [], ◌∷◌, length, get_or, set, slice_get, Option, Some, None, IfSome, IfNone, Result, Ok, Err, IfOk, IfErr, OnOk, is_ok, Equal, inl, inr, refl, sym, ap, ◌∙◌, subst, arith}
 use Rattle.std.specs.Prelude.{IsTrue}
 use Rattle.std.specs.List.{insert, position}
@@ -23,24 +23,24 @@ use Rattle.drf_bundle.specs.declared.quantities.Entry.{Entry}
 first_at : (n : List ℕ) (es : List Entry) (k : ℕ) (d : Entry) → IsTrue (stands_first n es) → k < length es → IsTrue (text_below n (get_or es k d).label)
 first_at n es k d first in_range = and_at (stands_first n) (λ f. text_below n f.label) refl (λ _ _. refl) es k d in_range first
 
--- an entry stands before each later one
+-- an entry comes before each later one
 pub in_order_at : (es : List Entry) (i j : ℕ) (d : Entry) → IsTrue (is_in_order es) → i < j → j < length es → IsTrue (text_below (get_or es i d).label (get_or es j d).label)
 in_order_at [] i j d ordered later in_range = absurd (omega arith)
 in_order_at (e ∷ es) i zero d ordered later in_range = absurd (omega arith)
 in_order_at (e ∷ es) zero (suc j) d ordered later in_range = first_at e.label es j d (and_parts (stands_first e.label es) (is_in_order es) ordered).0 (omega arith)
 in_order_at (e ∷ es) (suc i) (suc j) d ordered later in_range = in_order_at es i j d (and_parts (stands_first e.label es) (is_in_order es) ordered).1 (omega arith) (omega arith)
 
--- what is read past the end, where nothing is read
+-- an entry to use as the default past the end
 nothing : Entry
 nothing = record { label = []; amount = 0 }
 
 module _ (es : List Entry) (label : List ℕ) where
-  -- the comparisons with the label rise along the list, as a binary search asks
+  -- the comparisons with the label rise along the list, as a binary search requires
   comparisons_rise : IsTrue (is_in_order es) → IsNonDecreasingBy (λ e. ordering_index (slice_cmp nat_cmp e.label label)) es
   comparisons_rise ordered = searchable_from_sorted nat_list_cmp_total (λ e. e.label) es label
       (λ k d low high. ap is_lt (cmp_above (get_or es k d).label (get_or es (k + 1) d).label (in_order_at es k (k + 1) d ordered (omega arith) high)))
 
-  -- a binary search by label ends at the label, or at the gap for it
+  -- a binary search by label ends at the label, or at the place where it would be inserted
   pub searched : IsTrue (is_in_order es) → (r : Result ℕ ℕ) → IsSearchInRange r (length es) → IsBinarySearchResult (λ e. slice_cmp nat_cmp e.label label) es r → record { found : IfOk r (IsAt es label); absent : IfErr r (IsGapFor es label) }
   searched ordered (Ok at) in_range equal = record { found = record { in_range = in_range; has_label = λ d. same_from_cmp _ _ (equal d) }; absent = tt }
   searched ordered (Err at) in_range parted = record {
@@ -52,7 +52,7 @@ module _ (es : List Entry) (label : List ℕ) where
     };
   }
 
-  -- a label that the last entry stands before goes behind all
+  -- a label that comes after that of the last entry belongs at the end
   pub behind_last : IsTrue (is_in_order es) → (e : Entry) → slice_get es (length es - 1) ≡ Some e → IsTrue (text_below e.label label) → IsGapFor es label (length es)
   behind_last ordered e last below = record {
     in_range = omega arith;
@@ -79,7 +79,7 @@ module _ (es : List Entry) (label : List ℕ) where
   pub named_at : (i : ℕ) → IsAt es label i → is_named es label ≡ true
   named_at i at = or_at (λ l. is_named l label) (λ e. same_text e.label label) refl (λ _ _. refl) es i nothing at.in_range (test_from_same _ _ (at.has_label nothing))
 
-  -- no entry at all has a label that has a gap
+  -- if the label would be inserted at a place, no entry has it
   other_around : (i : ℕ) → IsGapFor es label i → (k : ℕ) (d : Entry) → k < length es → same_text (get_or es k d).label label ≡ false
   other_around i gap k d in_range = elim (cases_lt k i) [
     | inl before ↦ below_other (get_or es k d).label label (gap.smaller_before k d before)
@@ -89,7 +89,7 @@ module _ (es : List Entry) (label : List ℕ) where
   pub amount_in_gap : (i : ℕ) → IsGapFor es label i → amount_of es label ≡ 0
   amount_in_gap i gap = found_nowhere (λ l. amount_of l label) (λ e. same_text e.label label) (λ e. e.amount) 0 refl (λ _ _. refl) es nothing (λ k lt. other_around i gap k nothing lt)
 
-  -- so much is the sum, where there was nothing
+  -- the sum, if the label was not there
   pub sum_in_gap : (i n : ℕ) → IsGapFor es label i → n ≡ amount_of es label + n
   sum_in_gap i n gap = omega (arith, amount_in_gap i gap)
 
@@ -110,12 +110,12 @@ module _ (es : List Entry) (label : List ℕ) where
   named_nowhere (Some at) is = tt
   named_nowhere None is = position-none its es is
 
-  -- a search by order fails only where the label is not named
+  -- a search by order fails only if the label is not named
   pub unnamed_from_search : (r : Result ℕ ℕ) → IfErr r (IsGapFor es label) → IfNone (result_ok r) (is_named es label ≡ false)
   unnamed_from_search (Ok at) absent = tt
   unnamed_from_search (Err at) absent = named_in_gap at absent
 
-  -- a search succeeds just where the label is named
+  -- a search succeeds exactly if the label is named
   pub named_from_search : (r : Result ℕ ℕ) → IfOk r (IsAt es label) → IfErr r (IsGapFor es label) → is_ok r ≡ is_named es label
   named_from_search (Ok at) found absent = sym (named_at at found)
   named_from_search (Err at) found absent = sym (named_in_gap at absent)
@@ -127,7 +127,7 @@ amount_unnamed (e ∷ es) label none = elim (cases_Bool (same_text e.label label
   | inr other ↦ rw other (amount_unnamed es label (rw other at none))
 ]
 
--- writing over the entry of a label sets its amount
+-- overwriting the entry of a label sets its amount
 pub with_at : (es : List Entry) (label : List ℕ) (a i : ℕ) → IsTrue (is_in_order es) → IsAt es label i → with_amount es label a ≡ set es i (record { label = label; amount = a })
 with_at [] label a i ordered at = absurd (omega (arith, at.in_range))
 with_at (e ∷ es) label a zero ordered at = rw (subst (λ (t : List ℕ). slice_cmp nat_cmp label t ≡ Equal) (sym (at.has_label e)) (cmp_itself label))
@@ -137,7 +137,7 @@ with_at (e ∷ es) label a (suc i) ordered at =
     let above : IsTrue (text_below e.label label) = subst (λ (t : List ℕ). IsTrue (text_below e.label t)) (at.has_label e) (first_at e.label es i e parts.0 tail.in_range) in
     rw (cmp_above e.label label above) (ap (λ l. e ∷ l) (with_at es label a i parts.1 tail))
 
--- a new entry in the gap names the label
+-- inserting an entry at its place names the label
 pub with_in_gap : (es : List Entry) (label : List ℕ) (a i : ℕ) → IsGapFor es label i → with_amount es label a ≡ insert es i (record { label = label; amount = a })
 with_in_gap [] label a zero gap = refl
 with_in_gap [] label a (suc i) gap = absurd (omega (arith, gap.in_range))
@@ -150,15 +150,15 @@ with_in_gap (e ∷ es) label a (suc i) gap =
     } in
     rw (cmp_above e.label label (gap.smaller_before 0 e (omega arith))) (ap (λ l. e ∷ l) (with_in_gap es label a i tail))
 
--- ---- the same, in the terms that the code has at hand
+-- ---- the same, with what the code has computed
 
--- the amount there, of what was lent
+-- the amount at that place, in the entries that were borrowed
 pub amount_here : (items es : List Entry) (text label : List ℕ) (i : ℕ) (had : Entry) → items ≡ es → IsTrue (is_in_order items) → text ≡ label → IsAt es text i → had ≡ get_or items i had → had.amount ≡ amount_of es label
 amount_here items es text label i had same ordered named at is =
     ap (λ (e : Entry). e.amount) (is ∙ ap (λ (l : List Entry). get_or l i had) same)
     ∙ sym (amount_at es text i had (subst (λ (l : List Entry). IsTrue (is_in_order l)) same ordered) at) ∙ ap (amount_of es) named
 
--- what was lent stands there
+-- the borrowed entry is at that place
 pub stands_here : (items es : List Entry) (i : ℕ) (had : Entry) → items ≡ es → i < length es → had ≡ get_or items i had → IsAt es had.label i
 stands_here items es i had same in_range read =
     let there : had ≡ get_or es i had = read ∙ ap (λ (l : List Entry). get_or l i had) same in
@@ -176,12 +176,12 @@ added_here items es new text label x a i view same amount gap made =
     let written = with_in_gap es text x i gap in
     cc
 
--- what holds if it was done, where it was done
+-- what is true if it was done, given that it was done
 pub where_done : {T E P : Type 0} (r : Result T E) → OnOk r P → IsTrue (is_ok r) → P
 where_done (Ok x) is done = is
 where_done (Err x) is done = absurd (false≢true done)
 
--- so much less of one label, and as much of each other
+-- one label is reduced, and the others are unchanged
 pub reduced : (es new : List Entry) (label : List ℕ) (n : ℕ) → new ≡ with_amount es label (amount_of es label - n) → n ≤ amount_of es label
     → (other : List ℕ) → amount_of new other + cond (same_text label other) n 0 ≡ amount_of es other
 reduced es new label n is fits other =

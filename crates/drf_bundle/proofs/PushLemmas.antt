@@ -1,4 +1,4 @@
--- A resource that is put behind all others of a bundle.
+-- Appending a resource to a bundle.
 use Rattle.std.specs.Prelude.{◌≡◌, ◌+◌, ◌<◌, ◌≤◌, ◌^◌, Bool, List, [], ◌∷◌, ◌++◌, IsTrue, All}
 use Rattle.std.proofs.Common.{refl, sym, ap, ◌∙◌, subst, arith}
 use Rattle.std.proofs.lemmas.Bool.{and_parts, and_from}
@@ -15,7 +15,7 @@ use Rattle.drf_bundle.specs.declared.quantities.Entry.{Entry}
 use Rattle.drf_bundle.specs.declared.resource.Resource.{Resource}
 use Rattle.drf_bundle.proofs.MergeLemmas.{pushed}
 
--- ---- the front of a bundle is one
+-- ---- a prefix of a bundle is a bundle
 
 front_in_order : (rs more : List Resource) → IsTrue (is_in_order (rs ++ more)) → IsTrue (is_in_order rs)
 front_in_order [] more ordered = refl
@@ -40,7 +40,7 @@ bundle-front rs more is = record {
   fits = fits_less (stock (rs ++ more)) (stock rs) is.fits (λ name p. front_units (of_name name) p rs more);
 }
 
--- what is found with the next resource is the front of the whole
+-- what was found, with the next resource, is a prefix of the whole
 pub bundle-next : (found left more whole : List Resource) (x y : Resource) → IsBundle whole → found ++ left ≡ whole → left ≡ y ∷ more → x ≡ y
     → IsBundle (found ++ x ∷ [])
 bundle-next found left more whole x y is known next same =

@@ -1,4 +1,4 @@
--- The steps of a rest.
+-- The steps of computing a rest.
 use Rattle.std.specs.Prelude.{◌≡◌, true, List, [], ◌∷◌, ◌++◌, Some, None, IsTrue, All, nat_lt}
 use Rattle.std.proofs.Common.{refl, sym, ap, ◌∙◌, subst, inl, inr, cond, get_or, append_assoc}
 use Rattle.std.proofs.lemmas.List.{append-nil}
@@ -13,21 +13,21 @@ use Rattle.drf_bundle.specs.declared.resource.Resource.{Resource}
 use Rattle.drf_bundle.proofs.MergeLemmas.{tail, tail_is, side_less, side_equal, side_greater}
 use Rattle.drf_bundle.proofs.PushLemmas.{bundle-front}
 
--- a resource before others, if there is anything of it
+-- a resource before others, unless it is empty
 abbrev put : Resource → List Resource → List Resource
 put r others = cond (nat_lt 0 (amount_in r.value)) (r ∷ others) others
 
 put_is : (r : Resource) (others : List Resource) → put r others ≡ filled_of (r ∷ []) ++ others
 put_is r others = elim (cases_Bool (nat_lt 0 (amount_in r.value))) [ inl some ↦ rw some refl | inr none ↦ rw none refl ]
 
--- of a key that stands before all there is no value
+-- a list has no value at a key that comes before all of its keys
 no_value : (key : Key) (rs : List Resource) → IsTrue (stands_first key rs) → value_at rs key ≡ None
 no_value key [] first = refl
 no_value key (r ∷ rs) first =
     let parts = and_parts (key_below key (key_of r)) (stands_first key rs) first in
     rw (below_other key (key_of r) parts.0) (no_value key rs parts.1)
 
--- a part that stands before all takes nothing
+-- a resource of the part whose key comes before all removes nothing
 rest_past : (s : Resource) (ss a : List Resource) → IsTrue (stands_first (key_of s) a) → rest a (s ∷ ss) ≡ rest a ss
 rest_past s ss [] first = refl
 rest_past s ss (r ∷ rs) first =
@@ -35,7 +35,7 @@ rest_past s ss (r ∷ rs) first =
     let same : value_at (s ∷ ss) (key_of r) ≡ value_at ss (key_of r) = rw (above_other (key_of s) (key_of r) parts.0) refl in
     λ i. put (with_value r (less_at (same i) r.value)) (rest_past s ss rs parts.1 i)
 
--- what two lists are as one is taken from the other
+-- what was found so far and the rest of the remaining lists make the whole rest
 pub record IsRestOf (left whole part all : List Resource) : Type 0 where
   pub so_far : left ++ rest whole part ≡ all
   pub in_order : IsTrue (is_in_order whole)

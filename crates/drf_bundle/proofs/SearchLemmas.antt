@@ -1,4 +1,4 @@
--- What a search by key finds, and what an edit at that place does.
+-- What a search by key finds, and what a change at that place does.
 use Rattle.std.specs.Prelude.{◌≡◌, ℕ, ◌+◌, ◌<◌, ◌≤◌, ◌^◌, true, false, not, List, [], ◌∷◌, length, Some, None, IsTrue}
 use Rattle.std.proofs.Common.{zero, suc, Less, Equal, Greater, Result, Ok, Err, IfOk, IfErr, get_or, set, refl, sym, ap, ◌∙◌, subst, inl, inr, arith}
 use Rattle.std.specs.Cmp.{IsTotalOrder, then_flip}
@@ -36,7 +36,7 @@ key_cmp_total = record {
   congr = λ k l m equal. ap (λ (n : Key). key_cmp n m) (key_equal k l equal);
 }
 
--- a resource stands before each later one
+-- a resource comes before each later one
 first_at : (key : Key) (rs : List Resource) (k : ℕ) (d : Resource) → IsTrue (stands_first key rs) → k < length rs
     → IsTrue (key_below key (key_of (get_or rs k d)))
 first_at key rs k d first in_range = and_at (stands_first key) (λ r. key_below key (key_of r)) refl (λ _ _. refl) rs k d in_range first
@@ -60,7 +60,7 @@ before_later s r [] first has = absurd has
 before_later s r (t ∷ ts) first (inl is) = subst (λ (u : Resource). IsTrue (key_below (key_of s) (key_of u))) is (and_parts (key_below (key_of s) (key_of t)) (stands_first (key_of s) ts) first).0
 before_later s r (t ∷ ts) first (inr later) = before_later s r ts (and_parts (key_below (key_of s) (key_of t)) (stands_first (key_of s) ts) first).1 later
 
--- in order, a key has the value of its resource
+-- in a list in order, the value at the key of a resource is its value
 value_of_its_own : (rs : List Resource) (r : Resource) → IsTrue (is_in_order rs) → Has rs r
     → value_at rs (key_of r) ≡ Some r.value
 value_of_its_own [] r ordered has = absurd has
@@ -75,7 +75,7 @@ no_value : (rs : List Resource) (key : Key) → ((r : Resource) → Has rs r →
 no_value [] key other = refl
 no_value (s ∷ ss) key other = rw (other s (inl refl)) (no_value ss key (λ r later. other r (inr later)))
 
--- where a resource is
+-- the index of a resource
 pub has_index : (rs : List Resource) (r : Resource) → Has rs r → (i : ℕ) × (i < length rs) × (r ≡ get_or rs i r)
 has_index [] r has = absurd has
 has_index (s ∷ ss) r (inl is) = (0, omega arith, sym is)
@@ -89,7 +89,7 @@ module _ (rs : List Resource) (key : Key) (ordered : IsTrue (is_in_order rs)) wh
       let later = key_of (get_or rs (k + 1) d) in
       ap is_lt (key_cmp_total.antisymm later earlier ∙ ap ordering_reverse (less_from_below earlier later (in_order_at rs k (k + 1) d ordered (omega arith) high))))
 
-  -- a binary search by key ends at the key, or at the gap for it
+  -- a binary search by key ends at the key, or at the place where it would be inserted
   pub searched : (r : Result ℕ ℕ) → IsSearchInRange r (length rs)
       → IsBinarySearchResult (λ s. key_cmp (key_of s) key) rs r
       → record { found : IfOk r (IsKeyAt rs key); absent : IfErr r (IsKeyGap rs key) }
@@ -119,7 +119,7 @@ module _ (rs : List Resource) (key : Key) (ordered : IsTrue (is_in_order rs)) wh
             | inr after ↦ below_other key (key_of (get_or rs i.0 r)) (gap.above_after i.0 r after i.1)
           ])
 
--- ---- a resource put in its place
+-- ---- inserting a resource
 
 key_above : (k l : Key) → IsTrue (key_below k l) → key_cmp l k ≡ Greater
 key_above k l below = key_cmp_total.antisymm l k ∙ ap ordering_reverse (less_from_below k l below)
@@ -127,7 +127,7 @@ key_above k l below = key_cmp_total.antisymm l k ∙ ap ordering_reverse (less_f
 key_itself : (k : Key) → key_cmp k k ≡ Equal
 key_itself k = rw (cmp_itself k.0, cmp_itself k.1) refl
 
--- keys that do not compare as equal are two
+-- keys that do not compare as equal are different
 pub ne_is : (k l : Key) → is_ne (key_cmp k l) ≡ not (same_key k l)
 ne_is k l = elim (cases_key k l) [
   | inl less ↦ ap is_ne less ∙ ap not (sym (below_other k l (key_less k l less)))
@@ -135,7 +135,7 @@ ne_is k l = elim (cases_key k l) [
   | inr (inr greater) ↦ ap is_ne greater ∙ ap not (sym (above_other l k (key_greater k l greater)))
 ]
 
--- where the resource adds to the sum of its name, it adds to the scalar under its key
+-- if the sum of the name is small enough with the resource, so is the scalar at its key
 pub small_at : (rs : List Resource) (sums : List Entry) (r had : Resource) (i : ℕ) → HasSums rs sums → IsKeyAt rs (key_of r) i
     → had ≡ get_or rs i had → amount_of sums r.label + units_in r.value Thousandths < 2 ^ 64
     → units_in had.value Thousandths + units_in r.value Thousandths < 2 ^ 64
@@ -145,7 +145,7 @@ small_at rs sums r had i kept at read small =
     subst (λ (t : Text). units_in had.value Thousandths ≤ stock rs t Thousandths) (λ j. (keys j).0) (stock_has rs had Thousandths (has_at rs i had at.in_range read)) in
     omega (arith, small, amount-kept rs sums r.label kept, there)
 
--- where the key stands, the two are united
+-- if the key exists, the two resources are united
 pub merged_at : (rs : List Resource) (r had : Resource) (i : ℕ) → IsTrue (is_in_order rs) → IsKeyAt rs (key_of r) i
     → had ≡ get_or rs i had → merged rs (r ∷ []) ≡ set rs i (both_of had r)
 merged_at [] r had i ordered at read = absurd (omega (arith, at.in_range))
@@ -159,7 +159,7 @@ merged_at (s ∷ ss) r had (suc i) ordered at read =
     let below : IsTrue (key_below (key_of s) (key_of r)) = subst (λ (k : Key). IsTrue (key_below (key_of s) k)) (at.has_key had) (first_at (key_of s) ss i had parts.0 tail.in_range) in
     rw (less_from_below (key_of s) (key_of r) below) (ap (λ (l : List Resource). s ∷ l) (merged_at ss r had i parts.1 tail read))
 
--- where it does not, the resource goes into the gap
+-- if it does not, the resource is inserted at its place
 pub merged_in_gap : (rs : List Resource) (r : Resource) (i : ℕ) → IsKeyGap rs (key_of r) i
     → merged rs (r ∷ []) ≡ insert rs i r
 merged_in_gap [] r zero gap = refl
@@ -174,7 +174,7 @@ merged_in_gap (s ∷ ss) r (suc i) gap =
     } in
     rw (less_from_below (key_of s) (key_of r) (gap.below_before 0 s (omega arith))) (ap (λ (l : List Resource). s ∷ l) (merged_in_gap ss r i tail))
 
--- the resource that has the name and the role at an index has the key there
+-- a resource with this name and role at an index has the key there
 pub key_here : (rs : List Resource) (i : ℕ) (r : Resource) (label : Text) (role : Path) → i < length rs → ((d : Resource) → r ≡ get_or rs i d) → same_text r.label label ≡ true → same_path r.role role ≡ true
     → IsKeyAt rs (label, reservation role) i
 key_here rs i r label role in_range at same_label same_role = record {

@@ -1,4 +1,4 @@
--- The steps of a sum of the scalars of each name.
+-- The steps of summing the scalars of each name.
 use Rattle.std.specs.Prelude.{◌≡◌, ℕ, ◌+◌, ◌<◌, ◌^◌, List, [], ◌∷◌, length, drop}
 use Rattle.std.proofs.Common.{refl, subst, arith, get_or}
 use Rattle.drf_role.specs.Text.{Text}

@@ -1,4 +1,4 @@
--- Answers of the kinds of values, in the words of a value.
+-- The results for the kinds of values, stated for values.
 use Rattle.std.specs.Prelude.{◌≡◌, ◌↔◌, ℕ, ◌+◌, ◌-◌, ◌<◌, ◌≤◌, ◌^◌, Bool, IsTrue, Some, nat_le}
 use Rattle.std.proofs.Common.{arith}
 use Rattle.std.specs.declared.cmp.Ordering.{Ordering}

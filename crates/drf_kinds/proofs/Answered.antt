@@ -1,4 +1,4 @@
--- What a pass over two sets side by side says of the sets.
+-- What a walk through two sets side by side says about the sets.
 use Rattle.std.proofs.Common.{◌≡◌, ◌↔◌, Bool, true, false, not, ◌&&◌, Some, None, IsSome, IsTrue, cond, refl, sym, ap, ◌∙◌, subst}
 use Rattle.std.specs.Bool.{OnTrue, OnFalse, beq}
 use Rattle.std.specs.declared.cmp.Ordering.{Ordering}
@@ -14,7 +14,7 @@ met_inside true true = refl
 met_inside true false = refl
 met_inside false y = refl
 
--- a number of a set that is out of another
+-- a member of one set that is not in another
 met_outside : (x y : Bool) → (x && beq y false) ≡ true → (x ≡ true) × (y ≡ false)
 met_outside true true e = absurd (true≢false (sym e))
 met_outside true false e = (refl, refl)
@@ -64,24 +64,24 @@ module _ {K : Type 0} {R : K → K → Ordering} (o : IsTotalOrder R) (same : se
     λ _. refl,
   )
 
-  -- what is in either of two sets
+  -- the set of the members of either set is the union
   pub united_answer : (s t found : set.FinSet R) → ((k : K) → set.contains found k ≡ is_kept true (set.contains s k) (set.contains t k)) → found ≡ set.union s t
   united_answer s t found each = set.same_set o same _ _ (λ k. each k ∙ sym (set.contains-union o s t k))
 
-  -- what is in the left of two sets alone
+  -- the set of the members that are only in the left set is the difference
   pub difference_answer : (s t found : set.FinSet R) → ((k : K) → set.contains found k ≡ is_kept false (set.contains s k) (set.contains t k)) → found ≡ set.difference s t
   difference_answer s t found each = set.same_set o same _ _ (λ k. each k ∙ sym (set.contains-difference o s t k))
 
-  -- of disjoint sets the union is the join
+  -- the union of disjoint sets is their join
   pub joined_answer : (s t found : set.FinSet R) → IsSome (set_join s t) → found ≡ set.union s t → set_join s t ≡ Some found
   joined_answer s t found some is = join_of o same s t ((IsSome-join s t).0 some) ∙ ap Some (sym is)
 
-  -- of a set and a part of it that is the rest
+  -- the difference of a set and a part of it is the rest
   pub rest_answer : (whole part found : set.FinSet R) → IsSetOf P whole → Covers (IsSetOf P) set_join whole part → found ≡ set.difference whole part → IsRest (IsSetOf P) set_join whole part found
   rest_answer whole part found given covers is =
       subst (IsRest (IsSetOf P) set_join whole part) (sym is) (is_rest_difference o same P whole part given (subset_of_rest o same P whole part covers))
 
-  -- what is kept of two sets
+  -- the members that are kept of two sets
   pub kept_answer : (kept : Bool → Bool → Bool) (in_s in_t in_found : K → Bool) (s t found : set.FinSet R) → ((k : K) → set.contains s k ≡ in_s k) → ((k : K) → set.contains t k ≡ in_t k) → ((k : K) → set.contains found k ≡ in_found k) →
       ((k : K) → in_found k ≡ kept (in_s k) (in_t k)) → (k : K) → set.contains found k ≡ kept (set.contains s k) (set.contains t k)
   kept_answer kept in_s in_t in_found s t found s_is t_is found_is each k = found_is k ∙ each k ∙ rw (s_is k, t_is k)

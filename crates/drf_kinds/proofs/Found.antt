@@ -27,12 +27,12 @@ pub is_in-append : (is : List Interval) (i : Interval) (n : ℕ) → is_in (is +
 is_in-append [] i n = or-false (is_within i n)
 is_in-append (j ∷ is) i n = rw (is_in-append is i n) (sym (or_assoc (is_within j n) (is_in is n) (is_within i n)))
 
--- where the next place can be: the intervals so far end, or one has begun
+-- where the next place can be: after the intervals so far, or after the beginning of an open one
 abbrev pub low_of : List Interval → ℕ → Bool → ℕ
 low_of found start true = start + 1
 low_of found start false = end_of 0 found
 
--- an interval begins past those before it
+-- an open interval begins after the intervals before it
 abbrev pub IsBegun : List Interval → ℕ → Bool → Type 0
 IsBegun found start true = end_of 0 found ≤ start
 IsBegun found start false = start ≤ end_of 0 found
@@ -41,9 +41,9 @@ pub none_kept : (united : Bool) → is_kept united false false ≡ false
 none_kept true = refl
 none_kept false = refl
 
--- kept tells by a number's membership in two sets whether it is found
+-- `kept` says whether a number is kept, given whether it is in each of the two sets
 module _ (kept : Bool → Bool → Bool) where
-  -- the numbers found so far, from start on still by the steps that are left, are kept
+  -- the numbers in the intervals found so far are those that are kept; from `start` on the remaining steps decide
   pub record Found (left right : ℕ → Bool) (s t : Steps) (found : List Interval) (start : ℕ) (inside : Bool) : Type 0 where
     pub is : inside ≡ kept s.inside t.inside
     pub maximal : AreMaximal found
@@ -62,14 +62,14 @@ module _ (kept : Bool → Bool → Bool) where
     same = λ n. rw (member_of_places 0 a n a_maximal, member_of_places 0 b n b_maximal, le-leb 0 n (omega arith));
   }
 
-  -- up to the place they are all kept, or none is
+  -- up to the place, all numbers are kept, or none is
   alone_before : (low place : ℕ) (s t s' t' : Steps) (n : ℕ) → PassesBoth low place s t s' t' → n < place → kept (is_member s.inside s.places n) (is_member t.inside t.places n) ≡ kept s.inside t.inside
   alone_before low place s t s' t' n both before = rw (both.left.before n before, both.right.before n before)
 
   alone_upto : (low place : ℕ) (s t s' t' : Steps) (n : ℕ) → PassesBoth low place s t s' t' → n < place → kept (is_member s'.inside s'.places n) (is_member t'.inside t'.places n) ≡ kept s'.inside t'.inside
   alone_upto low place s t s' t' n both before = rw (both.left.upto n (omega arith), both.right.upto n (omega arith))
 
-  -- and from it on those are that were
+  -- from the place on, those are kept that were kept before
   alone_after : (low place : ℕ) (s t s' t' : Steps) (n : ℕ) → PassesBoth low place s t s' t' → place ≤ n → kept (is_member s'.inside s'.places n) (is_member t'.inside t'.places n) ≡ kept (is_member s.inside s.places n) (is_member t.inside t.places n)
   alone_after low place s t s' t' n both after = rw (both.left.after n after, both.right.after n after)
 

@@ -1,3 +1,4 @@
+-- Lemmas about walking through two sets side by side, and about intervals and names.
 pub mod Answered
 pub mod Found
 pub mod Members

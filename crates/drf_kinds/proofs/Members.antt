@@ -38,7 +38,7 @@ IsNumberSet-members is maximal = record { each = λ n e. below 0 is n maximal (s
 abbrev pub size_of : Interval → ℕ
 size_of i = i.last + 1 - i.first
 
--- a set of numbers that are not in another, put into it
+-- adding numbers that are not in a set raises its size by their count
 len-range : (a k : ℕ) (ns : List ℕ) → ((n : ℕ) → a ≤ n → n < a + k → set.contains (set.from_list {R = nat_cmp} ns) n ≡ false) → set.len (set.from_list {R = nat_cmp} (range_with_len a k ++ ns)) ≡ k + set.len (set.from_list {R = nat_cmp} ns)
 len-range a zero ns out = omega arith
 len-range a (suc k) ns out =
@@ -67,7 +67,7 @@ sum_from low (i ∷ is) maximal small =
 pub sum_small : (is : List Interval) → AreMaximal is → sum_by size_of is ≤ 2 ^ 32 + 1
 sum_small is maximal = omega (arith, sum_from 0 is maximal (omega arith))
 
--- maximal intervals have as many numbers together as each by itself
+-- the size of the set of maximal intervals is the sum of the sizes of the intervals
 pub len-members : (is : List Interval) → AreMaximal is → set.len (members is) ≡ sum_by size_of is
 unfolding members
 len-members is maximal = len-numbers 0 is maximal
@@ -85,7 +85,7 @@ lasts_ascend low (i ∷ is) maximal zero (suc k) d h l = omega (arith, last_abov
 lasts_ascend low (i ∷ is) maximal (suc j) zero d h l = absurd (omega arith)
 lasts_ascend low (i ∷ is) maximal (suc j) (suc k) d h l = lasts_ascend (i.last + 2) is maximal.3 j k d (omega arith) (omega arith)
 
--- the first interval that does not end below n holds n, or none does
+-- the first interval that does not end before n contains n, or none does
 pub found_at : (low : ℕ) (is : List Interval) (n k : ℕ) (d : Interval) → AreMaximalFrom low is → IsPartitionPoint (λ i. ltb i.last n ≡ true) (λ i. ltb i.last n ≡ false) is k → k < length is → is_in is n ≡ leb (get_or is k d).first n
 found_at low [] n k d maximal point h = absurd (omega arith)
 found_at low (i ∷ is) n zero d maximal point h =
@@ -109,7 +109,7 @@ ordered_at low [] k d maximal h = absurd (omega arith)
 ordered_at low (i ∷ is) zero d maximal h = maximal.1
 ordered_at low (i ∷ is) (suc k) d maximal h = ordered_at (i.last + 2) is k d maximal.3 (omega arith)
 
--- the size of one interval more
+-- the sum of sizes with one more interval
 pub size_more : (is : List Interval) (k : ℕ) (d : Interval) → AreMaximal is → k < length is → sum_by size_of (take (k + 1) is) ≡ sum_by size_of (take k is) + ((get_or is k d).last - (get_or is k d).first + 1)
 size_more is k d maximal h = sum_by_more size_of is k d h ∙ ap (λ n. sum_by size_of (take k is) + n) (omega (arith, ordered_at 0 is k d maximal h))
 
@@ -126,6 +126,6 @@ empty_answer (i ∷ is) s empty maximal is_s empty_is = (
       absurd (both_ways _ (ap (λ x. set.contains x i.first) none ∙ set.contains-empty nat_cmp i.first) member),
 )
 
--- the members of a set, by its intervals
+-- the members of a set, in terms of its intervals
 pub contains-view : (is js : List Interval) (s : set.FinSet nat_cmp) → js ≡ is → members is ≡ s → (n : ℕ) → set.contains s n ≡ is_in js n
 contains-view is js s js_is s_is n = ap (λ t. set.contains t n) (sym s_is) ∙ contains-members is n ∙ ap (λ ks. is_in ks n) (sym js_is)

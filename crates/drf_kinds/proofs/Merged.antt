@@ -1,4 +1,4 @@
--- Intervals in order of their first ends, put together.
+-- Merging intervals that are ordered by their first numbers.
 use Rattle.std.proofs.Common.{◌≡◌, ◌≢◌, ℕ, suc, ◌+◌, ◌-◌, ◌<◌, ◌≤◌, ◌^◌, ◌&&◌, ◌||◌, List, [], ◌∷◌, ◌++◌, length, get_or, take, drop, take_all, max, leb, inl, inr, refl, sym, ap, ◌∙◌, arith}
 use Rattle.std.specs.Prelude.{map}
 use Rattle.std.specs.List.{All}
@@ -13,7 +13,7 @@ use Rattle.drf_kinds.specs.declared.interval.Interval.{Interval}
 use Rattle.drf_kinds.specs.Intervals.{AreMaximal, is_in, is_within, interval_of}
 use Rattle.drf_kinds.proofs.Found.{end_of, end_of-append, AreMaximal-append, is_in-append}
 
--- the numbers of the intervals so far are in the merged ones and in the open one, to which later ones may still be joined
+-- the numbers of the intervals so far are in the merged ones and in the open one, which later intervals can extend
 pub record Merging (first : Interval) (rest : List Interval) (i : ℕ) (merged : List Interval) (open_one : Interval) : Type 0 where
   pub maximal : AreMaximal merged
   pub apart : end_of 0 merged ≤ open_one.first
@@ -22,13 +22,13 @@ pub record Merging (first : Interval) (rest : List Interval) (i : ℕ) (merged :
   pub ahead : (k : ℕ) (d : Interval) → i ≤ k → k < length rest → open_one.first ≤ (get_or rest k d).first
   pub same : (n : ℕ) → (is_in merged n || is_within open_one n) ≡ is_in (first ∷ take i rest) n
 
--- one interval more
+-- one more interval
 pub is_in_more : (first : Interval) (rest : List Interval) (i n : ℕ) (d : Interval) → i < length rest → is_in (first ∷ take (i + 1) rest) n ≡ (is_in (first ∷ take i rest) n || is_within (get_or rest i d) n)
 is_in_more first rest i n d within =
     ap (λ b. is_within first n || b) (list_any_more (λ j. is_within j n) rest i d within)
     ∙ sym (or_assoc (is_within first n) (is_in (take i rest) n) (is_within (get_or rest i d) n))
 
--- two intervals that touch, as one
+-- two intervals that touch make one
 pub touching : (a b n : ℕ) (x : Interval) → x.first ≤ a → a ≤ x.last + 1 → a ≤ b → is_within (record { first = x.first; last = max x.last b }) n ≡ (is_within x n || (leb a n && leb n b))
 touching a b n x from touches ordered =
     elim (cases_lt n x.first) [
@@ -46,7 +46,7 @@ touching a b n x from touches ordered =
           ])
     ]
 
--- the first interval, and the others
+-- the first interval and the others
 abbrev pub front_of : List Interval → Interval
 front_of is = get_or is 0 (record { first = 0; last = 0 })
 
@@ -57,7 +57,7 @@ pub front_rest : (is : List Interval) → length is ≢ 0 → is ≡ front_of is
 front_rest [] some = absurd (some refl)
 front_rest (i ∷ is) some = ap (λ js. i ∷ js) (sym (take_all (length (i ∷ is) - 1) is (omega arith)))
 
--- what holds of the intervals but the first
+-- what is true of the intervals after the first
 pub sorted_rest : (first : Interval) (rest : List Interval) → IsNonDecreasingBy (λ j. j.first) (first ∷ rest) → IsNonDecreasingBy (λ j. j.first) rest
 sorted_rest first rest sorted j k d h below = sorted (suc j) (suc k) d (omega arith) (omega arith)
 
@@ -98,7 +98,7 @@ ahead_of : (rest : List Interval) (i k : ℕ) (d e : Interval) → IsNonDecreasi
 ahead_of rest i k d e sorted from below =
     rw (get_or_default rest k e d below) (sorted i k d (omega arith) below)
 
--- the next interval stands apart
+-- the next interval does not touch the open one
 pub merging_apart : (first : Interval) (rest : List Interval) (i : ℕ) (merged : List Interval) (open_one : Interval) (d : Interval) → Merging first rest i merged open_one → i < length rest → IsNonDecreasingBy (λ j. j.first) rest →
     open_one.last + 1 < (get_or rest i d).first → (get_or rest i d).first ≤ (get_or rest i d).last → (get_or rest i d).last < 2 ^ 32 →
     Merging first rest (i + 1) (merged ++ open_one ∷ []) (get_or rest i d)
@@ -113,14 +113,14 @@ merging_apart first rest i merged open_one d known within sorted apart ordered s
       ∙ sym (is_in_more first rest i n d within);
 }
 
--- no interval is left
+-- no interval is left to merge
 pub merged_all : (first : Interval) (rest : List Interval) (i : ℕ) (merged : List Interval) (open_one : Interval) → Merging first rest i merged open_one → length rest ≤ i → (n : ℕ) → is_in (merged ++ open_one ∷ []) n ≡ is_in (first ∷ rest) n
 merged_all first rest i merged open_one known past n = is_in-append merged open_one n ∙ known.same n ∙ ap (λ is. is_in (first ∷ is) n) (take_all i rest past)
 
 pub merged_maximal : (first : Interval) (rest : List Interval) (i : ℕ) (merged : List Interval) (open_one : Interval) → Merging first rest i merged open_one → AreMaximal (merged ++ open_one ∷ [])
 merged_maximal first rest i merged open_one known = AreMaximal-append 0 merged open_one known.maximal known.apart known.ordered known.small
 
--- the intervals of ordered pairs, in another order
+-- the intervals of ordered pairs, permuted
 pub ordered_intervals : (pairs : List (ℕ × ℕ)) (is : List Interval) → IsPermutation (map interval_of pairs) is → All (λ pair. pair.0 ≤ pair.1) pairs → All (λ i. i.first ≤ i.last) is
 ordered_intervals pairs is moved ordered = All-permutation (λ i. i.first ≤ i.last) (map interval_of pairs) is moved (All-map (λ i. i.first ≤ i.last) interval_of pairs ordered)
 

@@ -1,4 +1,4 @@
--- Lists of texts in order of bytes, gone through side by side.
+-- Walking through two sorted lists of texts side by side.
 use Rattle.std.proofs.Common.{◌≡◌, ℕ, ◌+◌, ◌-◌, Bool, true, false, cond, eqb, ◌||◌, List, [], ◌∷◌, ◌++◌, ◌⊎◌, All, length, take, drop, take_all, get_or, Some, refl, sym, ap, ◌∙◌, subst, inl, inr, arith}
 use Rattle.std.specs.Prelude.{◌↔◌, IsTrue, Result, Ok, Err, is_ok, nat_eq}
 use Rattle.std.specs.declared.cmp.Ordering.{Ordering}
@@ -26,7 +26,7 @@ use Rattle.drf_kinds.specs.declared.merge.Side.TheVariants.{Left, Right, Both}
 pub texts_same : set.IsAntisymmetric text_cmp
 texts_same = set.slice_cmp-IsAntisymmetric set.nat_cmp-IsAntisymmetric
 
--- a name is before each of the names
+-- the name comes before each of the names
 abbrev pub IsBefore : List ℕ → List (List ℕ) → Type 0
 IsBefore x ys = AllByRecursion (λ y. text_cmp x y ≡ Less) ys
 
@@ -38,7 +38,7 @@ not_later : (x : List ℕ) (ys : List (List ℕ)) → IsBefore x ys → is_named
 not_later x [] before = refl
 not_later x (y ∷ ys) before = rw before.0 (not_later x ys before.1)
 
--- a text that is x is not among the names after x
+-- a text equal to x is not among names that come after x
 not_named : (x : List ℕ) (ys : List (List ℕ)) (t : List ℕ) → IsBefore x ys → eq_by_cmp text_cmp t x ≡ true → is_named ys t ≡ false
 not_named x ys t before is = ap (is_named ys) (texts_same t x ((Equal-is (text_cmp t x)).0 is)) ∙ not_later x ys before
 
@@ -56,7 +56,7 @@ tail xs = take (length xs - 1) (drop 1 xs)
 tail_is : (x : List ℕ) (xs : List (List ℕ)) → tail (x ∷ xs) ≡ xs
 tail_is x xs = take_all _ xs (omega arith)
 
--- the first of the names is before, or in place of, the others
+-- the first of the names, and the others, which come after it
 record IsFirst (xs : List (List ℕ)) (x : List ℕ) (rest : List (List ℕ)) : Type 0 where
   is : xs ≡ x ∷ rest
   before : IsBefore x rest
@@ -118,7 +118,7 @@ both_first (x ∷ xs) (y ∷ ys) a_up b_up e =
     let is : x ≡ y = texts_same x y (equal_of (text_cmp x y) e) in
     record { x = x; left = xs; right = ys; first_left = first_of x xs a_up; first_right = subst (λ z. IsFirst (y ∷ ys) z ys) (sym is) (first_of y ys b_up) }
 
--- no name that was passed is met, and the others are as in the lists
+-- no name that was passed counts as met, and the lists contain the others
 pub record UnmetNames (inside : Bool) (left right : List ℕ → Bool) (a b : List (List ℕ)) : Type 0 where
   pub left_up : AreAscending a
   pub right_up : AreAscending b
@@ -169,7 +169,7 @@ left_met left right a b known f = (f.x, known.same f.x ∙ rw (f.first.is, named
 both_met : (left right : List ℕ → Bool) (a b : List (List ℕ)) → UnmetNames true left right a b → BothFirst a b → (t : List ℕ) × (is_met true (left t) (right t) ≡ true)
 both_met left right a b known f = (f.x, known.same f.x ∙ rw (f.first_left.is, f.first_right.is, named_itself f.x f.left, named_itself f.x f.right) refl)
 
--- going past a name that is not met
+-- passing a name that does not count as met
 pub unmet_left : (inside : Bool) (left right : List ℕ → Bool) (a b : List (List ℕ)) → UnmetNames inside left right a b → inside ≡ true → next_side a b ≡ Some Left → UnmetNames inside left right (tail a) b
 unmet_left true left right a b known is e = left_of left right a b known (left_first a b known.left_up known.right_up e)
 unmet_left false left right a b known is e = absurd (true≢false (sym is))
@@ -181,7 +181,7 @@ pub unmet_both : (inside : Bool) (left right : List ℕ → Bool) (a b : List (L
 unmet_both false left right a b known is e = both_of left right a b known (both_first a b known.left_up known.right_up e)
 unmet_both true left right a b known is e = absurd (true≢false is)
 
--- a name that is met
+-- a name that counts as met
 pub met_left : (inside : Bool) (left right : List ℕ → Bool) (a b : List (List ℕ)) → UnmetNames inside left right a b → inside ≡ false → next_side a b ≡ Some Left → (t : List ℕ) × (is_met inside (left t) (right t) ≡ true)
 met_left false left right a b known is e = left_met left right a b known (left_first a b known.left_up known.right_up e)
 met_left true left right a b known is e = absurd (true≢false is)
@@ -190,12 +190,12 @@ pub met_both : (inside : Bool) (left right : List ℕ → Bool) (a b : List (Lis
 met_both true left right a b known is e = both_met left right a b known (both_first a b known.left_up known.right_up e)
 met_both false left right a b known is e = absurd (true≢false (sym is))
 
--- each name that was found is before each that is left
+-- each name that was found comes before each that is still to come
 abbrev pub AreBefore : List (List ℕ) → List (List ℕ) → Type 0
 AreBefore [] xs = Unit {0}
 AreBefore (f ∷ fs) xs = IsBefore f xs × AreBefore fs xs
 
--- the names found so far are kept, and in order; the others are left
+-- the names found so far are those to be kept, in order; the rest of the lists is still to come
 pub record FoundNames (united : Bool) (left right : List ℕ → Bool) (a b found : List (List ℕ)) : Type 0 where
   pub left_up : AreAscending a
   pub right_up : AreAscending b
@@ -271,7 +271,7 @@ found_left_of united left right a b found known f =
           ∙ known.same t);
     }
 
--- the lists change places
+-- the two lists are exchanged
 swapped : (left right : List ℕ → Bool) (a b found : List (List ℕ)) → FoundNames true left right a b found → FoundNames true right left b a found
 swapped left right a b found known = record {
   left_up = known.right_up;
@@ -310,7 +310,7 @@ found_past_of left right a b found known f = record {
       ∙ known.same t;
 }
 
--- a name of the right list alone is kept where the lists are united, and else passed
+-- a name that is only in the right list is kept if the lists are united, and skipped otherwise
 pub found_right : (united : Bool) (left right : List ℕ → Bool) (a b found : List (List ℕ)) (x y : List ℕ) → FoundNames united left right a b found → united ≡ true → next_side a b ≡ Some Right → x ≡ y → y ≡ get_or b 0 y → FoundNames united left right a (tail b) (found ++ x ∷ [])
 found_right true left right a b found x y known in_both e x_is y_is = found_right_of left right a b found x y known e x_is y_is
 found_right false left right a b found x y known in_both e x_is y_is = absurd (true≢false (sym in_both))
@@ -347,7 +347,7 @@ found_shared_of left right a b found known f = record {
       ∙ known.same t;
 }
 
--- a name of both lists is passed in both, or is kept in the left one
+-- a name in both lists is skipped in both, or stays in the left one to be kept
 pub found_both : (united : Bool) (left right : List ℕ → Bool) (a b found : List (List ℕ)) → FoundNames united left right a b found → united ≡ false → next_side a b ≡ Some Both → FoundNames united left right (tail a) (tail b) found
 found_both true left right a b found known out e = absurd (true≢false out)
 found_both false left right a b found known out e = found_both_of left right a b found known (both_first a b known.left_up known.right_up e)
@@ -356,7 +356,7 @@ pub found_shared : (united : Bool) (left right : List ℕ → Bool) (a b found :
 found_shared true left right a b found known in_both e = found_shared_of left right a b found known (both_first a b known.left_up known.right_up e)
 found_shared false left right a b found known in_both e = absurd (true≢false (sym in_both))
 
--- the set of the names
+-- the members of the set of a list of names
 pub contains-names : (names : List (List ℕ)) (t : List ℕ) → set.contains (set.from_list {R = text_cmp} names) t ≡ is_named names t
 contains-names names t = set.contains-from_list nat_list_cmp_total names t
 
@@ -378,11 +378,11 @@ no_names names s len empty up s_is len_is empty_is = (
 pub same_texts : (a b : set.FinSet text_cmp) → ((t : List ℕ) → set.contains a t ≡ set.contains b t) → a ≡ b
 same_texts a b each = set.same_set nat_list_cmp_total texts_same a b each
 
--- the members of a set, by its names
+-- the members of a set, in terms of its names
 pub contains-view : (names others : List (List ℕ)) (s : set.FinSet text_cmp) → others ≡ names → set.from_list names ≡ s → (t : List ℕ) → set.contains s t ≡ is_named others t
 contains-view names others s others_is s_is t = ap (λ r. set.contains r t) (sym s_is) ∙ contains-names names t ∙ ap (λ xs. is_named xs t) (sym others_is)
 
--- the set of names that are labels
+-- the set of a list of labels is a set of labels
 pub IsLabelSet-names : (names : List (List ℕ)) → All IsLabel names → IsLabelSet (set.from_list names)
 IsLabelSet-names names labels = record {
   each = λ t is.
@@ -391,20 +391,20 @@ IsLabelSet-names names labels = record {
       subst IsLabel (sym same) (subst IsLabel found.3 (All-get_or IsLabel names found.0 found.1 found.2 labels));
 }
 
--- each of the names of a set of labels is one
+-- each name in a set of labels is a label
 pub labels_of : (names : List (List ℕ)) → IsLabelSet (set.from_list names) → All IsLabel names
 labels_of names given =
     All-from_get_or IsLabel names [] (λ k below.
     given.each (get_or names k []) (contains-names names (get_or names k []) ∙ list_any_at (eq_by_cmp text_cmp (get_or names k [])) names k [] below (ap is_eq (tied_itself nat_list_cmp_total (get_or names k [])))))
 
--- a set whose members are each in one of two sets of labels
+-- a set whose members are in one of two sets of labels is a set of labels
 pub IsLabelSet-kept : (united : Bool) (a b found : set.FinSet text_cmp) → IsLabelSet a → IsLabelSet b → ((t : List ℕ) → set.contains found t ≡ is_kept united (set.contains a t) (set.contains b t)) → IsLabelSet found
 IsLabelSet-kept united a b found a_given b_given is = record {
   each = λ t in_found.
       elim (in_either united (set.contains a t) (set.contains b t) (sym (is t) ∙ in_found)) [ inl in_a ↦ a_given.each t in_a | inr in_b ↦ b_given.each t in_b ];
 }
 
--- the set of names that were sorted, each kept once
+-- the set of sorted names without repetitions
 deduped : (k : List ℕ) (xs : List (List ℕ)) (t : List ℕ) → is_named (dedup_from (pointwise nat_eq) k xs) t ≡ (eq_by_cmp text_cmp t k || is_named xs t)
 deduped k [] t = refl
 deduped k (x ∷ xs) t =
@@ -439,7 +439,7 @@ kept_names names sorted kept labels moved up is = record { ascending = kept_asce
 pub no_names_of_set : AreNamesOfSet []
 no_names_of_set = record { ascending = ascending_nil; given = IsLabelSet-names [] (All-nil IsLabel) }
 
--- what a binary search finds
+-- the result of a binary search
 turned : (x y : List ℕ) (r : Ordering) → text_cmp x y ≡ r → text_cmp y x ≡ ordering_reverse r
 turned x y r e = nat_list_cmp_total.antisymm y x ∙ ap ordering_reverse e
 

@@ -1,4 +1,4 @@
--- Going past the places of sets of numbers.
+-- Passing the places of sets of numbers.
 use Rattle.std.proofs.Common.{◌≡◌, ◌≢◌, ℕ, ◌+◌, ◌<◌, ◌≤◌, ◌^◌, Bool, true, false, not, List, [], ◌∷◌, min, ◌⊎◌, inl, inr, refl, sym, ◌∙◌, arith}
 use Rattle.std.proofs.lemmas.Bool.{lt-ltb, le-ltb, eq-eqb, ne_eqb, le-leb, lt-leb, cases_eq, cases_lt}
 use Rattle.drf_kinds.specs.declared.interval.Interval.{Interval}
@@ -6,7 +6,7 @@ use Rattle.drf_kinds.specs.Intervals.{AreMaximal, AreMaximalFrom, is_in}
 use Rattle.drf_kinds.specs.Sweep.{Steps, AreFrom, is_member, next_place, passed, places_of, steps_of, rest}
 use Rattle.drf_kinds.specs.Sets.{is_met}
 
--- steps t are the steps s past a place that none of s's is below
+-- the steps t are the steps s after a place that is at most all places of s
 pub record Passes (place : ℕ) (s t : Steps) : Type 0 where
   pub from : AreFrom (place + 1) t.inside t.places
   pub before : (n : ℕ) → n < place → is_member s.inside s.places n ≡ s.inside
@@ -61,7 +61,7 @@ goes_at low place s from same some =
       | p ∷ ps ↦ λ from same. rw (← same) (goes p low s.inside ps from)
     ] from same
 
--- what going past a place keeps and changes
+-- what passing a place keeps and changes
 passes : (low place : ℕ) (s t : Steps) → AreFrom low s.inside s.places → place ≤ next_place s.places → place ≢ 2 ^ 33 → t ≡ passed place s → Passes place s t
 passes low place s t from within some is =
     elim (cases_eq (next_place s.places) place) [
@@ -80,7 +80,7 @@ pub none_below : (low : ℕ) (is : List Interval) (n : ℕ) → AreMaximalFrom l
 none_below low [] n maximal h = refl
 none_below low (i ∷ is) n maximal h = rw (lt-leb i.first n (omega (arith, maximal.0))) (none_below (i.last + 2) is n maximal.3 (omega (arith, maximal.0, maximal.1)))
 
--- their places tell the members
+-- the places determine the members
 pub member_of_places : (low : ℕ) (is : List Interval) (n : ℕ) → AreMaximalFrom low is → is_member false (places_of is) n ≡ is_in is n
 member_of_places low [] n maximal = refl
 member_of_places low (i ∷ is) n maximal =
@@ -94,7 +94,7 @@ member_of_places low (i ∷ is) n maximal =
           ]
     ]
 
--- the steps s' and t' are s and t past the next place of either
+-- the steps s' and t' are s and t after the next place of either
 pub record PassesBoth (low place : ℕ) (s t s' t' : Steps) : Type 0 where
   pub above : low ≤ place
   pub below : place ≤ 2 ^ 32
@@ -119,14 +119,14 @@ passes_both low place s t s' t' s_from t_from next some s_is t_is = record {
   right = passes low place t t' t_from (omega arith) some t_is;
 }
 
--- no number that the steps have passed is met, and those that they have not are as in the sets
+-- no number that was passed counts as met, and the sets contain the others
 pub record Unmet (inside : Bool) (left right : ℕ → Bool) (s t : Steps) : Type 0 where
   pub left_from : AreFrom 0 s.inside s.places
   pub right_from : AreFrom 0 t.inside t.places
   pub out : is_met inside s.inside t.inside ≡ false
   pub same : (n : ℕ) → is_met inside (left n) (right n) ≡ is_met inside (is_member s.inside s.places n) (is_member t.inside t.places n)
 
--- nothing is met before the first place
+-- before the first place nothing counts as met
 pub unmet_start : (inside : Bool) (a b : List Interval) → AreMaximal a → AreMaximal b → Unmet inside (is_in a) (is_in b) (steps_of false a) (steps_of false b)
 unmet_start inside a b a_maximal b_maximal = record {
   left_from = places_from 0 a a_maximal;

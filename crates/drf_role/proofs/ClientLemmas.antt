@@ -1,4 +1,4 @@
--- A client's path tells its framework and its role.
+-- A client path determines its framework and its role.
 use Rattle.std.specs.Prelude.{◌≡◌, ℕ, ◌&&◌, Bool, ◌==◌, List, [], ◌∷◌, ◌++◌, codes}
 use Rattle.std.specs.Cmp.Lexicographic.{pointwise, bytes_decides}
 use Rattle.std.proofs.Common.{sym, ◌∙◌, append_assoc}
@@ -7,7 +7,7 @@ use Rattle.std.proofs.lemmas.List.{same_from_push}
 use Rattle.drf_role.specs.Path.{client_path}
 use Rattle.drf_role.specs.PartLaws.{paths_decided}
 
--- the two texts, or the two paths, are the same
+-- the two texts, or the two paths, are equal
 abbrev pub same_text : List ℕ → List ℕ → Bool
 same_text = pointwise ◌==◌
 

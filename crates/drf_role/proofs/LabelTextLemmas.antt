@@ -1,4 +1,4 @@
--- A text of 1 to 7 bytes is known by its number.
+-- A text of 1 to 7 bytes is determined by its number.
 use Rattle.std.proofs.Common.{◌≡◌, ◌≢◌, ℕ, ◌<◌, ◌≤◌, [], ◌∷◌, length, All, Bool, cond, fold, true, false, refl, sym, ◌∙◌, ap, arith}
 use Rattle.std.specs.Prelude.{nat_le}
 use Rattle.std.proofs.lemmas.List.Elements.{All-head, All-tail}
@@ -6,7 +6,7 @@ use Rattle.std.proofs.lemmas.Bool.{leb-true, le-leb, lt-leb}
 use Rattle.drf_role.specs.Text.{Text}
 use Rattle.drf_role.specs.LabelText.{IsByte, with_digit, number_of, text_number, IsNumbered}
 
--- of two texts of one length whose digits make one number each byte is the same
+-- two texts of the same length whose digits make the same number are equal
 digits_apart : (m n : ℕ) (xs ys : Text) → All IsByte xs → All IsByte ys → length xs ≡ length ys → fold with_digit m xs ≡ fold with_digit n ys → (m ≡ n) × (xs ≡ ys)
 digits_apart m n [] [] hx hy l e = (e, refl)
 digits_apart m n [] (y ∷ ys) hx hy l e = absurd (omega (arith, l))
@@ -19,7 +19,7 @@ digits_apart m n (x ∷ xs) (y ∷ ys) hx hy l e =
     let heads : x ≡ y = omega (arith, rest.0, is_x, is_y) in
     (fronts, ap (λ b. b ∷ xs) heads ∙ ap (λ bs. y ∷ bs) rest.1)
 
--- the numbers of two texts of at most 7 bytes
+-- two texts of at most 7 bytes with the same number are equal
 numbers_apart : (xs ys : Text) → length xs ≤ 7 → length ys ≤ 7 → All IsByte xs → All IsByte ys → number_of xs ≡ number_of ys → xs ≡ ys
 numbers_apart xs ys short_x short_y hx hy e =
     let many : length xs ≡ length ys = omega (arith, e, short_x, short_y) in
@@ -36,14 +36,14 @@ is_short text h =
     let by = numbered (nat_le (length text) 7) text h in
     (leb-true (length text) 7 by.0, by.1)
 
--- texts of one number are the same
+-- two texts with the same number, which is not 0, are equal
 pub known_by_number : (xs ys : Text) (m n : ℕ) → IsNumbered xs m → IsNumbered ys n → m ≢ 0 → m ≡ n → xs ≡ ys
 known_by_number xs ys m n of_x of_y some e =
     let x = is_short xs (λ z. some (of_x.right ∙ z)) in
     let y = is_short ys (λ z. some (e ∙ of_y.right ∙ z)) in
     numbers_apart xs ys x.0 y.0 (of_x.bytes some) (of_y.bytes (λ z. some (e ∙ z))) (sym x.1 ∙ sym of_x.right ∙ e ∙ of_y.right ∙ y.1)
 
--- what a long text keeps, and what a short one does
+-- a longer text has the number 0; the number of a short one
 pub numbered_long : (text : Text) → 7 < length text → IsNumbered text 0
 numbered_long text h = record {
   right = sym (ap (λ (b : Bool). cond b (number_of text) 0) (lt-leb (length text) 7 h));

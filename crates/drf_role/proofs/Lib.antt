@@ -1,3 +1,4 @@
+-- Lemmas about texts, their parts, paths and labels.
 pub mod SpanLemmas
 pub mod PathLemmas
 pub mod OrderLemmas

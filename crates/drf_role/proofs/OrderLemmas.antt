@@ -12,7 +12,7 @@ use Rattle.std.proofs.lemmas.Option.{slice_get_within, get_or_from_slice_get}
 abbrev pub path_cmp : List (List ℕ) → List (List ℕ) → Ordering
 path_cmp = slice_cmp (slice_cmp nat_cmp)
 
--- what a list has from an index on, where the element there is known
+-- a list from an index on, if the element there is known
 pub drop_from_get : {X : Type 0} (xs : List X) (i : ℕ) (x : X) → slice_get xs i ≡ Some x → drop i xs ≡ x ∷ drop (i + 1) xs
 drop_from_get xs i x e =
     drop_more xs i x (slice_get_within xs i x e) ∙ ap (λ y. y ∷ drop (i + 1) xs) (get_or_from_slice_get xs i x x e)
@@ -37,7 +37,7 @@ ne_from_eq Less = refl
 ne_from_eq Equal = refl
 ne_from_eq Greater = refl
 
--- parts differ in order where they are not the same
+-- two parts compare as different exactly if they are not equal
 pub differ : (p q : List ℕ) → is_ne (slice_cmp nat_cmp p q) ≡ not (pointwise ◌==◌ p q)
 differ p q = ne_from_eq (slice_cmp nat_cmp p q) ∙ ap not (sym (texts_ties p q))
 
@@ -46,7 +46,7 @@ pub path_cmp_differs : (ps qs : List (List ℕ)) (i : ℕ) (p q : List ℕ) (o :
 path_cmp_differs ps qs i p q o d e h n =
     sym (path_cmp_at ps qs i p q d e ∙ ap (λ r. ordering_then r (path_cmp (drop (i + 1) ps) (drop (i + 1) qs))) (sym h) ∙ then_differs o _ n)
 
--- equal parts are passed over
+-- equal parts are skipped
 pub path_cmp_more : (ps qs : List (List ℕ)) (i : ℕ) (p q : List ℕ) (o : Ordering) → slice_get ps i ≡ Some p → slice_get qs i ≡ Some q → o ≡ slice_cmp nat_cmp p q → is_ne o ≡ false → path_cmp (drop (i + 1) ps) (drop (i + 1) qs) ≡ path_cmp (drop i ps) (drop i qs)
 path_cmp_more ps qs i p q o d e h n =
     sym (path_cmp_at ps qs i p q d e ∙ ap (λ r. ordering_then r (path_cmp (drop (i + 1) ps) (drop (i + 1) qs))) (sym h) ∙ then_same o _ n)
@@ -60,7 +60,7 @@ nil_cmp (p ∷ ps) (q ∷ qs) h = absurd (⊎_elim (λ e. omega arith) (λ e. om
 less_both : (a b i : ℕ) → i ≤ a → i ≤ b → nat_cmp a b ≡ nat_cmp (a - i) (b - i)
 less_both a b i h k = grind (arith, nat_tests)
 
--- where one path has ended, the lengths decide
+-- if one path has ended, the lengths decide
 pub path_cmp_end : (ps qs : List (List ℕ)) (i : ℕ) → i ≤ length ps → i ≤ length qs → (length ps ≤ i) ⊎ (length qs ≤ i) → nat_cmp (length ps) (length qs) ≡ path_cmp (drop i ps) (drop i qs)
 path_cmp_end ps qs i h k ended =
     less_both (length ps) (length qs) i h k

@@ -25,7 +25,7 @@ name_no_slash name h = All-weaker IsNameByte (λ b. eqb b 47 ≡ false) byte_no_
 pub name_ascii : (name : List ℕ) → IsName name → IsAscii name
 name_ascii name h = IsAscii-from_all name (All-weaker IsNameByte (λ b. b < 128) byte_ascii name h.alphabet)
 
--- the text of a client's path, as it is written piece by piece
+-- the text of a client's path, as the code writes it
 abbrev pub client_text : List (List ℕ) → List ℕ → List ℕ
 client_text role name = text_of role ++ codes "/./" ++ name
 
@@ -51,7 +51,7 @@ path_few path h =
     let n = ap length h.joined in
     omega (arith, role_few h.role h.right_role, length-append h.role (codes "." ∷ h.framework ∷ []))
 
--- the first parts of a client's path are a node's
+-- a prefix of a client's path is the path of a node
 pub node_from_path : (path : List (List ℕ)) (len : ℕ) → IsClientPath path → 1 ≤ len → len ≤ length path → IsNodePath (take len path)
 node_from_path path len p some within = record {
   path = path;

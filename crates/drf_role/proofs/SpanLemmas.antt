@@ -1,4 +1,4 @@
--- Where the parts of a text stand.
+-- The places of the parts of a text.
 use Rattle.std.proofs.Common.{All, ◌≡◌, ℕ, zero, suc, ◌+◌, ◌-◌, ◌<◌, ◌≤◌, Bool, true, false, cond, eqb, List, [], ◌∷◌, ◌++◌, length, get_or, take, drop, refl, sym, ◌∙◌, ap, subst, arith, add_assoc, length-append, length-drop, append_assoc}
 use Rattle.std.specs.List.{onto_first}
 use Rattle.std.proofs.lemmas.List.Elements.{All-take}
@@ -12,12 +12,12 @@ use Rattle.drf_role.specs.PartLaws.{HasNoSlash, first_part, parts_no_slash, part
 abbrev pub span : ℕ → ℕ → Span
 span start end = record { start = start; end = end }
 
--- the places of the parts of what a reader has left, who stands at i in a part that began at start
+-- the places of the parts in the rest of a text, if the reader is at i, in a part that began at `start`
 abbrev pub spans_at : ℕ → ℕ → List ℕ → List Span
 spans_at start i [] = span start i ∷ []
 spans_at start i (b ∷ bs) = cond (eqb b 47) (span start i ∷ spans_at (i + 1) (i + 1) bs) (spans_at start (i + 1) bs)
 
--- the places of parts, of which the first began at start and goes on at i
+-- the places of parts, the first of which began at `start` and continues at i
 abbrev pub spans_on : ℕ → ℕ → List (List ℕ) → List Span
 spans_on start i [] = []
 spans_on start i (p ∷ ps) = span start (i + length p) ∷ spans_from (i + length p + 1) ps
@@ -59,7 +59,7 @@ pub length-spans_from : (k : ℕ) (ps : List (List ℕ)) → length (spans_from 
 length-spans_from k [] = refl
 length-spans_from k (p ∷ ps) = ap suc (length-spans_from (k + length p + 1) ps)
 
--- the part stands at this place of the text
+-- the part is at this place of the text
 pub record IsPlace (text part : List ℕ) (place : Span) : Type 0 where
   pub ordered : place.start ≤ place.end
   pub inside : place.end ≤ length text
@@ -101,7 +101,7 @@ take_past [] c t m (suc n) e = let same : n ≡ m = omega arith in ap (λ k. c �
 take_past (x ∷ p) c t m zero e = absurd (omega arith)
 take_past (x ∷ p) c t m (suc n) e = ap (λ l. x ∷ l) (take_past p c t m n (omega arith))
 
--- the text up to the end of a part is that of the parts so far
+-- the text up to the end of a part consists of the parts so far
 text_to : (k : ℕ) (ps : List (List ℕ)) (n : ℕ) (d : Span) → n < length ps → (k ≤ (get_or (spans_from k ps) n d).end) × (take ((get_or (spans_from k ps) n d).end - k) (text_of ps) ≡ text_of (take (suc n) ps))
 text_to k [] n d h = absurd (omega arith)
 text_to k (p ∷ []) zero d h = (omega arith, take_all (k + length p - k) p (omega arith))
@@ -129,7 +129,7 @@ parts_of-front text n d h =
     ∙ parts_of-text_of f.0 (take n f.1) slash_free
     ∙ ap (take (suc n)) (sym f.2)
 
--- the same by a place that was found
+-- the same for a place that was found
 pub parts_of-front_at : (text : List ℕ) (parts : List (List ℕ)) (n : ℕ) (found : Span) → parts_of text ≡ parts → n < length parts → found ≡ get_or (spans_from 0 parts) n found → parts_of (take found.end text) ≡ take (suc n) parts
 parts_of-front_at text parts n found cut below read =
     ap (λ (s : Span). parts_of (take s.end text)) (read ∙ ap (λ ps. get_or (spans_from 0 ps) n found) (sym cut))

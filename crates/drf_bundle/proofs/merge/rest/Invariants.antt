@@ -3,7 +3,7 @@ use Rattle.drf_bundle.specs.Bundle.{rest}
 use Rattle.drf_bundle.proofs.RestLemmas.{IsRestOf}
 use Rattle.drf_bundle.proofs.merge.rest.Given as goal
 
--- what is left so far and the rest of those to come make the whole rest
+-- the rest found so far and the rest of the remaining resources make the whole rest
 abbrev pub invariant-loop-side : goal.invariant-loop-side
 invariant-loop-side l = IsRestOf l.left l.whole l.part (rest l.fn.whole l.fn.part)
 

@@ -7,7 +7,7 @@ use Rattle.drf_role.specs.Parts.{GoesOn}
 use Rattle.drf_role.proofs.joined.goes_on.Goals.{else-text-front-via-then-text-front+else-text-front-ne47, else-text-front-via-else-text-front}
 use Rattle.drf_role.proofs.joined.goes_on.Goals as goal
 
--- the text is longer, and what follows the front is another byte
+-- the text is longer, and the byte after the prefix is not `/`
 pub returns-then-text-front-ne47 : goal.returns-then-text-front-ne47
 returns-then-text-front-ne47 c =
     let text = c.args.text.now in

@@ -10,7 +10,7 @@ overflow_add-sum c =
     let had = amount_here _ _ _ _ _ _ c.self.view_is c.self.invariant refl c.in-Ok.ensures.found c.index_mut-entry.ensures.value in
     omega (arith, had, c.thousandths.ensures, c.requires)
 
--- the label was there, and its amount grows
+-- the label was named, and its amount is raised
 pub returns-in-Ok-clause-ok : goal.returns-in-Ok-clause-ok
 returns-in-Ok-clause-ok c =
     let had = amount_here _ _ _ _ _ _ c.self.view_is c.self.invariant refl c.in-Ok.ensures.found c.index_mut-entry.ensures.value in
@@ -26,7 +26,7 @@ invariant_of-self c =
     let written = set_here _ _ _ _ _ total _ _ c.self.view_is c.self.invariant refl sum c.in-Ok.ensures.found c.index_mut-entry.ensures.value in
     rw written (in_order-with c.args.self.now c.args.label.now total ordered)
 
--- the label was not there
+-- the label was not named
 pub returns-in-Err-clause-ok : goal.returns-in-Err-clause-ok
 returns-in-Err-clause-ok c =
     subst (λ (n : ℕ). OnOk c.name_at.result (c.name_at.new.self ≡ with_amount c.args.self.now c.args.label.now n))

@@ -23,7 +23,7 @@ invariant_of-self-2 c =
     let written = set_here _ _ _ _ c.new-entry.result c.new-entry.result _ _ c.self.view_is c.self.invariant refl refl at read in
     rw written (in_order-with c.args.self.now c.index_mut-entry.result.now.label c.new-entry.result ordered)
 
--- the amount grows
+-- the amount is raised
 pub returns-clause-ok : goal.returns-clause-ok
 returns-clause-ok c label at done =
     let had = amount_here _ _ _ _ _ _ c.self.view_is c.self.invariant refl at c.index_mut-entry.ensures.value in

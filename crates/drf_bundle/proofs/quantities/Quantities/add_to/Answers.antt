@@ -4,7 +4,7 @@ use Rattle.drf_bundle.specs.Quantities.{with_amount}
 use Rattle.drf_bundle.proofs.PlaceLemmas.{named_in_gap, sum_in_gap, where_done}
 use Rattle.drf_bundle.proofs.quantities.Quantities.add_to.Goals as goal
 
--- the label was not there
+-- the label was not named
 pub returns-in-Err-clause-ok : goal.returns-in-Err-clause-ok
 returns-in-Err-clause-ok c done =
     subst (λ (n : ℕ). c.name_at.new.self ≡ with_amount c.args.self.now c.args.label.now n)

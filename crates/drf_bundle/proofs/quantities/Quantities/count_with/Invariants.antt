@@ -3,7 +3,7 @@ use Rattle.drf_bundle.specs.Quantities.{plus}
 use Rattle.drf_bundle.specs.laws.QuantitiesLaws.{unnamed_in}
 use Rattle.drf_bundle.proofs.quantities.Quantities.count_with.Given as goal
 
--- the count so far and the new labels among the entries that are left
+-- the count so far, and the new labels among the remaining entries
 abbrev pub invariant-loop-entry : goal.invariant-loop-entry
 invariant-loop-entry l = record {
   whole : l.count + length (unnamed_in l.self (drop l.entry-index l.entry-items)) ≡ length (plus l.self l.other);

@@ -5,7 +5,7 @@ use Rattle.drf_bundle.specs.laws.QuantitiesLaws.{in_order-with}
 use Rattle.drf_bundle.proofs.PlaceLemmas.{added_here}
 use Rattle.drf_bundle.proofs.quantities.Quantities.name_at.Goals as goal
 
--- the entry is added in the gap
+-- the entry is inserted at its place
 pub returns-clause-ok : goal.returns-clause-ok
 returns-clause-ok c =
     let named = sym c.in_ok-label.ensures in

@@ -2,7 +2,7 @@ use Rattle.std.proofs.Common.{◌≡◌, ◌+◌, ◌<◌, ◌^◌, ℕ, List, d
 use Rattle.drf_bundle.specs.Quantities.{amount_of, is_in_order, names_all, plus}
 use Rattle.drf_bundle.proofs.quantities.Quantities.raise.Given as goal
 
--- the sum so far names the entries that are left, gives the whole sum with them, and it fits
+-- the sum so far names the labels of the remaining entries and makes the whole sum with them, which is small enough
 abbrev pub invariant-loop-entry : goal.invariant-loop-entry
 invariant-loop-entry l = record {
   whole : plus l.self (drop l.entry-index l.entry-items) ≡ plus l.initial.self l.other;

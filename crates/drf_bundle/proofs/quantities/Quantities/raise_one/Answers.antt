@@ -24,7 +24,7 @@ invariant_of-self c =
     let written = set_here _ _ _ _ _ total _ _ c.self.view_is c.self.invariant refl sum c.in-Some.ensures.found c.index_mut-entry.ensures.value in
     rw written (in_order-with c.args.self.now c.args.label.now total ordered)
 
--- its amount grows
+-- the amount is raised
 pub returns : goal.returns
 returns c =
     let had = amount_here _ _ _ _ _ _ c.self.view_is c.self.invariant refl c.in-Some.ensures.found c.index_mut-entry.ensures.value in

@@ -6,7 +6,7 @@ use Rattle.drf_bundle.specs.laws.QuantitiesLaws.{in_order-with}
 use Rattle.drf_bundle.proofs.PlaceLemmas.{set_here, added_here, named_in_gap}
 use Rattle.drf_bundle.proofs.quantities.Quantities.set.Goals as goal
 
--- the label was there, and its amount is written over
+-- the label was named, and its amount is overwritten
 pub returns-in-Ok-clause-ok : goal.returns-in-Ok-clause-ok
 returns-in-Ok-clause-ok c = set_here _ _ _ _ _ _ _ _ c.self.view_is c.self.invariant refl c.new-amount.ensures c.in-Ok.ensures.found c.index_mut-entry.ensures.value
 
@@ -16,7 +16,7 @@ invariant_of-self c =
     let written = set_here _ _ _ _ _ c.args.thousandths _ _ c.self.view_is c.self.invariant refl c.new-amount.ensures c.in-Ok.ensures.found c.index_mut-entry.ensures.value in
     rw written (in_order-with c.args.self.now c.args.label c.args.thousandths ordered)
 
--- the entry is added in the gap
+-- the entry is inserted at its place
 pub returns-in_ok-insert-in-Err-clause-ok : goal.returns-in_ok-insert-in-Err-clause-ok
 returns-in_ok-insert-in-Err-clause-ok c = added_here _ _ _ _ _ _ _ _ c.self.view_is refl c.new-amount.ensures c.in-Err.ensures.absent c.in_ok-insert-in-Err.ensures.items
 
@@ -26,7 +26,7 @@ invariant_of-self-in-Err c =
     let written = added_here _ _ _ _ c.args.label _ c.args.thousandths _ c.self.view_is refl c.new-amount.ensures c.in-Err.ensures.absent c.in_ok-insert-in-Err.ensures.items in
     rw written (in_order-with c.args.self.now c.args.label c.args.thousandths ordered)
 
--- memory fails only for a label that was not there
+-- memory runs out only for a label that was not named
 pub returns-in_err-insert-in-Err-clause-named : goal.returns-in_err-insert-in-Err-clause-named
 returns-in_err-insert-in-Err-clause-named c named =
     let absent = named_in_gap _ _ _ c.in-Err.ensures.absent in

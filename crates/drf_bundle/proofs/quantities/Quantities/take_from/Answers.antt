@@ -8,7 +8,7 @@ use Rattle.drf_bundle.specs.laws.QuantitiesLaws.{in_order-with}
 use Rattle.drf_bundle.proofs.PlaceLemmas.{amount_unnamed, amount_here, set_here, stands_here, reduced}
 use Rattle.drf_bundle.proofs.quantities.Quantities.take_from.Goals as goal
 
--- the label was not there
+-- the label was not named
 pub returns-in_default-clause-result : goal.returns-in_default-clause-result
 returns-in_default-clause-result c =
     let none = amount_unnamed c.args.self.now c.args.label.now c.in_default.ensures.none in
@@ -31,7 +31,7 @@ invariant_of-self-2 c =
     let written = set_here _ _ _ _ c.new-entry.result c.new-entry.result _ _ c.self.view_is c.self.invariant refl refl at read in
     rw written (in_order-with c.args.self.now c.index_mut-entry.result.now.label c.new-entry.result ordered)
 
--- the amount falls
+-- the amount is reduced
 pub returns-clause-ok : goal.returns-clause-ok
 returns-clause-ok c done =
     let had = amount_here _ _ _ _ _ _ c.self.view_is c.self.invariant refl c.in-Some.ensures.found c.index_mut-entry.ensures.value in

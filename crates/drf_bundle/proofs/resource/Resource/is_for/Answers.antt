@@ -9,7 +9,7 @@ use Rattle.drf_role.specs.Role.{IsWithin}
 use Rattle.drf_bundle.specs.Bundle.{is_default}
 use Rattle.drf_bundle.proofs.resource.Resource.is_for.Goals as goal
 
--- what a role has beyond the outer one
+-- the components of a role after those of the outer one
 rest_from_within : (role outer : Path) → IsWithin role outer → (rest : Path) × (role ≡ outer ++ rest)
 rest_from_within role outer (inl same) = ([], same ∙ sym (append-nil outer))
 rest_from_within role outer (inr below) = (below.0, sym below.2)
@@ -18,7 +18,7 @@ within_from_whole : (role outer rest : Path) → role ≡ outer ++ rest → IsWi
 within_from_whole role outer [] whole = inl (whole ∙ append-nil outer)
 within_from_whole role outer (p ∷ ps) whole = inr (p ∷ ps, (λ e. cc), sym whole)
 
--- a role is within another exactly where its components begin with the other's
+-- a role is within another exactly if the other's components are a prefix of its own
 within_begins : (role outer : Path) (t : Bool) → (IsTrue t ↔ IsWithin role outer) → t ≡ begins_with role outer
 within_begins role outer t is =
     let begins = starts_is bytes_decides role outer (begins_with role outer) refl in

@@ -1,3 +1,4 @@
+//! A pool: an amount from which numbered parts are taken and given back.
 ghost use Rattle.std.specs.Prelude.{◌≡◌, [], All, IsSome, IfOk, IfErr, OnOk, OnErr};
 ghost use Rattle.std.specs.Option.{option_copied};
 ghost use Rattle.drf_amount.specs.Pool.{pool_of, IsPool, part_at};

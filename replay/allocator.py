@@ -6,9 +6,9 @@ import subprocess
 from errors import BadInput, Failed
 
 OK = b'{"ok":true}\n'
-# So many lines are sent before their replies are read. Their short replies fit into a pipe.
+# This many lines are sent before their replies are read. Short replies to them fit into a pipe.
 UNREAD = 1000
-# ./drf ends with this status where it has no program for this machine.
+# ./drf ends with this status if it has no program for this machine.
 NO_PROGRAM = 4
 
 

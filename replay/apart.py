@@ -33,7 +33,7 @@ class Apart:
         except KeyboardInterrupt:
             pass  # the other process says so
         finally:
-            # Nothing of this process is to be written twice.
+            # Output of this process must not be written twice.
             os._exit(status)
 
     def __enter__(self):

@@ -10,7 +10,7 @@ from pieces import Pieces
 
 FORMAT = 1
 NAME = re.compile(r"\d{8}\.segment")
-# The header has shortened digests of so many bytes each, which say where damage is.
+# The header has a shortened digest of each chunk of this many bytes, which shows where damage is.
 CHUNK = 64 << 10
 NUMBERS = ("archive", "segment", "kept", "state_bytes", "audit_bytes", "journal_bytes")
 PLACES = ("messages", "lines", "bytes")

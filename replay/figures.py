@@ -5,7 +5,7 @@ from bisect import bisect_right
 from collections import defaultdict
 
 ROOT = ""
-# The number of equal parts of the time for which the picture has a mean.
+# The picture shows a mean for each of this many equal parts of the time.
 PARTS = 192
 
 

@@ -11,12 +11,12 @@ from resources import fits, read, scalars_of
 
 # How an offer ended in the journal: the framework answered it, it was rescinded, or something else ended it.
 ANSWERED, RESCINDED, UNANSWERED = "answered", "rescinded", "unanswered"
-# The order of what happens at the same time, after the same number of cycles.
+# The order of events that happen at the same time, after the same number of cycles.
 FINISH, EVENT, ANSWER, CYCLE = range(4)
 LAST = 1 << 62
 DEFAULT_REFUSE = 5000
 TIMED = {"cycle", "accept", "decline"}
-# So many lines of a journal are read at a time.
+# This many lines of a journal are read at a time.
 CHUNK = 20_000
 
 # A key says when something happens: (time, cycles before it at this time, one of the ranks above, position).
@@ -115,7 +115,7 @@ def accepted_events(lines, progress):
         progress(begin)
         replies = lines[begin + 1:begin + CHUNK:2]
         there = [place for place, reply in enumerate(replies) if not reply.startswith('{"name"')]
-        # One text of many events is read faster than many texts.
+        # Parsing one text with many events is faster than parsing many texts.
         events = json.loads("[" + ",".join([lines[begin + 2 * place] for place in there]) + "]")
         for place, event in zip(there, events):
             yield begin + 2 * place + 1, event, replies[place]
@@ -135,7 +135,7 @@ class Journal:
         self._running, self._offers, self._ended = {}, {}, 0
         self._on_agent, self._of_framework, self._totals = defaultdict(dict), defaultdict(dict), {}
         self._roles = {}
-        # The state's tasks have no start in the journal.
+        # The tasks in the state have no start in the journal.
         self._clock, self._cycles = state.clock, 0
         self.start = None
         waiting = []
@@ -166,7 +166,7 @@ class Journal:
         self._complete()
 
     def _begin(self):
-        # The end is known when all is read; the picture's parts are not measured for the journal itself.
+        # The end is known only when everything is read; the parts of the picture are not measured for the journal itself.
         self.account = Account(self.start, LAST)
         for agent, total in self.state.agents.items():
             self._totals[agent] = read(total).scalars

@@ -92,7 +92,7 @@ class Replay:
         self.prefix = unused_prefix([row["task"] for row in journal.state.tasks])
         self.allocator = Allocator(state_path, self.on_refusal)
 
-    # What the allocator refuses
+    # Refusals of the allocator
 
     def on_refusal(self, line, reply):
         event = json.loads(line)
@@ -154,7 +154,7 @@ class Replay:
         self.serial += 1
         heappush(self.heap, ((at, phase, rank, order, self.serial), act, held))
 
-    # What the frameworks do
+    # Actions of the frameworks
 
     def answer(self, held):
         """Accepts an offer if the oldest waiting task fits into it, with the next ones as long as each fits; else declines it."""
@@ -223,7 +223,7 @@ class Replay:
         actor.is_suppressed = actor.wants_suppress = False
         self.allocator.send(compact({"event": "revive", "framework": actor.framework, "role": actor.role}))
 
-    # What happens
+    # Events
 
     def take_offer(self, offer, made, phase):
         actor = self.actors[offer["framework"], offer["role"]]

@@ -7,7 +7,7 @@ from report import ALL, duration, percent, roles_of, wait_text
 
 WIDTH, LEFT, MIDDLE, RIGHT = 860, 20, 470, 840
 HEAD, ROW, CHART, FOOT = 92, 150, 104, 34
-# The roles with most tasks are drawn, and the whole cluster.
+# The whole cluster is drawn, and the roles with the most tasks.
 MOST_ROLES = 12
 BAR, LABEL = MIDDLE + 96, 96
 STYLE = """

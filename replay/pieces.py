@@ -9,7 +9,7 @@ from bisect import bisect_right
 from errors import BadInput, Failed
 
 NUMBER = re.compile(r".*?(\d+)\D*")
-# So many bytes are copied at a time.
+# This many bytes are copied at a time.
 BLOCK = 1 << 20
 
 

@@ -18,7 +18,7 @@ class Policy:
         self.start, self.at_agent = [], {}
         self.own, self.gone_agents, self.added, self.totals, self.activity = set(), set(), set(), {}, set()
         self.reservations, self.roles, self.gone_frameworks = set(), {}, set()
-        # Of each event of the journal that the policy changes: the line of the policy, and its kind.
+        # For each event of the journal that the policy changes: the line of the policy, and its kind.
         self.sources = {}
         for source, event in lines:
             self._take(source, event, journal)

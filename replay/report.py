@@ -5,7 +5,7 @@ from figures import ROOT, figures, outcomes, place_of
 
 ALL = "(all)"
 CASES = ("journal", "before", "after")
-# Below this agreement the report warns of a role, and names so many.
+# If the agreement is below this, the report warns about a role; it names at most this many.
 LEAST_AGREEMENT, MOST_NAMED = 0.9, 6
 
 

@@ -17,7 +17,7 @@ from multiprocessing.pool import ThreadPool
 sys.path.append(f"{os.path.dirname(os.path.realpath(__file__))}/../tools")
 from common import released_program, inputs, shim
 
-# One call of a kind fails, the next one would not. A piece is what a call moves at most. Standard error is left alone.
+# One call of a kind fails, and the next one would succeed. A chunk is the most bytes that a call moves. Standard error never fails.
 SHIM = r"""
 #define _GNU_SOURCE
 #include <dlfcn.h>
@@ -63,7 +63,8 @@ int open(const char *path, int flags, ...) {
 }
 """
 COMMANDS = [["run"], ["run", "--echo"], ["audit"], ["explain"], ["check"], ["save"], ["drive"]]
-# How many reply lines and lines in all a line that is answered has; the other commands write once they have read all.
+# How many reply lines, and how many lines in all, are written for each input line; the other commands write after they have read
+# everything.
 LINES_OF = {"run": 1, "run --echo": 2}
 READ_FAULTS = (errno.EIO, errno.EINTR, errno.EAGAIN, errno.EISDIR)
 # 0 means a write that takes no bytes.
@@ -71,9 +72,9 @@ WRITE_FAULTS = (errno.EIO, errno.EINTR, errno.EAGAIN, errno.ENOSPC, errno.EPIPE,
 OPEN_FAULTS = (errno.EACCES, errno.EMFILE, errno.EINTR)
 WHOLE = 1 << 30
 PIECES = (1, 61, WHOLE)
-# Calls past the last one that change nothing are the end.
+# The tests end after this many calls past the last one that changes something.
 QUIET = 16
-# So many calls of one byte each are tried at most, spread over the input.
+# At most this many calls of one byte each are tried, spread over the input.
 MOST = 160
 SIDE_BY_SIDE = 2
 
@@ -120,7 +121,7 @@ class Sweep:
             came = given[: (call - 1) * piece].count(b"\n") * lines
             failed = (1, b"".join(whole[1].splitlines(True)[:came]), read_fault(words, path))
             wanted = [whole if call > last or is_tried_again(words, how) else failed]
-            # a file that is read whole may be asked again at its end
+            # at its end, a file that is read completely may be read once more
             wanted += [failed] * (words == ["drive"] and call > last)
             self.faults += done != whole
             self.note(done in wanted, words, path, "read", call, how, piece)
@@ -147,7 +148,7 @@ class Sweep:
 
     def command(self, words, path):
         whole = self.ran(words, path)
-        # what is no event ends a drive
+        # a drive ends at a line that is not an event
         if whole[0] not in (0, 3):
             return
         given = open(path, "rb").read()

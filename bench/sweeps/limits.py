@@ -94,7 +94,7 @@ def most_frameworks(it):
     it.ask(True, "add_framework", framework="one", roles=["a", "a"])
     it.ask("TooMany", "add_framework", framework="f3", roles=["a"])
     it.agents(AGENTS)
-    # everyone has four agents then
+    # then each framework has four agents
     it.ask(AGENTS, "cycle", at=0)
     for number in (0, 2, 1023):
         it.ask(True, "remove_framework", framework=f"f{number}")
@@ -116,7 +116,7 @@ def most_clients(it):
     for number in range(0, AGENTS, 5):
         it.ask(True, "rescind", offer=number + 1)
     it.ask(820, "cycle", at=0)
-    # not compared but with another program, and by the check of its journal
+    # compared only with another program, and by a check of its journal
     it.ask(None, "report")
 
 
@@ -301,7 +301,7 @@ def most_filters(it):
     it.ask("TooMany", "accept", **accept, task="t", use="cpus:0.5")
     it.ask(True, "accept", **accept, task="t", use="cpus:1")
     left.pop()
-    # what was refused has not moved the clock, and only now the first filters end
+    # a refused event has not moved the clock, so the first filters expire only now
     decline("TooMany", at=999, refuse_ms=1)
     for _ in range(AGENTS - 3):
         decline(True, at=1000, refuse_ms=LONGEST)

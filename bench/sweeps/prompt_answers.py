@@ -15,7 +15,7 @@ from common import released_program
 EVENT, FAULT = '{"event":"add_agent","agent":"n1","total":"cpus:1"}', '{"event":"add_agent"}'
 QUESTIONS = ["?report", "?explain", "?offers", "?tasks", "?state", "?tables", "?", "?tasks f1"]
 OUT, ERR = "stdout", "stderr"
-# Words, and lines with the streams on which something comes of each.
+# Arguments, and lines with the streams on which each has output.
 CASES = [
     (["run"], [(EVENT, OUT), (FAULT, OUT)]),
     (["run", "--echo"], [(EVENT, OUT), (FAULT, OUT)]),

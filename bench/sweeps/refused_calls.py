@@ -18,7 +18,7 @@ sys.path.append(f"{os.path.dirname(os.path.realpath(__file__))}/../tools")
 from common import SWEEPS, released_program, inputs, shim
 from unproved import build
 
-# A size that nobody asks for tells which growth is refused, and another asks whether one was. An audit asks by several threads.
+# A size that is never requested says which growth is refused, and another asks whether one was refused. An audit uses several threads.
 SHIM = r"""
 #define _GNU_SOURCE
 #include <dlfcn.h>

@@ -39,15 +39,15 @@ void *realloc(void *kept, size_t size) {
 }
 """
 COMMANDS = [["run"], ["run", "--echo"], ["audit"], ["explain"], ["check"], ["save"]]
-# So many ports that the journal of a drive is written in several pieces.
+# Enough ports that the journal of a drive is written in several chunks.
 PORTS = ",".join(f"{port}-{port}" for port in range(0, 8000, 2))
-# What each file of a drive has.
+# The lines of each file of a drive.
 SCRIPTS = [
     [{"event": "add_agent", "agent": f"n{number}", "total": f"cpus:4;ports:[{PORTS}]"} for number in range(3)] + [{"event": "report"}],
     [{"event": "add_framework", "framework": f"f{number}", "roles": ["a/b", "c"]} for number in range(3)] + [{"event": "report"}],
     [{"event": "cycle", "at": moment} for moment in range(4)] + [{"event": "rescind", "offer": 1}],
 ]
-# So many refusals in a row that change nothing are the end: no growth is left.
+# The tests end after this many refusals in a row that change nothing: no growth is left.
 QUIET = 100
 SIDE_BY_SIDE = 2
 

@@ -20,7 +20,7 @@ from common import ROOT, released_program
 from churn import Talk, churn, line
 
 RUNS = 3
-# Frameworks and clients of each, for a report as large as there can be one.
+# Frameworks, and clients of each, for the largest possible report.
 NAMED, CLIENTS = 512, 8
 
 

@@ -11,13 +11,13 @@ from common import ROOT
 from churn import Talk
 
 MINUTE = 60_000
-# From one cycle to the next.
+# The time from one cycle to the next.
 PERIOD = 15 * MINUTE
 DAY = 24 * 60 * MINUTE
 RACKS, IN_RACK = "abcde", 6
 LOST_RACK = "d"
 MACHINE = "cpus:16;mem:98304"
-# So many tasks are started by one accept at most.
+# One accept starts at most this many tasks.
 MOST_TASKS = 16
 
 
@@ -169,7 +169,7 @@ def day(talk, teams):
             team.arrive(at)
             ask_or_be_quiet(talk, team, at)
         offers = talk.ask("cycle", at=at)["offers"]
-        # who answers sooner stands first
+        # the framework that answers sooner comes first
         for team in teams:
             for offer in offers:
                 if offer["framework"] == team.name:

@@ -11,7 +11,7 @@ import sys
 
 # milliseconds from one cycle to the next
 PERIOD = 1000
-# So many short replies wait in a pipe.
+# This many short replies fit into a pipe.
 UNREAD = 256
 
 

@@ -37,7 +37,7 @@ def look(checks):
             continue
         key = number, fields[19]
         if key not in checks:
-            # The proof of a library ends in a build; a mutant of one is only checked.
+            # The proof of a library ends with a build; a mutant of a library is only checked.
             is_proof = words[1] == "build" or "src/main.rt" in words
             checks[key] = Check(words[words.index("--crate-name") + 1], "proof" if is_proof else "mutants")
         checks[key].seconds = (int(fields[11]) + int(fields[12])) / TICK

@@ -21,11 +21,11 @@ HOUR = 3_600_000
 STEP = HOUR // 4
 DAY = 24 * HOUR
 REPORT = '{"event":"report"}\n'
-# So many tasks that a team starts within an hour are a burst.
+# A team that starts this many tasks within an hour has a burst.
 BURST = 30
 
 
-# What the program tells
+# The output of the program
 
 
 def moments(path):
@@ -124,7 +124,7 @@ def happenings(told):
     return sorted(marks)
 
 
-# How it is drawn
+# How the picture is drawn
 
 WIDTH, HEIGHT = 800, 546
 LEFT, RIGHT = 56, 728
@@ -259,14 +259,14 @@ def names(marks):
     drawn = []
     for mode, size in SIZES.items():
         said = [(at, long if mode == "wide" else short) for at, long, short in marks if short or mode == "wide"]
-        # as few rows as can be, and then as many names as can be right of their lines
+        # in as few rows as possible, and then with as many names as possible to the right of their lines
         count, ways = next((count, ways) for count in range(1, 9) if (ways := list(rows_of(said, size, count))))
         placed = min(ways, key=lambda way: sum(right - x == 4 for _, x, _, right in way))
         height = min((NAMES[1] - NAMES[0]) / count, size * 1.35)
         for (_, name), (row, x, left, right) in zip(said, placed):
             y = NAMES[1] - (count - row - 1) * height
             drawn.append(text(x + 5 if right > x + 4 else x - 5, y - 3, name, mode, "start" if right > x + 4 else "end"))
-            # not through what stands between bands and lines
+            # not through anything between bands and lines
             drawn += [line(x, y - size, x, BANDS[1], f"mark {mode}"), line(x, LINES[0], x, LINES[1], f"mark {mode}")]
     return drawn
 

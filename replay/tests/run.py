@@ -246,7 +246,7 @@ def test_resource_texts(room):
     bundle = read(" cpus : 1.5 ;cpus(*):0.5;mem(eng):2;ports:[4-5, 1-3];disk:{b,a};x:0.0004;y:0.0005")
     assert bundle.amounts == {"cpus": 2000, "mem": 2000, "[ports": 5, "{disk": 2, "y": 1}, bundle.amounts
     assert text_of(bundle.pieces) == "cpus:2;disk:{a,b};mem(eng):2;ports:[1-5];y:0.001"
-    # Exactly the wanted pieces where they are all there, else reserved ones first and the first members.
+    # Exactly the wanted pieces if all of them are there; otherwise reserved ones first, and the first members.
     left = dict(read("cpus:2;cpus(eng):1;ports:[5-9]").pieces)
     assert text_of(take(left, read("cpus:1;ports:[7-7]"))) == "cpus:1;ports:[7-7]"
     assert text_of(take(left, read("cpus:2;ports:[7-8]"))) == "cpus:1;cpus(eng):1;ports:[5-6]"
@@ -414,7 +414,7 @@ def test_bad_pieces(room):
     for end in range(0, len(packed) - 1, 17):
         room.write("pieces/j.2.gz", packed[:end])
         said = room.replay("pieces", status=3)
-        # An empty file is an empty piece: then the replies are not those to the events before.
+        # An empty file is an empty piece: then the replies do not belong to the events before them.
         assert said.startswith("drf-replay: pieces/j.2.gz: damaged: " if end else "drf-replay: pieces/j.3 line 2: the reply is missing, cut or wrong; the lines before"), said
     room.write("pieces/j.2.gz", packed[:20] + bytes([packed[20] ^ 255]) + packed[21:])
     assert room.replay("pieces", status=3).startswith("drf-replay: pieces/j.2.gz: damaged: ")
@@ -640,7 +640,7 @@ def test_runs_apart(room):
             raise AssertionError("no error")
         except Failed as error:
             assert (str(error), error.status) == ("no program", 4), error
-    # None of the processes is left, the slow one neither.
+    # None of the processes is left, not even the slow one.
     for it in (good, ended, slow, failed):
         try:
             os.waitpid(it.pid or -1, os.WNOHANG)
@@ -649,7 +649,7 @@ def test_runs_apart(room):
             pass
 
 
-# What is written
+# The output
 
 CASE = {"tasks": int, "started": int, "finished": int, "lost": int, "waiting_ms": (dict, type(None)), "finished_per_hour": (int, float),
         "share": (int, float), "use": dict}

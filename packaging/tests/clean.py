@@ -15,7 +15,7 @@ DATA, AGENT_DATA = "/var/lib/durzhanok", "/var/lib/durzhanok-agent"
 UNITS = ("durzhanok-gateway", "durzhanok-agent")
 QUICKSTART = "/usr/share/doc/durzhanok/docs/QUICKSTART.md"
 
-# In a mount namespace of its own: the tree of control groups is of version 2, even where the machine has another, and the clean system stays as it is.
+# In its own mount namespace, so that the clean system is not changed, and control groups have version 2 even if those of the machine do not.
 START = """
 if [ "$(stat -f -c %T /sys/fs/cgroup)" != cgroup2fs ]; then
     umount -R /sys/fs/cgroup

@@ -1,5 +1,5 @@
 #!/usr/bin/env python3
-# An example of a Mesos framework: it runs one command on an agent, and prints what becomes of it. Outside the proof.
+# An example of a Mesos framework: it runs one command on an agent, and prints the states of its task. Outside the proof.
 """Runs a command as a task of a framework that speaks the v1 scheduler API of Apache Mesos. The token needs the rights role:ROLE and
 user:USER.
 

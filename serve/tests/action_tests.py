@@ -104,7 +104,7 @@ def without_the_right_there_are_no_actions(browser, room):
         browser.show(page)
         browser.wait(page, lambda: browser.texts("#content > section:not([hidden]) tbody tr"))
         equal(page, browser.run(ALL), [])
-    # What the page does not offer, the gateway refuses too, and the page says so.
+    # Actions that the page does not offer are refused by the gateway too, and the page says so.
     browser.show("agents/n1")
     browser.ask("actions", "m.confirm(m.actions.drain({name: 'n1', tasks: [], offers: []}))")
     browser.one("#ask-go").click()

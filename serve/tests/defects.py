@@ -1,4 +1,4 @@
-# What an ordinary caller or an ordinary day once did to the service: each test failed before its fix. Outside the proof.
+# Defects that ordinary calls once showed: each test failed before its fix. Outside the proof.
 import json
 import os
 import signal

@@ -204,7 +204,7 @@ def four_thousand_agents_in_lists_and_on_the_map(browser, room):
     own.end()
 
 
-# How many colours the map has of which at least 1 % of it is.
+# The number of colours that each cover at least 1 % of the map.
 COLOURS = """
 const map = document.getElementById('map'), data = map.getContext('2d').getImageData(0, 0, map.width, map.height).data, counts = new Map();
 for (let k = 0; k < data.length; k += 4) if (data[k + 3] > 200) { const c = data[k] + ',' + data[k + 1] + ',' + data[k + 2]; counts.set(c, (counts.get(c) || 0) + 1); }
@@ -254,7 +254,7 @@ def members_and_who_lags_are_shown(browser, room):
     own.end()
 
 
-# What a screen reader goes by: ids that are there twice, headings that skip a level, what has no name, cells without headers, and landmarks.
+# Problems for screen readers: duplicate ids, headings that skip a level, elements without names, cells without headers; and the landmarks.
 STRUCTURE = """
 const all = selector => [...document.querySelectorAll(selector)].filter(e => e.checkVisibility());
 const ids = [...document.querySelectorAll('[id]')].map(e => e.id), levels = all('h1, h2, h3, h4').map(e => Number(e.tagName[1]));

@@ -1,4 +1,4 @@
-# What operators do and see: tokens that expire, an etcd with users. Each test is handed the programs. Outside the proof.
+# Tests of what operators do and see: tokens that expire, an etcd with users. Each test receives the programs. Outside the proof.
 import datetime
 import hashlib
 import json
@@ -111,7 +111,7 @@ def test_members(programs):
             for m in gateways.values():
                 assert m["ready"] and m["version"] == version and m["drf"] == hashlib.sha256(drf).hexdigest() and abs(m["clock_offset_ms"]) < 5000 and m["lag"] == 0, m
             assert len(etcd) == 3 and [m["leader"] for m in etcd.values()].count(True) == 1 and all(m["reachable"] and m["quota"] == 128 << 20 and 0 < m["used"] <= m["size"] for m in etcd.values()), etcd
-        # an allocator that hangs: its gateway is behind, and the others say so
+        # an allocator that hangs: its gateway lags, and the others report this
         os.kill(third.status()["allocator"]["pid"], signal.SIGSTOP)
         for n in range(5):
             one.send({**AGENT, "agent": f"m{n}"})

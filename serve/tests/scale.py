@@ -1,4 +1,4 @@
-# What a long life takes: memory and starts after hundreds of thousands of messages. Only with --long. Outside the proof.
+# Tests of memory and start times after hundreds of thousands of messages. Only with --long. Outside the proof.
 import os
 import signal
 import subprocess

@@ -1,4 +1,4 @@
-# One real gateway for tests of what stands round it, and a cluster to fill it with. Outside the proof.
+# One real gateway for tests of the programs around it, and a cluster to fill it with. Outside the proof.
 import json
 import os
 import random

@@ -1,4 +1,4 @@
-# A stand-in for a gateway, for tests of the page alone: what a real one is hard to bring to, as a large cluster or a fault. Outside the proof.
+# A stand-in for a gateway, for tests of the page alone: it shows what is hard to produce with a real gateway, such as a large cluster or an error. Outside the proof.
 import json
 import os
 import queue

@@ -29,7 +29,7 @@ func (uncounted) OfferMade(string)                   {}
 func (uncounted) OfferEnded(string, string)          {}
 func (uncounted) FrameworkRemoved(string)            {}
 
-// running is an allocator that runs, with a list and a journal of its own.
+// running is a running allocator with its own list and journal.
 type running struct {
 	*Allocator
 	questions *Questions
@@ -127,7 +127,7 @@ func TestReplies(t *testing.T) {
 	}
 }
 
-// Questions are answered as of the messages before them, by a child that is not the one which answers lines.
+// Questions are answered as of the messages before them, by a second child, not by the one that replies to lines.
 func TestQuestions(t *testing.T) {
 	r := run(t, etcdtest.Start(t, 1<<30), t.TempDir(), Config{SnapshotMessages: 1000, EpochLines: 1 << 32})
 	ctx, cancel := context.WithTimeout(context.Background(), 30*time.Second)
@@ -152,7 +152,7 @@ func TestQuestions(t *testing.T) {
 	}
 }
 
-// A snapshot is due by messages, or by bytes, and what is before the one before it is pruned.
+// A snapshot is due after a number of messages or bytes, and everything before the previous snapshot is pruned.
 func TestMarkers(t *testing.T) {
 	r := run(t, etcdtest.Start(t, 1<<30), t.TempDir(), Config{SnapshotMessages: 10, SnapshotBytes: 100_000, SnapshotApart: time.Hour, EpochLines: 1 << 32})
 	now := time.Now()

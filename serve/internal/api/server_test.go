@@ -1,4 +1,4 @@
-// Tests of callers: who they are while a gateway stops. Outside the proof.
+// Tests that callers are recognized while a gateway stops. Outside the proof.
 
 package api
 
@@ -12,7 +12,7 @@ import (
 	"gateway/internal/auth"
 )
 
-// A gateway that stops ends its streams, and still knows its callers: they go to another gateway after a 503, and not after a 401.
+// A gateway that stops ends its streams and still recognizes its callers: after a 503 they use another gateway, but not after a 401.
 func TestStoppingGatewayKnowsItsCallers(t *testing.T) {
 	path := filepath.Join(t.TempDir(), "tokens.json")
 	token, err := auth.AddCaller(path, "one", []string{"read"}, time.Time{})

@@ -1,4 +1,4 @@
-// Tests of archives: how segments end, faults of the disk, retention. Outside the proof.
+// Tests of archives: how segments end, disk errors, retention. Outside the proof.
 
 package archive
 
@@ -79,7 +79,7 @@ func TestCrashes(t *testing.T) {
 	}
 }
 
-// While nothing can be written nothing is lost, as long as the journal is kept.
+// While nothing can be written, nothing is lost as long as the journal is kept.
 func TestFullAndReadOnlyDisks(t *testing.T) {
 	for _, problem := range []error{syscall.ENOSPC, syscall.EROFS, syscall.EACCES} {
 		f := newFixture(t)
@@ -185,7 +185,7 @@ func (f *fixture) sizes() (sum int64) {
 	return sum
 }
 
-// A list that is not the one in the archive is not added to it.
+// Nothing is added to the archive if the list is not the archived one.
 func TestAnotherList(t *testing.T) {
 	f := newFixture(t)
 	f.fill(40)
@@ -218,7 +218,7 @@ func TestTwoArchivers(t *testing.T) {
 	}
 }
 
-// What only the archive has is searched too.
+// Records that only the archive has are searched too.
 func TestBlocks(t *testing.T) {
 	f := newFixture(t)
 	f.fill(40)
@@ -238,7 +238,7 @@ func TestBlocks(t *testing.T) {
 	}
 }
 
-// A snapshot waits for the archive, but not for one that fails.
+// A snapshot waits for the archive, unless archiving fails.
 func TestWaitFor(t *testing.T) {
 	f := newFixture(t)
 	f.fill(20)

@@ -15,7 +15,7 @@ import (
 	"gateway/internal/audit"
 )
 
-// One flipped bit of any byte is found, in the segment that has it.
+// A flipped bit in any byte is found, and attributed to the right segment.
 func TestFlippedBytes(t *testing.T) {
 	f := newFixture(t)
 	f.fill(30)

@@ -24,7 +24,7 @@ type memory struct {
 	lines   int64
 }
 
-// add appends a message of some bytes, or a snapshot where there is a cause.
+// add appends a message of some bytes, or a snapshot if there is a cause.
 func (m *memory) add(at int64, cause string) {
 	r := audit.Record{Message: int64(len(m.records) + 1), At: at, Name: "ops", Line: m.lines + 1, Byte: int64(len(m.journal)), Events: map[string]int{}}
 	if cause != "" {
@@ -84,7 +84,7 @@ func newFixture(t *testing.T) *fixture {
 	return f
 }
 
-// restart begins again, as after a crash: nothing is known but what is in the folders.
+// restart starts again as after a crash: only the contents of the folders are known.
 func (f *fixture) restart() {
 	if f.a != nil && f.a.unlock != nil {
 		f.a.unlock()
@@ -101,7 +101,7 @@ func (f *fixture) step() {
 	}
 }
 
-// fails checks that nothing is archived, for a reason.
+// fails checks that nothing is archived, for this reason.
 func (f *fixture) fails(reason string) {
 	f.Helper()
 	if err := f.a.step(context.Background()); err == nil || !strings.Contains(err.Error(), reason) {

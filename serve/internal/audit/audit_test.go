@@ -109,7 +109,7 @@ func TestRecords(t *testing.T) {
 	}
 }
 
-// Who set this limit, and when: one question.
+// One question finds who set a limit, and when.
 func TestWhoSetThisLimit(t *testing.T) {
 	w := newWorld(t)
 	ops, web := oplog.Sender{Name: "ops", Address: "10.0.0.1"}, oplog.Sender{Name: "web", Address: "10.0.0.7"}
@@ -190,7 +190,7 @@ func TestPages(t *testing.T) {
 	}
 }
 
-// A page reads no more than so much of the journal, and says where to continue.
+// A page reads only a limited part of the journal, and says where to continue.
 func TestPagesAreBounded(t *testing.T) {
 	w := newWorld(t)
 	long := strings.Repeat("x", 1<<20)

@@ -1,4 +1,4 @@
-// Tests of who set what. Outside the proof.
+// Tests of the settings and their senders. Outside the proof.
 
 package audit
 
@@ -82,7 +82,7 @@ func TestSettings(t *testing.T) {
 	}
 }
 
-// There are never more than so many: the oldest go.
+// The number of settings is limited: the oldest are dropped.
 func TestSettingsAreBounded(t *testing.T) {
 	s := &Settings{byName: map[string]Setting{}}
 	for n := int64(1); n <= 2*maxSettings; n++ {

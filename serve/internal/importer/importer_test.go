@@ -274,7 +274,7 @@ func TestCyclesBetweenTheLines(t *testing.T) {
 	}
 }
 
-// Whatever is wrong in a document, it is an error or left out: the allocator takes all lines that are printed.
+// Whatever is wrong in a document, it is reported as an error or left out: the allocator accepts all lines that are printed.
 func TestChangedDocuments(t *testing.T) {
 	drf(t, "run", nil)
 	accepted, refused := 0, 0

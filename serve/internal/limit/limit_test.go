@@ -99,7 +99,7 @@ func TestSlots(t *testing.T) {
 	}
 }
 
-// A caller that gives nothing back leaves half of the slots to others.
+// A caller that never releases its slots leaves half of them to others.
 func TestSlotsOfOneCaller(t *testing.T) {
 	s := NewSlots(4, 50*time.Millisecond)
 	for k := 0; k < 4; k++ {

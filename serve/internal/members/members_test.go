@@ -1,4 +1,4 @@
-// Tests of what gateways report of themselves. Outside the proof.
+// Tests of the reports of gateways. Outside the proof.
 
 package members
 
@@ -17,7 +17,7 @@ func tableOf(cluster *etcd.Cluster, name string, messages *int64, running ...str
 	return New(cluster, "drf/members/", name, func() Gateway { return Gateway{Version: "1", Ready: true, Messages: *messages} }, func() []string { return running })
 }
 
-// One gateway that does not know an event, or has not said so, is enough for it not to be used.
+// If one gateway does not know an event, or has not reported that it does, the event is not used.
 func TestAllKnow(t *testing.T) {
 	cluster, ctx, now := etcdtest.Start(t, 1<<30), context.Background(), time.Now()
 	known := map[string][]string{"a": {"set_framework"}, "b": nil}
@@ -118,7 +118,7 @@ func TestGatewaysKnowEachOther(t *testing.T) {
 	}
 }
 
-// A gateway that starts sees reports of gateways that stopped long ago, and is not deceived by them.
+// A gateway that starts sees reports of gateways that stopped long ago, and does not take these for running ones.
 func TestOldReports(t *testing.T) {
 	cluster, ctx, now := etcdtest.Start(t, 1<<30), context.Background(), time.Now()
 	text, _ := json.Marshal(Gateway{Name: "gone", At: now.Add(-time.Hour).UnixMilli()})

@@ -72,7 +72,7 @@ func TestMessagesAreReadAsWritten(t *testing.T) {
 	}
 }
 
-// Values are those of the gateways before this one, which had no notes.
+// A value without a note is the same as one of earlier gateways, which had no notes.
 func TestValuesOfOlderGateways(t *testing.T) {
 	if value := batchOf("a/1", "x").value(5, 0, Sender{}); value != `{"at":5,"index":0,"sum":3857187707}`+"\nx" {
 		t.Error(value)

@@ -87,7 +87,7 @@ func TestTwoClocks(t *testing.T) {
 	expectRenew(t, "a machine that starts behind", slow, "behind")
 }
 
-// Of three gateways one whose clock drifts is refused, whichever way it drifts, and the two others continue.
+// Of three gateways, one whose clock drifts is refused, whether it drifts forward or backward, and the two others continue.
 func TestMajorityOfClocks(t *testing.T) {
 	t.Parallel()
 	for _, step := range []time.Duration{-400 * time.Millisecond, 400 * time.Millisecond} {
@@ -133,7 +133,7 @@ func TestMajorityOfClocks(t *testing.T) {
 	}
 }
 
-// A lone gateway starts when its clock is far ahead of the last time, and says so.
+// A lone gateway starts even if its clock is far ahead of the last time, and warns about this.
 func TestLoneClockFarAhead(t *testing.T) {
 	t.Parallel()
 	cluster := withEtcd(t)
@@ -146,7 +146,7 @@ func TestLoneClockFarAhead(t *testing.T) {
 	expectRenew(t, "a machine behind", clockOf(cluster, "one", &machine{wall: time.Hour}, true), "behind")
 }
 
-// A gateway that no majority answers knows that it is cut off, and that it no longer is.
+// A gateway that cannot reach a majority notices that it is cut off, and later that it is connected again.
 func TestCutOff(t *testing.T) {
 	t.Parallel()
 	cluster, m := withEtcd(t), &machine{}

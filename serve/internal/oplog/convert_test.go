@@ -23,7 +23,7 @@ func TestNewListIsMarked(t *testing.T) {
 	}
 }
 
-// A newer gateway does not join older ones that run, and does once they have stopped.
+// A newer gateway does not share the list with older ones that run, and starts once they have stopped.
 func TestOlderGatewayRuns(t *testing.T) {
 	t.Parallel()
 	ctx, l := context.Background(), withList(t, &machine{})

@@ -1,4 +1,4 @@
-// Tests of what shares a transaction. Outside the proof.
+// Tests of which batches share a transaction. Outside the proof.
 
 package oplog
 
@@ -10,7 +10,7 @@ import (
 	"time"
 )
 
-// Of batches that wait together and that each touch what the others are conditional on, one is appended.
+// If several waiting batches each touch a name that is in the conditions of the others, only one of them is appended.
 func TestConditionsWithinATransaction(t *testing.T) {
 	t.Parallel()
 	m := &machine{}

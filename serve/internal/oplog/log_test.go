@@ -183,7 +183,7 @@ func TestKeyIsUsedOnce(t *testing.T) {
 	}
 }
 
-// A gateway that does not know yet what another one pruned appends nothing a second time.
+// A gateway that does not know yet which messages another one pruned appends nothing a second time.
 func TestPruningByAnotherGateway(t *testing.T) {
 	t.Parallel()
 	ctx := context.Background()
@@ -234,7 +234,7 @@ func TestPrunedMessagesKeepTheirNumbers(t *testing.T) {
 	}
 }
 
-// A batch without a key of its caller leaves nothing behind.
+// A batch without a key from its caller leaves no kept key.
 func TestAnonymousKeysAreNotKept(t *testing.T) {
 	t.Parallel()
 	ctx := context.Background()
@@ -366,7 +366,8 @@ func TestLoadOfLargeMessages(t *testing.T) {
 	}
 }
 
-// Who sent a message is kept, unless a gateway runs that does not know senders; a batch that comes again from elsewhere is the same batch.
+// The sender of a message is stored, unless a gateway runs that does not know senders. A batch that is sent again from another address is the same
+// batch.
 func TestSendersAreKept(t *testing.T) {
 	t.Parallel()
 	ctx, l := context.Background(), withList(t, &machine{})

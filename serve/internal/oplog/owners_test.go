@@ -84,7 +84,8 @@ func limited(key string) *Batch {
 	return b
 }
 
-// A caller that uses up its half is refused, in the list and pruned, by each gateway, and nobody else is.
+// A caller that uses up its half of the keys is refused by each gateway, whether its messages are in the list or pruned. Other callers are not
+// refused.
 func TestKeysOfOneOwnerAreBounded(t *testing.T) {
 	t.Parallel()
 	ctx, full, applied := context.Background(), (*FullError)(nil), (*AppliedError)(nil)

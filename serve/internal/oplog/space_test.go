@@ -16,7 +16,7 @@ import (
 	"go.etcd.io/etcd/etcdserver/api/v3rpc/rpctypes"
 )
 
-// A store that became full recovers by itself once what fills it is history.
+// A store that became full recovers by itself once the data that fill it are only history.
 func TestFullStoreRecovers(t *testing.T) {
 	const quota = 16 << 20
 	ctx, cluster := context.Background(), etcdtest.Start(t, quota)

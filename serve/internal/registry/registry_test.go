@@ -83,7 +83,7 @@ func (h *history) message(number int64) *Message {
 	return m
 }
 
-// defined is what the registry has to have, looked for in the whole history.
+// defined is the expected state of the registry, found by searching the whole history.
 type defined struct {
 	offers     []uint64
 	agents     map[string]int64
@@ -186,8 +186,8 @@ func has(r *Registry) (d defined) {
 	return d
 }
 
-// A registry has what its definition has after any messages; and so has one that was restored from a snapshot on the way, or gets messages
-// again, as after a restart of the allocator.
+// A registry has the state that the definition gives, after any messages; so has one that was restored from a snapshot in between, or that gets
+// messages again, as after a restart of the allocator.
 func TestRegistryIsAsDefined(t *testing.T) {
 	for seed := int64(1); seed <= 25; seed++ {
 		h := &history{rand.New(rand.NewSource(seed)), 0}
@@ -293,7 +293,7 @@ func TestSubscriptionsAreOfOneFramework(t *testing.T) {
 	}
 }
 
-// Listeners to other frameworks cost a message next to nothing.
+// Subscribers to other frameworks add almost nothing to the cost of a message.
 func TestIdleSubscriptionsAreCheap(t *testing.T) {
 	took := func(listeners int) time.Duration {
 		r := New(&counts{})

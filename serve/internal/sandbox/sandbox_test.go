@@ -1,4 +1,4 @@
-// Attacks of tasks on what may be read of their folders. Outside the proof.
+// Tests of attacks by tasks on the reading of their folders. Outside the proof.
 
 package sandbox
 
@@ -101,7 +101,7 @@ func TestLinksDoNotLeadOut(t *testing.T) {
 	}
 }
 
-// A task that puts a link in place of its sandbox, or of the folder above, shows nothing.
+// A task that replaces its sandbox, or the folder above, by a link shows nothing.
 func TestSandboxIsNoLink(t *testing.T) {
 	for _, replaced := range []string{"tasks/1/sandbox", "tasks/1", "tasks"} {
 		r, _ := newRoot(t)
@@ -121,7 +121,7 @@ func TestSandboxIsNoLink(t *testing.T) {
 	}
 }
 
-// What would block or has side effects is not opened for reading.
+// A file whose opening would block or have side effects is not opened for reading.
 func TestSpecialFiles(t *testing.T) {
 	r, box := newRoot(t)
 	if err := syscall.Mkfifo(filepath.Join(box, "pipe"), 0o644); err != nil {
@@ -162,7 +162,7 @@ func TestHardLinks(t *testing.T) {
 	}
 }
 
-// A task that changes a folder to a link and back, as fast as it can, never shows what is outside.
+// A task that replaces a folder by a link and back, as fast as it can, never shows anything outside of its sandbox.
 func TestRace(t *testing.T) {
 	r, box := newRoot(t)
 	os.WriteFile(filepath.Join(box, "sub", "token"), []byte("inner"), 0o644)

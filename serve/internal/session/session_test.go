@@ -264,7 +264,7 @@ func TestStaleLeaseAtAGatewayBehind(t *testing.T) {
 	}
 }
 
-// After a pause of the service time-outs start again, so that those who kept sending heartbeats are not ended.
+// After a pause of the service, time-outs start again, so that owners that kept sending heartbeats are not ended.
 func TestPauseEndsNobody(t *testing.T) {
 	t.Parallel()
 	w := newWorld(t)

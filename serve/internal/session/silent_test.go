@@ -1,4 +1,4 @@
-// Tests of who is silent, over a real etcd. Outside the proof.
+// Tests of which agents are silent, over a real etcd. Outside the proof.
 
 package session
 
@@ -42,7 +42,7 @@ func TestSilentAgentsAreKnown(t *testing.T) {
 	silent("")
 }
 
-// What is stored about an agent that was removed, or registered again, does not stay.
+// Notes about agents that were removed or registered again are deleted.
 func TestNotesOfRemovedAgentsAreForgotten(t *testing.T) {
 	t.Parallel()
 	w := newWorld(t)

@@ -53,7 +53,7 @@ func main() {
 	tell(results, *callers, *batch, time.Since(begun))
 }
 
-// job is what one caller does.
+// job is the work of one caller.
 type job struct {
 	url, token    string
 	caller, batch int

@@ -1,4 +1,4 @@
-// The agent: how commands run, and what is reported of them. Outside the proof.
+// Tests of the agent: how commands run, and which statuses are reported. Outside the proof.
 
 package mesos
 
@@ -14,7 +14,7 @@ import (
 	"time"
 )
 
-// outcome waits for the last status of a task, and acknowledges all on the way.
+// outcome waits for the last status of a task, and acknowledges all statuses before it.
 func (c *client) outcome(task string) interface{} {
 	c.t.Helper()
 	for {

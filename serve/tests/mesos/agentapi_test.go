@@ -1,4 +1,4 @@
-// What operators ask an agent: by raw HTTP, and through mesos-go's own client, unpatched. Outside the proof.
+// Operators' calls to an agent: by raw HTTP, and through mesos-go's own client, unpatched. Outside the proof.
 
 package mesos
 

@@ -30,7 +30,7 @@ func (s *service) killExecutor(random *rand.Rand) {
 	}
 }
 
-// For 15 seconds, or as long as MESOS_CHAOS says, a process is killed each second and started again. Then each scheduler gets its tasks done.
+// For 15 seconds, or as long as MESOS_CHAOS says, a process is killed each second and started again. Afterwards each scheduler completes its tasks.
 func TestRandomKills(t *testing.T) {
 	t.Parallel()
 	s := newService(t, 3, 3, "-save-every", "300", "-save-apart", "2s")

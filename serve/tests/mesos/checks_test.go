@@ -1,4 +1,4 @@
-// Health checks and checks of commands, on a real agent. What is expected is what Mesos documents. Outside the proof.
+// Health checks and command checks, on a real agent. The expected results are those that Mesos documents. Outside the proof.
 
 package mesos
 

@@ -1,4 +1,4 @@
-// Drains: what becomes of agents and tasks, also when gateways are killed. Outside the proof.
+// Drains: the states of agents and tasks, also when gateways are killed. Outside the proof.
 
 package mesos
 
@@ -96,7 +96,7 @@ func TestDrain(t *testing.T) {
 	s.operate(400, agentCall("REACTIVATE_AGENT", "n1", "")) // it is not deactivated
 }
 
-// An agent without tasks is drained at once. With mark_gone it is removed for good: it ends its tasks when it comes again, and gets none.
+// An agent without tasks is drained at once. With mark_gone it is removed for good: it ends its tasks when it connects again, and gets no new ones.
 func TestGone(t *testing.T) {
 	s := newService(t, 1, 0)
 	a := s.simulate("n1", scalar("cpus", "4"))
@@ -134,7 +134,7 @@ func TestGone(t *testing.T) {
 	s.checkJournal(0)
 }
 
-// A machine that is drained and then away for long is still drained when it comes again, until it is reactivated.
+// A machine that is drained and then away for a long time is still drained when it registers again, until it is reactivated.
 func TestDrainedMachineComesAgain(t *testing.T) {
 	s := newService(t, 1, 0, "-mesos-agent-gone", "1s")
 	c := s.subscribe("admin", s.token, frameworkInfo)

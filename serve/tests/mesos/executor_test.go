@@ -185,7 +185,7 @@ func (s *service) checkEnvironment(framework, agent string) {
 	}
 }
 
-// An executor that ends takes its tasks with it, whatever they did to get away.
+// An executor that ends takes its tasks with it, whatever they do to escape.
 func TestExecutorIsKilled(t *testing.T) {
 	s := newService(t, 1, 1)
 	c := s.subscribe("admin", s.token, frameworkInfo)
@@ -266,7 +266,7 @@ func TestExecutorOutlivesAgent(t *testing.T) {
 	s.checkJournal(0)
 }
 
-// After a restart of the machine nothing runs, and numbers of processes are others'.
+// After a restart of the machine nothing runs, and process numbers belong to other processes.
 func TestMachineRestarts(t *testing.T) {
 	s := newService(t, 1, 1)
 	c := s.subscribe("admin", s.token, frameworkInfo)
@@ -301,7 +301,7 @@ func TestMachineRestarts(t *testing.T) {
 	}
 }
 
-// The tasks of a group with a default executor have its id, and end together. What a supervisor ran that is killed ends too.
+// The tasks of a group with a default executor have its id, and end together. If a supervisor is killed, the process that it ran ends too.
 func TestDefaultExecutor(t *testing.T) {
 	s := newService(t, 1, 1)
 	c := s.subscribe("admin", s.token, frameworkInfo)

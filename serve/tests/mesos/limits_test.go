@@ -1,4 +1,4 @@
-// What one principal cannot take from others. Outside the proof.
+// Tests that one principal cannot use up the space of others. Outside the proof.
 
 package mesos
 

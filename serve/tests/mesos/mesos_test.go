@@ -184,7 +184,7 @@ func TestAgentIsGone(t *testing.T) {
 	}
 }
 
-// The time for which an agent may be away begins again with the service: while there was none, no agent could come.
+// The time for which an agent can be away starts again with the service, because no agent could connect while there was no service.
 func TestTimesBeginAgain(t *testing.T) {
 	t.Parallel()
 	s := newService(t, 1, 0, "-mesos-agent-gone", "8s")

@@ -1,4 +1,4 @@
-// Attacks: what a principal may not do to another one's framework. Outside the proof.
+// Attacks: a principal tries to act on another principal's framework. Outside the proof.
 
 package mesos
 

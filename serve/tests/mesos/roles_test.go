@@ -150,7 +150,7 @@ func TestUpdateFramework(t *testing.T) {
 	s.checkJournal(0)
 }
 
-// A framework takes the roles alone that its principal has the right to.
+// A framework gets only those roles that its principal has the right to.
 func TestUpdateNeedsRights(t *testing.T) {
 	needSetFramework(t)
 	s := newService(t, 1, 0)
@@ -163,7 +163,7 @@ func TestUpdateNeedsRights(t *testing.T) {
 	s.waitClients("web/a")
 }
 
-// A mesos-go scheduler comes again in another role while its tasks run.
+// A mesos-go scheduler subscribes again in another role while its tasks run.
 func TestSubscribeInOtherRole(t *testing.T) {
 	needSetFramework(t)
 	for _, codec := range []string{"protobuf", "json"} {

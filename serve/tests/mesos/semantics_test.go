@@ -1,4 +1,4 @@
-// What Mesos documents of events, kills, reconciliation and reservations. Outside the proof.
+// Tests of what Mesos documents about events, kills, reconciliation and reservations. Outside the proof.
 
 package mesos
 
@@ -36,7 +36,7 @@ func TestStreamBegins(t *testing.T) {
 	}
 }
 
-// TASK_KILLING is for frameworks with the capability alone, once, and no earlier state comes after it.
+// TASK_KILLING is sent only to frameworks with the capability, once, and no earlier state follows it.
 func TestKilling(t *testing.T) {
 	s := newService(t, 1, 0)
 	a := s.simulate("n1", scalar("cpus", "4"))

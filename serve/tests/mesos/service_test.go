@@ -89,7 +89,7 @@ func (p *process) log() string {
 	return string(text)
 }
 
-// service is a gateway or three, and agents.
+// service is one or three gateways, and agents.
 type service struct {
 	t        *testing.T
 	programs string
@@ -244,7 +244,7 @@ func (s *service) scheduler(name string, gateway int, flags ...string) *process 
 		"-token-file", filepath.Join(s.folder, "g0", "admin.token"), "-prefix", name}, flags...)...)
 }
 
-// wait waits until a scheduler has ended well.
+// wait waits until a scheduler has ended successfully.
 func (p *process) wait() {
 	p.t.Helper()
 	select {

@@ -47,7 +47,7 @@ func TestOutputIsRotated(t *testing.T) {
 	}
 }
 
-// Whoever owns a sandbox cannot make root write elsewhere.
+// The owner of a sandbox cannot make root write elsewhere.
 func TestOutputFollowsNothing(t *testing.T) {
 	folder := t.TempDir()
 	secret := filepath.Join(folder, "secret")

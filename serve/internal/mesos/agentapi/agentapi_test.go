@@ -20,8 +20,8 @@ import (
 
 const secret = "SECRET"
 
-// newServer returns a server whose agent has three commands: t1 has finished and that is acknowledged, t2 has failed and is not, and t3 is
-// not started. Callers have the rights that their header names.
+// newServer returns a server whose agent has three commands: t1 has finished, and this is acknowledged; t2 has failed, and this is not
+// acknowledged; t3 is not started. Callers have the rights that their header names.
 func newServer(t *testing.T) (*Server, string) {
 	t.Helper()
 	folder, err := filepath.EvalSymlinks(t.TempDir())
@@ -75,7 +75,7 @@ func (s *Server) ask(method, path, rights, body string, headers ...string) *http
 	return w
 }
 
-// at returns what is at a path of keys and indexes in JSON, or nil.
+// at returns the JSON value at a path of keys and indexes, or nil.
 func at(text []byte, path ...interface{}) (value interface{}) {
 	json.Unmarshal(text, &value)
 	for _, key := range path {
@@ -208,7 +208,7 @@ func TestFiles(t *testing.T) {
 	}
 }
 
-// Whatever the path, and whatever a task puts into its sandbox, nothing outside is shown.
+// Whatever the path, and whatever a task puts into its sandbox, nothing outside of the sandbox is shown.
 func TestNothingOutsideIsShown(t *testing.T) {
 	s, folder := newServer(t)
 	box := folder + "/tasks/k-t2/sandbox"

@@ -19,8 +19,8 @@ func keyOf(launch int, framework, id string) string {
 	return fmt.Sprintf("%d-%x", launch, sum[:6])
 }
 
-// newExecutorServer returns a server whose agent has the executor e of the framework f, with a task that it did not get, one that runs, and
-// one that has ended.
+// newExecutorServer returns a server whose agent has the executor e of the framework f, with three tasks: one that the executor did not get, one
+// that runs, and one that has ended.
 func newExecutorServer(t *testing.T) (*Server, string) {
 	t.Helper()
 	folder, err := filepath.EvalSymlinks(t.TempDir())

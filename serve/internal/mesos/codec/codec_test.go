@@ -74,7 +74,7 @@ func TestJSON(t *testing.T) {
 	}
 }
 
-// Whatever one encoding has, the other one carries.
+// Each encoding carries everything that the other one has.
 func TestUnknownFieldsAreCarried(t *testing.T) {
 	text := `{"type":"SUBSCRIBE","subscribe":{"framework_info":{"user":"u","name":"n","capabilities":[{"type":"NEWER"},{"type":"MULTI_ROLE"}],"offer_filters":{"a":{"b":[1]}}}}}`
 	m, err := ReadJSON(call, []byte(text))
@@ -100,7 +100,7 @@ func TestUnknownFieldsAreCarried(t *testing.T) {
 	}
 }
 
-// A field that is hidden among those that are not known does not become one that is.
+// A known field that is hidden among the unknown ones does not become a field of the message.
 func TestKnownFieldsAreNotSmuggled(t *testing.T) {
 	for _, hidden := range []string{`{"framework_id":{"value":"f"}}`, `{"type":"REVIVE"}`, `{"@protobuf":"AA=="}`, `no JSON`, `[1]`} {
 		text := protowire.AppendString(protowire.AppendTag(nil, rawField, protowire.BytesType), hidden)
@@ -144,7 +144,7 @@ func TestAccessors(t *testing.T) {
 	m.Text("nothing")
 }
 
-// The name of a call that the type does not have is known, so that it can be refused by its name.
+// The name of a call that the type does not have is known, so the call can be refused by name.
 func TestNames(t *testing.T) {
 	for text, want := range map[string]string{`{"type":"REVIVE"}`: "REVIVE", `{"type":"UPDATE_FRAMEWORK"}`: "UPDATE_FRAMEWORK", `{"type":"RECONCILE_OPERATIONS"}`: "RECONCILE_OPERATIONS", `{"type":17}`: "UPDATE_FRAMEWORK", `{"type":99}`: "99", `{"type":0}`: "UNKNOWN", `{}`: "", `{"type":""}`: "", `{"type":null}`: ""} {
 		m, err := ReadJSON(call, []byte(text))

@@ -22,7 +22,7 @@ var newer = []string{
 	"mesos.quota.QuotaConfig.", "mesos.quota.QuotaStatus.configs",
 }
 
-// leftOut are the parts that this service has not, as it has no maintenance.
+// leftOut are the parts that this service does not have, because it has no maintenance.
 var leftOut = []string{"mesos.master.Call.UpdateMaintenanceSchedule.", "mesos.master.Call.StartMaintenance.", "mesos.master.Call.StopMaintenance.",
 	"mesos.master.Call.update_maintenance_schedule", "mesos.master.Call.start_maintenance", "mesos.master.Call.stop_maintenance",
 	"mesos.master.Response.GetMaintenanceStatus.", "mesos.master.Response.GetMaintenanceSchedule.", "mesos.master.Response.get_maintenance_status", "mesos.master.Response.get_maintenance_schedule"}

@@ -71,7 +71,7 @@ func TestBadDocuments(t *testing.T) {
 	}
 }
 
-// Every cut is an error with its place.
+// A document that is cut anywhere gives an error with its place.
 func TestCutDocuments(t *testing.T) {
 	whole := fixture(t, "1.4", "", "", "")
 	body := strings.TrimSpace(string(whole.State.Body))
@@ -162,7 +162,7 @@ func TestReservationsAreUsedDeepestFirst(t *testing.T) {
 	}
 }
 
-// Quotas of /roles are taken where /quota was not asked (Mesos 1.9 and later).
+// Quotas of /roles are used if /quota was not asked (Mesos 1.9 and later).
 func TestQuotaOfRoles(t *testing.T) {
 	answers := fixture(t, "1.11", "", "", "")
 	answers.Quota = Answer{}
@@ -173,7 +173,7 @@ func TestQuotaOfRoles(t *testing.T) {
 	}
 }
 
-// An executor that does not say its role has that of its task.
+// An executor that does not name its role has the role of its task.
 func TestRoleOfExecutor(t *testing.T) {
 	state := `{"version":"1.11.0","slaves":[{"id":"S0","unreserved_resources":{"cpus":4}}],"frameworks":[{"id":"F0","roles":["a","b"],
 		"tasks":[{"id":"t","slave_id":"S0","executor_id":"e","state":"TASK_RUNNING","role":"b","resources":{"cpus":1}}],

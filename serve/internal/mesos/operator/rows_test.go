@@ -1,4 +1,4 @@
-// Tests of what is computed from the allocator's rows. Outside the proof.
+// Tests of sums over the allocator's rows. Outside the proof.
 
 package operator
 
@@ -42,7 +42,7 @@ func TestRows(t *testing.T) {
 	}
 }
 
-// Offers are rescinded where too little is free, and only those that have some of it.
+// Offers are rescinded if too little is free, and only those that have some of the wanted resources.
 func TestRescinds(t *testing.T) {
 	for _, c := range []struct {
 		event, resources string

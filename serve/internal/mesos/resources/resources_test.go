@@ -80,7 +80,7 @@ func TestMessages(t *testing.T) {
 	}
 }
 
-// Take, against sets of single units.
+// Compares Take with sets of single units.
 func TestTake(t *testing.T) {
 	random := rand.New(rand.NewSource(1))
 	draw := func() Bundle {

@@ -12,7 +12,7 @@ import (
 	"gateway/internal/registry/mesos"
 )
 
-// What is published comes in order, whenever it is taken.
+// Published events come in order, whenever they are taken.
 func TestEventsComeInOrder(t *testing.T) {
 	s := NewStreams()
 	one := s.add("s")
@@ -76,7 +76,7 @@ func TestStreamsEnd(t *testing.T) {
 	}
 }
 
-// A name depends on the principal and the id, and is none that somebody can choose.
+// A name depends on the principal and the id, and cannot be chosen.
 func TestOwnNames(t *testing.T) {
 	seen := map[string]string{}
 	for _, of := range [][2]string{{"a", "site"}, {"b", "site"}, {"a", "site2"}, {"as", "ite"}, {"", "asite"}, {"a", ""}} {

@@ -1,4 +1,4 @@
-// The fold against a small allocator and a slow definition. Outside the proof.
+// Compares the registry's state with a small allocator and a slow definition. Outside the proof.
 
 package mesos
 
@@ -38,7 +38,7 @@ type slowExecutor struct {
 	isEnding                   bool
 }
 
-// define looks at all messages, for each task that was ever launched, what became of it.
+// define derives the outcome of each task that was ever launched from all messages.
 func define(messages []*registry.Message) (rows []string) {
 	var tasks []*slowTask
 	var executors []*slowExecutor
@@ -245,7 +245,7 @@ func (w *world) check(s *State) error {
 	return nil
 }
 
-// streams checks what is published: nothing comes on a stream before its first event or after its end, and updates of a task are in order.
+// streams checks the published events: nothing comes on a stream before its first event or after its end, and updates of a task are in order.
 type streams struct {
 	first  map[string]bool
 	ended  map[string]bool
@@ -269,7 +269,7 @@ func (c *streams) publish(e Event) {
 	}
 }
 
-// Random messages of gateways whose knowledge may be old, with restarts from snapshots on the way.
+// Random messages of gateways whose knowledge can be outdated, with restarts from snapshots in between.
 func TestFoldIsAsDefined(t *testing.T) {
 	const seeds, steps = 200, 500
 	launched, ended, executors, left := 0, 0, 0, 0

@@ -1,4 +1,4 @@
-// Tests of what operators do to agents, and of what they see. Outside the proof.
+// Tests of operators' changes to agents, and of what operators see. Outside the proof.
 
 package mesos
 
@@ -103,7 +103,7 @@ func TestDrainFold(t *testing.T) {
 	}
 }
 
-// A drain ends when the framework of the last task is removed, and one without tasks ends at once. What the allocator refuses has no effect.
+// A drain ends when the framework of the last task is removed; a drain without tasks ends at once. A call that the allocator refuses has no effect.
 func TestDrainEnds(t *testing.T) {
 	l := newList()
 	l.begin(0)
@@ -148,7 +148,7 @@ func TestGoneFold(t *testing.T) {
 	}
 }
 
-// What operators see of a completed task is kept in short, and the states that it took are those at their times.
+// Of a completed task, operators see a short description and the states that it entered, with their times.
 func TestCompletedTasksAreKnown(t *testing.T) {
 	l := newList()
 	l.begin(0)
@@ -192,7 +192,8 @@ func TestKnownIsACopy(t *testing.T) {
 	}
 }
 
-// An agent that was deactivated, and is removed as it stays away, is deactivated when it comes again, unless it was reactivated meanwhile.
+// An agent that was deactivated and then removed because it stayed away is deactivated when it registers again, unless it was reactivated in the
+// meantime.
 func TestDeactivationIsKept(t *testing.T) {
 	register := func(l *list, last string) {
 		l.put(&Note{Kind: NoteAgent, Agent: "n1", Stream: "b", Info: []byte("x")}, line("add_agent", "agent", "n1"), line(last, "agent", "n1"))

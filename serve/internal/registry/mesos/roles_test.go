@@ -1,4 +1,4 @@
-// The roles of frameworks in the small allocator, and what the fold has to have of them. Outside the proof.
+// The roles of frameworks in the small allocator, and what the registry must have of them. Outside the proof.
 
 package mesos
 
@@ -152,7 +152,8 @@ func (w *world) checkRoles(s *State) error {
 	return nil
 }
 
-// A framework that leaves a role with a task has it until the task has ended, and an update that the allocator refuses changes nothing.
+// A framework that leaves a role in which it has a task keeps the role until the task has ended. An update that the allocator refuses changes
+// nothing.
 func TestRoles(t *testing.T) {
 	var events []string
 	s, w := New(func(e Event) { events = append(events, e.Kind) }), newWorld(1)

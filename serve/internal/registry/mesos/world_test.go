@@ -1,4 +1,4 @@
-// A small allocator, and gateways that put random messages. Outside the proof.
+// A small allocator, and gateways that append random messages. Outside the proof.
 
 package mesos
 
@@ -162,7 +162,7 @@ func (w *world) message(n *Note, lines ...string) *registry.Message {
 	return m
 }
 
-// random makes a message as a gateway that saw a state some time ago would: what it knows may be old.
+// random makes a message as a gateway would that saw an earlier state.
 func (w *world) random(seen *State) *registry.Message {
 	framework, agent, stream := fmt.Sprintf("f%d", w.Intn(3)), fmt.Sprintf("a%d", w.Intn(3)), fmt.Sprintf("s%d", w.Int63())
 	f := seen.Frameworks[framework]

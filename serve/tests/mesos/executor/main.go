@@ -161,7 +161,7 @@ func (p *program) kill(id string) {
 	}
 }
 
-// update sends a status. It is sent again by the next subscription when it is not acknowledged.
+// update sends a status. If it is not acknowledged, the next subscription sends it again.
 func (p *program) update(id string, state mesos.TaskState) {
 	status := mesos.TaskStatus{TaskID: mesos.TaskID{Value: id}, ExecutorID: &mesos.ExecutorID{Value: p.config.ExecutorID}, State: &state,
 		Source: mesos.SOURCE_EXECUTOR.Enum(), UUID: uuid.NewRandom()}

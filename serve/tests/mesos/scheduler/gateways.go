@@ -1,4 +1,4 @@
-// Several gateways: who does not answer, or whose stream is silent, is left for another one. Outside the proof.
+// Several gateways: if one does not answer, or its stream is silent, another one is used. Outside the proof.
 
 package main
 

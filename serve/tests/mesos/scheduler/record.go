@@ -1,4 +1,4 @@
-// A record of all tasks and statuses, which outlives the program: what a framework keeps in a store of its own. Outside the proof.
+// A record of all tasks and statuses, which outlives the program, like the store of a real framework. Outside the proof.
 
 package main
 
@@ -45,7 +45,7 @@ func isTerminal(state string) bool {
 	return false
 }
 
-// takeUp reads what an earlier process left: tasks without a terminal status may run.
+// takeUp reads the record of an earlier process: tasks without a terminal status may still run.
 func (f *framework) takeUp(path string) {
 	text, _ := os.ReadFile(path)
 	for _, line := range strings.Split(string(text), "\n") {

@@ -1,6 +1,5 @@
 -- What a board publishes, as its contracts describe it.
 pub mod History
-pub mod HistoryLaws
 pub mod Sheets
 pub mod Slates
 pub mod Boards

@@ -11,3 +11,4 @@ pub mod NameLemmas
 pub mod SearchLemmas
 pub mod SumLemmas
 pub mod ValueAnswers
+pub mod laws

@@ -1,6 +1,5 @@
 -- Theorems about the definitions in the folder above.
 pub mod Laws
-pub mod ListLaws
 pub mod QuantitiesLaws
 pub mod ValueLaws
 pub mod KeyLaws
@@ -10,8 +9,6 @@ pub mod RestLaws
 pub mod BundleLaws
 pub mod PartLaws
 pub mod SumLaws
-pub mod UnionLaws
-pub mod OneLaws
 pub mod UnitLaws
 pub mod UnitProofs
 pub mod TakenLaws

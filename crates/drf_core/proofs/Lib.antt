@@ -3,3 +3,4 @@ pub mod drafting
 pub mod effects
 pub mod refusing
 pub mod stepping
+pub mod MachineLaws

@@ -1,6 +1,5 @@
 -- What the contracts of the core say: the allocator as callers see it, refusals, cycles, and the work of the sorter.
 pub mod Machine
-pub mod MachineLaws
 pub mod Copies
 pub mod Keeping
 pub mod Cluster

@@ -5,7 +5,7 @@ use Rattle.std.specs.Global.{Vec}
 use Rattle.std.specs.Io.KnownBytes.{Appends}
 use Rattle.std.proofs.lemmas.List.Elements.{All-nil, All-weaker}
 use Rattle.drf_board.specs.History.{IsLegal}
-use Rattle.drf_board.specs.HistoryLaws.{legal-nil}
+use Rattle.drf_board.proofs.HistoryLaws.{legal-nil}
 use Rattle.drf_board.specs.declared.entry.Entry.{Entry}
 use Rattle.drf_core.specs.Machine.{Engine, Machine, live}
 use Rattle.drf_journal.specs.declared.fault.RunFault.TheVariants.{Read, Write, Memory}

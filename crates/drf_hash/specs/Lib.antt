@@ -2,4 +2,3 @@
 pub mod Reading
 pub mod Slots
 pub mod SlotLaws
-pub mod GapLaws

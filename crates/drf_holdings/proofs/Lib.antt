@@ -11,3 +11,4 @@ mod Parts
 mod Named
 mod Running
 mod Unlisted
+pub mod RisingLaws

@@ -1,6 +1,5 @@
 -- The definitions that the contracts of this crate use.
 pub mod Rising
-pub mod RisingLaws
 pub mod ByNumber
 pub mod Listed
 pub mod Taking

@@ -5,3 +5,5 @@ pub mod Members
 pub mod Merged
 pub mod Names
 pub mod Steps
+pub mod IntervalLaws
+pub mod ListedLaws

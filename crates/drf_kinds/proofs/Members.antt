@@ -12,7 +12,7 @@ use Rattle.std.proofs.lemmas.List.Folds.{list_any-append}
 use Rattle.std.proofs.lemmas.List.Sums.{sum_by-cons, sum_by_more, sum_by-take-le}
 use Rattle.drf_kinds.specs.declared.interval.Interval.{Interval}
 use Rattle.drf_kinds.specs.Intervals.{members, numbers, is_in, AreMaximal, AreMaximalFrom, IsNumberSet}
-use Rattle.drf_kinds.specs.IntervalLaws.{in_range, in_all_numbers, contains-members, same_numbers}
+use Rattle.drf_kinds.proofs.IntervalLaws.{in_range, in_all_numbers, contains-members, same_numbers}
 use Rattle.drf_kinds.proofs.Steps.{none_below}
 
 pub members_of-nil : members [] ≡ set.empty

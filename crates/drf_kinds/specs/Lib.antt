@@ -1,8 +1,6 @@
 -- Finite sets of numbers as intervals, finite sets of labels as lists, and theorems about them.
 pub mod Intervals
-pub mod IntervalLaws
 pub mod Listed
-pub mod ListedLaws
 pub mod Names
 pub mod NumberSetLaws
 pub mod SetLaws

@@ -1,9 +1,6 @@
 -- Statements about events, turns and runs of the definition. Their proofs are in `laws`.
 pub mod ConsumptionLaws
 pub mod MovingLaws
-pub mod EndedLaws
-pub mod SuppressionLaws
-pub mod OfferedLaws
 pub mod KeptLimitLaws
 pub mod HeldForLaws
 pub mod Kept
@@ -15,4 +12,3 @@ pub mod FilterLaws
 pub mod RunLaws
 pub mod RoleChangeLaws
 pub mod BoundLaws
-pub mod laws

@@ -7,7 +7,7 @@ use Rattle.std.specs.Cmp.Lexicographic.{bytes_decides}
 use Rattle.drf_role.specs.Name.{IsName}
 use Rattle.drf_role.specs.Parts.{parts_of}
 use Rattle.drf_role.specs.Role.{IsRole}
-use Rattle.drf_role.specs.TestLaws.{name_decides, role_decides}
+use Rattle.drf_role.proofs.TestLaws.{name_decides, role_decides}
 use Rattle.drf_lines.specs.declared.fault.LineFault.{LineFault}
 use Rattle.drf_lines.specs.Words.{name_in, role_in}
 

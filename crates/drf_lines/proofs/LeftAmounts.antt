@@ -11,7 +11,7 @@ use Rattle.drf_role.specs.Tests.{is_label_byte}
 use Rattle.drf_role.specs.Text.{Text}
 use Rattle.drf_bundle.specs.Quantities.{without_zeros}
 use Rattle.drf_bundle.specs.declared.quantities.Entry.{Entry}
-use Rattle.drf_text.specs.ByteLaws.{is_amount_byte, amount_has_none, HasNone, not_that, label_has_none}
+use Rattle.drf_text.proofs.ByteLaws.{is_amount_byte, amount_has_none, HasNone, not_that, label_has_none}
 use Rattle.drf_text.specs.Written.{amount_text, quantity_text}
 use Rattle.drf_lines.specs.Amounts.{left_amounts}
 use Rattle.drf_lines.specs.ReportLine.{amounts_text}

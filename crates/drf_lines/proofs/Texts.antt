@@ -4,7 +4,7 @@ use Rattle.std.proofs.lemmas.List.Elements.{All-head, All-tail}
 use Rattle.drf_role.specs.Name.{IsName}
 use Rattle.drf_role.specs.Role.{IsRole}
 use Rattle.drf_role.specs.Parts.{parts_of, text_of}
-use Rattle.drf_role.specs.TestLaws.{name_decides, role_decides}
+use Rattle.drf_role.proofs.TestLaws.{name_decides, role_decides}
 use Rattle.drf_bundle.specs.Bundle.{IsBundle}
 use Rattle.drf_bundle.specs.declared.quantities.Entry.{Entry}
 use Rattle.drf_bundle.specs.declared.resource.Resource.{Resource}

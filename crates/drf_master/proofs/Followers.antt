@@ -2,7 +2,7 @@
 use Rattle.std.proofs.Common.{◌≡◌, ℕ, ◌+◌, ◌<◌, ◌≤◌, List, [], ◌∷◌, ◌++◌, length, take, get_or, Option, None, sym, ap, subst, ◌∙◌, take_all, arith}
 use Rattle.std.proofs.lemmas.List.{take_more}
 use Rattle.drf_board.specs.History.{IsLegal, entry}
-use Rattle.drf_board.specs.HistoryLaws.{legal-nil}
+use Rattle.drf_board.proofs.HistoryLaws.{legal-nil}
 use Rattle.drf_board.specs.declared.entry.Entry.{Entry}
 use Rattle.drf_core.specs.Machine.{Engine, IsAfter}
 use Rattle.drf_rows.specs.LimitNumbers.{LimitNumbers}

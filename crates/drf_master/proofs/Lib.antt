@@ -5,3 +5,4 @@ pub mod Runs
 pub mod Scripts
 pub mod Closing
 pub mod Followers
+pub mod laws

@@ -1,7 +1,7 @@
 -- Lemmas about a core that takes the entries of a journal.
 use Rattle.std.proofs.Common.{◌≡◌, ℕ, ◌+◌, ◌<◌, List, [], ◌∷◌, ◌++◌, length, take, refl, sym, ap, subst, ◌∙◌, arith}
 use Rattle.drf_board.specs.History.{IsLegal, entry, rows_of}
-use Rattle.drf_board.specs.HistoryLaws.{legal-push, rows_of-nil, rows_of-push}
+use Rattle.drf_board.proofs.HistoryLaws.{legal-push, rows_of-nil, rows_of-push}
 use Rattle.drf_board.specs.declared.entry.Entry.{Entry}
 use Rattle.drf_core.specs.Machine.{Engine, IsAfter, IsOpened, IsSame}
 use Rattle.drf_rows.specs.LimitNumbers.{LimitNumbers}

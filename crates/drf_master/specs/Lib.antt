@@ -6,4 +6,3 @@ pub mod Journal
 pub mod Calling
 pub mod Closing
 pub mod Scripts
-pub mod laws

@@ -8,5 +8,4 @@ pub mod Waiting
 pub mod Passes
 pub mod Frameworks
 pub mod Overtaken
-pub mod laws
 pub mod examples

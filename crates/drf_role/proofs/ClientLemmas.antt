@@ -5,7 +5,7 @@ use Rattle.std.proofs.Common.{sym, ◌∙◌, append_assoc}
 use Rattle.std.proofs.lemmas.Bool.Decides.{same_from_decides, Decides-and, Decides-like}
 use Rattle.std.proofs.lemmas.List.{same_from_push}
 use Rattle.drf_role.specs.Path.{client_path}
-use Rattle.drf_role.specs.PartLaws.{paths_decided}
+use Rattle.drf_role.proofs.PartLaws.{paths_decided}
 
 -- the two texts, or the two paths, are equal
 abbrev pub same_text : List ℕ → List ℕ → Bool

@@ -4,3 +4,6 @@ pub mod PathLemmas
 pub mod OrderLemmas
 pub mod ClientLemmas
 pub mod LabelTextLemmas
+pub mod PartLaws
+pub mod RoleLaws
+pub mod TestLaws

@@ -10,8 +10,8 @@ use Rattle.drf_role.specs.Name.{IsNameByte, IsName}
 use Rattle.drf_role.specs.Parts.{parts_of, text_of}
 use Rattle.drf_role.specs.Role.{IsRole}
 use Rattle.drf_role.specs.Path.{client_path, IsClientPath, IsNodePath}
-use Rattle.drf_role.specs.PartLaws.{HasNoSlash, parts_of-append}
-use Rattle.drf_role.specs.RoleLaws.{parts_of_role, role_ascii}
+use Rattle.drf_role.proofs.PartLaws.{HasNoSlash, parts_of-append}
+use Rattle.drf_role.proofs.RoleLaws.{parts_of_role, role_ascii}
 
 byte_no_slash : (b : ℕ) → IsNameByte b → eqb b 47 ≡ false
 byte_no_slash b h = grind (arith, nat_tests)

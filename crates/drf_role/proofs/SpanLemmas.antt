@@ -7,7 +7,7 @@ use Rattle.std.proofs.lemmas.List.Splits.{slice_split-cons_yes, slice_split-cons
 use Rattle.drf_role.specs.declared.joined.Span.{Span}
 use Rattle.drf_role.specs.Parts.{parts_of, text_of}
 use Rattle.drf_role.specs.Spans.{spans_from}
-use Rattle.drf_role.specs.PartLaws.{HasNoSlash, first_part, parts_no_slash, parts_of-text_of, text_of-parts_of}
+use Rattle.drf_role.proofs.PartLaws.{HasNoSlash, first_part, parts_no_slash, parts_of-text_of, text_of-parts_of}
 
 abbrev pub span : ℕ → ℕ → Span
 span start end = record { start = start; end = end }

@@ -3,12 +3,9 @@ pub mod Text
 pub mod TextLaws
 pub mod Name
 pub mod Parts
-pub mod PartLaws
 pub mod Path
 pub mod PathLaws
 pub mod Role
-pub mod RoleLaws
 pub mod Spans
 pub mod Tests
-pub mod TestLaws
 pub mod LabelText

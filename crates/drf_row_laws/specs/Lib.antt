@@ -1,18 +1,13 @@
 -- Theorems about the definition, on which the proofs of the code depend.
-pub mod ServingOrder
 pub mod HoldingsLaws
 pub mod FrameLaws
 pub mod StepLaws
-pub mod RunLaws
 pub mod FilterLaws
 pub mod LiveLaws
 pub mod CycleLaws
 pub mod ConsistentLaws
-pub mod RegistrationLaws
 pub mod EndingLaws
-pub mod OfferLaws
 pub mod MemberLaws
-pub mod RoleLaws
 pub mod TotalLaws
 pub mod WeightLaws
 pub mod TotalsLaws
@@ -22,7 +17,5 @@ pub mod QuotaLaws
 pub mod EntitlementLaws
 pub mod Laws
 pub mod LifeLaws
-pub mod OthersLaws
 pub mod LowestLaws
 pub mod ReportedShares
-pub mod ReportLaws

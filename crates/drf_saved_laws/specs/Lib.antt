@@ -1,4 +1,3 @@
 -- Theorems about saved rows, and examples.
 pub mod SavedLaws
-pub mod laws
 pub mod examples

@@ -8,7 +8,7 @@ use Rattle.drf_role.specs.Path.{same_path, begins_with}
 use Rattle.drf_role.specs.PathLaws.{same_path-true, same_path_itself}
 use Rattle.drf_rows.specs.Share.{Standing, stands_before, is_serving_order}
 use Rattle.drf_rows.specs.Held.{weight_of}
-use Rattle.drf_row_laws.specs.ServingOrder.{stands_before-back, same_path-before}
+use Rattle.drf_row_laws.proofs.ServingOrder.{stands_before-back, same_path-before}
 use Rattle.drf_sorter.specs.Content.{Ranked, Content, IsOrderOf, active_paths, standing_in, clients_under}
 use Rattle.drf_bundle.specs.ListLaws.{sum_by-filter}
 use Rattle.drf_sorter.proofs.SumLemmas.{part_of}

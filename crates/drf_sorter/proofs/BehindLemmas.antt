@@ -13,7 +13,7 @@ use Rattle.drf_role.specs.Parts.{parts_of, text_of}
 use Rattle.drf_role.specs.Path.{Path}
 use Rattle.drf_role.specs.Text.{Text}
 use Rattle.drf_role.specs.TextLaws.{cmp_itself}
-use Rattle.drf_role.specs.PartLaws.{HasNoSlash, first_part, parts_no_slash, parts_of-append, parts_of-text_of, text_of-append}
+use Rattle.drf_role.proofs.PartLaws.{HasNoSlash, first_part, parts_no_slash, parts_of-append, parts_of-text_of, text_of-append}
 use Rattle.drf_rows.specs.Report.{path_cmp}
 
 -- after a prefix that two paths share, the rest decides

@@ -15,3 +15,4 @@ pub mod ServedLemmas
 pub mod TurnLemmas
 pub mod LineLemmas
 pub mod BehindLemmas
+pub mod laws

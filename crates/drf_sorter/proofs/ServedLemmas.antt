@@ -9,9 +9,9 @@ use Rattle.drf_rows.specs.Client.{Client, path_of}
 use Rattle.drf_rows.specs.Share.{Standing, is_serving_order}
 use Rattle.drf_rows.specs.Cycle.{serving_order}
 use Rattle.drf_bundle.specs.ListLaws.{each_map}
-use Rattle.drf_row_laws.specs.ServingOrder.{serving_order-unique}
+use Rattle.drf_row_laws.proofs.ServingOrder.{serving_order-unique}
 use Rattle.drf_sorter.specs.Served.{AreClients, Weighs}
-use Rattle.drf_sorter.specs.laws.SortedLaws.{sorted, moved_sorted, ordered_sorted}
+use Rattle.drf_sorter.proofs.laws.SortedLaws.{sorted, moved_sorted, ordered_sorted}
 
 -- the client with a path
 abbrev client_at : Path → Client

@@ -14,14 +14,14 @@ use Rattle.drf_amount.specs.declared.algebra.AlgebraFault.{AlgebraFault}
 use Rattle.drf_amount.specs.declared.algebra.AlgebraFault.TheVariants as refusal
 use Rattle.drf_role.specs.Name.{IsLabel}
 use Rattle.drf_role.specs.Role.{IsRole, default_role}
-use Rattle.drf_role.specs.RoleLaws.{parts_of_role}
+use Rattle.drf_role.proofs.RoleLaws.{parts_of_role}
 use Rattle.drf_role.specs.Parts.{parts_of}
 use Rattle.drf_role.specs.Text.{Text}
 use Rattle.drf_role.specs.TextLaws.{cases_cmp, same_from_cmp}
 use Rattle.drf_role.specs.Tests.{is_label, is_role}
-use Rattle.drf_role.specs.TestLaws.{label_decides, role_decides}
+use Rattle.drf_role.proofs.TestLaws.{label_decides, role_decides}
 use Rattle.drf_kinds.specs.Intervals.{IsNumberSet, interval_of, is_in, is_within, members, numbers}
-use Rattle.drf_kinds.specs.IntervalLaws.{contains-members}
+use Rattle.drf_kinds.proofs.IntervalLaws.{contains-members}
 use Rattle.drf_kinds.specs.Names.{IsLabelSet, text_cmp}
 use Rattle.drf_kinds.specs.declared.interval.Interval.{Interval}
 use Rattle.drf_bundle.specs.Bundle.{IsBundle}
@@ -30,7 +30,7 @@ use Rattle.drf_bundle.specs.Union.{IsPiece, has_other_kind, is_reserved_elsewher
 use Rattle.drf_bundle.specs.Value.{IsGiven, Thousandths, amount_in, units_in}
 use Rattle.drf_bundle.specs.laws.BundleLaws.{bundle-empty}
 use Rattle.drf_bundle.specs.laws.QuantitiesLaws.{in_order-with}
-use Rattle.drf_bundle.specs.laws.UnionLaws.{bundle-with_united}
+use Rattle.drf_bundle.proofs.laws.UnionLaws.{bundle-with_united}
 use Rattle.drf_bundle.specs.declared.quantities.Entry.{Entry}
 use Rattle.drf_bundle.specs.declared.resource.Resource.{Resource}
 use Rattle.drf_bundle.specs.declared.value.Value.{Value}

@@ -13,11 +13,11 @@ use Rattle.std.proofs.lemmas.Fmt.{IsAscii-decimal}
 use Rattle.drf_role.specs.Name.{IsLabel, IsLabelByte, IsName, IsNameByte}
 use Rattle.drf_role.specs.Parts.{text_of}
 use Rattle.drf_role.specs.Role.{IsRole}
-use Rattle.drf_role.specs.RoleLaws.{role_ascii}
+use Rattle.drf_role.proofs.RoleLaws.{role_ascii}
 use Rattle.drf_role.specs.TextLaws.{cmp_itself}
 use Rattle.drf_kinds.specs.Intervals.{AreMaximalFrom}
 use Rattle.drf_kinds.specs.Listed.{listed, intervals_of}
-use Rattle.drf_kinds.specs.ListedLaws.{maximal-intervals_of, from_list-listed}
+use Rattle.drf_kinds.proofs.ListedLaws.{maximal-intervals_of, from_list-listed}
 use Rattle.drf_kinds.specs.Names.{IsLabelSet, text_cmp}
 use Rattle.drf_kinds.specs.declared.interval.Interval.{Interval}
 use Rattle.drf_bundle.specs.Bundle.{IsBundle, IsResource, is_default}
@@ -26,7 +26,7 @@ use Rattle.drf_bundle.specs.declared.quantities.Entry.{Entry}
 use Rattle.drf_bundle.specs.declared.resource.Resource.{Resource}
 use Rattle.drf_bundle.specs.declared.value.Value.{Value}
 use Rattle.drf_bundle.specs.declared.value.Value.TheVariants.{Scalar, Ranges, Items}
-use Rattle.drf_text.specs.ByteLaws.{amount_has_none, is_amount_byte}
+use Rattle.drf_text.proofs.ByteLaws.{amount_has_none, is_amount_byte}
 use Rattle.drf_text.specs.RoundTrip.{IsEntry}
 use Rattle.drf_text.specs.Written.{amount_text, bundle_text, head_text, interval_text, intervals_text, quantities_text, quantity_text, resource_text, value_text}
 

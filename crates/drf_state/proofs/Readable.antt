@@ -7,7 +7,7 @@ use Rattle.drf_role.specs.Parts.{parts_of}
 use Rattle.drf_role.specs.Role.{IsRole}
 use Rattle.drf_role.specs.Text.{Text, same_text}
 use Rattle.drf_role.specs.Tests.{is_name, is_role}
-use Rattle.drf_role.specs.TestLaws.{name_decides, role_decides}
+use Rattle.drf_role.proofs.TestLaws.{name_decides, role_decides}
 use Rattle.drf_bundle.specs.Bundle.{IsBundle}
 use Rattle.drf_bundle.specs.declared.quantities.Entry.{Entry}
 use Rattle.drf_bundle.specs.declared.resource.Resource.{Resource}

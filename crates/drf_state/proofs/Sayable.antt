@@ -13,7 +13,7 @@ use Rattle.sha2.specs.Sha256.{sha256}
 use Rattle.drf_role.specs.Name.{IsName}
 use Rattle.drf_role.specs.Parts.{text_of}
 use Rattle.drf_role.specs.Role.{IsRole}
-use Rattle.drf_role.specs.RoleLaws.{parts_of_role}
+use Rattle.drf_role.proofs.RoleLaws.{parts_of_role}
 use Rattle.drf_role.specs.Text.{Text}
 use Rattle.drf_bundle.specs.Bundle.{IsBundle}
 use Rattle.drf_bundle.specs.declared.resource.Resource.{Resource}

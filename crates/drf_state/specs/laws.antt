@@ -1,3 +1,2 @@
 -- Theorems about the text of a state, which prove the statements beside this folder.
 pub mod Parts
-pub mod Texts

@@ -1,3 +1,4 @@
 -- Lemmas on the offers of a cycle.
 pub mod Appended
 pub mod Counted
+pub mod DraftLaws

@@ -1,4 +1,3 @@
 -- The offers of a cycle, before and after they are added to the rows.
 pub mod Drafts
 pub mod Counting
-pub mod DraftLaws

@@ -19,3 +19,5 @@ pub mod ResourceText
 pub mod RoleText
 pub mod Together
 pub mod ValueText
+pub mod ByteLaws
+pub mod DecimalLaws

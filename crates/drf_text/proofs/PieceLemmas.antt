@@ -6,7 +6,7 @@ use Rattle.std.specs.List.{list_any}
 use Rattle.drf_text.proofs.Names.{Text, is_blank, trimmed, is_label_byte, is_label, HasNone, not_that, label_has_none, begins, head_of, body_of, name_of, is_reserved, is_head, is_body, members_are_labels, has_numbers, first_fault, Syntax, BadName, BadRole, BadNumber}
 use Rattle.drf_role.specs.Name.{IsLabel}
 use Rattle.drf_text.proofs.CutLemmas.{not_blank, trimmed_stays, before_at, after_at, any_at_mark, position_none}
-use Rattle.drf_role.specs.TestLaws.{label_decides}
+use Rattle.drf_role.proofs.TestLaws.{label_decides}
 use Rattle.drf_text.proofs.Numbers.{all_before}
 
 -- ---- labels

@@ -11,7 +11,7 @@ use Rattle.drf_text.proofs.Names.{Text, IsMeaning, fault_of_ranges, low_of, high
 use Rattle.drf_kinds.specs.declared.ranges.RangesFault.{RangesFault}
 use Rattle.drf_kinds.specs.declared.ranges.RangesFault.TheVariants as ranges
 use Rattle.drf_kinds.specs.Intervals.{members, numbers, interval_of, is_in}
-use Rattle.drf_kinds.specs.IntervalLaws.{contains-members, same_numbers, in_pairs}
+use Rattle.drf_kinds.proofs.IntervalLaws.{contains-members, same_numbers, in_pairs}
 use Rattle.drf_text.specs.Steps.{each_of, pair_in, numbers_between}
 use Rattle.drf_text.proofs.Parts.{pair_of, each_tested, flat_map-map}
 

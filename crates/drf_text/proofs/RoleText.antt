@@ -8,7 +8,7 @@ use Rattle.drf_role.specs.Role.{IsComponentByte, IsComponent, IsRolePath, IsRole
 use Rattle.drf_bundle.specs.Bundle.{is_default}
 use Rattle.drf_text.proofs.Names.{is_blank, HasNone, is_role}
 use Rattle.drf_text.proofs.CutLemmas.{is_between, joined_has_none}
-use Rattle.drf_role.specs.TestLaws.{role_decides}
+use Rattle.drf_role.proofs.TestLaws.{role_decides}
 
 pub component_no_colon : (b : ℕ) → IsComponentByte b → eqb b 58 ≡ false
 component_no_colon b is = ne_eqb b 58 is.no_colon

@@ -20,7 +20,7 @@ use Rattle.drf_bundle.specs.Value.{IsGiven}
 use Rattle.drf_bundle.specs.declared.value.Value.{Value}
 use Rattle.drf_bundle.specs.declared.value.Value.TheVariants.{Scalar, Ranges, Items}
 use Rattle.drf_kinds.specs.Listed.{listed, intervals_of}
-use Rattle.drf_kinds.specs.ListedLaws.{maximal-intervals_of, members-intervals_of, ascending-listed, from_list-listed}
+use Rattle.drf_kinds.proofs.ListedLaws.{maximal-intervals_of, members-intervals_of, ascending-listed, from_list-listed}
 use Rattle.drf_text.proofs.AmountText.{are_digits_of, value_of_digits, amount_read}
 use Rattle.drf_text.proofs.CutLemmas.{not_blank, is_between, not_between, IsPart, trimmed_stays, before_at, after_at, ends_closed, parts_found, joined_has_none}
 use Rattle.drf_text.proofs.PieceLemmas.{label_test, IsRightBody, begins_not}

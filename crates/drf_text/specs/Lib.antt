@@ -1,7 +1,5 @@
 -- The definitions of what texts of bundles, quantities and weights mean, and of how they are written.
 pub mod Blanks
-pub mod ByteLaws
-pub mod DecimalLaws
 pub mod Faults
 pub mod Meaning
 pub mod Number

@@ -30,8 +30,8 @@ use Rattle.drf_explain.specs.declared.finding.Finding.TheVariants.{Inactive, Not
 use Rattle.drf_explain.specs.declared.finding.Outcome.{Outcome}
 use Rattle.drf_explain.specs.declared.gates.Gates.{Gates}
 use Rattle.drf_tables.specs.cycle.Drafts.{with_offers}
-use Rattle.drf_tables.specs.cycle.DraftLaws.{agents-with_offers}
-use Rattle.drf_laws.specs.laws.Clients.{path_of-injective}
+use Rattle.drf_tables.proofs.cycle.DraftLaws.{agents-with_offers}
+use Rattle.drf_laws.proofs.laws.Clients.{path_of-injective}
 use Rattle.drf_core.specs.cycle.Drafting.{IsRegisteredPath, IsTried, is_open_at, turn_at}
 use Rattle.drf_core.specs.cycle.Entitling.{IsEntitlement, IsQuotaOf}
 use Rattle.drf_core.specs.cycle.Explaining.{IsOutcomeOf, left_to_tell, left_told, told_at, told_by, told_on, untouched_at}

@@ -14,7 +14,7 @@ use Rattle.drf_rows.specs.Roles.{is_of_left}
 use Rattle.drf_rows.specs.Step.{effect, live_rows}
 use Rattle.drf_row_laws.specs.FilterLaws.{number_in_force-later}
 use Rattle.drf_bundle.specs.ListLaws.{length-filter_le}
-use Rattle.drf_row_laws.specs.OthersLaws.{cycle_only_offers}
+use Rattle.drf_row_laws.proofs.OthersLaws.{cycle_only_offers}
 use Rattle.drf_rows.specs.declared.event.Accept as accepting
 use Rattle.drf_rows.specs.declared.event.Decline as declining
 use Rattle.drf_rows.specs.declared.event.Event.{Event}

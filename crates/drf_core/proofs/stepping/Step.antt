@@ -6,7 +6,7 @@ use Rattle.drf_rows.specs.LimitNumbers.{LimitNumbers}
 use Rattle.drf_rows.specs.Step.{live_rows, first_case, refusal_of, effect, rows_after, rows_after_all, reply_to, replies_to}
 use Rattle.drf_rows.specs.Consistent.{IsConsistent, IsNumberedByEvents}
 use Rattle.drf_row_laws.specs.StepLaws.{rows_after-accepted}
-use Rattle.drf_row_laws.specs.RunLaws.{rows_after_all-append, replies_to-append}
+use Rattle.drf_row_laws.proofs.RunLaws.{rows_after_all-append, replies_to-append}
 use Rattle.drf_row_laws.specs.LiveLaws.{reply_to-same_live, rows_after-same_live}
 use Rattle.drf_rows.specs.declared.event.Event.{Event}
 use Rattle.drf_rows.specs.declared.event.Event.TheVariants.{Accept, Decline}
@@ -16,9 +16,9 @@ use Rattle.drf_rows.specs.declared.rows.Rows.{Rows}
 use Rattle.drf_core.specs.Machine.{Engine, IsSame, IsAfter, IsAfterAll, HasStopped}
 use Rattle.drf_laws.specs.Kept.{AreFew, IsKept, IsCountable}
 use Rattle.drf_core.specs.refusal.Cases.{early_cases_of, early_refusal_of}
-use Rattle.drf_laws.specs.laws.Kept.{countable_after}
+use Rattle.drf_laws.proofs.laws.Kept.{countable_after}
 use Rattle.drf_core.proofs.refusing.Tests.{told_early}
-use Rattle.drf_laws.specs.laws.SameLive.{welcome_from}
+use Rattle.drf_laws.proofs.laws.SameLive.{welcome_from}
 
 -- what always holds after a call holds if it fails
 pub on_err : {T E P : Type 0} (r : Result T E) → P → OnErr r P

@@ -21,7 +21,7 @@ use Rattle.drf_rows.specs.declared.rows.FilterRow.{FilterRow}
 use Rattle.drf_gates.specs.filters.Laws.{LessIsHeldBack, HeldBackIsRefused}
 use Rattle.drf_gates.specs.filters.Chains.{IsLast, IsChained}
 use Rattle.drf_gates.specs.filters.Index.{client_hash, pair_hash, row_hash, slot_hash, link_hash, hashes_in, befores, hash_bucket, bucket_of, buckets_in, IsTidy, IsTidyTo, IsLedTo, IsMarked, IsIndexed, IsLeft, HasRoom, NoneEndsBefore}
-use Rattle.drf_hash.specs.GapLaws.{filled-all, filled-more}
+use Rattle.drf_hash.proofs.GapLaws.{filled-all, filled-more}
 use Rattle.drf_hash.specs.Slots.{filled}
 use Rattle.drf_gates.specs.filters.Slots.{slot_passes, without_one, filters_in, AreMarked, AreTidy, IsSlots, IsClosed, IsFilterTable}
 use Rattle.drf_gates.specs.declared.filters.index.Index.{Index}

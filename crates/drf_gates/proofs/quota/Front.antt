@@ -16,8 +16,8 @@ use Rattle.drf_role.specs.Parts.{parts_of, text_of}
 use Rattle.drf_role.specs.Path.{Path, same_path}
 use Rattle.drf_role.specs.PathLaws.{path_decides, same_path-true}
 use Rattle.drf_role.specs.Role.{IsComponent, IsRole}
-use Rattle.drf_role.specs.PartLaws.{HasNoSlash, parts_of-text_of, text_of-append}
-use Rattle.drf_role.specs.RoleLaws.{no_slashes}
+use Rattle.drf_role.proofs.PartLaws.{HasNoSlash, parts_of-text_of, text_of-append}
+use Rattle.drf_role.proofs.RoleLaws.{no_slashes}
 use Rattle.drf_bundle.specs.declared.quantities.Entry.{Entry}
 use Rattle.drf_gates.specs.quota.Front.{path_in, size_of, end_of, limits_at}
 use Rattle.drf_gates.specs.quota.FrontLaws.{text_of-path_in}

@@ -5,7 +5,7 @@ use Rattle.std.proofs.lemmas.Bool.{or_left}
 use Rattle.std.proofs.lemmas.List.{map-append}
 use Rattle.std.proofs.lemmas.List.Folds.{list_any-append}
 use Rattle.drf_tables.proofs.tables.Names.{Text, same_text, same_path, Client, are_distinct, are_distinct_roles, offers_counted, IsConsistent, IsFilter, IsFramework, IsHeld, is_registered, Holding, holdings_of, has_framework, each_append, each_from, ClientRow, FrameworkRow, Rows}
-use Rattle.drf_row_laws.specs.RegistrationLaws.{framework_added, IsConsistent-framework_added}
+use Rattle.drf_row_laws.proofs.RegistrationLaws.{framework_added, IsConsistent-framework_added}
 use Rattle.drf_rows.specs.declared.rows.FilterRow.{FilterRow}
 
 -- registered clients stay registered

@@ -5,7 +5,7 @@ use Rattle.std.proofs.lemmas.Bool.{and_parts, ltb-true, lt-ltb, le-ltb}
 use Rattle.drf_tables.proofs.tables.Names.{are_rising, OfferRow, first_number}
 use Rattle.drf_holdings.specs.Listed.{offer_number}
 use Rattle.drf_holdings.specs.Rising.{IsRising}
-use Rattle.drf_holdings.specs.RisingLaws.{rising_from}
+use Rattle.drf_holdings.proofs.RisingLaws.{rising_from}
 
 abbrev is_from : ℕ → OfferRow → Bool
 is_from number o = not (nat_lt o.number number)

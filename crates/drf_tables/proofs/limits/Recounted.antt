@@ -17,7 +17,7 @@ use Rattle.drf_bundle.specs.laws.UnitProofs.{covers_by_units, rest_and_part}
 use Rattle.drf_bundle.specs.Value.{Point, Thousandths}
 use Rattle.drf_row_laws.specs.EndingLaws.{IsOneLess, accepted_in, offer_held, offer_out, started_by, sum_by-out, tasks_last}
 use Rattle.drf_row_laws.specs.QuotaLaws.{consumption_is_part_of_total, parts_le}
-use Rattle.drf_row_laws.specs.RegistrationLaws.{agent_added, new_agent}
+use Rattle.drf_row_laws.proofs.RegistrationLaws.{agent_added, new_agent}
 use Rattle.drf_rows.specs.TaskLaws.{units-covers_all}
 use Rattle.drf_rows.specs.Tasks.{Start, uses}
 use Rattle.drf_row_laws.specs.TotalsLaws.{agents_after, agents_before, agents_stand, stock-exchanged, where-exchanged, with_total-place}

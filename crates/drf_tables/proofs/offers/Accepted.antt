@@ -8,7 +8,7 @@ use Rattle.drf_row_laws.specs.EndingLaws.{held-offer_at}
 use Rattle.drf_rows.specs.Tasks.{Start, uses}
 use Rattle.drf_rows.specs.declared.limits.TheConstants.{LATEST_MOMENT}
 use Rattle.drf_rows.specs.declared.rows.FilterRow.{FilterRow}
-use Rattle.drf_row_laws.specs.OfferLaws.{offer_filter}
+use Rattle.drf_row_laws.proofs.OfferLaws.{offer_filter}
 use Rattle.drf_tables.specs.offers.Ended.{filter_if, with_accepted}
 
 -- ---- an offer is accepted

@@ -3,11 +3,11 @@ use Rattle.std.specs.List.{AllByRecursion}
 use Rattle.std.proofs.Common.{refl, sym, ap, ◌∙◌, subst, arith, length-append, ◌≡◌, ℕ, ◌+◌, ◌<◌, ◌≤◌, true, false, List, [], ◌∷◌, ◌++◌, length, map, Option, Some}
 use Rattle.drf_tables.proofs.tables.Names.{Text, plus, quantities_of, Entry, Resource, clients_of, cluster_total, Holding, holdings_of, parts_on, has_agent, has_framework, IsAgent, IsFramework, IsConsistent, are_distinct_roles, offers_counted, each_append, AgentRow, FrameworkRow, OfferRow, Rows, agent_row, frees_in, known_after, is_settled, IsKnown, AreDerived, Agent}
 use Rattle.drf_bundle.specs.Taken.{rest_of_all}
-use Rattle.drf_row_laws.specs.RegistrationLaws.{new_agent, agent_added, framework_added, cluster_total-with_agent, parts_on-nothing, length-clients_of-framework_added, IsConsistent-agent_added}
+use Rattle.drf_row_laws.proofs.RegistrationLaws.{new_agent, agent_added, framework_added, cluster_total-with_agent, parts_on-nothing, length-clients_of-framework_added, IsConsistent-agent_added}
 use Rattle.drf_rows.specs.declared.limits.TheConstants.{LATEST_MOMENT}
 use Rattle.drf_rows.specs.Cycle.{free_of}
 use Rattle.drf_tables.specs.cycle.Drafts.{with_offers, frees_of, frees_after}
-use Rattle.drf_tables.specs.cycle.DraftLaws.{with_offers-added, agents-with_offers}
+use Rattle.drf_tables.proofs.cycle.DraftLaws.{with_offers-added, agents-with_offers}
 use Rattle.drf_tables.specs.declared.tables.Left.{Left}
 use Rattle.drf_tables.proofs.cycle.Counted.{count_clients-counting_all}
 use Rattle.drf_tables.proofs.agents.Registered.{IsConsistent-framework_put}

@@ -4,7 +4,7 @@ use Rattle.std.proofs.Common.{refl, sym, ap, subst, ◌∙◌, inl, inr, append_
 use Rattle.std.proofs.lemmas.Bool.{true≢false, cases_Bool, and_from, and_parts}
 use Rattle.drf_tree.proofs.Names.{Text, same_text, same_from_test, same_itself, Path, same_path, walk, are_ahead, IsChild, AreFamilies}
 use Rattle.drf_rows.specs.Share.{Standing, is_ahead, stands_before_below, stands_before, is_serving_order}
-use Rattle.drf_row_laws.specs.ServingOrder.{is_ahead-back}
+use Rattle.drf_row_laws.proofs.ServingOrder.{is_ahead-back}
 use Rattle.drf_tree.proofs.walk.Below.{all_join, beneath}
 
 -- a child that is before another has a different name

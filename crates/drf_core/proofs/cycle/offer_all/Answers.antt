@@ -3,13 +3,13 @@ use Rattle.drf_rows.specs.Step.{line_told, new_offers}
 use Rattle.drf_rows.specs.declared.reply.Reply.TheVariants.{Offers}
 use Rattle.drf_rows.specs.declared.rows.Rows.{Rows}
 use Rattle.drf_rows.specs.declared.rows.OfferRow.{OfferRow}
-use Rattle.drf_sorter.specs.laws.SameLaws.{IsSame-between}
-use Rattle.drf_sorter.specs.laws.SpendLaws.{spends-on_ok, spends-within}
+use Rattle.drf_sorter.proofs.laws.SameLaws.{IsSame-between}
+use Rattle.drf_sorter.proofs.laws.SpendLaws.{spends-on_ok, spends-within}
 use Rattle.drf_core.specs.cycle.Drafting.{IsDrafting, turns_of}
 use Rattle.drf_core.specs.Working.{nodes_of, offered_to}
 use Rattle.drf_gates.specs.quota.Allowance.{Usage, quota_under}
 use Rattle.drf_core.specs.cycle.Entitling.{IsQuotaOf}
-use Rattle.drf_tables.specs.cycle.DraftLaws.{next-with_offers, with_offers-added}
+use Rattle.drf_tables.proofs.cycle.DraftLaws.{next-with_offers, with_offers-added}
 use Rattle.drf_tables.specs.cycle.Drafts.{with_offers}
 use Rattle.drf_core.proofs.drafting.Cycle.{cycle-begins, counts_all, is_counting, new_offers-drafts}
 use Rattle.drf_content.specs.Content.{content_of}

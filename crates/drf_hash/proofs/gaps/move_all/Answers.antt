@@ -1,6 +1,6 @@
 use Rattle.std.proofs.Common.{get_or, length, ap, ◌∙◌, arith}
 use Rattle.indexmap.specs.IndexMap.{set_value_at}
-use Rattle.drf_hash.specs.GapLaws.{length-moved, moved-all, moved-more}
+use Rattle.drf_hash.proofs.GapLaws.{length-moved, moved-all, moved-more}
 use Rattle.drf_hash.proofs.gaps.move_all.Goals as goal
 
 pub index-requires : goal.index-requires

@@ -1,5 +1,5 @@
 use Rattle.std.proofs.Common.{◌≡◌, get_or}
-use Rattle.drf_hash.specs.GapLaws.{moved_first}
+use Rattle.drf_hash.proofs.GapLaws.{moved_first}
 use Rattle.drf_hash.proofs.gaps.move_all.Given as goal
 
 abbrev pub invariant-loop-at : goal.invariant-loop-at

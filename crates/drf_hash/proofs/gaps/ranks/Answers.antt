@@ -1,5 +1,5 @@
 use Rattle.std.proofs.Common.{◌≡◌, ◌+◌, ◌++◌, ◌∷◌, [], ℕ, List, sym, ap, ◌∙◌, length, take, arith, take_all}
-use Rattle.drf_hash.specs.GapLaws.{counted-none, counted-some, length-ranks, ranks-next}
+use Rattle.drf_hash.proofs.GapLaws.{counted-none, counted-some, length-ranks, ranks-next}
 use Rattle.drf_hash.specs.SlotLaws.{filled-short}
 use Rattle.drf_hash.specs.Slots.{ranks_of}
 use Rattle.drf_hash.proofs.gaps.ranks.Goals as goal

@@ -3,7 +3,7 @@ use Rattle.std.specs.Prelude.{OnOk, OnErr}
 use Rattle.std.proofs.lemmas.Result.{IfOk-weaker}
 use Rattle.drf_rows.specs.Step.{reply_to}
 use Rattle.drf_core.specs.Machine.{Engine, live, IsSame}
-use Rattle.drf_core.specs.MachineLaws.{live-after, reply_to-seen}
+use Rattle.drf_core.proofs.MachineLaws.{live-after, reply_to-seen}
 use Rattle.drf_journal.proofs.answer.take_event.Goals as goal
 
 -- a consequence of what holds at `Ok`

@@ -1,4 +1,4 @@
-use Rattle.drf_laws.specs.EndedLaws.{accepted_starts_tasks, declined_at_once, finished_is_given_back, filters_go, other_filters_stay}
+use Rattle.drf_laws.proofs.EndedLaws.{accepted_starts_tasks, declined_at_once, finished_is_given_back, filters_go, other_filters_stay}
 use Rattle.drf_laws.proofs.definition.life_law.Goals as goal
 
 pub returns-clause-accepted : goal.returns-clause-accepted

@@ -1,4 +1,4 @@
-use Rattle.drf_laws.specs.OfferedLaws.{suppressed_is_not_offered, filtered_is_not_offered, numbers_are_new}
+use Rattle.drf_laws.proofs.OfferedLaws.{suppressed_is_not_offered, filtered_is_not_offered, numbers_are_new}
 use Rattle.drf_laws.proofs.definition.offers_law.Goals as goal
 
 pub returns-clause-suppressed : goal.returns-clause-suppressed

@@ -1,5 +1,5 @@
-use Rattle.drf_row_laws.specs.OthersLaws.{other_agents_stay, other_frameworks_stay, other_holdings_stay, ended_is_gone, removed_is_gone, activity_is_its_agents, cycle_only_offers}
-use Rattle.drf_laws.specs.SuppressionLaws.{suppression_is_its_clients}
+use Rattle.drf_row_laws.proofs.OthersLaws.{other_agents_stay, other_frameworks_stay, other_holdings_stay, ended_is_gone, removed_is_gone, activity_is_its_agents, cycle_only_offers}
+use Rattle.drf_laws.proofs.SuppressionLaws.{suppression_is_its_clients}
 use Rattle.drf_laws.proofs.definition.others_law.Goals as goal
 
 pub returns-clause-agents : goal.returns-clause-agents

@@ -1,4 +1,4 @@
-use Rattle.drf_row_laws.specs.ServingOrder.{stands_before_itself, stands_before-back, serving_order-unique}
+use Rattle.drf_row_laws.proofs.ServingOrder.{stands_before_itself, stands_before-back, serving_order-unique}
 use Rattle.drf_laws.proofs.definition.serving_order_law.Goals as goal
 
 pub returns-clause-irreflexive : goal.returns-clause-irreflexive

@@ -1,4 +1,4 @@
-use Rattle.drf_text.specs.DecimalLaws.{decimals_none, decimals_one, decimals_two, decimals_three}
+use Rattle.drf_text.proofs.DecimalLaws.{decimals_none, decimals_one, decimals_two, decimals_three}
 use Rattle.drf_lines.proofs.Appends.{nothing, and_then}
 use Rattle.drf_lines.proofs.amounts.put_decimals.Goals as goal
 

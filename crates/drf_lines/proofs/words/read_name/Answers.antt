@@ -2,7 +2,7 @@ use Rattle.std.proofs.Common.{Err, ap}
 use Rattle.std.proofs.lemmas.Bool.{false_from_ne_true}
 use Rattle.std.proofs.lemmas.Result.{err_from_is_err_and}
 use Rattle.drf_lines.proofs.Exits.{name_refused}
-use Rattle.drf_role.specs.TestLaws.{name_decides}
+use Rattle.drf_role.proofs.TestLaws.{name_decides}
 use Rattle.drf_lines.specs.Words.{name_in}
 use Rattle.drf_lines.proofs.words.read_name.Goals as goal
 

@@ -4,7 +4,7 @@ use Rattle.std.proofs.lemmas.Result.{err_from_is_err_and}
 use Rattle.drf_role.specs.Role.{IsRole}
 use Rattle.drf_lines.specs.Words.{role_in}
 use Rattle.drf_lines.proofs.Exits.{role_refused}
-use Rattle.drf_role.specs.TestLaws.{role_decides, role_from_test}
+use Rattle.drf_role.proofs.TestLaws.{role_decides, role_from_test}
 use Rattle.drf_lines.proofs.words.read_role.Goals as goal
 
 pub returns-in_err-read : goal.returns-in_err-read

@@ -6,7 +6,7 @@ use Rattle.drf_master.specs.Receipts.{Held}
 use Rattle.drf_master.specs.Tallies.{IsTally, IsLeastIfAny}
 use Rattle.drf_master.specs.declared.matching.CloseFault.TheVariants.{Missing, Mismatch}
 use Rattle.drf_master.specs.declared.pass.Receipt.{Receipt}
-use Rattle.drf_master.specs.laws.ShuffleLaws.{no_fault, is_shuffle}
+use Rattle.drf_master.proofs.laws.ShuffleLaws.{no_fault, is_shuffle}
 use Rattle.drf_master.proofs.matching.matches.Goals as goal
 
 pub loop-pass-preserved : goal.loop-pass-preserved

@@ -1,6 +1,6 @@
-use Rattle.drf_promises.specs.laws.Equal.{equal_agents_are_shared}
-use Rattle.drf_promises.specs.laws.Incentive.{sharing_incentive}
-use Rattle.drf_promises.specs.laws.Shared.{fair_shares}
+use Rattle.drf_promises.proofs.laws.Equal.{equal_agents_are_shared}
+use Rattle.drf_promises.proofs.laws.Incentive.{sharing_incentive}
+use Rattle.drf_promises.proofs.laws.Shared.{fair_shares}
 use Rattle.drf_promises.proofs.laws.sharing_incentive_law.Goals as goal
 
 pub returns-clause-part : goal.returns-clause-part

@@ -3,8 +3,8 @@ use Rattle.std.specs.Cmp.Lexicographic.{bytes_decides}
 use Rattle.drf_role.specs.Role.{default_role}
 use Rattle.std.proofs.lemmas.Bool.{false≢true}
 use Rattle.drf_role.specs.Parts.{text_of}
-use Rattle.drf_role.specs.PartLaws.{text_of-parts_of}
-use Rattle.drf_role.specs.RoleLaws.{role_from_text, text_from_role}
+use Rattle.drf_role.proofs.PartLaws.{text_of-parts_of}
+use Rattle.drf_role.proofs.RoleLaws.{role_from_text, text_from_role}
 use Rattle.drf_role.proofs.role.is_role.Goals as goal
 
 pub returns-then-eq : goal.returns-then-eq

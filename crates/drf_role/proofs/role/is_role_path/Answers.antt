@@ -1,7 +1,7 @@
 use Rattle.std.proofs.Common.{◌≡◌, ◌≤◌, length, ap, arith}
 use Rattle.std.proofs.lemmas.Bool.{false≢true}
 use Rattle.drf_role.specs.Parts.{parts_of, text_of}
-use Rattle.drf_role.specs.PartLaws.{text_of-parts_of, length-parts_of}
+use Rattle.drf_role.proofs.PartLaws.{text_of-parts_of, length-parts_of}
 use Rattle.drf_role.proofs.role.is_role_path.Goals as goal
 
 pub returns-then-text-gt-MAX_ROLE_LEN : goal.returns-then-text-gt-MAX_ROLE_LEN

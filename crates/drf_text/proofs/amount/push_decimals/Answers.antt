@@ -1,6 +1,6 @@
 use Rattle.std.proofs.Common.{arith, append-nil}
 use Rattle.std.proofs.lemmas.Grind.{common_steps}
-use Rattle.drf_text.specs.DecimalLaws.{decimals_none, decimals_one, decimals_two, decimals_three}
+use Rattle.drf_text.proofs.DecimalLaws.{decimals_none, decimals_one, decimals_two, decimals_three}
 use Rattle.drf_text.proofs.amount.push_decimals.Goals as goal
 
 pub returns-then-thousandths-eq0 : goal.returns-then-thousandths-eq0

@@ -4,7 +4,7 @@ use Rattle.std.specs.List.{list_all}
 use Rattle.std.specs.Str.Parse.{digits_value}
 use Rattle.std.proofs.lemmas.Bool.Decides.{nat_tests}
 use Rattle.std.proofs.lemmas.Str.Parse.{parse_digits}
-use Rattle.drf_text.specs.DecimalLaws.{numerals}
+use Rattle.drf_text.proofs.DecimalLaws.{numerals}
 use Rattle.drf_text.proofs.Numbers.{too_large, large_from_parse}
 use Rattle.drf_text.proofs.number.sum_of.Goals as goal
 

@@ -3,7 +3,7 @@ use Rattle.std.specs.Char.{is_ascii_digit}
 use Rattle.std.specs.List.{list_all}
 use Rattle.std.proofs.lemmas.Bool.Decides.{nat_tests}
 use Rattle.std.proofs.lemmas.Str.Parse.{parse_digits}
-use Rattle.drf_text.specs.DecimalLaws.{numerals}
+use Rattle.drf_text.proofs.DecimalLaws.{numerals}
 use Rattle.drf_text.specs.Number.{are_digits}
 use Rattle.drf_text.proofs.Exits.{end_from_parse}
 use Rattle.drf_text.proofs.values.read_end.Goals as goal

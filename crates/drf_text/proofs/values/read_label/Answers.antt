@@ -3,7 +3,7 @@ use Rattle.std.proofs.lemmas.Bool.{false_from_ne_true}
 use Rattle.std.proofs.lemmas.Result.{err_from_is_err_and}
 use Rattle.drf_text.specs.Steps.{label_in}
 use Rattle.drf_text.proofs.Exits.{name_refused, name_short}
-use Rattle.drf_role.specs.TestLaws.{label_decides}
+use Rattle.drf_role.proofs.TestLaws.{label_decides}
 use Rattle.drf_text.proofs.values.read_label.Goals as goal
 
 pub returns-in_err-read-clause-read : goal.returns-in_err-read-clause-read

@@ -4,7 +4,7 @@ use Rattle.std.proofs.lemmas.Result.{err_from_is_err_and}
 use Rattle.drf_role.specs.Role.{IsRole}
 use Rattle.drf_text.specs.Steps.{role_in}
 use Rattle.drf_text.proofs.Exits.{role_refused}
-use Rattle.drf_role.specs.TestLaws.{role_decides, role_from_test}
+use Rattle.drf_role.proofs.TestLaws.{role_decides, role_from_test}
 use Rattle.drf_text.proofs.values.read_role.Goals as goal
 
 pub returns-in_err-read-in-Some : goal.returns-in_err-read-in-Some

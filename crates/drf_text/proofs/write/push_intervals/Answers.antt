@@ -1,7 +1,7 @@
 use Rattle.std.proofs.Common.{◌≡◌, map, take, ap, sym, ◌∙◌, ◌++◌, List, ℕ, string_bytes, get_or}
 use Rattle.std.specs.List.{join_with_byte}
 use Rattle.drf_kinds.specs.Listed.{intervals_of}
-use Rattle.drf_kinds.specs.ListedLaws.{intervals_of-members}
+use Rattle.drf_kinds.proofs.ListedLaws.{intervals_of-members}
 use Rattle.std.proofs.lemmas.List.{get_or_default, take_all}
 use Rattle.drf_kinds.specs.declared.interval.Interval.{Interval}
 use Rattle.drf_text.specs.Written.{interval_text}

@@ -4,7 +4,7 @@ use Rattle.std.specs.FinSet as set
 use Rattle.std.specs.Cmp.Lexicographic.{nat_list_cmp_total}
 use Rattle.drf_kinds.specs.Names.{text_cmp}
 use Rattle.drf_kinds.specs.Listed.{listed}
-use Rattle.drf_kinds.specs.ListedLaws.{listed-from_list}
+use Rattle.drf_kinds.proofs.ListedLaws.{listed-from_list}
 use Rattle.drf_text.proofs.Joined.{mapped_more, map_same}
 use Rattle.drf_text.proofs.write.push_names.Goals as goal
 

@@ -3,7 +3,7 @@ use Rattle.std.proofs.lemmas.Bool.Decides.{same_from_decides, Decides-like}
 use Rattle.std.specs.Cmp.Lexicographic.{bytes_decides}
 use Rattle.drf_role.specs.Text.{same_text}
 use Rattle.drf_role.specs.Parts.{parts_of, text_of}
-use Rattle.drf_role.specs.PartLaws.{text_of-parts_of}
+use Rattle.drf_role.proofs.PartLaws.{text_of-parts_of}
 use Rattle.drf_role.specs.Path.{same_path}
 use Rattle.drf_role.specs.PathLaws.{path_decides}
 use Rattle.drf_why.proofs.whom.is_of_role.Goals as goal

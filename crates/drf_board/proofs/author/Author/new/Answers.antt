@@ -2,7 +2,7 @@ use Rattle.std.proofs.Common.{◌≡◌, [], List, length, sym, ap, subst, ◌�
 use Rattle.drf_board.specs.Chains.{entries_of, end_of}
 use Rattle.drf_board.specs.History.{IsLegal}
 use Rattle.drf_board.specs.declared.entry.Entry.{Entry}
-use Rattle.drf_board.specs.HistoryLaws.{legal-nil}
+use Rattle.drf_board.proofs.HistoryLaws.{legal-nil}
 use Rattle.drf_board.proofs.author.Author.new.Goals as goal
 
 pub invariant_of-result : goal.invariant_of-result

@@ -4,7 +4,7 @@ use Rattle.drf_bundle.specs.Bundle.{stock}
 use Rattle.drf_bundle.specs.Quantities.{amount_of}
 use Rattle.drf_bundle.specs.laws.SumLaws.{amount-kept}
 use Rattle.drf_bundle.specs.Union.{has_other_kind, is_reserved_elsewhere}
-use Rattle.drf_bundle.specs.laws.UnionLaws.{refusal_is}
+use Rattle.drf_bundle.proofs.laws.UnionLaws.{refusal_is}
 use Rattle.drf_bundle.specs.declared.resource.Resource.{Resource}
 use Rattle.drf_bundle.proofs.parts.Parts.union_refusal.Goals as goal
 

@@ -7,7 +7,7 @@ use Rattle.drf_bundle.specs.Quantities.{amount_of}
 use Rattle.drf_bundle.specs.KeyPlaces.{IsNameGap}
 use Rattle.drf_bundle.specs.laws.SumLaws.{amount-kept}
 use Rattle.drf_bundle.specs.Union.{IsPiece, union_refusal}
-use Rattle.drf_bundle.specs.laws.UnionLaws.{union_empty, union_filled, some_in, kept-merged}
+use Rattle.drf_bundle.proofs.laws.UnionLaws.{union_empty, union_filled, some_in, kept-merged}
 use Rattle.drf_bundle.specs.declared.resource.Resource.{Resource}
 use Rattle.drf_bundle.proofs.FirstLemmas.{key_gap, stock_first, first_is_free}
 use Rattle.drf_bundle.proofs.parts.Parts.unite_first.Goals as goal

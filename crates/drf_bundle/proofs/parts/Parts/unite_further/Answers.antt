@@ -5,7 +5,7 @@ use Rattle.drf_bundle.specs.Bundle.{stock}
 use Rattle.drf_bundle.specs.Quantities.{amount_of}
 use Rattle.drf_bundle.specs.laws.SumLaws.{amount-kept}
 use Rattle.drf_bundle.specs.Union.{IsPiece, union_refusal}
-use Rattle.drf_bundle.specs.laws.UnionLaws.{room_from_refusal, room_fits, union_empty, some_in, kept-merged}
+use Rattle.drf_bundle.proofs.laws.UnionLaws.{room_from_refusal, room_fits, union_empty, some_in, kept-merged}
 use Rattle.drf_bundle.specs.declared.resource.Resource.{Resource}
 use Rattle.drf_bundle.proofs.parts.Parts.unite_further.Goals as goal
 

@@ -9,8 +9,8 @@ use Rattle.drf_content.specs.Content.{content_of}
 use Rattle.drf_rows.specs.declared.rows.OfferRow.{OfferRow}
 use Rattle.drf_core.specs.cycle.Drafting.{turns_of}
 use Rattle.drf_core.specs.Working.{nodes_of, offered_to}
-use Rattle.drf_row_laws.specs.OfferLaws.{moment_early}
-use Rattle.drf_laws.specs.laws.Welcome.{early_cycle}
+use Rattle.drf_row_laws.proofs.OfferLaws.{moment_early}
+use Rattle.drf_laws.proofs.laws.Welcome.{early_cycle}
 use Rattle.drf_core.proofs.drafting.Cycle.{drafting-begins, turns_of-cycle, new_offers-cycle, content_of-clock}
 use Rattle.drf_core.proofs.cluster.Cluster.cycle.Goals.{After-offer_all}
 use Rattle.drf_core.proofs.cluster.Cluster.cycle.Given as given

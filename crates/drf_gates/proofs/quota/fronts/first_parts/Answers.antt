@@ -4,7 +4,7 @@ use Rattle.std.specs.Str.{IsAscii}
 use Rattle.std.proofs.lemmas.Str.{IsCharBoundary-from_ascii}
 use Rattle.drf_role.specs.Text.{Text}
 use Rattle.drf_role.specs.Parts.{text_of}
-use Rattle.drf_role.specs.RoleLaws.{role_ascii}
+use Rattle.drf_role.proofs.RoleLaws.{role_ascii}
 use Rattle.drf_gates.specs.quota.Front.{path_in, end_of}
 use Rattle.drf_gates.proofs.quota.Front.{end_within, front_is}
 use Rattle.drf_gates.proofs.quota.fronts.first_parts.Goals as goal

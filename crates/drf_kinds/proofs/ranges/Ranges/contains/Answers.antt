@@ -3,7 +3,7 @@ use Rattle.std.specs.FinSet as set
 use Rattle.std.proofs.lemmas.Bool.{ltb-true, ltb-false}
 use Rattle.std.proofs.lemmas.List.Sorted.{IsPartitionPoint-from_clause, IsPartitionedBy-ltb}
 use Rattle.drf_kinds.specs.Intervals.{AreMaximal, members}
-use Rattle.drf_kinds.specs.IntervalLaws.{contains-members}
+use Rattle.drf_kinds.proofs.IntervalLaws.{contains-members}
 use Rattle.drf_kinds.proofs.Members.{lasts_ascend, found_at, not_found}
 use Rattle.drf_kinds.proofs.ranges.Ranges.contains.Goals as goal
 

@@ -2,7 +2,7 @@ use Rattle.std.proofs.Common.{◌≡◌, ◌≤◌, ap, ◌∙◌, rules}
 use Rattle.std.specs.List.{All}
 use Rattle.std.specs.FinSet as set
 use Rattle.drf_kinds.specs.Intervals.{is_in}
-use Rattle.drf_kinds.specs.IntervalLaws.{contains-members, in_pairs}
+use Rattle.drf_kinds.proofs.IntervalLaws.{contains-members, in_pairs}
 use Rattle.drf_kinds.proofs.Merged.{ordered_intervals, in_sorted}
 use Rattle.drf_kinds.proofs.ranges.Ranges.from_pairs.Goals as goal
 

@@ -1,6 +1,6 @@
 use Rattle.std.proofs.Common.{◌↔◌, IsTrue, subst}
 use Rattle.drf_role.specs.Parts.{parts_of, BeginsWith, GoesOn}
-use Rattle.drf_role.specs.PartLaws.{begins_decided}
+use Rattle.drf_role.proofs.PartLaws.{begins_decided}
 use Rattle.drf_role.proofs.joined.Joined.begins_with.Goals as goal
 
 pub returns : goal.returns

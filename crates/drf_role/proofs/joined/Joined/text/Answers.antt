@@ -1,7 +1,7 @@
 use Rattle.std.proofs.Common.{sym, ◌∙◌, ap}
 use Rattle.drf_role.specs.Parts.{text_of}
 use Rattle.drf_role.specs.Spans.{text_in}
-use Rattle.drf_role.specs.PartLaws.{text_of-parts_of}
+use Rattle.drf_role.proofs.PartLaws.{text_of-parts_of}
 use Rattle.drf_role.proofs.joined.Joined.text.Goals as goal
 
 pub returns-clause-text : goal.returns-clause-text

@@ -1,7 +1,7 @@
 use Rattle.std.proofs.Common.{eqb, ◌∙◌, ap}
 use Rattle.std.specs.Cmp.Lexicographic.{pointwise}
 use Rattle.drf_role.specs.Parts.{parts_of}
-use Rattle.drf_role.specs.PartLaws.{same_parts}
+use Rattle.drf_role.proofs.PartLaws.{same_parts}
 use Rattle.drf_role.proofs.joined.JoinedPartialEq.eq.Goals as goal
 
 pub returns : goal.returns

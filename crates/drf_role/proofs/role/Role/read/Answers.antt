@@ -1,8 +1,8 @@
 use Rattle.std.proofs.Common.{ap, sym, ◌∙◌, subst, refl}
 use Rattle.drf_role.specs.Role.{IsRole}
 use Rattle.drf_role.specs.Parts.{text_of}
-use Rattle.drf_role.specs.PartLaws.{text_of-parts_of}
-use Rattle.drf_role.specs.RoleLaws.{role_from_text, role_text_ascii}
+use Rattle.drf_role.proofs.PartLaws.{text_of-parts_of}
+use Rattle.drf_role.proofs.RoleLaws.{role_from_text, role_text_ascii}
 use Rattle.drf_role.proofs.role.Role.read.Goals as goal
 
 pub from_text-requires : goal.from_text-requires

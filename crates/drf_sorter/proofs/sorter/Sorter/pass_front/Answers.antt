@@ -1,6 +1,6 @@
 use Rattle.std.proofs.Common.{subst, sym}
 use Rattle.drf_sorter.specs.Passed.{IsPassedFront}
-use Rattle.drf_sorter.specs.laws.PassedLaws.{one_is_front}
+use Rattle.drf_sorter.proofs.laws.PassedLaws.{one_is_front}
 use Rattle.drf_sorter.proofs.sorter.Sorter.pass_front.Goals as goal
 
 pub returns-clause-queue : goal.returns-clause-queue

@@ -1,6 +1,6 @@
 use Rattle.std.proofs.Common.{length, sym, ap, ◌∙◌, arith, take_all}
 use Rattle.drf_hash.specs.Slots.{filled}
-use Rattle.drf_hash.specs.GapLaws.{counted-none, counted-some}
+use Rattle.drf_hash.proofs.GapLaws.{counted-none, counted-some}
 use Rattle.drf_tables.proofs.registry.Slots.{Slots, ranked_here}
 use Rattle.drf_tables.proofs.registry.gaps.ranked_among_gaps.Goals as goal
 use Rattle.drf_tables.proofs.registry.gaps.ranked_among_gaps.Goals.{then-is_some+else-before-number, else-is_some}

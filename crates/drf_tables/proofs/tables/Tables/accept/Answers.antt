@@ -1,6 +1,6 @@
 use Rattle.std.proofs.Common.{◌≡◌, Some, sym, ap, subst, ◌∙◌, nat_lt, ◌&&◌, max, not, option_copied}
 use Rattle.drf_tables.proofs.tables.Names.{IsConsistent, at_moment, offer_accepted, filter_of, is_empty, left_of_offer, offer_at, filtered_until, filters_rest, OfferRow, Rows, Stored}
-use Rattle.drf_row_laws.specs.OfferLaws.{moment_early, same_offer}
+use Rattle.drf_row_laws.proofs.OfferLaws.{moment_early, same_offer}
 use Rattle.drf_tables.specs.offers.Ended.{filter_if}
 use Rattle.drf_tables.specs.Inside.{rows_of}
 use Rattle.drf_tables.proofs.offers.Accepted.{accept_filter, rows_accepted}

@@ -2,7 +2,7 @@ use Rattle.std.proofs.Common.{◌≡◌, ◌<◌, ◌&&◌, Bool, List, [], ◌�
 use Rattle.std.specs.Map.{lookup}
 use Rattle.std.proofs.lemmas.List.Folds.{list_all-append}
 use Rattle.drf_tables.proofs.tables.Names.{Text, same_text, amount_of, plus, Entry, Resource, quantities_of, IsAgent, has_agent, reserved_in, Rows, CountsAll, Stored, Agent}
-use Rattle.drf_row_laws.specs.RegistrationLaws.{new_agent, agent_added}
+use Rattle.drf_row_laws.proofs.RegistrationLaws.{new_agent, agent_added}
 use Rattle.drf_rows.specs.declared.limits.TheConstants.{LARGEST_AMOUNT}
 use Rattle.drf_tables.specs.Inside.{AreDerived, is_settled, rows_in, rows_of}
 use Rattle.drf_tables.proofs.tables.Fields.{has_agent-rows_in, rows_of-agent, sums_fit}

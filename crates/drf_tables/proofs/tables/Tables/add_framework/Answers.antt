@@ -2,7 +2,7 @@ use Rattle.std.proofs.Common.{◌≡◌, ◌<◌, ◌++◌, ◌∷◌, [], List,
 use Rattle.std.specs.List.{AllByRecursion}
 use Rattle.drf_tables.proofs.tables.Names.{IsFramework, offers_counted, has_framework, ClientRow, FrameworkRow, Stored}
 use Rattle.drf_role.specs.Role.{IsRole}
-use Rattle.drf_row_laws.specs.RegistrationLaws.{framework_added}
+use Rattle.drf_row_laws.proofs.RegistrationLaws.{framework_added}
 use Rattle.drf_tables.specs.Inside.{rows_of, rows_in}
 use Rattle.drf_tables.proofs.tables.Fields.{has_framework-rows_in, rows_of-framework}
 use Rattle.drf_tables.proofs.tables.Kept.{AreDerived-framework_added}

@@ -1,6 +1,6 @@
 use Rattle.std.proofs.Common.{ap, subst, ◌∙◌, max}
 use Rattle.drf_tables.proofs.tables.Names.{IsConsistent, Rows, Stored}
-use Rattle.drf_row_laws.specs.OfferLaws.{moment_early}
+use Rattle.drf_row_laws.proofs.OfferLaws.{moment_early}
 use Rattle.drf_tables.specs.Inside.{rows_of}
 use Rattle.drf_tables.proofs.offers.Accepted.{rows_refused}
 use Rattle.drf_tables.proofs.tables.Tables.filter_declined.Goals as goal

@@ -3,7 +3,7 @@ use Rattle.std.specs.Option.{option_copied}
 use Rattle.drf_tables.proofs.tables.Names.{IsConsistent, OfferRow, changed, with_held, Stored}
 use Rattle.drf_holdings.specs.Listed.{offer_number}
 use Rattle.drf_holdings.specs.Rising.{IsRising}
-use Rattle.drf_holdings.specs.RisingLaws.{rising_from}
+use Rattle.drf_holdings.proofs.RisingLaws.{rising_from}
 use Rattle.drf_tables.specs.Inside.{is_settled, rows_in, rows_of}
 use Rattle.drf_tables.proofs.limits.Counts.{none_counted}
 use Rattle.drf_tables.proofs.registry.Entries.{is_some-copied}

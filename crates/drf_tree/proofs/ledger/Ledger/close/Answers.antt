@@ -1,6 +1,6 @@
 use Rattle.std.proofs.Common.{List, Option, Some, length, ap, ◌∙◌, arith}
 use Rattle.std.proofs.lemmas.List.{length-map}
-use Rattle.drf_hash.specs.GapLaws.{filled-all}
+use Rattle.drf_hash.proofs.GapLaws.{filled-all}
 use Rattle.drf_hash.specs.Slots.{filled}
 use Rattle.drf_tree.proofs.Names.{Ranked}
 use Rattle.drf_tree.proofs.ledger.Rows.{closed_rows, registry_closed, with_clients}

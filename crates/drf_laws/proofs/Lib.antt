@@ -1,0 +1,4 @@
+pub mod EndedLaws
+pub mod OfferedLaws
+pub mod SuppressionLaws
+pub mod laws

@@ -1,0 +1,20 @@
+-- Theorems about the definition, from which the statements in the folder above are proved.
+pub mod Bounds
+pub mod Clients
+pub mod Cycles
+pub mod Endings
+pub mod Events
+pub mod Kept
+pub mod Nodes
+pub mod Offers
+pub mod RoleChanges
+pub mod RoleCounts
+pub mod Roles
+pub mod RolesSet
+pub mod Runs
+pub mod SameLive
+pub mod SetFilters
+pub mod Tests
+pub mod Turns
+pub mod Welcome
+pub mod Within

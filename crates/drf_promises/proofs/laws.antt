@@ -1,0 +1,26 @@
+-- Theorems about cycles and runs, from which the promises are proved.
+pub mod Apart
+pub mod ApartRuns
+pub mod Counts
+pub mod Cycles
+pub mod Equal
+pub mod Everybody
+pub mod First
+pub mod FrameworkRuns
+pub mod FrameworkTurns
+pub mod Frameworks
+pub mod Incentive
+pub mod Left
+pub mod Less
+pub mod Open
+pub mod Order
+pub mod Overtaken
+pub mod PassRuns
+pub mod Passes
+pub mod Rounds
+pub mod Shared
+pub mod Shares
+pub mod Siblings
+pub mod Stands
+pub mod Unfiltered
+pub mod Waiting

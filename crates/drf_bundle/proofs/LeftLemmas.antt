@@ -6,11 +6,11 @@ use Rattle.std.proofs.lemmas.List.Sums.{sum_by-cons}
 use Rattle.drf_bundle.specs.Value.{Point, units_in, amount_in, IsGiven}
 use Rattle.drf_bundle.specs.Bundle.{Key, key_of, units, value_at, less_at, with_value, filled_of, IsResource, IsBundle}
 use Rattle.drf_bundle.specs.Taken.{less_all, rest_of_all, units_of_all}
-use Rattle.drf_bundle.specs.laws.ValueLaws.{units-less, given-less}
-use Rattle.drf_bundle.specs.laws.KeyLaws.{units_found, units_at}
-use Rattle.drf_bundle.specs.laws.RestLaws.{KeepsKeys, bundle-changed, units-changed}
+use Rattle.drf_bundle.proofs.laws.ValueLaws.{units-less, given-less}
+use Rattle.drf_bundle.proofs.laws.KeyLaws.{units_found, units_at}
+use Rattle.drf_bundle.proofs.laws.RestLaws.{KeepsKeys, bundle-changed, units-changed}
 use Rattle.drf_bundle.specs.laws.BundleLaws.{known_by_units}
-use Rattle.drf_bundle.specs.laws.TakenLaws.{bundle-rest_of_all, units-rest_of_all}
+use Rattle.drf_bundle.proofs.laws.TakenLaws.{bundle-rest_of_all, units-rest_of_all}
 use Rattle.drf_bundle.specs.declared.resource.Resource.{Resource}
 use Rattle.drf_bundle.specs.declared.value.Value.{Value}
 

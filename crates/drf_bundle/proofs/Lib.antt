@@ -12,3 +12,4 @@ pub mod SearchLemmas
 pub mod SumLemmas
 pub mod ValueAnswers
 pub mod laws
+pub mod ListLaws

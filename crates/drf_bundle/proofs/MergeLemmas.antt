@@ -6,7 +6,8 @@ use Rattle.std.proofs.lemmas.List.{append-nil}
 use Rattle.std.proofs.Math.Seq.{drop-cons}
 use Rattle.std.proofs.lemmas.Bool.{false≢true, true≢false, not-true, and_parts, and_from, cases_Bool}
 use Rattle.drf_role.specs.Text.{Text, same_text, text_below}
-use Rattle.drf_role.specs.TextLaws.{cases_cmp, same_from_test, same_from_cmp, below_from_cmp, above_from_cmp, below_other, above_other, below_trans, cmp_itself, test_from_same}
+use Rattle.drf_role.specs.TextLaws.{cases_cmp, same_from_test, same_from_cmp, below_from_cmp, above_from_cmp, below_trans, cmp_itself, test_from_same}
+use Rattle.drf_role.proofs.TextLaws.{below_other, above_other}
 use Rattle.drf_bundle.specs.Value.{Point, Thousandths, units_in, clash_in}
 use Rattle.drf_bundle.specs.Bundle.{key_of, key_cmp, key_below, is_in_order, stock, both_of, merged, clashes_with_some, have_clash}
 use Rattle.drf_bundle.specs.laws.KeyLaws.{stands_first, cases_below, key_equal, where-cons}

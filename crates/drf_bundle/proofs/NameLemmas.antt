@@ -8,7 +8,8 @@ use Rattle.std.proofs.Common.{zero, suc, get_or, refl, sym, ap, ◌∙◌, subst
 use Rattle.std.proofs.lemmas.Bool.{false≢true, cases_Bool, cases_lt}
 use Rattle.std.proofs.lemmas.List.{get_or-drop, length-drop}
 use Rattle.drf_role.specs.Text.{Text, same_text, text_below}
-use Rattle.drf_role.specs.TextLaws.{same_from_test, test_from_same, below_from_cmp, below_other, below_trans}
+use Rattle.drf_role.specs.TextLaws.{same_from_test, test_from_same, below_from_cmp, below_trans}
+use Rattle.drf_role.proofs.TextLaws.{below_other}
 use Rattle.drf_bundle.specs.Bundle.{key_of, is_in_order}
 use Rattle.drf_bundle.specs.laws.KeyLaws.{cases_below}
 use Rattle.drf_bundle.specs.declared.resource.Resource.{Resource}

@@ -1,5 +1,4 @@
 -- What values, bundles and quantities are, and theorems about them.
-pub mod ListLaws
 pub mod Bundle
 pub mod KeyPlaces
 pub mod Quantities

@@ -2,7 +2,7 @@
 use Rattle.std.specs.Prelude.{◌≡◌}
 use Rattle.std.proofs.Common.{refl, ap}
 use Rattle.drf_rows.specs.Step.{refusal_of, effect, reply_to}
-use Rattle.drf_row_laws.specs.FrameLaws.{only_changed, step_keeps}
+use Rattle.drf_row_laws.proofs.FrameLaws.{only_changed, step_keeps}
 use Rattle.drf_rows.specs.declared.event.Event.{Event}
 use Rattle.drf_rows.specs.declared.event.Event.TheVariants.{RemoveAgent, SetFramework, RemoveFramework, Accept, Decline, Revive, SetWeight, SetLimit, Cycle}
 use Rattle.drf_rows.specs.declared.rows.Rows.{Rows}

@@ -2,7 +2,7 @@
 use Rattle.std.proofs.Common.{◌≡◌, sym, ◌∙◌}
 use Rattle.drf_rows.specs.LimitNumbers.{LimitNumbers}
 use Rattle.drf_rows.specs.Step.{reply_to}
-use Rattle.drf_row_laws.specs.LiveLaws.{reply_to-live, rows_after-live}
+use Rattle.drf_row_laws.proofs.LiveLaws.{reply_to-live, rows_after-live}
 use Rattle.drf_rows.specs.declared.event.Event.{Event}
 use Rattle.drf_core.specs.Machine.{Engine, live, opened, after, IsOpened, IsAfter}
 

@@ -23,7 +23,7 @@ use Rattle.drf_master.specs.declared.matching.CloseFault.TheVariants as why
 use Rattle.drf_rows.specs.LimitNumbers.{LimitNumbers}
 use Rattle.drf_rows.specs.declared.event.Event.{Event}
 use Rattle.drf_rows.specs.declared.rows.Rows.{Rows}
-use Rattle.drf_row_laws.specs.LiveLaws.{live_rows-twice}
+use Rattle.drf_row_laws.proofs.LiveLaws.{live_rows-twice}
 use Rattle.drf_drive.specs.Driven.{HasDrivenFiles, HasMisfit, IsHandedOn, IsJournalOfFiles, IsRunFault, IsShuffleOf, IsTellable, IsToldAs, IsToldUnfit}
 use Rattle.drf_files.specs.Files.{Known}
 use Rattle.drf_drive.specs.JournalText.{IsCutOff, journal_text}

@@ -2,3 +2,5 @@
 mod Found
 mod Reasons
 mod Rooms
+pub mod ExplainedLaws
+pub mod EachLaws

@@ -9,10 +9,11 @@ use Rattle.drf_role.specs.TextLaws.{same_from_test}
 use Rattle.drf_role.specs.Path.{Path, begins_with}
 use Rattle.drf_bundle.specs.Bundle.{covers, clip, clipped, cut, is_default, is_for, part_for, quantities_of, stock}
 use Rattle.drf_bundle.specs.laws.KeyLaws.{unit_of, where-cons, unit-here, unit-none}
-use Rattle.drf_bundle.specs.laws.PartLaws.{keeps-clipped}
+use Rattle.drf_bundle.proofs.laws.PartLaws.{keeps-clipped}
 use Rattle.drf_bundle.specs.Quantities.{amount_of, is_named}
-use Rattle.drf_bundle.specs.laws.RestLaws.{where-changed-cons}
-use Rattle.drf_bundle.specs.laws.SumLaws.{of_name, amount-quantities_of}
+use Rattle.drf_bundle.proofs.laws.RestLaws.{where-changed-cons}
+use Rattle.drf_bundle.specs.laws.SumLaws.{of_name}
+use Rattle.drf_bundle.proofs.laws.SumLaws.{amount-quantities_of}
 use Rattle.drf_bundle.specs.Value.{Thousandths, units_in}
 use Rattle.drf_bundle.specs.declared.quantities.Entry.{Entry}
 use Rattle.drf_bundle.specs.declared.resource.Resource.{Resource}
@@ -21,12 +22,12 @@ use Rattle.drf_bundle.specs.declared.value.Value.TheVariants.{Scalar, Ranges, It
 use Rattle.drf_rows.specs.Client.{Client, path_of}
 use Rattle.drf_rows.specs.Cycle.{free_of, is_allocatable, grant, tried, turn_order, at_moment}
 use Rattle.drf_rows.specs.Filters.{is_in_force, is_of_client, is_on_agent, holds_back, is_held_back}
-use Rattle.drf_row_laws.specs.CycleLaws.{little_entitlement}
-use Rattle.drf_row_laws.specs.EntitlementLaws.{some_room, limited-binds, named-puts}
+use Rattle.drf_row_laws.proofs.CycleLaws.{little_entitlement}
+use Rattle.drf_row_laws.proofs.EntitlementLaws.{some_room, limited-binds, named-puts}
 use Rattle.drf_rows.specs.Offers.{is_empty}
 use Rattle.drf_rows.specs.Quota.{binds, consumption, headroom, headroom_at, limited_names, room_under}
-use Rattle.drf_bundle.specs.ListLaws.{each_append}
-use Rattle.drf_row_laws.specs.QuotaLaws.{headroom_le, named_put}
+use Rattle.drf_bundle.proofs.ListLaws.{each_append}
+use Rattle.drf_row_laws.proofs.QuotaLaws.{headroom_le, named_put}
 use Rattle.drf_rows.specs.declared.rows.AgentRow.{AgentRow}
 use Rattle.drf_rows.specs.declared.rows.ClientRow.{ClientRow}
 use Rattle.drf_rows.specs.declared.rows.FilterRow.{FilterRow}
@@ -34,8 +35,8 @@ use Rattle.drf_rows.specs.declared.rows.FrameworkRow.{FrameworkRow}
 use Rattle.drf_rows.specs.declared.rows.LimitRow.{LimitRow}
 use Rattle.drf_rows.specs.declared.rows.Rows.{Rows}
 use Rattle.drf_explain.specs.Explained.{held_until, limiting_role, outcome, tighter, tightest, after_agent, explained, suppressed_in, suppressed_of, told_if_suppressed, told_of_agent, told_of_agents, told_of_all}
-use Rattle.drf_explain.specs.EachLaws.{little_part}
-use Rattle.drf_explain.specs.ExplainedLaws.{held_back-until, nothing_free}
+use Rattle.drf_explain.proofs.EachLaws.{little_part}
+use Rattle.drf_explain.proofs.ExplainedLaws.{held_back-until, nothing_free}
 use Rattle.drf_explain.specs.ReasonLaws.{usable, entitled, usable_amount, IsHeldUntil, IsCutBelow, IsOverLimit, IsTooLittle, IsForOthers, IsReserved, IsOtherwise, NothingLeftIsNotExplained}
 use Rattle.drf_explain.specs.declared.finding.Finding.TheVariants.{Inactive, NothingFree, Tried}
 use Rattle.drf_explain.specs.declared.finding.Outcome.{Outcome}

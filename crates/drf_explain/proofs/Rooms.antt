@@ -6,7 +6,7 @@ use Rattle.std.proofs.Common.{sym, ap, ◌∙◌, cond}
 use Rattle.std.proofs.lemmas.Bool.{and_parts}
 use Rattle.drf_role.specs.Text.{Text}
 use Rattle.drf_role.specs.Path.{Path, role_part, framework_part}
-use Rattle.drf_role.specs.PathLaws.{role_part-client_path, framework_part-client_path}
+use Rattle.drf_role.proofs.PathLaws.{role_part-client_path, framework_part-client_path}
 use Rattle.drf_bundle.specs.Bundle.{covers}
 use Rattle.drf_bundle.specs.declared.resource.Resource.{Resource}
 use Rattle.drf_gates.specs.quota.Allowance.{Allowance, IsAllowanceOf, used_at}
@@ -19,7 +19,7 @@ use Rattle.drf_rows.specs.declared.rows.FilterRow.{FilterRow}
 use Rattle.drf_rows.specs.declared.rows.LimitRow.{LimitRow}
 use Rattle.drf_rows.specs.declared.rows.Rows.{Rows}
 use Rattle.drf_explain.specs.Explained.{held_until, limiting_role, outcome_by, shortage, tightest, worthy_scalar}
-use Rattle.drf_explain.specs.ExplainedLaws.{filter_weaker}
+use Rattle.drf_explain.proofs.ExplainedLaws.{filter_weaker}
 use Rattle.drf_explain.specs.Gates.{AreGatesOf, client_at}
 use Rattle.drf_explain.specs.declared.finding.Outcome.{Outcome}
 use Rattle.drf_explain.specs.declared.finding.Outcome.TheVariants.{Grant, HeldBack}

@@ -1,1 +1,2 @@
 pub mod GapLaws
+pub mod SlotLaws

@@ -7,7 +7,7 @@ use Rattle.std.proofs.lemmas.Bool.{eq-eqb}
 use Rattle.std.proofs.lemmas.List.{append-nil}
 use Rattle.drf_role.specs.Text.{Text, same_text}
 use Rattle.drf_role.specs.TextLaws.{same_from_test}
-use Rattle.drf_bundle.specs.ListLaws.{filter-swap, filter_only}
+use Rattle.drf_bundle.proofs.ListLaws.{filter-swap, filter_only}
 use Rattle.drf_holdings.specs.Listed.{TaskKey}
 use Rattle.drf_holdings.specs.Rising.{AreOthers}
 use Rattle.drf_holdings.proofs.Lists.{none_in}

@@ -6,7 +6,7 @@ use Rattle.std.proofs.lemmas.Bool.{cases_Bool, eqb-true, eq-eqb, or_parts, false
 use Rattle.std.specs.Borrow.{Bor}
 use Rattle.std.specs.Option.{option_to_list, option_copied}
 use Rattle.std.proofs.lemmas.List.{map-append}
-use Rattle.drf_bundle.specs.ListLaws.{list_any_at}
+use Rattle.drf_bundle.proofs.ListLaws.{list_any_at}
 use Rattle.drf_holdings.specs.Rising.{IsRising}
 use Rattle.drf_holdings.specs.Taking.{IsTaken, HasNone}
 use Rattle.drf_holdings.proofs.RisingLists.{others_split, others_from}

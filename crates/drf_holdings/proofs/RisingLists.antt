@@ -8,8 +8,8 @@ use Rattle.std.proofs.lemmas.Bool.{eq-eqb, ne_eqb, or_parts, cases_lt}
 use Rattle.std.proofs.lemmas.List.{map-id, get_or_default}
 use Rattle.std.proofs.lemmas.List.Sorted.{searched}
 use Rattle.std.proofs.lemmas.Option.{slice_get_read}
-use Rattle.drf_row_laws.specs.EndingLaws.{filter-none, split_at}
-use Rattle.drf_bundle.specs.ListLaws.{filter_only}
+use Rattle.drf_row_laws.proofs.EndingLaws.{filter-none, split_at}
+use Rattle.drf_bundle.proofs.ListLaws.{filter_only}
 use Rattle.drf_holdings.specs.Rising.{IsRising, AreOthers}
 
 module _ {X : Type 0} (number : X → ℕ) where

@@ -6,7 +6,7 @@ use Rattle.std.proofs.lemmas.Bool.{or_parts, cases_Bool, and_from, false≢true}
 use Rattle.std.proofs.lemmas.List.{length-map, map-append}
 use Rattle.drf_role.specs.Text.{Text, same_text}
 use Rattle.drf_role.specs.TextLaws.{same_itself}
-use Rattle.drf_row_laws.specs.EndingLaws.{each-out}
+use Rattle.drf_row_laws.proofs.EndingLaws.{each-out}
 use Rattle.drf_rows.specs.Endings.{is_task}
 use Rattle.drf_rows.specs.Offers.{AreNew}
 use Rattle.drf_rows.specs.Holdings.{Holding, of_task}

@@ -5,8 +5,8 @@ use Rattle.std.proofs.Common.{refl, sym, ap, subst, ◌∙◌, zero, suc, arith,
 use Rattle.std.proofs.lemmas.Bool.{eq-eqb, lt-ltb, le-ltb}
 use Rattle.std.proofs.lemmas.List.{take-append-drop, append-nil}
 use Rattle.std.proofs.lemmas.List.Elements.{filter-append, filter_map-append}
-use Rattle.drf_row_laws.specs.EndingLaws.{split_at}
-use Rattle.drf_bundle.specs.ListLaws.{each_append}
+use Rattle.drf_row_laws.proofs.EndingLaws.{split_at}
+use Rattle.drf_bundle.proofs.ListLaws.{each_append}
 use Rattle.drf_holdings.specs.ByNumber.{slot_number, things_in, AreUnder, IsByNumber, KeepsOrder}
 use Rattle.drf_holdings.specs.Rising.{IsRising, AreOthers}
 use Rattle.drf_holdings.specs.Taking.{IsTaken, HasNone}

@@ -1,7 +1,7 @@
 -- The allocator that is returned after all lines.
 use Rattle.std.proofs.Common.{◌≡◌, ℕ, false, List, Option, Ok, Err, sym, ap, ◌∙◌, subst}
 use Rattle.drf_core.specs.Machine.{Machine, Engine, live}
-use Rattle.drf_row_laws.specs.LiveLaws.{live_rows-twice}
+use Rattle.drf_row_laws.proofs.LiveLaws.{live_rows-twice}
 use Rattle.drf_journal.specs.declared.fault.RunFault.{RunFault}
 use Rattle.drf_journal.specs.Audited.{HasTakenLines}
 use Rattle.drf_journal.specs.Lines.{lines_of}

@@ -9,7 +9,7 @@ use Rattle.drf_audit.specs.Audit.{line_of}
 use Rattle.drf_audit.specs.AuditText.{audit_text}
 use Rattle.drf_audit.specs.declared.agents.AuditLine.{AuditLine}
 use Rattle.drf_core.specs.Machine.{Machine}
-use Rattle.drf_explain.specs.ExplainedLaws.{live_rows_are_explained}
+use Rattle.drf_explain.proofs.ExplainedLaws.{live_rows_are_explained}
 use Rattle.drf_explain.specs.ExplainedText.{explained_text}
 use Rattle.drf_rows.specs.Cycle.{free_of}
 use Rattle.drf_rows.specs.Step.{live_rows}

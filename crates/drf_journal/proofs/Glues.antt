@@ -8,7 +8,7 @@ use Rattle.drf_lines.specs.Meaning.{meaning_of}
 use Rattle.drf_lines.specs.declared.fault.LineFault.{LineFault}
 use Rattle.drf_rows.specs.LimitNumbers.{LimitNumbers}
 use Rattle.drf_rows.specs.Step.{live_rows, reply_to}
-use Rattle.drf_row_laws.specs.LiveLaws.{live_rows-twice}
+use Rattle.drf_row_laws.proofs.LiveLaws.{live_rows-twice}
 use Rattle.drf_rows.specs.declared.event.Event.{Event}
 use Rattle.drf_rows.specs.declared.rows.Rows.{Rows}
 use Rattle.drf_journal.specs.declared.journal.Verdict.TheVariants.{Good}

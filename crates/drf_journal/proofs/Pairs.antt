@@ -6,7 +6,7 @@ use Rattle.std.proofs.lemmas.List.{length-map, length-append, map-append}
 use Rattle.drf_core.specs.Machine.{Machine, after}
 use Rattle.drf_rows.specs.LimitNumbers.{LimitNumbers}
 use Rattle.drf_rows.specs.Step.{live_rows, rows_after}
-use Rattle.drf_row_laws.specs.LiveLaws.{reply_to-same_live, rows_after-same_live, live_rows-twice}
+use Rattle.drf_row_laws.proofs.LiveLaws.{reply_to-same_live, rows_after-same_live, live_rows-twice}
 use Rattle.drf_rows.specs.declared.rows.Rows.{Rows}
 use Rattle.drf_rows.specs.declared.event.Event.{Event}
 use Rattle.drf_lines.specs.declared.fault.LineFault.{LineFault}

@@ -5,7 +5,7 @@ use Rattle.drf_lines.specs.Meaning.{meaning_of}
 use Rattle.drf_lines.specs.declared.fault.LineFault.{LineFault}
 use Rattle.drf_rows.specs.LimitNumbers.{LimitNumbers}
 use Rattle.drf_rows.specs.Step.{live_rows, rows_after}
-use Rattle.drf_row_laws.specs.LiveLaws.{rows_after-same_live, live_rows-twice}
+use Rattle.drf_row_laws.proofs.LiveLaws.{rows_after-same_live, live_rows-twice}
 use Rattle.drf_rows.specs.declared.event.Event.{Event}
 use Rattle.drf_rows.specs.declared.rows.Rows.{Rows}
 use Rattle.drf_journal.specs.Audited.{rows_after_lines, told_of_lines}

@@ -7,3 +7,4 @@ pub mod Names
 pub mod Steps
 pub mod IntervalLaws
 pub mod ListedLaws
+pub mod Sweep

@@ -1,5 +1,5 @@
 -- Walking along a set of numbers: the places where it begins and ends, in ascending order, and steps past them.
-use Rattle.std.specs.Prelude.{◌≡◌, ◌==◌, ℕ, ◌+◌, ◌≤◌, ◌^◌, Bool, false, not, List, [], ◌∷◌, nat_lt, if◌then◌else◌}
+use Rattle.std.specs.Prelude.{◌==◌, ℕ, ◌+◌, ◌^◌, Bool, not, List, [], ◌∷◌, if◌then◌else◌}
 use Rattle.drf_kinds.specs.declared.interval.Interval.{Interval}
 
 -- the places that are still to come, and whether the numbers before the next one are members
@@ -20,16 +20,6 @@ rest (p ∷ ps) = ps
 -- the steps for intervals; if they are inside, the first interval has already begun
 abbrev pub steps_of : Bool → List Interval → Steps
 steps_of inside is = record { inside = inside; places = (if inside then rest (places_of is) else places_of is) }
-
--- whether a number is a member
-abbrev pub is_member : Bool → List ℕ → ℕ → Bool
-is_member inside [] n = inside
-is_member inside (p ∷ ps) n = if nat_lt n p then inside else is_member (not inside) ps n
-
--- ascending places, from `low` on, after the last of which the set has ended
-abbrev pub AreFrom : ℕ → Bool → List ℕ → Type 0
-AreFrom low inside [] = inside ≡ false
-AreFrom low inside (p ∷ ps) = (low ≤ p) × (p ≤ 2 ^ 32) × AreFrom (p + 1) (not inside) ps
 
 -- the next place, or a number greater than all places if there is none
 abbrev pub next_place : List ℕ → ℕ

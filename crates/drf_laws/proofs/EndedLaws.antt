@@ -14,19 +14,19 @@ use Rattle.drf_bundle.specs.declared.resource.Resource.{Resource}
 use Rattle.drf_bundle.specs.Value.{Point}
 use Rattle.drf_bundle.specs.Bundle.{Key, IsBundle, units, join}
 use Rattle.drf_bundle.specs.laws.BundleLaws.{known_by_units}
-use Rattle.drf_bundle.specs.laws.UnitProofs.{join_by_units}
+use Rattle.drf_bundle.proofs.laws.UnitProofs.{join_by_units}
 use Rattle.drf_rows.specs.Filters.{is_of_client, is_on_agent}
 use Rattle.drf_rows.specs.Holdings.{Holding, of_offer, of_task, holdings_of, AreBundles}
-use Rattle.drf_row_laws.specs.HoldingsLaws.{units_on, units_on-append, units_on-cons}
+use Rattle.drf_row_laws.proofs.HoldingsLaws.{units_on, units_on-append, units_on-cons}
 use Rattle.drf_rows.specs.Cycle.{free_of, new_offer, with_offer, at_moment}
-use Rattle.drf_row_laws.specs.CycleLaws.{bundle-free_of, units-free_of}
+use Rattle.drf_row_laws.proofs.CycleLaws.{bundle-free_of, units-free_of}
 use Rattle.drf_rows.specs.Endings.{is_task}
-use Rattle.drf_row_laws.specs.EndingLaws.{is_task-swap, find-place}
+use Rattle.drf_row_laws.proofs.EndingLaws.{is_task-swap, find-place}
 use Rattle.drf_rows.specs.Offers.{task_of, offer_at, left_of_offer, filtered_until, filter_of, filters_rest, filters_with, offer_accepted, offer_declined}
 use Rattle.drf_rows.specs.Tasks.{Start}
 use Rattle.drf_rows.specs.Consistent.{are_distinct_tasks, IsAgent, IsCovered, IsConsistent}
-use Rattle.drf_row_laws.specs.ConsistentLaws.{numbers_within, bundles-consistent}
-use Rattle.drf_bundle.specs.ListLaws.{none_left, filter_each, find_only, filter_only, each_from, each_at, each_true, each_fails, each_append, each_parts}
+use Rattle.drf_row_laws.proofs.ConsistentLaws.{numbers_within, bundles-consistent}
+use Rattle.drf_bundle.proofs.ListLaws.{none_left, filter_each, find_only, filter_only, each_from, each_at, each_true, each_fails, each_append, each_parts}
 use Rattle.drf_rows.specs.Step.{effect}
 use Rattle.drf_row_laws.specs.LifeLaws.{DeclinedAtOnceIsUndone, GoesAlone, FinishedIsGivenBack, LeavesItsTasks, AcceptedStartsTasks, FiltersGoWithTheirOwner, OtherFiltersStay}
 use Rattle.drf_rows.specs.declared.event.Event.TheVariants.{Finish}

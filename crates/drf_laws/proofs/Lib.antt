@@ -2,3 +2,7 @@ pub mod EndedLaws
 pub mod OfferedLaws
 pub mod SuppressionLaws
 pub mod laws
+pub mod ConsumptionLaws
+pub mod MovingLaws
+pub mod HeldForLaws
+pub mod KeptLimitLaws

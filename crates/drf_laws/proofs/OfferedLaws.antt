@@ -15,11 +15,11 @@ use Rattle.drf_rows.specs.Holdings.{of_offer}
 use Rattle.drf_rows.specs.Held.{client_of, active_clients, standing_of}
 use Rattle.drf_rows.specs.Filters.{is_held_back}
 use Rattle.drf_rows.specs.Cycle.{is_allocatable, is_grantable, new_offer, with_offer, first_of, without, serving_order, turns, at_moment, cycle}
-use Rattle.drf_row_laws.specs.CycleLaws.{active_clients-with_offer}
-use Rattle.drf_bundle.specs.ListLaws.{each_append, each_map, each_filter, each_find, each_true, any_fails}
+use Rattle.drf_row_laws.proofs.CycleLaws.{active_clients-with_offer}
+use Rattle.drf_bundle.proofs.ListLaws.{each_append, each_map, each_filter, each_find, each_true, any_fails}
 use Rattle.drf_rows.specs.Step.{refusal_of, effect, answer, line_told, new_offers, rows_after, rows_after_all, reply_to, replies_to}
-use Rattle.drf_row_laws.specs.FrameLaws.{its_part, Any, turns_keep, only_changed}
-use Rattle.drf_row_laws.specs.LiveLaws.{kept-turns}
+use Rattle.drf_row_laws.proofs.FrameLaws.{its_part, Any, turns_keep, only_changed}
+use Rattle.drf_row_laws.proofs.LiveLaws.{kept-turns}
 use Rattle.drf_row_laws.specs.LifeLaws.{is_same_client, SuppressedIsNotOffered, FilteredIsNotOffered, CountUp, lines_told, NumbersAreNew}
 use Rattle.drf_rows.specs.declared.event.Event.{Event}
 use Rattle.drf_rows.specs.declared.event.Event.TheVariants.{Cycle}

@@ -23,3 +23,4 @@ pub mod Appends
 pub mod Lanes
 pub mod LeftAmounts
 pub mod KeptTexts
+pub mod LineValue

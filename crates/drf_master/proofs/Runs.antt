@@ -5,7 +5,7 @@ use Rattle.drf_board.proofs.HistoryLaws.{legal-push, rows_of-nil, rows_of-push}
 use Rattle.drf_board.specs.declared.entry.Entry.{Entry}
 use Rattle.drf_core.specs.Machine.{Engine, IsAfter, IsOpened, IsSame}
 use Rattle.drf_rows.specs.LimitNumbers.{LimitNumbers}
-use Rattle.drf_row_laws.specs.LiveLaws.{report_of-live, reply_to-same_live, rows_after-same_live}
+use Rattle.drf_row_laws.proofs.LiveLaws.{report_of-live, reply_to-same_live, rows_after-same_live}
 use Rattle.drf_rows.specs.Report.{report_of}
 use Rattle.drf_rows.specs.Step.{live_rows, opening, reply_to, rows_after}
 use Rattle.drf_rows.specs.declared.event.Event.{Event}

@@ -2,7 +2,7 @@
 use Rattle.std.proofs.Common.{◌≡◌, Bool, true, false, ap}
 use Rattle.drf_rows.specs.Step.{live_rows}
 use Rattle.drf_rows.specs.declared.rows.Rows.{Rows}
-use Rattle.drf_row_laws.specs.LiveLaws.{live_rows-twice}
+use Rattle.drf_row_laws.proofs.LiveLaws.{live_rows-twice}
 use Rattle.drf_saved.specs.Epoch.{epoch}
 use Rattle.drf_resume.specs.Saving.{saved_of}
 

@@ -7,3 +7,5 @@ pub mod LabelTextLemmas
 pub mod PartLaws
 pub mod RoleLaws
 pub mod TestLaws
+pub mod PathLaws
+pub mod TextLaws

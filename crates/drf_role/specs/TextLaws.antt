@@ -1,9 +1,9 @@
 -- Properties of comparing texts byte by byte.
-use Rattle.std.specs.Prelude.{◌≡◌, ◌≢◌, ◌⊎◌, ℕ, false, List, IsTrue}
+use Rattle.std.specs.Prelude.{◌≡◌, ◌⊎◌, ℕ, List, IsTrue}
 use Rattle.std.specs.Cmp.Lexicographic.{slice_cmp, bytes_decides, nat_list_cmp_total, texts_ties}
 use Rattle.std.specs.Ordering.{nat_cmp, is_lt, is_eq, ordering_reverse}
-use Rattle.std.proofs.Common.{Ordering, Less, Equal, Greater, refl, sym, ap, ◌∙◌, subst, inl, inr}
-use Rattle.std.proofs.lemmas.Bool.{false≢true, cases_Bool, false_from_ne_true}
+use Rattle.std.proofs.Common.{Ordering, Less, Equal, Greater, refl, ap, ◌∙◌, inl, inr}
+use Rattle.std.proofs.lemmas.Bool.{false≢true}
 use Rattle.std.proofs.lemmas.Cmp.{tied_itself}
 use Rattle.drf_role.specs.Text.{same_text, text_below}
 
@@ -16,16 +16,6 @@ test_from_same a b same = (bytes_decides a b).1 same
 pub same_itself : (a : List ℕ) → IsTrue (same_text a a)
 same_itself a = test_from_same a a refl
 
-pub test_from_other : (a b : List ℕ) → a ≢ b → same_text a b ≡ false
-test_from_other a b other = false_from_ne_true (same_text a b) (λ same. other (same_from_test a b same))
-
--- the two texts are equal, or they are not
-pub cases_same : (a b : List ℕ) → (IsTrue (same_text a b) × (a ≡ b)) ⊎ ((same_text a b ≡ false) × (a ≢ b))
-cases_same a b = elim (cases_Bool (same_text a b)) [
-  | inl same ↦ inl (same, same_from_test a b same)
-  | inr other ↦ inr (other, λ e. false≢true (rw (test_from_same a b e) at (sym other)))
-]
-
 pub less_from_test : (o : Ordering) → IsTrue (is_lt o) → o ≡ Less
 less_from_test Less h = refl
 less_from_test Equal h = absurd (false≢true h)
@@ -33,9 +23,6 @@ less_from_test Greater h = absurd (false≢true h)
 
 pub cmp_below : (a b : List ℕ) → IsTrue (text_below a b) → slice_cmp nat_cmp a b ≡ Less
 cmp_below a b below = less_from_test (slice_cmp nat_cmp a b) below
-
-pub cmp_above : (a b : List ℕ) → IsTrue (text_below a b) → slice_cmp nat_cmp b a ≡ Greater
-cmp_above a b below = nat_list_cmp_total.antisymm b a ∙ ap ordering_reverse (cmp_below a b below)
 
 pub cmp_itself : (a : List ℕ) → slice_cmp nat_cmp a a ≡ Equal
 cmp_itself a = tied_itself nat_list_cmp_total a
@@ -57,13 +44,6 @@ cases_cmp a b = of (slice_cmp nat_cmp a b)
     of Less = inl refl
     of Equal = inr (inl refl)
     of Greater = inr (inr refl)
-
--- a text that comes before another is not equal to it
-pub below_other : (a b : List ℕ) → IsTrue (text_below a b) → same_text a b ≡ false
-below_other a b below = test_from_other a b (λ e. false≢true (ap is_lt (sym (cmp_itself b)) ∙ subst (λ (t : List ℕ). IsTrue (text_below t b)) e below))
-
-pub above_other : (a b : List ℕ) → IsTrue (text_below a b) → same_text b a ≡ false
-above_other a b below = test_from_other b a (λ e. false≢true (ap is_lt (sym (cmp_itself b)) ∙ subst (λ (t : List ℕ). IsTrue (text_below t b)) (sym e) below))
 
 pub below_trans : (a b c : List ℕ) → IsTrue (text_below a b) → IsTrue (text_below b c) → IsTrue (text_below a c)
 below_trans a b c first second = below_from_cmp a c (nat_list_cmp_total.trans a b c (cmp_below a b first) (cmp_below b c second))

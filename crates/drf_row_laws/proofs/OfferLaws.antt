@@ -5,7 +5,7 @@ use Rattle.drf_bundle.specs.Bundle.{IsBundle}
 use Rattle.drf_bundle.specs.declared.resource.Resource.{Resource}
 use Rattle.drf_rows.specs.Consistent.{IsFilter, IsConsistent}
 use Rattle.drf_rows.specs.Offers.{filter_of, has_offer, offer_at, filtered_until}
-use Rattle.drf_row_laws.specs.EndingLaws.{held-offer_at}
+use Rattle.drf_row_laws.proofs.EndingLaws.{held-offer_at}
 use Rattle.drf_rows.specs.declared.limits.TheConstants.{LATEST_MOMENT}
 use Rattle.drf_rows.specs.declared.rows.OfferRow.{OfferRow}
 use Rattle.drf_rows.specs.declared.rows.Rows.{Rows}

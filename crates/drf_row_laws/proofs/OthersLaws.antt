@@ -16,15 +16,15 @@ use Rattle.drf_rows.specs.Client.{Client}
 use Rattle.drf_rows.specs.Holdings.{of_offer}
 use Rattle.drf_rows.specs.Cycle.{counted, count_offer, with_offer, at_moment, cycle}
 use Rattle.drf_rows.specs.Endings.{is_task}
-use Rattle.drf_row_laws.specs.FrameLaws.{any_turns, cycle_only, all_stay, only_changed, step_keeps}
-use Rattle.drf_row_laws.specs.EndingLaws.{filter-out, find-place}
+use Rattle.drf_row_laws.proofs.FrameLaws.{any_turns, cycle_only, all_stay, only_changed, step_keeps}
+use Rattle.drf_row_laws.proofs.EndingLaws.{filter-out, find-place}
 use Rattle.drf_rows.specs.Offers.{offer_at, offer_accepted, offer_declined}
 use Rattle.drf_rows.specs.Tasks.{Start}
 use Rattle.drf_bundle.specs.Bundle.{relabel}
 use Rattle.drf_rows.specs.Totals.{total_at, exchanged}
 use Rattle.drf_rows.specs.Roles.{with_roles, roles_set_in}
 use Rattle.drf_rows.specs.Members.{distinct, new_client, active_at, suppressed_at, suppressed_in}
-use Rattle.drf_bundle.specs.ListLaws.{filter-again, none_left}
+use Rattle.drf_bundle.proofs.ListLaws.{filter-again, none_left}
 use Rattle.drf_rows.specs.Step.{effect, new_offers}
 use Rattle.drf_row_laws.specs.LifeLaws.{is_cycle, other_agents, other_frameworks, OtherAgentsStay, OtherFrameworksStay, OthersStay, is_accept, other_offers, other_tasks, OtherHoldingsStay, EndedIsGone, RemovedIsGone, active_row, ActivityIsItsAgents, is_made_to, raised_row, with_counts, CycleOnlyOffers}
 use Rattle.drf_rows.specs.declared.event.Event.{Event}

@@ -19,7 +19,7 @@ use Rattle.drf_rows.specs.Holdings.{Holding, holdings_of, is_on, parts_on}
 use Rattle.drf_rows.specs.Held.{client_of, clients_of, cluster_total, is_registered}
 use Rattle.drf_rows.specs.Step.{opening}
 use Rattle.drf_rows.specs.Members.{has_agent, has_framework, with_agent}
-use Rattle.drf_bundle.specs.ListLaws.{each_from, each_append, none_has}
+use Rattle.drf_bundle.proofs.ListLaws.{each_from, each_append, none_has}
 use Rattle.drf_rows.specs.Consistent.{are_distinct, are_distinct_roles, offers_counted, IsAgent, IsFramework, IsHeld, IsCovered, IsConsistent, IsFilter}
 use Rattle.drf_rows.specs.declared.rows.AgentRow.{AgentRow}
 use Rattle.drf_rows.specs.declared.rows.ClientRow.{ClientRow}

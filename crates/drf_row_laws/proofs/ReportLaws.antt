@@ -19,18 +19,18 @@ use Rattle.drf_role.specs.TextLaws.{less_from_test}
 use Rattle.drf_role.specs.Path.{Path, same_path, begins_with}
 use Rattle.drf_role.specs.PathLaws.{same_path-true, same_path_itself}
 use Rattle.drf_bundle.specs.Quantities.{plus, amount_of, is_in_order, HasNoZeros}
-use Rattle.drf_bundle.specs.laws.QuantitiesLaws.{amount-plus, in_order-plus, amount-without_zeros, no_zeros-without_zeros}
+use Rattle.drf_bundle.proofs.laws.QuantitiesLaws.{amount-plus, in_order-plus, amount-without_zeros, no_zeros-without_zeros}
 use Rattle.drf_bundle.specs.Bundle.{IsBundle, quantities_of}
-use Rattle.drf_bundle.specs.laws.UnitProofs.{quantities_no_zeros}
+use Rattle.drf_bundle.proofs.laws.UnitProofs.{quantities_no_zeros}
 use Rattle.drf_bundle.specs.declared.quantities.Entry.{Entry}
 use Rattle.drf_rows.specs.Client.{Client, path_of}
 use Rattle.drf_rows.specs.Holdings.{Holding, holdings_of, held_where, amount_in, is_under, AreBundles}
 use Rattle.drf_rows.specs.Held.{clients_of, cluster_total, count_of, held_by, standing_of}
-use Rattle.drf_row_laws.specs.MemberLaws.{amount-cluster_total}
+use Rattle.drf_row_laws.proofs.MemberLaws.{amount-cluster_total}
 use Rattle.drf_rows.specs.Report.{path_cmp, with_node, nodes_to, nodes_on, nodes_of, held_under, node_line, report_of}
-use Rattle.drf_row_laws.specs.ReportedShares.{in_order-cluster_total}
+use Rattle.drf_row_laws.proofs.ReportedShares.{in_order-cluster_total}
 use Rattle.drf_row_laws.specs.Laws.{HeldIsReported, CountIsReported, TotalIsReported, AmountsAreAboveZero, NodesRise, NodesBeginPaths, are_in_order, paths_told}
-use Rattle.drf_bundle.specs.ListLaws.{each_filter, each_made}
+use Rattle.drf_bundle.proofs.ListLaws.{each_filter, each_made}
 use Rattle.drf_rows.specs.declared.rows.Rows.{Rows}
 
 -- ---- what a node holds

@@ -11,7 +11,7 @@ use Rattle.drf_role.specs.Text.{Text, same_text}
 use Rattle.drf_role.specs.TextLaws.{same_from_test}
 use Rattle.drf_role.specs.Path.{Path, same_path}
 use Rattle.drf_role.specs.PathLaws.{same_path-true}
-use Rattle.drf_bundle.specs.ListLaws.{list_any-map, sum_by-filter-cons, cond_le}
+use Rattle.drf_bundle.proofs.ListLaws.{list_any-map, sum_by-filter-cons, cond_le}
 use Rattle.drf_rows.specs.Client.{Client}
 use Rattle.drf_rows.specs.Holdings.{Holding, holdings_of}
 use Rattle.drf_rows.specs.Held.{is_registered}

@@ -10,12 +10,13 @@ use Rattle.std.proofs.lemmas.List.Sorted.{list_any-IsPermutation, length_permuta
 use Rattle.std.proofs.lemmas.Bool.{true≢false, cases_Bool, cond-true, cond-false, or_left, or_right, or_cases, and_from, and_parts}
 use Rattle.std.proofs.lemmas.Bool.Decides.{nat_tests}
 use Rattle.drf_role.specs.Text.{Text, same_text, text_below}
-use Rattle.drf_role.specs.TextLaws.{same_from_test, same_itself, cmp_above}
+use Rattle.drf_role.specs.TextLaws.{same_from_test, same_itself}
+use Rattle.drf_role.proofs.TextLaws.{cmp_above}
 use Rattle.drf_role.specs.PathLaws.{same_path-true, same_path_itself}
 use Rattle.drf_role.specs.Path.{Path, same_path}
 use Rattle.drf_rows.specs.Client.{Client, path_of}
 use Rattle.drf_rows.specs.Share.{Standing, Fraction, weighted_share_of, is_ahead, stands_before_below, stands_before, is_serving_order}
-use Rattle.drf_bundle.specs.ListLaws.{list_any-map}
+use Rattle.drf_bundle.proofs.ListLaws.{list_any-map}
 use Rattle.drf_rows.specs.Cycle.{first_of, without, serving_order}
 
 text_below-back : (a b : Text) → text_below a b ≡ true → text_below b a ≡ false

@@ -1,21 +1,8 @@
 -- Theorems about the definition, on which the proofs of the code depend.
-pub mod HoldingsLaws
-pub mod FrameLaws
-pub mod StepLaws
-pub mod FilterLaws
-pub mod LiveLaws
-pub mod CycleLaws
-pub mod ConsistentLaws
-pub mod EndingLaws
-pub mod MemberLaws
-pub mod TotalLaws
 pub mod WeightLaws
-pub mod TotalsLaws
 pub mod LimitLaws
 pub mod ReservationLaws
 pub mod QuotaLaws
 pub mod EntitlementLaws
 pub mod Laws
 pub mod LifeLaws
-pub mod LowestLaws
-pub mod ReportedShares

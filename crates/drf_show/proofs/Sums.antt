@@ -8,12 +8,12 @@ use Rattle.std.proofs.lemmas.List.Elements.{filter-append}
 use Rattle.std.proofs.lemmas.List.Sums.{fold-append, sum_by-append, sum_by-cons}
 use Rattle.drf_bundle.specs.Bundle.{quantities_of}
 use Rattle.drf_bundle.specs.Quantities.{amount_of, is_in_order, plus, without_zeros}
-use Rattle.drf_bundle.specs.laws.QuantitiesLaws.{amount-plus}
+use Rattle.drf_bundle.proofs.laws.QuantitiesLaws.{amount-plus}
 use Rattle.drf_bundle.specs.declared.quantities.Entry.{Entry}
 use Rattle.drf_bundle.specs.declared.resource.Resource.{Resource}
 use Rattle.drf_role.specs.Path.{Path, same_path}
 use Rattle.drf_role.specs.Text.{Text, same_text}
-use Rattle.drf_role.specs.PathLaws.{same_path-client_path}
+use Rattle.drf_role.proofs.PathLaws.{same_path-client_path}
 use Rattle.drf_rows.specs.Client.{Client, path_of}
 use Rattle.drf_rows.specs.Held.{client_of, standing_of}
 use Rattle.drf_rows.specs.Report.{sum_of, terms_of}
@@ -22,8 +22,8 @@ use Rattle.drf_rows.specs.Holdings.{Holding, amount_in, of_offer, of_task}
 use Rattle.drf_rows.specs.declared.rows.ClientRow.{ClientRow}
 use Rattle.drf_rows.specs.declared.rows.FrameworkRow.{FrameworkRow}
 use Rattle.drf_rows.specs.declared.rows.Rows.{Rows}
-use Rattle.drf_row_laws.specs.ReportedShares.{small_total}
-use Rattle.drf_row_laws.specs.TotalLaws.{held-le-total}
+use Rattle.drf_row_laws.proofs.ReportedShares.{small_total}
+use Rattle.drf_row_laws.proofs.TotalLaws.{held-le-total}
 use Rattle.drf_show.specs.Consuming.{IsFit}
 use Rattle.drf_show.specs.Had.{AreSmall, Part, client_line_by, parts_for, parts_of, sum_for, sum_with}
 use Rattle.drf_show.specs.Shown.{client_line, had_of}

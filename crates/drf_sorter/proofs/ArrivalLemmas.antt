@@ -10,7 +10,7 @@ use Rattle.drf_rows.specs.Share.{Standing, stands_before, is_serving_order}
 use Rattle.drf_rows.specs.Held.{weight_of}
 use Rattle.drf_row_laws.proofs.ServingOrder.{stands_before-back, same_path-before}
 use Rattle.drf_sorter.specs.Content.{Ranked, Content, IsOrderOf, active_paths, standing_in, clients_under}
-use Rattle.drf_bundle.specs.ListLaws.{sum_by-filter}
+use Rattle.drf_bundle.proofs.ListLaws.{sum_by-filter}
 use Rattle.drf_sorter.proofs.SumLemmas.{part_of}
 
 -- ---- a serving order is determined by its members

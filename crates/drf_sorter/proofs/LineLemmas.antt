@@ -16,15 +16,15 @@ use Rattle.drf_role.specs.Text.{Text}
 use Rattle.drf_role.specs.Path.{Path, begins_with, same_path}
 use Rattle.drf_role.specs.PathLaws.{same_path-true}
 use Rattle.drf_row_laws.specs.Laws.{are_in_order}
-use Rattle.drf_row_laws.specs.LowestLaws.{lowest_terms-same}
+use Rattle.drf_row_laws.proofs.LowestLaws.{lowest_terms-same}
 use Rattle.drf_rows.specs.Report.{path_cmp}
 use Rattle.drf_row_laws.proofs.ReportLaws.{begins_take}
-use Rattle.drf_row_laws.specs.ReportedShares.{small_entries, part_of_greatest}
+use Rattle.drf_row_laws.proofs.ReportedShares.{small_entries, part_of_greatest}
 use Rattle.drf_rows.specs.Share.{lowest_terms}
 use Rattle.drf_rows.specs.declared.report.NodeLine.{NodeLine}
 use Rattle.drf_sorter.specs.Content.{Content, Ranked, has_client, has_node}
 use Rattle.drf_sorter.specs.Fractions.{dominant_of, weigh}
-use Rattle.drf_sorter.specs.laws.FractionLaws.{same_as_weighed}
+use Rattle.drf_sorter.proofs.laws.FractionLaws.{same_as_weighed}
 use Rattle.drf_sorter.proofs.laws.LineLaws.{each-with, has_line-new, has_line-others, same_from_tie}
 use Rattle.drf_sorter.specs.Lines.{AreRising, BelongsBehind, StandsAt, has_line, paths_of, with_line}
 use Rattle.drf_sorter.proofs.PrefixLemmas.{begins_short, begins_to}

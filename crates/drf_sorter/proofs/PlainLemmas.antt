@@ -17,7 +17,7 @@ use Rattle.drf_sorter.specs.Fractions.{dominant_of, weigh}
 use Rattle.drf_sorter.specs.Plain.{ranked, held_by, count_by, plain_content, plain_standing}
 use Rattle.drf_sorter.proofs.ChangeLemmas.{any_ranked}
 use Rattle.drf_sorter.proofs.OrderLemmas.{distinct_filter}
-use Rattle.drf_bundle.specs.ListLaws.{sum_by-map}
+use Rattle.drf_bundle.proofs.ListLaws.{sum_by-map}
 use Rattle.drf_sorter.proofs.SumLemmas.{sum_part_le}
 
 pub filter-map : {X Y : Type 0} (p : Y → Bool) (f : X → Y) (xs : List X)

@@ -4,11 +4,11 @@ use Rattle.std.specs.List.Sorted.{IsPermutation}
 use Rattle.std.proofs.Common.{refl, sym, subst}
 use Rattle.std.proofs.lemmas.List.Sorted.{IsPermutation-map}
 use Rattle.drf_role.specs.Path.{Path, IsClientPath, role_part, framework_part}
-use Rattle.drf_role.specs.PathLaws.{role_part-client_path, framework_part-client_path}
+use Rattle.drf_role.proofs.PathLaws.{role_part-client_path, framework_part-client_path}
 use Rattle.drf_rows.specs.Client.{Client, path_of}
 use Rattle.drf_rows.specs.Share.{Standing, is_serving_order}
 use Rattle.drf_rows.specs.Cycle.{serving_order}
-use Rattle.drf_bundle.specs.ListLaws.{each_map}
+use Rattle.drf_bundle.proofs.ListLaws.{each_map}
 use Rattle.drf_row_laws.proofs.ServingOrder.{serving_order-unique}
 use Rattle.drf_sorter.specs.Served.{AreClients, Weighs}
 use Rattle.drf_sorter.proofs.laws.SortedLaws.{sorted, moved_sorted, ordered_sorted}

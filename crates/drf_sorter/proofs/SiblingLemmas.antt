@@ -3,7 +3,8 @@ use Rattle.std.proofs.Common.{◌≡◌, ◌*◌, ℕ, true, IsTrue, List, [], �
 use Rattle.std.proofs.lemmas.Bool.{or_right, and_from, eq-eqb}
 use Rattle.std.proofs.lemmas.List.{append-nil, append_assoc}
 use Rattle.drf_role.specs.Text.{text_below}
-use Rattle.drf_role.specs.TextLaws.{below_other, same_itself}
+use Rattle.drf_role.specs.TextLaws.{same_itself}
+use Rattle.drf_role.proofs.TextLaws.{below_other}
 use Rattle.drf_rows.specs.Share.{Standing, is_ahead, is_less, is_same, stands_before, stands_before_below, weighted_share_of}
 use Rattle.drf_sorter.specs.Fractions.{dominant_of, weigh}
 

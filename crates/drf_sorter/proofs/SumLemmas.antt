@@ -3,7 +3,7 @@ use Rattle.std.proofs.Common.{◌≡◌, ◌<◌, ◌≤◌, ◌+◌, ℕ, Bool,
 use Rattle.std.specs.List.{filter, sum_by}
 use Rattle.std.proofs.lemmas.List.{take_all}
 use Rattle.std.proofs.lemmas.List.Sums.{sum_by_more, sum_by-take-le, sum_by-le-sum_by}
-use Rattle.drf_bundle.specs.ListLaws.{sum_by-filter, cond_le}
+use Rattle.drf_bundle.proofs.ListLaws.{sum_by-filter, cond_le}
 
 -- f of an element that passes, and 0 otherwise
 abbrev pub part_of : {X : Type 0} → (X → Bool) → (X → ℕ) → X → ℕ

@@ -8,18 +8,18 @@ use Rattle.std.proofs.lemmas.Map.Keys.{IsDistinct-cons}
 use Rattle.drf_role.specs.Text.{Text, same_text}
 use Rattle.drf_role.specs.Name.{IsName}
 use Rattle.drf_role.specs.Path.{Path, IsClientPath, same_path}
-use Rattle.drf_role.specs.PathLaws.{same_path-client_path}
+use Rattle.drf_role.proofs.PathLaws.{same_path-client_path}
 use Rattle.drf_role.specs.Role.{IsRole}
 use Rattle.drf_rows.specs.Client.{Client, path_of}
 use Rattle.drf_rows.specs.Held.{client_of, active_clients}
 use Rattle.drf_rows.specs.Cycle.{turn_order}
 use Rattle.drf_rows.specs.Consistent.{are_distinct, are_distinct_roles, IsFramework, IsConsistent}
-use Rattle.drf_bundle.specs.ListLaws.{each_append, each_filter, each_from, each_map, none_has}
+use Rattle.drf_bundle.proofs.ListLaws.{each_append, each_filter, each_from, each_map, none_has}
 use Rattle.drf_rows.specs.declared.rows.ClientRow.{ClientRow}
 use Rattle.drf_rows.specs.declared.rows.FrameworkRow.{FrameworkRow}
 use Rattle.drf_rows.specs.declared.rows.Rows.{Rows}
 use Rattle.drf_sorter.proofs.ServedLemmas.{each_is_served_once}
-use Rattle.drf_row_laws.specs.WeightLaws.{weight_of-in_range}
+use Rattle.drf_row_laws.proofs.WeightLaws.{weight_of-in_range}
 use Rattle.drf_rows.specs.Held as rows_word
 
 -- ---- clients with different paths

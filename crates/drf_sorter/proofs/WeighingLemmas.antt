@@ -11,11 +11,11 @@ use Rattle.drf_bundle.specs.declared.quantities.Entry.{Entry}
 use Rattle.drf_role.specs.Path.{same_path}
 use Rattle.drf_role.specs.PathLaws.{same_path-true}
 use Rattle.drf_role.specs.Role.{IsComponent, IsRole, default_role}
-use Rattle.drf_role.specs.TextLaws.{cases_same}
+use Rattle.drf_role.proofs.TextLaws.{cases_same}
 use Rattle.drf_rows.specs.Held.{weight_of}
 use Rattle.drf_rows.specs.Share.{Fraction, is_less, share_of, weighted_share_of}
 use Rattle.drf_rows.specs.declared.rows.WeightRow.{WeightRow}
-use Rattle.drf_row_laws.specs.WeightLaws.{weight_of-set}
+use Rattle.drf_row_laws.proofs.WeightLaws.{weight_of-set}
 use Rattle.drf_sorter.specs.Content.{Content, standing_in, with_weight}
 use Rattle.drf_sorter.specs.Fractions.{dominant_of, weigh}
 use Rattle.drf_sorter.specs.laws.Laws.{ClientsHaveDefaultWeight}

@@ -6,3 +6,4 @@ pub mod PermutationLaws
 pub mod SameLaws
 pub mod SortedLaws
 pub mod SpendLaws
+pub mod FractionLaws

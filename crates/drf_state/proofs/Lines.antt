@@ -1,7 +1,7 @@
 -- Adding lines to a text.
 use Rattle.std.proofs.Common.{◌≡◌, ◌+◌, List, [], ◌∷◌, ◌++◌, length, refl, sym, ap, ◌∙◌, append_assoc, append-nil, arith}
 use Rattle.std.proofs.lemmas.List.{length-append}
-use Rattle.drf_bundle.specs.ListLaws.{each_append}
+use Rattle.drf_bundle.proofs.ListLaws.{each_append}
 use Rattle.drf_saved.specs.declared.saved.SavedRow.{SavedRow}
 use Rattle.drf_lines.specs.StateLine.{row_line}
 use Rattle.drf_state.specs.LinedText.{LinedBytes, with_rows}

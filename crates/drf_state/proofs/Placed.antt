@@ -21,7 +21,7 @@ use Rattle.drf_rows.specs.LimitNumbers.{LimitNumbers, IsWithinCeilings}
 use Rattle.drf_rows.specs.Members.{active_at}
 use Rattle.drf_rows.specs.Quota.{limits_put, limits_with}
 use Rattle.drf_rows.specs.Step.{live_rows}
-use Rattle.drf_bundle.specs.ListLaws.{each_parts}
+use Rattle.drf_bundle.proofs.ListLaws.{each_parts}
 use Rattle.drf_rows.specs.declared.limits.TheConstants.{LATEST_MOMENT}
 use Rattle.drf_rows.specs.declared.rows.AgentRow.{AgentRow}
 use Rattle.drf_rows.specs.declared.rows.FrameworkRow.{FrameworkRow}

@@ -23,7 +23,7 @@ use Rattle.drf_rows.specs.Consistent.{IsFilter, are_rising, offers_counted}
 use Rattle.drf_rows.specs.Filters.{in_force, is_in_force}
 use Rattle.drf_rows.specs.LimitNumbers.{LimitNumbers, IsWithinCeilings}
 use Rattle.drf_rows.specs.Weights.{are_weights, is_weight}
-use Rattle.drf_bundle.specs.ListLaws.{each_append, each_filter, each_from, each_made, each_map}
+use Rattle.drf_bundle.proofs.ListLaws.{each_append, each_filter, each_from, each_made, each_map}
 use Rattle.drf_rows.specs.declared.rows.ClientRow.{ClientRow}
 use Rattle.drf_rows.specs.declared.rows.FrameworkRow.{FrameworkRow}
 use Rattle.drf_rows.specs.declared.rows.OfferRow.{OfferRow}

@@ -10,7 +10,8 @@ use Rattle.drf_role.specs.Path.{Path, same_path}
 use Rattle.drf_role.specs.PathLaws.{same_path-true, same_path_itself}
 use Rattle.drf_bundle.specs.declared.resource.Resource.{Resource}
 use Rattle.drf_explain.specs.Each.{told_here, told_of_each, turn_on, untouched_on, untouched_on_active}
-use Rattle.drf_explain.specs.EachLaws.{IsOpen, each_on-open}
+use Rattle.drf_explain.specs.EachLaws.{IsOpen}
+use Rattle.drf_explain.proofs.EachLaws.{each_on-open}
 use Rattle.drf_explain.specs.Explained.{outcome}
 use Rattle.drf_explain.specs.ReasonLaws.{GrantIsGranted}
 use Rattle.drf_explain.specs.declared.finding.Finding.{Finding}

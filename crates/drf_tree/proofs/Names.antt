@@ -1,11 +1,13 @@
 -- Definitions and lemmas of other crates that the proofs of this crate use, exported in one place.
-pub use Rattle.drf_bundle.specs.ListLaws.{cond_le, count_by-cons, each_append, each_at, each_from, each_from_both, each_map, each_parts, length-filter_le, list_any-map, list_any_at, sum_by-filter}
+pub use Rattle.drf_bundle.proofs.ListLaws.{cond_le, count_by-cons, each_append, each_at, each_from, each_from_both, each_map, each_parts, length-filter_le, list_any-map, list_any_at, sum_by-filter}
 pub use Rattle.drf_bundle.specs.Quantities.{amount_of, is_in_order, is_named, minus, names_all, plus, with_amount}
 pub use Rattle.drf_bundle.specs.declared.quantities.Entry.{Entry}
 pub use Rattle.drf_role.specs.Path.{IsClientPath, IsNodePath, Path, begins_with, same_path}
-pub use Rattle.drf_role.specs.PathLaws.{client_paths-apart, path_decides, same_path-swap, same_path-true, same_path_itself}
+pub use Rattle.drf_role.specs.PathLaws.{path_decides, same_path-true, same_path_itself}
+pub use Rattle.drf_role.proofs.PathLaws.{client_paths-apart, same_path-swap}
 pub use Rattle.drf_role.specs.Text.{Text, same_text}
-pub use Rattle.drf_role.specs.TextLaws.{cases_same, same_from_test, same_itself}
+pub use Rattle.drf_role.specs.TextLaws.{same_from_test, same_itself}
+pub use Rattle.drf_role.proofs.TextLaws.{cases_same}
 pub use Rattle.drf_rows.specs.Share.{Fraction, Standing, greatest, is_less, is_serving_order, share_of, stands_before, weighted_share_of}
 pub use Rattle.drf_sorter.specs.Content.{Content, HasNodes, Ranked, activated, active_paths, charged, clients_under, empty, has_client, has_node, with_change, with_client, without_client}
 pub use Rattle.drf_sorter.specs.Keys.{Key, key_by, key_cmp, key_of}

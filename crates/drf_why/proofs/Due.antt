@@ -6,12 +6,12 @@ use Rattle.std.specs.Io.KnownBytes.{Consumes, IsAtEnd}
 use Rattle.std.proofs.KnownBytes.{Appends-nil}
 use Rattle.std.proofs.lemmas.Bool.{false≢true}
 use Rattle.drf_core.specs.Machine.{Machine, Engine, live}
-use Rattle.drf_explain.specs.EachLaws.{live_rows_are_told, live_turns_are_told}
+use Rattle.drf_explain.proofs.EachLaws.{live_rows_are_told, live_turns_are_told}
 use Rattle.drf_explain.specs.Explained.{suppressed_of}
 use Rattle.drf_explain.specs.ExplainedText.{explained_text}
 use Rattle.drf_rows.specs.Step.{live_rows}
 use Rattle.drf_rows.specs.declared.rows.Rows.{Rows}
-use Rattle.drf_row_laws.specs.LiveLaws.{report_of-live}
+use Rattle.drf_row_laws.proofs.LiveLaws.{report_of-live}
 use Rattle.drf_journal.specs.Audited.{HasToldOfRows, rows_after_lines, told_of_lines}
 use Rattle.drf_journal.specs.Ended.{HasCause}
 use Rattle.drf_journal.specs.Lines.{lines_of}

@@ -9,7 +9,8 @@ use Rattle.drf_role.specs.Parts.{parts_of, text_of}
 use Rattle.drf_role.specs.Path.{Path}
 use Rattle.drf_role.specs.Role.{IsRole}
 use Rattle.drf_bundle.specs.Value.{Point, units_in, is_same_kind, amount_in, IsGiven}
-use Rattle.drf_bundle.specs.laws.ValueLaws.{units-most, kind_at}
+use Rattle.drf_bundle.specs.laws.ValueLaws.{kind_at}
+use Rattle.drf_bundle.proofs.laws.ValueLaws.{units-most}
 use Rattle.drf_bundle.specs.Bundle.{stock, IsResource, IsBundle, one_of}
 use Rattle.drf_bundle.specs.laws.KeyLaws.{where-cons}
 use Rattle.drf_bundle.specs.laws.BundleLaws.{bundle-empty}

@@ -9,17 +9,20 @@ use Rattle.drf_role.specs.Text.{Text, same_text}
 use Rattle.drf_role.specs.TextLaws.{same_itself, same_from_test, test_from_same}
 use Rattle.drf_amount.specs.declared.algebra.AlgebraFault.TheVariants as fault
 use Rattle.drf_bundle.specs.Value.{Point, Thousandths, Number, Member, units_in, most, amount_in, is_same_kind, share_members, united}
-use Rattle.drf_bundle.specs.laws.ValueLaws.{united_within, thousandths-united, given-united, filled_point, point_filled, units_single, share_at}
+use Rattle.drf_bundle.specs.laws.ValueLaws.{given-united, filled_point, share_at}
+use Rattle.drf_bundle.proofs.laws.ValueLaws.{united_within, thousandths-united, point_filled, units_single}
 use Rattle.drf_bundle.specs.Bundle.{Key, key_of, key_below, same_key, is_in_order, units_where, units, stock, IsResource, IsBundle, HasSums, value_at, both_of, merged, have_clash, quantities_of, add_scalar, join_or}
-use Rattle.drf_bundle.specs.laws.KeyLaws.{cases_key, key_less, key_greater, key_equal, same_key_itself, same_key_true, below_other, above_other, cases_same, Has, stands_first, first_trans, unit_of, where-cons, unit-here, unit-none, units_found, units_at}
+use Rattle.drf_bundle.specs.laws.KeyLaws.{cases_key, key_less, key_greater, key_equal, same_key_itself, same_key_true, below_other, cases_same, Has, stands_first, first_trans, unit_of, where-cons, unit-here, unit-none}
+use Rattle.drf_bundle.proofs.laws.KeyLaws.{above_other, units_found, units_at}
 use Rattle.drf_bundle.specs.laws.JoinLaws.{merged-empty, in_order-merged, each-merged}
 use Rattle.drf_bundle.specs.laws.FitLaws.{zero_or_some, stock_has, one_kind_of_both}
 use Rattle.drf_bundle.proofs.laws.OneLaws.{bundle-one}
-use Rattle.drf_bundle.specs.laws.QuantitiesLaws.{or_none, same_quantities}
-use Rattle.drf_bundle.specs.laws.SumLaws.{of_name, nothing, amount-add_scalar, amount-quantities_of}
-use Rattle.drf_bundle.specs.laws.RestLaws.{nothing_there}
+use Rattle.drf_bundle.proofs.laws.QuantitiesLaws.{or_none, same_quantities}
+use Rattle.drf_bundle.specs.laws.SumLaws.{of_name}
+use Rattle.drf_bundle.proofs.laws.SumLaws.{nothing, amount-add_scalar, amount-quantities_of}
+use Rattle.drf_bundle.proofs.laws.RestLaws.{nothing_there}
 use Rattle.drf_bundle.specs.laws.UnitLaws.{UnionIsBundle, UnionHasUnits}
-use Rattle.drf_bundle.specs.laws.UnitProofs.{no_zeros-add_scalar, quantities_no_zeros}
+use Rattle.drf_bundle.proofs.laws.UnitProofs.{no_zeros-add_scalar, quantities_no_zeros}
 use Rattle.drf_bundle.specs.Union.{IsPiece, has_other_kind, is_reserved_elsewhere, is_too_much, union_refusal, with_united, united_at, union}
 use Rattle.drf_bundle.specs.declared.quantities.Entry.{Entry}
 use Rattle.drf_bundle.specs.declared.resource.Resource.{Resource}

@@ -4,14 +4,13 @@ use Rattle.std.proofs.Common.{refl, sym, ap, ◌∙◌, inl, inr, cond, arith}
 use Rattle.std.proofs.lemmas.List.Elements.{All-head, All-nil}
 use Rattle.std.proofs.lemmas.List.Sums.{sum_by-cons}
 use Rattle.drf_role.specs.Text.{Text}
-use Rattle.drf_amount.specs.Algebra.{AlgebraLaws, IsRefusal, Covers, IsRest}
+use Rattle.drf_amount.specs.Algebra.{AlgebraLaws, IsRefusal}
 use Rattle.drf_amount.specs.declared.algebra.AlgebraFault.{AlgebraFault}
 use Rattle.drf_amount.specs.declared.algebra.AlgebraFault.TheVariants as fault
 use Rattle.drf_bundle.specs.Value.{Point, amount_in}
-use Rattle.drf_bundle.specs.Bundle.{Key, stock, units, IsResource, Fits, IsBundle, amount, merged, have_clash, is_too_large, refusal, join_or, join, rest, covers}
+use Rattle.drf_bundle.specs.Bundle.{Key, stock, units, IsResource, Fits, IsBundle, amount, merged, have_clash, is_too_large, refusal, join_or, join}
 use Rattle.drf_bundle.specs.laws.JoinLaws.{merged-empty, amount-merged, IsOrderly, same_bundle}
 use Rattle.drf_bundle.specs.laws.FitLaws.{fits_less, IsJoinOf, join_some, join_fits, cases_join}
-use Rattle.drf_bundle.specs.laws.RestLaws.{bundle-rest, covered_units, covers_units, rest_join, covered_of_rest}
 use Rattle.drf_bundle.specs.declared.resource.Resource.{Resource}
 use Rattle.drf_bundle.specs.declared.value.Clash.TheVariants.{Kinds, Members}
 
@@ -166,19 +165,3 @@ bundle_laws = record {
   refused = λ a b is_a is_b. refused a b;
   refusals = λ a b is_a is_b. refusals a b;
 }
-
--- `rest` is the rest of a bundle that covers the part
-pub is_rest : (whole part : List Resource) → IsBundle whole → IsBundle part → covers whole part ≡ true
-    → IsRest IsBundle join whole part (rest whole part)
-is_rest whole part first second all = record {
-  given = bundle-rest whole part first;
-  joined = rest_join whole part first second (covered_units whole part first.in_order second.in_order all);
-}
-
--- a bundle covers another exactly if it is the join of the other with some bundle
-pub covers_exact : (whole part : List Resource) → IsBundle whole → IsBundle part
-    → (covers whole part ≡ true) ↔ Covers IsBundle join whole part
-covers_exact whole part first second = (
-  λ all. record { rest = rest whole part; is_rest = is_rest whole part first second all },
-  λ some. covers_units whole part first.in_order second.in_order second.each (covered_of_rest whole part second some),
-)

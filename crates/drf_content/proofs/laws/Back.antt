@@ -9,9 +9,10 @@ use Rattle.std.proofs.lemmas.List.Sums.{sum_by-append, sum_by-cons}
 use Rattle.drf_role.specs.Text.{Text}
 use Rattle.drf_role.specs.TextLaws.{same_itself}
 use Rattle.drf_role.specs.Path.{Path, client_path, same_path}
-use Rattle.drf_role.specs.PathLaws.{same_path-client_path, same_path_itself}
+use Rattle.drf_role.specs.PathLaws.{same_path_itself}
+use Rattle.drf_role.proofs.PathLaws.{same_path-client_path}
 use Rattle.drf_rows.specs.Consistent.{are_distinct_roles}
-use Rattle.drf_bundle.specs.ListLaws.{each_parts}
+use Rattle.drf_bundle.proofs.ListLaws.{each_parts}
 use Rattle.drf_rows.specs.declared.rows.ClientRow.{ClientRow}
 use Rattle.drf_rows.specs.declared.rows.FrameworkRow.{FrameworkRow}
 use Rattle.drf_sorter.specs.Content.{Content, Ranked, IsSound, activated, charged, has_client, with_change, with_client}

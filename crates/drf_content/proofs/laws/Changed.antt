@@ -13,7 +13,7 @@ use Rattle.drf_sorter.specs.Content.{with_change}
 use Rattle.drf_sorter.specs.Content as sorter
 use Rattle.drf_content.specs.Content.{ranked, content_of}
 use Rattle.drf_content.proofs.laws.Client.{ranked_all, ranked-changed}
-use Rattle.drf_row_laws.specs.MemberLaws.{cluster_total-with_activity}
+use Rattle.drf_row_laws.proofs.MemberLaws.{cluster_total-with_activity}
 
 -- ---- changes that do not affect the content
 

@@ -5,7 +5,7 @@ use Rattle.std.proofs.lemmas.Bool.{cases_Bool}
 use Rattle.std.proofs.lemmas.List.{map-append}
 use Rattle.drf_role.specs.Text.{same_text}
 use Rattle.drf_role.specs.Path.{Path, same_path}
-use Rattle.drf_role.specs.PathLaws.{same_path-client_path}
+use Rattle.drf_role.proofs.PathLaws.{same_path-client_path}
 use Rattle.drf_rows.specs.Client.{Client, path_of}
 use Rattle.drf_rows.specs.Holdings.{Holding}
 use Rattle.drf_rows.specs.Held.{client_of}

@@ -5,13 +5,13 @@ use Rattle.std.proofs.Common.{refl, sym, ap, ◌∙◌, cond, arith}
 use Rattle.std.proofs.lemmas.List.{map-append}
 use Rattle.drf_role.specs.Text.{Text}
 use Rattle.drf_role.specs.Path.{Path, same_path}
-use Rattle.drf_role.specs.PathLaws.{same_path-swap}
+use Rattle.drf_role.proofs.PathLaws.{same_path-swap}
 use Rattle.drf_bundle.specs.Quantities.{amount_of}
 use Rattle.drf_bundle.specs.declared.quantities.Entry.{Entry}
 use Rattle.drf_rows.specs.Client.{path_of}
 use Rattle.drf_rows.specs.Holdings.{Holding, holdings_of, held_where, is_of}
 use Rattle.drf_rows.specs.Held.{client_of, cluster_total}
-use Rattle.drf_bundle.specs.ListLaws.{each_append}
+use Rattle.drf_bundle.proofs.ListLaws.{each_append}
 use Rattle.drf_rows.specs.declared.rows.ClientRow.{ClientRow}
 use Rattle.drf_rows.specs.declared.rows.FrameworkRow.{FrameworkRow}
 use Rattle.drf_rows.specs.declared.rows.Rows.{Rows}

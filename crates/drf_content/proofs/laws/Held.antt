@@ -4,12 +4,12 @@ use Rattle.std.specs.List.{count_by}
 use Rattle.std.proofs.Common.{sym, ap, ◌∙◌, cond}
 use Rattle.drf_role.specs.Text.{Text}
 use Rattle.drf_role.specs.Path.{same_path}
-use Rattle.drf_role.specs.PathLaws.{same_path-swap, same_path-client_path}
+use Rattle.drf_role.proofs.PathLaws.{same_path-swap, same_path-client_path}
 use Rattle.drf_rows.specs.Client.{Client, path_of}
 use Rattle.drf_rows.specs.Holdings.{Holding, holdings_of, held_where, amount_in, is_of}
 use Rattle.drf_rows.specs.Consistent.{IsHeld, offers_counted, IsConsistent}
-use Rattle.drf_row_laws.specs.ConsistentLaws.{is_row_of, times_registered, registered_once}
-use Rattle.drf_bundle.specs.ListLaws.{sum_by-map, sum_by-flat_map, sum_by-groups, each_from}
+use Rattle.drf_row_laws.proofs.ConsistentLaws.{is_row_of, times_registered, registered_once}
+use Rattle.drf_bundle.proofs.ListLaws.{sum_by-map, sum_by-flat_map, sum_by-groups, each_from}
 use Rattle.drf_rows.specs.declared.rows.ClientRow.{ClientRow}
 use Rattle.drf_rows.specs.declared.rows.FrameworkRow.{FrameworkRow}
 use Rattle.drf_rows.specs.declared.rows.Rows.{Rows}

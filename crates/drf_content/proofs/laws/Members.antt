@@ -7,7 +7,7 @@ use Rattle.std.proofs.lemmas.List.Folds.{list_any-append}
 use Rattle.std.proofs.lemmas.Grind.{fold-append}
 use Rattle.drf_role.specs.Text.{Text, same_text}
 use Rattle.drf_role.specs.Path.{Path, same_path, client_path}
-use Rattle.drf_role.specs.PathLaws.{same_path-client_path}
+use Rattle.drf_role.proofs.PathLaws.{same_path-client_path}
 use Rattle.drf_bundle.specs.Quantities.{plus}
 use Rattle.drf_bundle.specs.Bundle.{quantities_of}
 use Rattle.drf_bundle.specs.declared.resource.Resource.{Resource}
@@ -16,8 +16,8 @@ use Rattle.drf_rows.specs.Holdings.{Holding, holdings_of}
 use Rattle.drf_rows.specs.Held.{cluster_total, is_registered}
 use Rattle.drf_rows.specs.Members.{has_framework, with_agent, new_client}
 use Rattle.drf_rows.specs.Consistent.{IsConsistent}
-use Rattle.drf_row_laws.specs.ConsistentLaws.{has_its_role, is_row_of}
-use Rattle.drf_bundle.specs.ListLaws.{list_any-both}
+use Rattle.drf_row_laws.proofs.ConsistentLaws.{has_its_role, is_row_of}
+use Rattle.drf_bundle.proofs.ListLaws.{list_any-both}
 use Rattle.drf_rows.specs.declared.rows.AgentRow.{AgentRow}
 use Rattle.drf_rows.specs.declared.rows.ClientRow.{ClientRow}
 use Rattle.drf_rows.specs.declared.rows.FrameworkRow.{FrameworkRow}

@@ -15,7 +15,7 @@ use Rattle.drf_rows.specs.Share.{Standing, is_serving_order}
 use Rattle.drf_rows.specs.Cycle.{turn_order}
 use Rattle.drf_row_laws.proofs.ServingOrder.{serving_order-unique}
 use Rattle.drf_rows.specs.Consistent.{IsConsistent}
-use Rattle.drf_bundle.specs.ListLaws.{sum_by-filter, sum_by-as_one}
+use Rattle.drf_bundle.proofs.ListLaws.{sum_by-filter, sum_by-as_one}
 use Rattle.drf_rows.specs.declared.rows.ClientRow.{ClientRow}
 use Rattle.drf_rows.specs.declared.rows.FrameworkRow.{FrameworkRow}
 use Rattle.drf_rows.specs.declared.rows.Rows.{Rows}

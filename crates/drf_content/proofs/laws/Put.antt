@@ -7,7 +7,7 @@ use Rattle.std.proofs.lemmas.List.{append-nil, map-append}
 use Rattle.std.proofs.lemmas.Grind.{fold-append}
 use Rattle.drf_role.specs.Text.{Text}
 use Rattle.drf_role.specs.Path.{Path, client_path, same_path}
-use Rattle.drf_role.specs.PathLaws.{same_path-swap}
+use Rattle.drf_role.proofs.PathLaws.{same_path-swap}
 use Rattle.drf_bundle.specs.Bundle.{quantities_of}
 use Rattle.drf_bundle.specs.declared.quantities.Entry.{Entry}
 use Rattle.drf_bundle.specs.Quantities.{plus}
@@ -18,7 +18,7 @@ use Rattle.drf_rows.specs.Held.{client_of, cluster_total}
 use Rattle.drf_rows.specs.Holdings.{Holding, amount_in, held_where, holdings_of, is_of, of_offer, of_task}
 use Rattle.drf_rows.specs.Members.{has_framework}
 use Rattle.drf_rows.specs.Weights.{weights_with}
-use Rattle.drf_row_laws.specs.HoldingsLaws.{held_where-append, held_where-cons, held_where-with_offer}
+use Rattle.drf_row_laws.proofs.HoldingsLaws.{held_where-append, held_where-cons, held_where-with_offer}
 use Rattle.drf_rows.specs.declared.rows.AgentRow.{AgentRow}
 use Rattle.drf_rows.specs.declared.rows.ClientRow.{ClientRow}
 use Rattle.drf_rows.specs.declared.rows.FrameworkRow.{FrameworkRow}

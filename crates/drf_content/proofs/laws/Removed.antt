@@ -8,14 +8,15 @@ use Rattle.std.proofs.lemmas.Map.Views.{any-filter_same}
 use Rattle.drf_role.specs.Text.{Text}
 use Rattle.drf_role.specs.TextLaws.{same_itself}
 use Rattle.drf_role.specs.Path.{Path, same_path, client_path}
-use Rattle.drf_role.specs.PathLaws.{same_path-true, same_path-swap, same_path_itself, same_path-client_path}
+use Rattle.drf_role.specs.PathLaws.{same_path-true, same_path_itself}
+use Rattle.drf_role.proofs.PathLaws.{same_path-swap, same_path-client_path}
 use Rattle.drf_rows.specs.Client.{path_of}
 use Rattle.drf_rows.specs.Holdings.{Holding, holdings_of}
 use Rattle.drf_rows.specs.Held.{client_of, cluster_total}
 use Rattle.drf_rows.specs.Members.{framework_removed}
 use Rattle.drf_rows.specs.Endings.{without_ended, all_of}
 use Rattle.drf_rows.specs.Consistent.{AreFrameworks, are_distinct_roles}
-use Rattle.drf_bundle.specs.ListLaws.{list_any-both, each_from, each_find, each_found}
+use Rattle.drf_bundle.proofs.ListLaws.{list_any-both, each_from, each_find, each_found}
 use Rattle.drf_rows.specs.declared.rows.ClientRow.{ClientRow}
 use Rattle.drf_rows.specs.declared.rows.FrameworkRow.{FrameworkRow}
 use Rattle.drf_rows.specs.declared.rows.Rows.{Rows}

@@ -9,11 +9,11 @@ use Rattle.drf_role.specs.Path.{Path, begins_with, same_path}
 use Rattle.drf_role.specs.PathLaws.{same_path-true}
 use Rattle.drf_bundle.specs.Bundle.{quantities_of}
 use Rattle.drf_bundle.specs.Quantities.{is_in_order, plus, without_zeros}
-use Rattle.drf_bundle.specs.laws.QuantitiesLaws.{amount-without_zeros, in_order-plus, no_zeros-without_zeros, same_quantities}
+use Rattle.drf_bundle.proofs.laws.QuantitiesLaws.{amount-without_zeros, in_order-plus, no_zeros-without_zeros, same_quantities}
 use Rattle.drf_bundle.specs.declared.quantities.Entry.{Entry}
 use Rattle.drf_rows.specs.Client.{Client, path_of}
 use Rattle.drf_rows.specs.Consistent.{IsConsistent}
-use Rattle.drf_row_laws.specs.ConsistentLaws.{bundles-consistent}
+use Rattle.drf_row_laws.proofs.ConsistentLaws.{bundles-consistent}
 use Rattle.drf_rows.specs.Held.{client_of, clients_in, clients_of, cluster_total, held_by, standing_of}
 use Rattle.drf_rows.specs.Holdings.{Holding, holdings_of, is_under}
 use Rattle.drf_row_laws.specs.Laws.{paths_told}

@@ -12,8 +12,9 @@ use Rattle.std.proofs.lemmas.Map.Views.{any-filter_same}
 use Rattle.drf_role.specs.Text.{Text, same_text}
 use Rattle.drf_role.specs.TextLaws.{same_itself, same_from_test}
 use Rattle.drf_role.specs.Path.{Path, same_path, client_path}
-use Rattle.drf_role.specs.PathLaws.{same_path-true, same_path_itself, same_path-client_path}
-use Rattle.drf_bundle.specs.ListLaws.{none_has, each_from, each_filter, each_find, each_found, any_fails}
+use Rattle.drf_role.specs.PathLaws.{same_path-true, same_path_itself}
+use Rattle.drf_role.proofs.PathLaws.{same_path-client_path}
+use Rattle.drf_bundle.proofs.ListLaws.{none_has, each_from, each_filter, each_find, each_found, any_fails}
 use Rattle.drf_rows.specs.Client.{Client, path_of}
 use Rattle.drf_rows.specs.Consistent.{are_distinct, are_distinct_roles, IsHeld, IsConsistent}
 use Rattle.drf_rows.specs.Held.{is_registered}
@@ -25,8 +26,8 @@ use Rattle.drf_rows.specs.declared.rows.AgentRow.{AgentRow}
 use Rattle.drf_rows.specs.declared.rows.ClientRow.{ClientRow}
 use Rattle.drf_rows.specs.declared.rows.FrameworkRow.{FrameworkRow}
 use Rattle.drf_rows.specs.declared.rows.Rows.{Rows}
-use Rattle.drf_row_laws.specs.EndingLaws.{find-place}
-use Rattle.drf_row_laws.specs.HoldingsLaws.{held_where-cons}
+use Rattle.drf_row_laws.proofs.EndingLaws.{find-place}
+use Rattle.drf_row_laws.proofs.HoldingsLaws.{held_where-cons}
 use Rattle.drf_laws.proofs.laws.Clients.{named, one_named, path_of-injective, role_registered}
 use Rattle.drf_laws.proofs.laws.RoleChanges.{map-filter, roles_of}
 use Rattle.drf_laws.proofs.laws.Roles.{is_other, apart-filter, distinct_apart, each-distinct}

@@ -2,8 +2,8 @@
 use Rattle.std.specs.Prelude.{◌^◌, ◌<◌, ◌≤◌, length}
 use Rattle.std.proofs.Common.{arith}
 use Rattle.drf_rows.specs.Consistent.{IsConsistent}
-use Rattle.drf_row_laws.specs.ReportedShares.{small_total}
-use Rattle.drf_row_laws.specs.TotalLaws.{held-le-total}
+use Rattle.drf_row_laws.proofs.ReportedShares.{small_total}
+use Rattle.drf_row_laws.proofs.TotalLaws.{held-le-total}
 use Rattle.drf_rows.specs.declared.rows.Rows.{Rows}
 use Rattle.drf_sorter.specs.Content.{IsSound}
 use Rattle.drf_content.specs.Content.{content_of}

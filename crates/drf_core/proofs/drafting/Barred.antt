@@ -7,7 +7,7 @@ use Rattle.std.proofs.lemmas.Bool.{cases_lt}
 use Rattle.std.proofs.lemmas.List.{length-append}
 use Rattle.drf_role.specs.Text.{Text}
 use Rattle.drf_role.specs.Path.{Path, IsClientPath, client_path, role_part}
-use Rattle.drf_role.specs.PathLaws.{NoDots, no_dots-role, role_part-client_path}
+use Rattle.drf_role.proofs.PathLaws.{NoDots, no_dots-role, role_part-client_path}
 use Rattle.drf_role.specs.Role.{IsRole}
 use Rattle.drf_bundle.specs.Bundle.{IsBundle}
 use Rattle.drf_bundle.specs.declared.resource.Resource.{Resource}

@@ -8,7 +8,7 @@ use Rattle.drf_rows.specs.Client.{Client, path_of}
 use Rattle.drf_rows.specs.Holdings.{of_offer}
 use Rattle.drf_rows.specs.Cycle.{with_offer}
 use Rattle.drf_rows.specs.Held.{is_registered}
-use Rattle.drf_row_laws.specs.ConsistentLaws.{is_registered-counted}
+use Rattle.drf_row_laws.proofs.ConsistentLaws.{is_registered-counted}
 use Rattle.drf_rows.specs.declared.rows.OfferRow.{OfferRow}
 use Rattle.drf_rows.specs.declared.rows.Rows.{Rows}
 use Rattle.drf_sorter.specs.Content.{Content, IsSame, with_change, charged, discharged, has_client, HasChargeAt}

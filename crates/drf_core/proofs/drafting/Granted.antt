@@ -8,25 +8,26 @@ use Rattle.std.proofs.lemmas.Bool.Decides.{nat_tests}
 use Rattle.drf_role.specs.Text.{Text, same_text}
 use Rattle.drf_role.specs.TextLaws.{same_from_test, same_itself}
 use Rattle.drf_role.specs.Path.{Path, begins_with, role_part, framework_part}
-use Rattle.drf_role.specs.PathLaws.{role_part-client_path, framework_part-client_path}
+use Rattle.drf_role.proofs.PathLaws.{role_part-client_path, framework_part-client_path}
 use Rattle.drf_bundle.specs.Bundle.{IsBundle, is_default, is_unreserved, quantities_of, part_for, clipped, clip, same_key, stock}
 use Rattle.drf_bundle.specs.Quantities.{amount_of}
 use Rattle.drf_bundle.specs.Value.{Thousandths, amount_in, units_in}
 use Rattle.drf_role.specs.Parts.{text_of}
 use Rattle.drf_bundle.specs.laws.KeyLaws.{unit_of, where-cons}
-use Rattle.drf_bundle.specs.laws.SumLaws.{amount-quantities_of, of_name}
+use Rattle.drf_bundle.specs.laws.SumLaws.{of_name}
+use Rattle.drf_bundle.proofs.laws.SumLaws.{amount-quantities_of}
 use Rattle.drf_bundle.specs.declared.quantities.Entry.{Entry}
 use Rattle.drf_bundle.specs.declared.resource.Resource.{Resource}
 use Rattle.drf_gates.specs.quota.Allowance.{Allowance, IsAllowanceOf, IsRaisedBy, Usage, quota_under}
 use Rattle.drf_rows.specs.Client.{Client, path_of}
 use Rattle.drf_rows.specs.Consistent.{IsConsistent}
 use Rattle.drf_rows.specs.Cycle.{free_of, grant, is_allocatable, with_offer}
-use Rattle.drf_row_laws.specs.CycleLaws.{entitlement-unlimited}
+use Rattle.drf_row_laws.proofs.CycleLaws.{entitlement-unlimited}
 use Rattle.drf_rows.specs.Filters.{is_held_back}
 use Rattle.drf_rows.specs.Quota.{consumption, entitlement, headroom, headroom_at, headrooms, unreserved_in}
-use Rattle.drf_row_laws.specs.QuotaLaws.{consumption-with_offer, consumption_is_part_of_total}
-use Rattle.drf_row_laws.specs.EntitlementLaws.{entitled_by_units}
-use Rattle.drf_row_laws.specs.ReportedShares.{small_total}
+use Rattle.drf_row_laws.proofs.QuotaLaws.{consumption-with_offer, consumption_is_part_of_total}
+use Rattle.drf_row_laws.proofs.EntitlementLaws.{entitled_by_units}
+use Rattle.drf_row_laws.proofs.ReportedShares.{small_total}
 use Rattle.drf_rows.specs.declared.rows.AgentRow.{AgentRow}
 use Rattle.drf_rows.specs.declared.rows.FilterRow.{FilterRow}
 use Rattle.drf_rows.specs.declared.rows.LimitRow.{LimitRow}

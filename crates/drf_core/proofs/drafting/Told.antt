@@ -5,14 +5,14 @@ use Rattle.std.specs.Option.{option_map_or}
 use Rattle.std.proofs.lemmas.Bool.{lt-ltb}
 use Rattle.std.proofs.lemmas.List.{drop_all, length-map}
 use Rattle.drf_role.specs.Path.{Path, role_part}
-use Rattle.drf_role.specs.PathLaws.{role_part-client_path}
+use Rattle.drf_role.proofs.PathLaws.{role_part-client_path}
 use Rattle.drf_role.specs.Text.{Text}
 use Rattle.drf_bundle.specs.Bundle.{part_for}
 use Rattle.drf_bundle.specs.declared.resource.Resource.{Resource}
 use Rattle.drf_gates.specs.quota.Allowance.{Allowance}
 use Rattle.drf_rows.specs.Client.{Client, path_of}
 use Rattle.drf_rows.specs.Cycle.{free_of, is_allocatable, with_offer, tried, all_tried, turn, turn_order, at_moment}
-use Rattle.drf_row_laws.specs.CycleLaws.{all_tried_none}
+use Rattle.drf_row_laws.proofs.CycleLaws.{all_tried_none}
 use Rattle.drf_rows.specs.Filters.{is_in_force, holds_back}
 use Rattle.drf_rows.specs.Offers.{is_empty}
 use Rattle.drf_rows.specs.Quota.{entitlement}
@@ -23,7 +23,7 @@ use Rattle.drf_rows.specs.declared.rows.OfferRow.{OfferRow}
 use Rattle.drf_rows.specs.declared.rows.Rows.{Rows}
 use Rattle.drf_explain.specs.Each.{told_here, told_of_each, each_on, each_on_active, untouched_on, untouched_on_active, turn_on, turns_on_all, turns_by_agent}
 use Rattle.drf_explain.specs.Explained.{outcome, outcome_by, told_of_all, told_of_active, told_of_agent, after_agent, told_of_agents, suppressed_of, explained}
-use Rattle.drf_explain.specs.ExplainedLaws.{filter_weaker, in_force_before, nothing_free}
+use Rattle.drf_explain.proofs.ExplainedLaws.{filter_weaker, in_force_before, nothing_free}
 use Rattle.drf_explain.specs.Gates.{AreGatesOf}
 use Rattle.drf_explain.specs.declared.finding.Finding.{Finding}
 use Rattle.drf_explain.specs.declared.finding.Finding.TheVariants.{Inactive, NothingFree, Tried, Left}

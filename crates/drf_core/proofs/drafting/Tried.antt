@@ -6,15 +6,15 @@ use Rattle.std.specs.Option.{option_map_or}
 use Rattle.drf_role.specs.Text.{Text}
 use Rattle.drf_role.specs.TextLaws.{same_itself}
 use Rattle.drf_role.specs.Path.{Path, role_part, framework_part}
-use Rattle.drf_role.specs.PathLaws.{role_part-client_path, framework_part-client_path}
+use Rattle.drf_role.proofs.PathLaws.{role_part-client_path, framework_part-client_path}
 use Rattle.drf_bundle.specs.Bundle.{rest, quantities_of}
 use Rattle.drf_bundle.specs.declared.resource.Resource.{Resource}
 use Rattle.drf_gates.specs.quota.Allowance.{Allowance, Usage, quota_under}
-use Rattle.drf_bundle.specs.ListLaws.{each_at}
+use Rattle.drf_bundle.proofs.ListLaws.{each_at}
 use Rattle.drf_rows.specs.Client.{Client, path_of}
 use Rattle.drf_rows.specs.Holdings.{of_offer}
 use Rattle.drf_rows.specs.Cycle.{free_of, grant, new_offer, with_offer, tried}
-use Rattle.drf_row_laws.specs.CycleLaws.{free_of-with_offer}
+use Rattle.drf_row_laws.proofs.CycleLaws.{free_of-with_offer}
 use Rattle.drf_rows.specs.Consistent.{IsAgent, IsConsistent, are_distinct}
 use Rattle.drf_rows.specs.Held.{is_registered}
 use Rattle.drf_rows.specs.declared.rows.AgentRow.{AgentRow}
@@ -35,7 +35,7 @@ use Rattle.drf_core.proofs.drafting.Drafts.{with_offers-push, is_registered-with
 use Rattle.drf_content.proofs.laws.Offer.{content_of-with_offer}
 use Rattle.drf_content.proofs.laws.Members.{has_client-registered}
 use Rattle.drf_content.proofs.laws.Sound.{IsSound-content_of}
-use Rattle.drf_row_laws.specs.ConsistentLaws.{bundles-consistent, IsConsistent-with_offer}
+use Rattle.drf_row_laws.proofs.ConsistentLaws.{bundles-consistent, IsConsistent-with_offer}
 use Rattle.drf_laws.specs.TurnLaws.{IsPart}
 use Rattle.drf_laws.proofs.laws.Turns.{grant-part}
 use Rattle.drf_laws.proofs.laws.Clients.{path_of-injective}

@@ -11,11 +11,11 @@ use Rattle.drf_role.specs.Path.{Path, IsClientPath}
 use Rattle.drf_bundle.specs.declared.resource.Resource.{Resource}
 use Rattle.drf_rows.specs.Client.{Client, path_of}
 use Rattle.drf_rows.specs.Cycle.{free_of, is_allocatable, tried, all_tried, turn, turn_order}
-use Rattle.drf_row_laws.specs.CycleLaws.{all_tried_none}
-use Rattle.drf_bundle.specs.ListLaws.{each_from}
+use Rattle.drf_row_laws.proofs.CycleLaws.{all_tried_none}
+use Rattle.drf_bundle.proofs.ListLaws.{each_from}
 use Rattle.drf_rows.specs.Consistent.{are_distinct}
 use Rattle.drf_rows.specs.Held.{is_registered}
-use Rattle.drf_row_laws.specs.ConsistentLaws.{same_text-swap}
+use Rattle.drf_row_laws.proofs.ConsistentLaws.{same_text-swap}
 use Rattle.drf_rows.specs.declared.rows.AgentRow.{AgentRow}
 use Rattle.drf_rows.specs.declared.rows.OfferRow.{OfferRow}
 use Rattle.drf_rows.specs.declared.rows.Rows.{Rows}

@@ -7,12 +7,12 @@ use Rattle.drf_bundle.specs.Bundle.{IsBundle, quantities_of}
 use Rattle.drf_bundle.specs.declared.quantities.Entry.{Entry}
 use Rattle.drf_rows.specs.Consistent.{IsConsistent}
 use Rattle.drf_rows.specs.Cycle.{at_moment}
-use Rattle.drf_row_laws.specs.EndingLaws.{offer_at-place, held-offer_at, held_where-accepted}
+use Rattle.drf_row_laws.proofs.EndingLaws.{offer_at-place, held-offer_at, held_where-accepted}
 use Rattle.drf_rows.specs.Endings.{without_ended, one_offer}
 use Rattle.drf_rows.specs.Holdings.{is_of}
 use Rattle.drf_rows.specs.Offers.{CanStart, offer_accepted, offer_declined, filters_with, left_of_offer, offer_at, filters_all}
 use Rattle.drf_rows.specs.Step.{effect}
-use Rattle.drf_rows.specs.TaskLaws.{HasAll, units-covers_all}
+use Rattle.drf_rows.proofs.TaskLaws.{HasAll, units-covers_all}
 use Rattle.drf_rows.specs.Tasks.{Start, uses}
 use Rattle.drf_rows.specs.declared.event.Accept as accepting
 use Rattle.drf_rows.specs.declared.event.Decline as declining

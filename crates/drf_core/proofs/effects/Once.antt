@@ -5,13 +5,13 @@ use Rattle.std.proofs.Common.{refl, ap, subst, ◌∙◌, inl, inr, cond, arith}
 use Rattle.std.proofs.lemmas.Bool.{cases_Bool, and_parts, eqb-true}
 use Rattle.drf_role.specs.Text.{Text, same_text}
 use Rattle.drf_role.specs.TextLaws.{same_from_test}
-use Rattle.drf_bundle.specs.ListLaws.{count_by-cons, count_by-any, each_fails}
+use Rattle.drf_bundle.proofs.ListLaws.{count_by-cons, count_by-any, each_fails}
 use Rattle.drf_rows.specs.Consistent.{IsConsistent, are_distinct_tasks, are_rising}
 use Rattle.drf_rows.specs.Endings.{Ending, one_offer, one_task, ends_offer, ends_task, is_task, without_ended}
 use Rattle.drf_rows.specs.declared.rows.OfferRow.{OfferRow}
 use Rattle.drf_rows.specs.declared.rows.TaskRow.{TaskRow}
 use Rattle.drf_rows.specs.declared.rows.Rows.{Rows}
-use Rattle.drf_row_laws.specs.EndingLaws.{others_of_number, without_ended-none}
+use Rattle.drf_row_laws.proofs.EndingLaws.{others_of_number, without_ended-none}
 use Rattle.drf_tables.specs.offers.Ended.{HasEnded, left_to_end}
 use Rattle.drf_holdings.specs.declared.holdings.Taken.{Taken}
 

@@ -7,8 +7,8 @@ use Rattle.std.proofs.lemmas.List.Sums.{sum_by-cons}
 use Rattle.drf_role.specs.Text.{Text, same_text}
 use Rattle.drf_role.specs.TextLaws.{same_from_test}
 use Rattle.drf_role.specs.Path.{Path, client_path}
-use Rattle.drf_bundle.specs.ListLaws.{none_has}
-use Rattle.drf_row_laws.specs.ConsistentLaws.{same_text-swap}
+use Rattle.drf_bundle.proofs.ListLaws.{none_has}
+use Rattle.drf_row_laws.proofs.ConsistentLaws.{same_text-swap}
 use Rattle.drf_rows.specs.Client.{Client, path_of}
 use Rattle.drf_rows.specs.Consistent.{IsConsistent, are_distinct}
 use Rattle.drf_rows.specs.Held.{client_of, clients_in, clients_of, is_registered}

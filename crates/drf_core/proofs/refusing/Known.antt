@@ -5,7 +5,7 @@ use Rattle.std.specs.Option.{option_map_or}
 use Rattle.std.proofs.lemmas.Bool.{cases_Bool, false≢true, and_parts}
 use Rattle.drf_role.specs.Text.{Text, same_text}
 use Rattle.drf_role.specs.TextLaws.{same_from_test}
-use Rattle.drf_bundle.specs.ListLaws.{each_parts}
+use Rattle.drf_bundle.proofs.ListLaws.{each_parts}
 use Rattle.drf_rows.specs.Consistent.{IsConsistent, IsHeld}
 use Rattle.drf_rows.specs.Endings.{is_task}
 use Rattle.drf_rows.specs.Holdings.{Holding, of_offer, of_task}
@@ -14,7 +14,7 @@ use Rattle.drf_rows.specs.Offers.{has_task, offer_at}
 use Rattle.drf_rows.specs.declared.rows.OfferRow.{OfferRow}
 use Rattle.drf_rows.specs.declared.rows.Rows.{Rows}
 use Rattle.drf_rows.specs.declared.rows.TaskRow.{TaskRow}
-use Rattle.drf_row_laws.specs.EndingLaws.{held-offer_at}
+use Rattle.drf_row_laws.proofs.EndingLaws.{held-offer_at}
 use Rattle.drf_laws.proofs.laws.Clients.{unregistered}
 
 known_holder : (rows : Rows) (h : Holding) → IsHeld rows.agents rows.frameworks h → has_framework rows h.client.framework ≡ true

@@ -13,10 +13,10 @@ use Rattle.drf_rows.specs.Consistent.{IsConsistent}
 use Rattle.drf_rows.specs.Cycle.{free_of}
 use Rattle.drf_rows.specs.Held.{cluster_total}
 use Rattle.drf_rows.specs.Members.{has_agent}
-use Rattle.drf_row_laws.specs.ReservationLaws.{found_known}
+use Rattle.drf_row_laws.proofs.ReservationLaws.{found_known}
 use Rattle.drf_rows.specs.Step.{first_case, too_many_names}
 use Rattle.drf_rows.specs.Totals.{agent_at, is_not_free, with_other_total}
-use Rattle.drf_row_laws.specs.TotalsLaws.{cluster_total-other_total}
+use Rattle.drf_row_laws.proofs.TotalsLaws.{cluster_total-other_total}
 use Rattle.drf_rows.specs.declared.limits.TheConstants.{LARGEST_AMOUNT}
 use Rattle.drf_rows.specs.declared.rows.AgentRow.{AgentRow}
 use Rattle.drf_rows.specs.declared.rows.Rows.{Rows}

@@ -12,8 +12,8 @@ use Rattle.drf_rows.specs.LimitNumbers.{LimitNumbers, IsWithinCeilings}
 use Rattle.drf_rows.specs.Offers.{filters_all, filters_rest, filter_of, filtered_until, filters_with, left_of_offer, offer_accepted, offer_at, offer_declined}
 use Rattle.drf_rows.specs.Roles.{is_of_left}
 use Rattle.drf_rows.specs.Step.{effect, live_rows}
-use Rattle.drf_row_laws.specs.FilterLaws.{number_in_force-later}
-use Rattle.drf_bundle.specs.ListLaws.{length-filter_le}
+use Rattle.drf_row_laws.proofs.FilterLaws.{number_in_force-later}
+use Rattle.drf_bundle.proofs.ListLaws.{length-filter_le}
 use Rattle.drf_row_laws.proofs.OthersLaws.{cycle_only_offers}
 use Rattle.drf_rows.specs.declared.event.Accept as accepting
 use Rattle.drf_rows.specs.declared.event.Decline as declining

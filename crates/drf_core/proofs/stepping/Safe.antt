@@ -1,7 +1,7 @@
 -- What callers see of an allocator whose rows satisfy the invariants.
 use Rattle.drf_rows.specs.LimitNumbers.{LimitNumbers}
 use Rattle.drf_rows.specs.Step.{live_rows}
-use Rattle.drf_row_laws.specs.ConsistentLaws.{conserved-consistent, conserved-live}
+use Rattle.drf_row_laws.proofs.ConsistentLaws.{conserved-consistent, conserved-live}
 use Rattle.drf_rows.specs.declared.rows.Rows.{Rows}
 use Rattle.drf_laws.specs.Kept.{IsKept}
 use Rattle.drf_core.specs.Machine.{IsSafe}

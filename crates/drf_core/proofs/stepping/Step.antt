@@ -5,9 +5,9 @@ use Rattle.std.specs.Result.{OnErr}
 use Rattle.drf_rows.specs.LimitNumbers.{LimitNumbers}
 use Rattle.drf_rows.specs.Step.{live_rows, first_case, refusal_of, effect, rows_after, rows_after_all, reply_to, replies_to}
 use Rattle.drf_rows.specs.Consistent.{IsConsistent, IsNumberedByEvents}
-use Rattle.drf_row_laws.specs.StepLaws.{rows_after-accepted}
+use Rattle.drf_row_laws.proofs.StepLaws.{rows_after-accepted}
 use Rattle.drf_row_laws.proofs.RunLaws.{rows_after_all-append, replies_to-append}
-use Rattle.drf_row_laws.specs.LiveLaws.{reply_to-same_live, rows_after-same_live}
+use Rattle.drf_row_laws.proofs.LiveLaws.{reply_to-same_live, rows_after-same_live}
 use Rattle.drf_rows.specs.declared.event.Event.{Event}
 use Rattle.drf_rows.specs.declared.event.Event.TheVariants.{Accept, Decline}
 use Rattle.drf_rows.specs.declared.reply.Refusal.{Refusal}

@@ -7,7 +7,7 @@ use Rattle.std.proofs.lemmas.List.Elements.{filter-append, filter_map-append}
 use Rattle.std.specs.List.{list_any}
 use Rattle.drf_hash.specs.Slots.{filled}
 use Rattle.drf_hash.proofs.GapLaws.{filled-more}
-use Rattle.drf_hash.specs.SlotLaws.{filled-short, length-gap}
+use Rattle.drf_hash.proofs.SlotLaws.{filled-short, length-gap}
 use Rattle.drf_gates.specs.filters.Slots.{slot_passes, without_one}
 
 -- no gap leaves as many

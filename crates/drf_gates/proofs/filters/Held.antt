@@ -13,7 +13,7 @@ use Rattle.drf_role.specs.PathLaws.{same_path_itself, same_path-true}
 use Rattle.drf_role.specs.Text.{Text, same_text}
 use Rattle.drf_role.specs.Path.{same_path}
 use Rattle.drf_bundle.specs.Bundle.{IsBundle, covers}
-use Rattle.drf_bundle.specs.laws.UnitProofs.{covers_by_units}
+use Rattle.drf_bundle.proofs.laws.UnitProofs.{covers_by_units}
 use Rattle.drf_bundle.specs.declared.resource.Resource.{Resource}
 use Rattle.drf_rows.specs.Client.{Client}
 use Rattle.drf_rows.specs.Filters.{is_in_force, in_force, is_of_client, is_on_agent, holds_back, filters_without_client}

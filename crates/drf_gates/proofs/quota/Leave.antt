@@ -5,7 +5,8 @@ use Rattle.std.proofs.lemmas.Bool.{cases_Bool, and_parts}
 use Rattle.std.proofs.lemmas.List.{length-take}
 use Rattle.drf_role.specs.Text.{Text}
 use Rattle.drf_role.specs.Path.{Path, same_path}
-use Rattle.drf_role.specs.PathLaws.{same_path-true, same_path-swap, same_path_itself}
+use Rattle.drf_role.specs.PathLaws.{same_path-true, same_path_itself}
+use Rattle.drf_role.proofs.PathLaws.{same_path-swap}
 use Rattle.drf_bundle.specs.Quantities.{is_named}
 use Rattle.drf_rows.specs.Quota.{Consumed, is_within, binds, room_under}
 use Rattle.drf_rows.specs.declared.rows.LimitRow.{LimitRow}

@@ -11,15 +11,16 @@ use Rattle.drf_role.specs.Path.{Path}
 use Rattle.drf_role.specs.Parts.{parts_of, text_of}
 use Rattle.drf_bundle.specs.Value.{Thousandths, units_in}
 use Rattle.drf_bundle.specs.Quantities.{amount_of, with_amount}
-use Rattle.drf_bundle.specs.laws.QuantitiesLaws.{amount-with}
+use Rattle.drf_bundle.proofs.laws.QuantitiesLaws.{amount-with}
 use Rattle.drf_bundle.specs.Bundle.{IsResource, IsBundle, is_default, is_unreserved, key_of, quantities_of, same_key, stock}
 use Rattle.drf_bundle.specs.laws.KeyLaws.{where-cons}
-use Rattle.drf_bundle.specs.laws.SumLaws.{amount-quantities_of, of_name}
+use Rattle.drf_bundle.specs.laws.SumLaws.{of_name}
+use Rattle.drf_bundle.proofs.laws.SumLaws.{amount-quantities_of}
 use Rattle.drf_bundle.specs.declared.quantities.Entry.{Entry}
 use Rattle.drf_bundle.specs.declared.resource.Resource.{Resource}
-use Rattle.drf_row_laws.specs.ConsistentLaws.{same_text-swap}
+use Rattle.drf_row_laws.proofs.ConsistentLaws.{same_text-swap}
 use Rattle.drf_rows.specs.Quota.{reserves, unreserved_in, reserved_in}
-use Rattle.drf_row_laws.specs.QuotaLaws.{no_text, parts_le}
+use Rattle.drf_row_laws.proofs.QuotaLaws.{no_text, parts_le}
 use Rattle.drf_gates.specs.quota.Allowance.{AreRaised, IsRaisedBy, IsSame, Usage, amount_in_one, unreserved_one, reserved_one, counted, used_where}
 
 -- the element that is read is the first of the remaining ones

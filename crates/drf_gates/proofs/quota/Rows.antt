@@ -10,7 +10,7 @@ use Rattle.std.proofs.lemmas.Map.Keys.{IsDistinct-head, IsDistinct-tail}
 use Rattle.indexmap.specs.IndexMap.{insert_entry}
 use Rattle.drf_role.specs.Text.{Text}
 use Rattle.drf_role.specs.Path.{Path, same_path}
-use Rattle.drf_role.specs.PathLaws.{same_path-swap}
+use Rattle.drf_role.proofs.PathLaws.{same_path-swap}
 use Rattle.drf_bundle.specs.declared.quantities.Entry.{Entry}
 use Rattle.drf_rows.specs.Quota.{Consumed, is_within, binds, room_under, headroom_under, headrooms, limit_of, limits_put, limits_without, limits_with, headroom_at, headroom, admits_under, admits}
 use Rattle.drf_rows.specs.declared.rows.LimitRow.{LimitRow}

@@ -5,12 +5,13 @@ use Rattle.std.proofs.Common.{refl, sym, ap, subst, ◌∙◌, inl, inr, cond, a
 use Rattle.std.proofs.lemmas.Bool.{and_parts, cases_Bool}
 use Rattle.std.proofs.lemmas.List.Elements.{All-head, All-tail, All-weaker}
 use Rattle.drf_role.specs.Text.{Text, same_text}
-use Rattle.drf_role.specs.TextLaws.{cases_same, same_from_test}
+use Rattle.drf_role.specs.TextLaws.{same_from_test}
+use Rattle.drf_role.proofs.TextLaws.{cases_same}
 use Rattle.drf_role.specs.Path.{Path, same_path}
 use Rattle.drf_role.specs.PathLaws.{same_path-true}
 use Rattle.drf_role.specs.Role.{IsRole}
 use Rattle.drf_bundle.specs.Quantities.{amount_of, is_in_order, with_amount}
-use Rattle.drf_bundle.specs.laws.QuantitiesLaws.{stands_first, amount_first, amount-with}
+use Rattle.drf_bundle.proofs.laws.QuantitiesLaws.{stands_first, amount_first, amount-with}
 use Rattle.drf_bundle.specs.declared.quantities.Entry.{Entry}
 use Rattle.drf_rows.specs.Quota.{is_within}
 use Rattle.drf_gates.specs.quota.Allowance.{Usage, AreRaised, AreSome, IsBounded, one_entry, used_at, used_where}

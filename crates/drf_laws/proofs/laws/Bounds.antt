@@ -10,8 +10,8 @@ use Rattle.drf_role.specs.Path.{Path, same_path}
 use Rattle.drf_bundle.specs.Bundle.{quantities_of}
 use Rattle.drf_bundle.specs.Quantities.{plus}
 use Rattle.drf_bundle.specs.declared.quantities.Entry.{Entry}
-use Rattle.drf_bundle.specs.laws.QuantitiesLaws.{amount-plus, length-plus, no_zeros-plus, same_quantities}
-use Rattle.drf_bundle.specs.laws.UnitProofs.{quantities_no_zeros}
+use Rattle.drf_bundle.proofs.laws.QuantitiesLaws.{amount-plus, length-plus, no_zeros-plus, same_quantities}
+use Rattle.drf_bundle.proofs.laws.UnitProofs.{quantities_no_zeros}
 use Rattle.drf_rows.specs.Client.{Client}
 use Rattle.drf_rows.specs.Consistent.{IsAgent, IsConsistent}
 use Rattle.drf_rows.specs.Filters.{number_in_force}
@@ -21,9 +21,9 @@ use Rattle.drf_rows.specs.Offers.{is_empty}
 use Rattle.drf_rows.specs.Quota.{limits_put, limits_with, limits_without}
 use Rattle.drf_rows.specs.Totals.{agent_at}
 use Rattle.drf_row_laws.specs.LifeLaws.{with_counts, raised_row}
-use Rattle.drf_bundle.specs.ListLaws.{each_from, each_map, each_filter, sum_by-filter-cons, cond_le}
-use Rattle.drf_row_laws.specs.MemberLaws.{amount-without_named}
-use Rattle.drf_row_laws.specs.TotalsLaws.{is_agent, no_zeros-total}
+use Rattle.drf_bundle.proofs.ListLaws.{each_from, each_map, each_filter, sum_by-filter-cons, cond_le}
+use Rattle.drf_row_laws.proofs.MemberLaws.{amount-without_named}
+use Rattle.drf_row_laws.proofs.TotalsLaws.{is_agent, no_zeros-total}
 use Rattle.drf_rows.specs.declared.rows.AgentRow.{AgentRow}
 use Rattle.drf_rows.specs.declared.rows.FilterRow.{FilterRow}
 use Rattle.drf_rows.specs.declared.rows.FrameworkRow.{FrameworkRow}

@@ -3,7 +3,7 @@ use Rattle.std.proofs.Common.{refl, ◌≡◌, ◌+◌, true, List, [], ◌∷�
 use Rattle.std.specs.List.{AllByRecursion, list_any}
 use Rattle.drf_role.specs.Text.{Text, same_text}
 use Rattle.drf_role.specs.Path.{Path, role_part, framework_part, same_path}
-use Rattle.drf_role.specs.PathLaws.{role_part-client_path, framework_part-client_path, same_path-client_path}
+use Rattle.drf_role.proofs.PathLaws.{role_part-client_path, framework_part-client_path, same_path-client_path}
 use Rattle.drf_rows.specs.Client.{Client, path_of}
 use Rattle.drf_rows.specs.Held.{is_registered}
 use Rattle.drf_rows.specs.declared.rows.AgentRow.{AgentRow}
@@ -11,11 +11,11 @@ use Rattle.std.specs.Prelude.{◌&&◌, ◌||◌, Bool, false, map, find}
 use Rattle.std.proofs.lemmas.Bool.{cases_Bool, false≢true, and_parts}
 use Rattle.drf_role.specs.TextLaws.{same_from_test}
 use Rattle.drf_rows.specs.Holdings.{Holding, held_where, amount_in, is_of}
-use Rattle.drf_row_laws.specs.HoldingsLaws.{held_where-cons}
+use Rattle.drf_row_laws.proofs.HoldingsLaws.{held_where-cons}
 use Rattle.drf_rows.specs.Consistent.{IsHeld, are_distinct}
-use Rattle.drf_row_laws.specs.ConsistentLaws.{has_its_role, same_text-swap}
+use Rattle.drf_row_laws.proofs.ConsistentLaws.{has_its_role, same_text-swap}
 use Rattle.drf_rows.specs.declared.rows.FrameworkRow.{FrameworkRow}
-use Rattle.drf_bundle.specs.ListLaws.{none_has, only_none, each_from}
+use Rattle.drf_bundle.proofs.ListLaws.{none_has, only_none, each_from}
 
 -- clients with the same path are equal
 pub path_of-injective : (c d : Client) → path_of c ≡ path_of d → c ≡ d

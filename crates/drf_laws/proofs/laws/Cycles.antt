@@ -8,10 +8,10 @@ use Rattle.drf_rows.specs.Client.{Client}
 use Rattle.drf_rows.specs.Consistent.{IsAgent, IsConsistent}
 use Rattle.drf_rows.specs.Cycle.{is_grantable, new_offer, with_offer, tried, turn_order, turn, turns, cycle, at_moment}
 use Rattle.drf_rows.specs.Held.{active_clients, is_registered}
-use Rattle.drf_row_laws.specs.CycleLaws.{active_clients-with_offer}
-use Rattle.drf_row_laws.specs.FrameLaws.{its_part, tried_keeps, turn_keeps, turns_keep}
-use Rattle.drf_row_laws.specs.ConsistentLaws.{IsConsistent-with_offer, is_registered-counted}
-use Rattle.drf_bundle.specs.ListLaws.{each_at, each_filter, each_from}
+use Rattle.drf_row_laws.proofs.CycleLaws.{active_clients-with_offer}
+use Rattle.drf_row_laws.proofs.FrameLaws.{its_part, tried_keeps, turn_keeps, turns_keep}
+use Rattle.drf_row_laws.proofs.ConsistentLaws.{IsConsistent-with_offer, is_registered-counted}
+use Rattle.drf_bundle.proofs.ListLaws.{each_at, each_filter, each_from}
 use Rattle.drf_rows.specs.declared.limits.TheConstants.{LATEST_MOMENT}
 use Rattle.drf_rows.specs.declared.rows.AgentRow.{AgentRow}
 use Rattle.drf_rows.specs.declared.rows.Rows.{Rows}

@@ -11,10 +11,10 @@ use Rattle.drf_rows.specs.Endings.{Ending, ends_offer, ends_task, is_task, witho
 use Rattle.drf_rows.specs.Holdings.{Holding, holdings_of, of_offer, of_task}
 use Rattle.drf_rows.specs.Members.{agent_removed, framework_removed}
 use Rattle.drf_rows.specs.Filters.{filters_without_agent, filters_without_framework}
-use Rattle.drf_row_laws.specs.EndingLaws.{IsConsistent-held}
-use Rattle.drf_row_laws.specs.HoldingsLaws.{units_on, units_on-append, units_on-cons}
-use Rattle.drf_bundle.specs.ListLaws.{each_append, each_filter, each_from, each_map, each_parts, filter-again}
-use Rattle.drf_row_laws.specs.MemberLaws.{IsConsistent-agent_removed, IsConsistent-framework_removed}
+use Rattle.drf_row_laws.proofs.EndingLaws.{IsConsistent-held}
+use Rattle.drf_row_laws.proofs.HoldingsLaws.{units_on, units_on-append, units_on-cons}
+use Rattle.drf_bundle.proofs.ListLaws.{each_append, each_filter, each_from, each_map, each_parts, filter-again}
+use Rattle.drf_row_laws.proofs.MemberLaws.{IsConsistent-agent_removed, IsConsistent-framework_removed}
 use Rattle.drf_rows.specs.declared.rows.AgentRow.{AgentRow}
 use Rattle.drf_rows.specs.declared.rows.FrameworkRow.{FrameworkRow}
 use Rattle.drf_rows.specs.declared.rows.OfferRow.{OfferRow}

@@ -9,7 +9,7 @@ use Rattle.drf_role.specs.Name.{IsName}
 use Rattle.drf_role.specs.Path.{Path}
 use Rattle.drf_role.specs.Role.{IsRole}
 use Rattle.drf_bundle.specs.Bundle.{IsBundle, quantities_of, relabel}
-use Rattle.drf_bundle.specs.laws.TakenLaws.{bundle-rest_of_all}
+use Rattle.drf_bundle.proofs.laws.TakenLaws.{bundle-rest_of_all}
 use Rattle.drf_bundle.specs.declared.resource.Resource.{Resource}
 use Rattle.drf_rows.specs.LimitNumbers.{LimitNumbers}
 use Rattle.drf_rows.specs.Consistent.{are_distinct_roles, IsFilter, IsConsistent}
@@ -19,14 +19,14 @@ use Rattle.drf_rows.specs.Members.{distinct, has_agent, new_client}
 use Rattle.drf_rows.specs.Offers.{offer_at, filter_of, filters_with, left_of_offer, offer_accepted, offer_declined, filtered_until, filters_all, filters_rest, CanStart}
 use Rattle.drf_rows.specs.Step.{refusal_of, effect}
 use Rattle.drf_rows.specs.Tasks.{uses}
-use Rattle.drf_row_laws.specs.EndingLaws.{accepted_in, held-offer_at, IsConsistent-accepted, IsConsistent-filters}
-use Rattle.drf_row_laws.specs.LimitLaws.{IsConsistent-limit_set}
-use Rattle.drf_bundle.specs.ListLaws.{each_append}
-use Rattle.drf_row_laws.specs.MemberLaws.{IsConsistent-with_activity, IsConsistent-with_suppression, IsConsistent-revived}
+use Rattle.drf_row_laws.proofs.EndingLaws.{accepted_in, held-offer_at, IsConsistent-accepted, IsConsistent-filters}
+use Rattle.drf_row_laws.proofs.LimitLaws.{IsConsistent-limit_set}
+use Rattle.drf_bundle.proofs.ListLaws.{each_append}
+use Rattle.drf_row_laws.proofs.MemberLaws.{IsConsistent-with_activity, IsConsistent-with_suppression, IsConsistent-revived}
 use Rattle.drf_row_laws.proofs.RegistrationLaws.{IsConsistent-agent_added, IsConsistent-framework_added}
-use Rattle.drf_row_laws.specs.ReservationLaws.{found_known, can_move-reserve, can_move-unreserve, can_exchange-reserve, can_exchange-unreserve, IsConsistent-other_total}
+use Rattle.drf_row_laws.proofs.ReservationLaws.{found_known, can_move-reserve, can_move-unreserve, can_exchange-reserve, can_exchange-unreserve, IsConsistent-other_total}
 use Rattle.drf_row_laws.specs.TotalsLaws.{IsConsistent-exchanged}
-use Rattle.drf_row_laws.specs.WeightLaws.{IsConsistent-weight_set}
+use Rattle.drf_row_laws.proofs.WeightLaws.{IsConsistent-weight_set}
 use Rattle.drf_rows.specs.declared.event.Accept as accepting
 use Rattle.drf_rows.specs.declared.event.Decline as declining
 use Rattle.drf_rows.specs.declared.event.Event.{Event}

@@ -17,16 +17,16 @@ use Rattle.drf_rows.specs.Members.{active_at, suppressed_at, suppressed_in, with
 use Rattle.drf_rows.specs.Roles.{roles_set_in, with_framework_roles}
 use Rattle.drf_rows.specs.Totals.{total_at, exchanged}
 use Rattle.drf_bundle.specs.Bundle.{relabel}
-use Rattle.drf_row_laws.specs.FrameLaws.{only_changed}
+use Rattle.drf_row_laws.proofs.FrameLaws.{only_changed}
 use Rattle.drf_row_laws.proofs.RegistrationLaws.{length-clients_of-framework_added, IsConsistent-opening}
 use Rattle.drf_rows.specs.Consistent.{IsConsistent, IsFilter, IsNumberedByEvents, IsAgent}
-use Rattle.drf_row_laws.specs.ConsistentLaws.{numbers_within}
+use Rattle.drf_row_laws.proofs.ConsistentLaws.{numbers_within}
 use Rattle.drf_rows.specs.declared.event.Event.{Event}
 use Rattle.drf_rows.specs.declared.event.Event.TheVariants.{AddAgent, RemoveAgent, ActivateAgent, DeactivateAgent, SetAgent, AddFramework, SetFramework, RemoveFramework, Suppress, Revive, Reserve, Unreserve, SetWeight, Cycle}
 use Rattle.drf_rows.specs.declared.rows.AgentRow.{AgentRow}
 use Rattle.drf_rows.specs.Filters.{is_in_force}
-use Rattle.drf_bundle.specs.ListLaws.{each_from, each_filter, length-filter_le}
-use Rattle.drf_row_laws.specs.MemberLaws.{IsConsistent-filters_kept}
+use Rattle.drf_bundle.proofs.ListLaws.{each_from, each_filter, length-filter_le}
+use Rattle.drf_row_laws.proofs.MemberLaws.{IsConsistent-filters_kept}
 use Rattle.drf_rows.specs.declared.rows.FilterRow.{FilterRow}
 use Rattle.drf_rows.specs.declared.rows.FrameworkRow.{FrameworkRow}
 use Rattle.drf_rows.specs.declared.rows.Rows.{Rows}
@@ -36,7 +36,7 @@ use Rattle.drf_laws.proofs.laws.Bounds.{few_weights}
 use Rattle.drf_laws.proofs.laws.Welcome.{no_case_of, room_for, welcome_agent, welcome_framework, welcome_weight}
 use Rattle.drf_rows.specs.declared.limits.TheConstants.{LATEST_MOMENT}
 use Rattle.drf_bundle.specs.Quantities.{amount_of}
-use Rattle.drf_row_laws.specs.ReportedShares.{small_total}
+use Rattle.drf_row_laws.proofs.ReportedShares.{small_total}
 
 -- ---- tables that do not grow
 

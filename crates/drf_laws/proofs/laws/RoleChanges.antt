@@ -8,9 +8,10 @@ use Rattle.std.proofs.lemmas.List.{length-map, map-append}
 use Rattle.std.proofs.lemmas.Map.Views.{any-filter_same}
 use Rattle.drf_role.specs.Text.{Text, same_text}
 use Rattle.drf_role.specs.Path.{Path, same_path}
-use Rattle.drf_role.specs.PathLaws.{same_path_itself, same_path-true, same_path-swap}
+use Rattle.drf_role.specs.PathLaws.{same_path_itself, same_path-true}
+use Rattle.drf_role.proofs.PathLaws.{same_path-swap}
 use Rattle.drf_role.specs.Role.{IsRole}
-use Rattle.drf_bundle.specs.ListLaws.{list_any-map, each_from, each_append, each_map, each_from_both, each_filter, each_found, filter_each}
+use Rattle.drf_bundle.proofs.ListLaws.{list_any-map, each_from, each_append, each_map, each_from_both, each_filter, each_found, filter_each}
 use Rattle.drf_rows.specs.Holdings.{holdings_of}
 use Rattle.drf_rows.specs.Consistent.{are_distinct, are_distinct_roles, IsFramework, AreFrameworks, IsHeld, IsFilter, IsConsistent}
 use Rattle.drf_rows.specs.Members.{distinct}

@@ -7,8 +7,8 @@ use Rattle.std.proofs.lemmas.List.{length-map}
 use Rattle.drf_role.specs.Text.{Text, same_text}
 use Rattle.drf_role.specs.TextLaws.{same_from_test}
 use Rattle.drf_role.specs.Path.{Path}
-use Rattle.drf_bundle.specs.ListLaws.{none_has}
-use Rattle.drf_row_laws.specs.ConsistentLaws.{same_text-swap}
+use Rattle.drf_bundle.proofs.ListLaws.{none_has}
+use Rattle.drf_row_laws.proofs.ConsistentLaws.{same_text-swap}
 use Rattle.drf_rows.specs.Consistent.{IsConsistent, are_distinct, are_distinct_roles}
 use Rattle.drf_rows.specs.Held.{client_of, clients_in, clients_of}
 use Rattle.drf_rows.specs.Members.{distinct, has_framework}

@@ -8,7 +8,7 @@ use Rattle.drf_role.specs.Text.{Text, same_text}
 use Rattle.drf_role.specs.TextLaws.{same_from_test}
 use Rattle.drf_role.specs.Path.{Path, same_path}
 use Rattle.drf_role.specs.PathLaws.{same_path_itself, same_path-true}
-use Rattle.drf_bundle.specs.ListLaws.{none_has, each_from, each_append, each_made, each_filter, each_found, each_true, filter_each, any_fails}
+use Rattle.drf_bundle.proofs.ListLaws.{none_has, each_from, each_append, each_made, each_filter, each_found, each_true, filter_each, any_fails}
 use Rattle.drf_rows.specs.Client.{Client}
 use Rattle.drf_rows.specs.Consistent.{are_distinct, IsFilter}
 use Rattle.drf_rows.specs.Filters.{is_of_client}
@@ -19,7 +19,7 @@ use Rattle.drf_rows.specs.Step.{effect}
 use Rattle.drf_rows.specs.declared.rows.ClientRow.{ClientRow}
 use Rattle.drf_rows.specs.declared.rows.FilterRow.{FilterRow}
 use Rattle.drf_rows.specs.declared.rows.FrameworkRow.{FrameworkRow}
-use Rattle.drf_row_laws.specs.ConsistentLaws.{same_text-swap}
+use Rattle.drf_row_laws.proofs.ConsistentLaws.{same_text-swap}
 use Rattle.drf_row_laws.specs.LifeLaws.{is_same_client}
 use Rattle.drf_row_laws.proofs.RoleLaws.{has_role-with_roles, with_clients_then, with_framework_roles-is, each_stays}
 use Rattle.drf_laws.specs.RoleChangeLaws.{ListedRolesAreSet, OtherClientsStayRegistered, SameRolesChangeNothing, TakenAgainIsNew}

@@ -5,12 +5,14 @@ use Rattle.std.specs.List.{AllByRecursion}
 use Rattle.drf_rows.specs.Consistent.{IsConsistent}
 use Rattle.drf_rows.specs.Holdings.{holdings_of}
 use Rattle.drf_rows.specs.Step.{opening, live_rows, refusal_of, effect, rows_after, rows_after_all}
-use Rattle.drf_row_laws.specs.ConsistentLaws.{conserved-consistent}
-use Rattle.drf_laws.specs.HeldForLaws.{IsForItsRole, reserved_is_held_by_its_role}
-use Rattle.drf_laws.specs.KeptLimitLaws.{StayConsistent, IsGivenBundles, runs_keep_limits}
-use Rattle.drf_row_laws.specs.LiveLaws.{rows_after-live}
+use Rattle.drf_row_laws.proofs.ConsistentLaws.{conserved-consistent}
+use Rattle.drf_laws.specs.HeldForLaws.{IsForItsRole}
+use Rattle.drf_laws.proofs.HeldForLaws.{reserved_is_held_by_its_role}
+use Rattle.drf_laws.specs.KeptLimitLaws.{StayConsistent, IsGivenBundles}
+use Rattle.drf_laws.proofs.KeptLimitLaws.{runs_keep_limits}
+use Rattle.drf_row_laws.proofs.LiveLaws.{rows_after-live}
 use Rattle.drf_row_laws.proofs.RegistrationLaws.{IsConsistent-opening}
-use Rattle.drf_row_laws.specs.StepLaws.{rows_after-refused, rows_after-accepted}
+use Rattle.drf_row_laws.proofs.StepLaws.{rows_after-refused, rows_after-accepted}
 use Rattle.drf_rows.specs.declared.event.Event.{Event}
 use Rattle.drf_rows.specs.declared.event.Event.TheVariants.{AddAgent, SetAgent, AddFramework, SetFramework, SetWeight, SetLimit}
 use Rattle.drf_rows.specs.declared.reply.Refusal.{Refusal}

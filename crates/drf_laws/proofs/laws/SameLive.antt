@@ -3,8 +3,8 @@
 use Rattle.std.proofs.Common.{◌≡◌, Option, Some, None, refl, sym, ap, ◌∙◌, length}
 use Rattle.drf_rows.specs.LimitNumbers.{LimitNumbers}
 use Rattle.drf_rows.specs.Step.{live_rows, refusal_of, effect, answer, rows_after, reply_to, new_offers}
-use Rattle.drf_row_laws.specs.StepLaws.{reply_to-refused, reply_to-accepted, rows_after-refused, rows_after-accepted}
-use Rattle.drf_row_laws.specs.LiveLaws.{reply_to-same_live, rows_after-same_live}
+use Rattle.drf_row_laws.proofs.StepLaws.{reply_to-refused, reply_to-accepted, rows_after-refused, rows_after-accepted}
+use Rattle.drf_row_laws.proofs.LiveLaws.{reply_to-same_live, rows_after-same_live}
 use Rattle.drf_rows.specs.declared.event.Event.{Event}
 use Rattle.drf_rows.specs.declared.event.Event.TheVariants.{Cycle}
 use Rattle.drf_rows.specs.declared.reply.Refusal.{Refusal}

@@ -4,7 +4,7 @@ use Rattle.std.specs.Option.{option_map_or}
 use Rattle.std.proofs.lemmas.Bool.{cases_Bool, ltb-false, lt-ltb, le-ltb}
 use Rattle.std.proofs.lemmas.List.Folds.{list_any-append}
 use Rattle.drf_role.specs.Text.{Text}
-use Rattle.drf_bundle.specs.laws.TakenLaws.{only_rest_of_all, bundle-rest_of_all, joined-rest_of_all}
+use Rattle.drf_bundle.proofs.laws.TakenLaws.{only_rest_of_all, bundle-rest_of_all, joined-rest_of_all}
 use Rattle.drf_bundle.specs.declared.resource.Resource.{Resource}
 use Rattle.drf_rows.specs.Client.{Client}
 use Rattle.drf_rows.specs.Consistent.{IsConsistent}
@@ -13,10 +13,10 @@ use Rattle.drf_rows.specs.Filters.{holds_back, is_held_back}
 use Rattle.drf_rows.specs.Offers.{offer_at, is_empty, left_of_offer, offer_accepted, offer_declined}
 use Rattle.drf_rows.specs.Step.{effect}
 use Rattle.drf_rows.specs.Tasks.{uses}
-use Rattle.drf_laws.specs.ConsumptionLaws.{covered-accept}
-use Rattle.drf_row_laws.specs.EndingLaws.{held-offer_at}
+use Rattle.drf_laws.proofs.ConsumptionLaws.{covered-accept}
+use Rattle.drf_row_laws.proofs.EndingLaws.{held-offer_at}
 use Rattle.drf_laws.specs.KeptLimitLaws.{IsGivenBundles}
-use Rattle.drf_rows.specs.TaskLaws.{units-covers_all}
+use Rattle.drf_rows.proofs.TaskLaws.{units-covers_all}
 use Rattle.drf_rows.specs.declared.event.Accept as accepting
 use Rattle.drf_rows.specs.declared.event.Decline as declining
 use Rattle.drf_rows.specs.declared.event.Event.TheVariants.{Accept, Decline}

@@ -5,19 +5,19 @@ use Rattle.std.specs.Cmp.{both_ways}
 use Rattle.drf_role.specs.Text.{Text}
 use Rattle.drf_bundle.specs.Value.{Point}
 use Rattle.drf_bundle.specs.Bundle.{Key, IsBundle, units, rest, covers}
-use Rattle.drf_bundle.specs.laws.RestLaws.{bundle-rest}
+use Rattle.drf_bundle.proofs.laws.RestLaws.{bundle-rest}
 use Rattle.drf_bundle.specs.Taken.{units_of_all}
-use Rattle.drf_bundle.specs.laws.UnitProofs.{covers_by_units, rest_by_units}
+use Rattle.drf_bundle.proofs.laws.UnitProofs.{covers_by_units, rest_by_units}
 use Rattle.drf_bundle.specs.declared.resource.Resource.{Resource}
 use Rattle.drf_rows.specs.Consistent.{IsConsistent}
-use Rattle.drf_row_laws.specs.ConsistentLaws.{bundles-consistent}
+use Rattle.drf_row_laws.proofs.ConsistentLaws.{bundles-consistent}
 use Rattle.drf_rows.specs.Cycle.{free_of}
 use Rattle.drf_rows.specs.Holdings.{holdings_of, parts_on}
-use Rattle.drf_row_laws.specs.HoldingsLaws.{each_part}
-use Rattle.drf_rows.specs.TaskLaws.{covers_all-units, units-covers_all}
+use Rattle.drf_row_laws.proofs.HoldingsLaws.{each_part}
+use Rattle.drf_rows.proofs.TaskLaws.{covers_all-units, units-covers_all}
 use Rattle.drf_rows.specs.Tasks.{covers_all}
 use Rattle.drf_rows.specs.Totals.{agent_at, is_below_held}
-use Rattle.drf_row_laws.specs.TotalsLaws.{is_agent, bundle_free, units_free, same_name}
+use Rattle.drf_row_laws.proofs.TotalsLaws.{is_agent, bundle_free, units_free, same_name}
 use Rattle.drf_rows.specs.declared.rows.AgentRow.{AgentRow}
 use Rattle.drf_rows.specs.declared.rows.Rows.{Rows}
 

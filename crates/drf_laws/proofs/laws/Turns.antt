@@ -15,10 +15,10 @@ use Rattle.drf_rows.specs.Held.{client_of, clients_of, active_clients, is_regist
 use Rattle.drf_rows.specs.Share.{Standing}
 use Rattle.drf_rows.specs.Cycle.{first_of, without, serving_order, turn_order, free_of, grant, is_grantable, new_offer, with_offer, tried, count_offer, all_tried, turn, turns, cycle, at_moment}
 use Rattle.drf_rows.specs.Holdings.{of_offer}
-use Rattle.drf_row_laws.specs.ConsistentLaws.{has_its_role}
-use Rattle.drf_row_laws.specs.FrameLaws.{its_part, Any, all_tried_keeps, any_all_tried, any_turns}
+use Rattle.drf_row_laws.proofs.ConsistentLaws.{has_its_role}
+use Rattle.drf_row_laws.proofs.FrameLaws.{its_part, Any, all_tried_keeps, any_all_tried, any_turns}
 use Rattle.drf_laws.proofs.OfferedLaws.{each_served}
-use Rattle.drf_bundle.specs.ListLaws.{each_append, each_from, each_map, each_filter, each_found, each_true}
+use Rattle.drf_bundle.proofs.ListLaws.{each_append, each_from, each_map, each_filter, each_found, each_true}
 use Rattle.drf_rows.specs.declared.rows.ClientRow.{ClientRow}
 use Rattle.drf_rows.specs.declared.rows.FrameworkRow.{FrameworkRow}
 use Rattle.drf_rows.specs.declared.rows.OfferRow.{OfferRow}
@@ -26,7 +26,7 @@ use Rattle.drf_rows.specs.declared.rows.Rows.{Rows}
 use Rattle.drf_rows.specs.Held as rows_word
 use Rattle.drf_bundle.specs.Bundle.{IsBundle}
 use Rattle.drf_bundle.specs.declared.resource.Resource.{Resource}
-use Rattle.drf_row_laws.specs.CycleLaws.{bundle-free_of, bundle-entitlement, units-entitlement, clients_of-with_offer, free_of-with_offer_other}
+use Rattle.drf_row_laws.proofs.CycleLaws.{bundle-free_of, bundle-entitlement, units-entitlement, clients_of-with_offer, free_of-with_offer_other}
 use Rattle.drf_rows.specs.declared.rows.AgentRow.{AgentRow}
 use Rattle.drf_laws.specs.TurnLaws.{IsPart, CyclesMakeFewOffers}
 

@@ -10,7 +10,7 @@ use Rattle.drf_bundle.specs.declared.quantities.Entry.{Entry}
 use Rattle.drf_bundle.specs.declared.resource.Resource.{Resource}
 use Rattle.drf_rows.specs.LimitNumbers.{LimitNumbers}
 use Rattle.drf_rows.specs.Step.{is_in_role, too_many_agents, too_many_frameworks, refusal_of}
-pub use Rattle.drf_row_laws.specs.StepLaws.{no_case, no_case_of}
+pub use Rattle.drf_row_laws.proofs.StepLaws.{no_case, no_case_of}
 use Rattle.drf_rows.specs.Members.{has_agent, has_framework, with_agent}
 use Rattle.drf_rows.specs.Offers.{has_offer}
 use Rattle.drf_rows.specs.Weights.{is_weight, too_many_weights}

@@ -19,12 +19,12 @@ use Rattle.drf_rows.specs.Roles.{is_of_left}
 use Rattle.drf_rows.specs.Offers.{are_many_filters, filter_of, filters_with, is_empty, left_of_offer, offer_at, offer_accepted, offer_declined, filtered_until, filters_all, filters_rest}
 use Rattle.drf_rows.specs.Quota.{has_limit}
 use Rattle.drf_rows.specs.Step.{opening, new_offers, refusal_of, effect, rows_after, rows_after_all, too_many_names}
-use Rattle.drf_bundle.specs.ListLaws.{each_append, each_filter}
-use Rattle.drf_row_laws.specs.MemberLaws.{cluster_total-with_activity}
-use Rattle.drf_row_laws.specs.FrameLaws.{cycle_only, only_changed}
+use Rattle.drf_bundle.proofs.ListLaws.{each_append, each_filter}
+use Rattle.drf_row_laws.proofs.MemberLaws.{cluster_total-with_activity}
+use Rattle.drf_row_laws.proofs.FrameLaws.{cycle_only, only_changed}
 use Rattle.drf_row_laws.proofs.OthersLaws.{cycle_only_offers}
-use Rattle.drf_row_laws.specs.ReservationLaws.{found_known, can_move-reserve, can_move-unreserve, can_exchange-reserve, can_exchange-unreserve}
-use Rattle.drf_row_laws.specs.StepLaws.{rows_after-refused, rows_after-accepted}
+use Rattle.drf_row_laws.proofs.ReservationLaws.{found_known, can_move-reserve, can_move-unreserve, can_exchange-reserve, can_exchange-unreserve}
+use Rattle.drf_row_laws.proofs.StepLaws.{rows_after-refused, rows_after-accepted}
 use Rattle.drf_row_laws.specs.TotalsLaws.{cluster_total-exchanged}
 use Rattle.drf_rows.specs.declared.event.Accept as accepting
 use Rattle.drf_rows.specs.declared.event.Decline as declining

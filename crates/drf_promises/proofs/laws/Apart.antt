@@ -19,11 +19,11 @@ use Rattle.drf_rows.specs.Held.{held_by, cluster_total, weight_of}
 use Rattle.drf_rows.specs.Held as rows_word
 use Rattle.drf_rows.specs.Holdings.{of_offer, of_task, held_where, is_under}
 use Rattle.drf_rows.specs.Share.{Fraction, is_less}
-use Rattle.drf_row_laws.specs.ConsistentLaws.{bundles-consistent}
-use Rattle.drf_row_laws.specs.CycleLaws.{active_clients-with_offer, bundle-free_of, units-free_of}
-use Rattle.drf_row_laws.specs.HoldingsLaws.{held_where-with_offer}
-use Rattle.drf_bundle.specs.ListLaws.{each_at}
-use Rattle.drf_row_laws.specs.WeightLaws.{weight_of-in_range}
+use Rattle.drf_row_laws.proofs.ConsistentLaws.{bundles-consistent}
+use Rattle.drf_row_laws.proofs.CycleLaws.{active_clients-with_offer, bundle-free_of, units-free_of}
+use Rattle.drf_row_laws.proofs.HoldingsLaws.{held_where-with_offer}
+use Rattle.drf_bundle.proofs.ListLaws.{each_at}
+use Rattle.drf_row_laws.proofs.WeightLaws.{weight_of-in_range}
 use Rattle.drf_rows.specs.declared.rows.AgentRow.{AgentRow}
 use Rattle.drf_rows.specs.declared.rows.Rows.{Rows}
 use Rattle.drf_sorter.specs.Fractions.{dominant_of, weigh}

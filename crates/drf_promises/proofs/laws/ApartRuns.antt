@@ -22,12 +22,12 @@ use Rattle.drf_rows.specs.Offers.{is_empty, filter_of, filtered_until, left_of_o
 use Rattle.drf_rows.specs.Share.{Fraction, greatest}
 use Rattle.drf_rows.specs.Step.{refusal_of, effect, rows_after}
 use Rattle.drf_rows.specs.Tasks.{uses}
-use Rattle.drf_laws.specs.ConsumptionLaws.{covered-accept}
-use Rattle.drf_row_laws.specs.EndingLaws.{held_where-accepted, offer_held}
-use Rattle.drf_bundle.specs.ListLaws.{each_from, each_map}
-use Rattle.drf_row_laws.specs.MemberLaws.{cluster_total-with_activity}
-use Rattle.drf_row_laws.specs.StepLaws.{rows_after-accepted, rows_after-refused}
-use Rattle.drf_rows.specs.TaskLaws.{units-covers_all}
+use Rattle.drf_laws.proofs.ConsumptionLaws.{covered-accept}
+use Rattle.drf_row_laws.proofs.EndingLaws.{held_where-accepted, offer_held}
+use Rattle.drf_bundle.proofs.ListLaws.{each_from, each_map}
+use Rattle.drf_row_laws.proofs.MemberLaws.{cluster_total-with_activity}
+use Rattle.drf_row_laws.proofs.StepLaws.{rows_after-accepted, rows_after-refused}
+use Rattle.drf_rows.proofs.TaskLaws.{units-covers_all}
 use Rattle.drf_rows.specs.declared.event.Accept as accepting
 use Rattle.drf_rows.specs.declared.event.Event.{Event}
 use Rattle.drf_rows.specs.declared.event.Event.TheVariants.{ActivateAgent, Accept, Cycle, Report}

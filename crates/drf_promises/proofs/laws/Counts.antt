@@ -10,8 +10,8 @@ use Rattle.drf_rows.specs.Client.{Client, path_of}
 use Rattle.drf_rows.specs.Cycle.{counted, count_offer, with_offer}
 use Rattle.drf_rows.specs.Held.{client_of, count_of}
 use Rattle.drf_rows.specs.Holdings.{of_offer}
-use Rattle.drf_row_laws.specs.ConsistentLaws.{has_its_role, times_in, times_registered}
-use Rattle.drf_bundle.specs.ListLaws.{sum_by-filter, sum_by-map, sum_by-plus, sum_by_none}
+use Rattle.drf_row_laws.proofs.ConsistentLaws.{has_its_role, times_in, times_registered}
+use Rattle.drf_bundle.proofs.ListLaws.{sum_by-filter, sum_by-map, sum_by-plus, sum_by_none}
 use Rattle.drf_rows.specs.declared.rows.ClientRow.{ClientRow}
 use Rattle.drf_rows.specs.declared.rows.FrameworkRow.{FrameworkRow}
 use Rattle.drf_rows.specs.declared.rows.OfferRow.{OfferRow}

@@ -15,16 +15,17 @@ use Rattle.drf_rows.specs.Held.{active_clients}
 use Rattle.drf_rows.specs.Held as rows_word
 use Rattle.drf_rows.specs.Cycle.{new_offer, with_offer, all_tried, turn_order, turn, turns, at_moment, cycle}
 use Rattle.drf_rows.specs.Step.{new_offers}
-use Rattle.drf_row_laws.specs.ConsistentLaws.{bundles-consistent}
-use Rattle.drf_bundle.specs.ListLaws.{each_from, each_filter}
-use Rattle.drf_row_laws.specs.LiveLaws.{kept-turns}
+use Rattle.drf_row_laws.proofs.ConsistentLaws.{bundles-consistent}
+use Rattle.drf_bundle.proofs.ListLaws.{each_from, each_filter}
+use Rattle.drf_row_laws.proofs.LiveLaws.{kept-turns}
 use Rattle.drf_laws.proofs.OfferedLaws.{each_served}
 use Rattle.drf_rows.specs.declared.limits.TheConstants.{LATEST_MOMENT}
 use Rattle.drf_rows.specs.declared.rows.AgentRow.{AgentRow}
 use Rattle.drf_rows.specs.declared.rows.Rows.{Rows}
 use Rattle.drf_laws.proofs.laws.Kept.{consistent-clock}
 use Rattle.drf_sorter.proofs.TurnLemmas.{each_has_its_turn}
-use Rattle.drf_explain.specs.ExplainedLaws.{offered, grants_are_offers}
+use Rattle.drf_explain.specs.ExplainedLaws.{offered}
+use Rattle.drf_explain.proofs.ExplainedLaws.{grants_are_offers}
 use Rattle.drf_promises.specs.Cycles.{active_agents, GetsNothing, NothingIsLeft, CyclesLeaveNothing, SecondCyclesAreIdle, NothingIsExplained, NobodyIsPassed}
 use Rattle.drf_laws.proofs.laws.Cycles.{IsMidway, total_of, midway-turn, midway-turns, each_is_at}
 use Rattle.drf_promises.specs.Runs.{Has}

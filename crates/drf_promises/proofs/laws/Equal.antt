@@ -7,10 +7,10 @@ use Rattle.std.proofs.lemmas.Bool.{cases_Bool, and_parts, or_cases, leb-true}
 use Rattle.std.proofs.lemmas.List.Sums.{sum_by-cons}
 use Rattle.drf_role.specs.Path.{Path}
 use Rattle.drf_role.specs.Text.{Text, text_below}
-use Rattle.drf_role.specs.TextLaws.{below_other}
+use Rattle.drf_role.proofs.TextLaws.{below_other}
 use Rattle.drf_bundle.specs.Bundle.{quantities_of}
 use Rattle.drf_bundle.specs.Quantities.{amount_of, is_in_order}
-use Rattle.drf_bundle.specs.laws.QuantitiesLaws.{amount_head}
+use Rattle.drf_bundle.proofs.laws.QuantitiesLaws.{amount_head}
 use Rattle.drf_bundle.specs.declared.quantities.Entry.{Entry}
 use Rattle.drf_bundle.specs.declared.resource.Resource.{Resource}
 use Rattle.drf_rows.specs.Consistent.{IsConsistent}
@@ -19,11 +19,11 @@ use Rattle.drf_rows.specs.Held.{cluster_total, held_by}
 use Rattle.drf_rows.specs.Held as rows_word
 use Rattle.drf_rows.specs.Holdings.{Holding, amount_in, held_where, is_under, of_offer, of_task}
 use Rattle.drf_rows.specs.Share.{Fraction, greatest, is_less}
-use Rattle.drf_row_laws.specs.HoldingsLaws.{held_where-cons}
-use Rattle.drf_bundle.specs.ListLaws.{each_from, each_map}
-use Rattle.drf_row_laws.specs.MemberLaws.{amount_on, amount-cluster_total}
+use Rattle.drf_row_laws.proofs.HoldingsLaws.{held_where-cons}
+use Rattle.drf_bundle.proofs.ListLaws.{each_from, each_map}
+use Rattle.drf_row_laws.proofs.MemberLaws.{amount_on, amount-cluster_total}
 use Rattle.drf_row_laws.proofs.OthersLaws.{cycle_only_offers}
-use Rattle.drf_row_laws.specs.ReportedShares.{in_order-cluster_total}
+use Rattle.drf_row_laws.proofs.ReportedShares.{in_order-cluster_total}
 use Rattle.drf_rows.specs.declared.rows.AgentRow.{AgentRow}
 use Rattle.drf_rows.specs.declared.rows.OfferRow.{OfferRow}
 use Rattle.drf_rows.specs.declared.limits.TheConstants.{LATEST_MOMENT}

@@ -15,7 +15,7 @@ use Rattle.drf_rows.specs.Cycle.{free_of, is_allocatable}
 use Rattle.drf_rows.specs.Held.{active_clients}
 use Rattle.drf_rows.specs.Holdings.{of_offer}
 use Rattle.drf_row_laws.specs.LifeLaws.{is_same_client}
-use Rattle.drf_bundle.specs.ListLaws.{count_by-cons, each_at, each_filter, each_from}
+use Rattle.drf_bundle.proofs.ListLaws.{count_by-cons, each_at, each_filter, each_from}
 use Rattle.drf_rows.specs.declared.limits.TheConstants.{LATEST_MOMENT, LONGEST_FILTER}
 use Rattle.drf_rows.specs.declared.rows.AgentRow.{AgentRow}
 use Rattle.drf_rows.specs.declared.rows.OfferRow.{OfferRow}

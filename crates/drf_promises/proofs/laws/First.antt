@@ -13,8 +13,8 @@ use Rattle.drf_rows.specs.Cycle.{turn_order}
 use Rattle.drf_rows.specs.Held.{active_clients}
 use Rattle.drf_rows.specs.Held as rows_word
 use Rattle.drf_rows.specs.Share.{Standing, is_ahead, stands_before_below}
-use Rattle.drf_row_laws.specs.ConsistentLaws.{same_text-swap}
-use Rattle.drf_bundle.specs.ListLaws.{each_from}
+use Rattle.drf_row_laws.proofs.ConsistentLaws.{same_text-swap}
+use Rattle.drf_bundle.proofs.ListLaws.{each_from}
 use Rattle.drf_rows.specs.declared.rows.Rows.{Rows}
 use Rattle.drf_sorter.proofs.PrefixLemmas.{begins_to}
 use Rattle.drf_promises.specs.Apart.{TakesPart}

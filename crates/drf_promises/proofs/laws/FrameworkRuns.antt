@@ -29,8 +29,8 @@ use Rattle.drf_rows.specs.Tasks.{Start, uses}
 use Rattle.drf_rows.specs.Totals.{exchanged, total_at}
 use Rattle.drf_rows.specs.Weights.{weights_with}
 use Rattle.drf_row_laws.specs.LifeLaws.{lines_told}
-use Rattle.drf_bundle.specs.ListLaws.{each_filter}
-use Rattle.drf_row_laws.specs.StepLaws.{reply_to-accepted, reply_to-refused, rows_after-accepted, rows_after-refused}
+use Rattle.drf_bundle.proofs.ListLaws.{each_filter}
+use Rattle.drf_row_laws.proofs.StepLaws.{reply_to-accepted, reply_to-refused, rows_after-accepted, rows_after-refused}
 use Rattle.drf_rows.specs.declared.event.Event.{Event}
 use Rattle.drf_rows.specs.declared.event.Event.TheVariants.{AddAgent, RemoveAgent, ActivateAgent, DeactivateAgent, SetAgent, AddFramework, SetFramework, RemoveFramework, Accept, Decline, Rescind, Finish, Suppress, Revive, Reserve, Unreserve, SetWeight, SetLimit, Cycle, Report}
 use Rattle.drf_rows.specs.declared.reply.OfferLine.{OfferLine}

@@ -5,7 +5,8 @@ use Rattle.std.specs.Option.{option_map_or}
 use Rattle.std.proofs.Common.{refl, sym, ap, subst, ◌∙◌, inl, inr, ◌⊎◌, arith, append-nil, append_assoc}
 use Rattle.std.proofs.lemmas.Bool.{cases_Bool, true≢false}
 use Rattle.drf_role.specs.Path.{Path, same_path}
-use Rattle.drf_role.specs.PathLaws.{NoDots, same_path-true, same_path_itself}
+use Rattle.drf_role.specs.PathLaws.{same_path-true, same_path_itself}
+use Rattle.drf_role.proofs.PathLaws.{NoDots}
 use Rattle.drf_bundle.specs.Bundle.{IsBundle}
 use Rattle.drf_bundle.specs.declared.resource.Resource.{Resource}
 use Rattle.drf_rows.specs.Client.{Client, path_of}
@@ -13,8 +14,8 @@ use Rattle.drf_rows.specs.Consistent.{IsConsistent}
 use Rattle.drf_rows.specs.Cycle.{grant, new_offer, with_offer, tried, all_tried, turn_order, turn, turns, at_moment, cycle}
 use Rattle.drf_rows.specs.Held.{active_clients, is_registered}
 use Rattle.drf_rows.specs.Held as rows_word
-use Rattle.drf_row_laws.specs.CycleLaws.{all_tried-append}
-use Rattle.drf_bundle.specs.ListLaws.{each_append, each_at, each_from, each_parts, list_any_at}
+use Rattle.drf_row_laws.proofs.CycleLaws.{all_tried-append}
+use Rattle.drf_bundle.proofs.ListLaws.{each_append, each_at, each_from, each_parts, list_any_at}
 use Rattle.drf_laws.proofs.OfferedLaws.{each_served}
 use Rattle.drf_row_laws.proofs.ServingOrder.{stands_before-back}
 use Rattle.drf_rows.specs.declared.limits.TheConstants.{LATEST_MOMENT}

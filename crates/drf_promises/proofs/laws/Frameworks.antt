@@ -7,7 +7,7 @@ use Rattle.std.proofs.lemmas.Bool.{cases_Bool, false_from_ne_true}
 use Rattle.std.proofs.lemmas.List.{map-append}
 use Rattle.std.proofs.lemmas.Simd.{map-map}
 use Rattle.drf_role.specs.Path.{Path, begins_with, client_path, same_path}
-use Rattle.drf_role.specs.PathLaws.{NoDots, no_dots-role}
+use Rattle.drf_role.proofs.PathLaws.{NoDots, no_dots-role}
 use Rattle.drf_role.specs.Role.{IsRole}
 use Rattle.drf_role.specs.Text.{Text, same_text}
 use Rattle.drf_role.specs.TextLaws.{same_from_test}
@@ -22,10 +22,10 @@ use Rattle.drf_rows.specs.Held as rows_word
 use Rattle.drf_rows.specs.Holdings.{Holding, amount_in, of_offer, of_task, holdings_of, held_where, is_under, parts_on}
 use Rattle.drf_rows.specs.Quota.{consumption, entitlement, headrooms, is_within, reserved_for, unreserved_in}
 use Rattle.drf_rows.specs.Share.{Standing, is_ahead, stands_before_below}
-use Rattle.drf_row_laws.specs.ConsistentLaws.{registered_once, same_text-swap, times_registered}
-use Rattle.drf_row_laws.specs.CycleLaws.{active_clients-with_offer}
-use Rattle.drf_row_laws.specs.HoldingsLaws.{held_where-cons}
-use Rattle.drf_bundle.specs.ListLaws.{each_append, sum_by-map}
+use Rattle.drf_row_laws.proofs.ConsistentLaws.{registered_once, same_text-swap, times_registered}
+use Rattle.drf_row_laws.proofs.CycleLaws.{active_clients-with_offer}
+use Rattle.drf_row_laws.proofs.HoldingsLaws.{held_where-cons}
+use Rattle.drf_bundle.proofs.ListLaws.{each_append, sum_by-map}
 use Rattle.drf_rows.specs.declared.rows.AgentRow.{AgentRow}
 use Rattle.drf_rows.specs.declared.rows.ClientRow.{ClientRow}
 use Rattle.drf_rows.specs.declared.rows.FrameworkRow.{FrameworkRow}

@@ -10,7 +10,7 @@ use Rattle.drf_rows.specs.Consistent.{IsConsistent}
 use Rattle.drf_rows.specs.Held.{cluster_total, held_by}
 use Rattle.drf_rows.specs.Held as rows_word
 use Rattle.drf_rows.specs.Share.{Fraction}
-use Rattle.drf_row_laws.specs.WeightLaws.{weight_of-in_range}
+use Rattle.drf_row_laws.proofs.WeightLaws.{weight_of-in_range}
 use Rattle.drf_rows.specs.declared.rows.Rows.{Rows}
 use Rattle.drf_sorter.specs.Fractions.{dominant_of, weigh}
 use Rattle.drf_sorter.proofs.laws.OrderLaws.{greatest_above}

@@ -11,17 +11,18 @@ use Rattle.drf_role.specs.Parts.{parts_of}
 use Rattle.drf_bundle.specs.Value.{Point, Thousandths, Number, Member}
 use Rattle.drf_bundle.specs.Bundle.{Key, IsBundle, units}
 use Rattle.drf_bundle.specs.laws.BundleLaws.{bundle-empty}
-use Rattle.drf_bundle.specs.laws.RestLaws.{units-rest}
+use Rattle.drf_bundle.proofs.laws.RestLaws.{units-rest}
 use Rattle.drf_bundle.specs.declared.resource.Resource.{Resource}
 use Rattle.drf_rows.specs.Client.{Client}
 use Rattle.drf_rows.specs.Cycle.{free_of, is_grantable, new_offer, with_offer, tried, all_tried}
 use Rattle.drf_rows.specs.Filters.{is_held_back}
 use Rattle.drf_rows.specs.Holdings.{holdings_of, AreBundles}
 use Rattle.drf_rows.specs.Quota.{unreserved_in, consumption, is_within, binds, headroom_under, entitlement}
-use Rattle.drf_row_laws.specs.CycleLaws.{bundle-free_of, bundle-entitlement, free_of-with_offer, free_of-with_offer_other}
-use Rattle.drf_row_laws.specs.EntitlementLaws.{units_for, entitled_by_units}
-use Rattle.drf_row_laws.specs.HoldingsLaws.{each-with_offer}
-use Rattle.drf_row_laws.specs.QuotaLaws.{consumption-with_offer}
+use Rattle.drf_row_laws.proofs.CycleLaws.{bundle-free_of, bundle-entitlement, free_of-with_offer, free_of-with_offer_other}
+use Rattle.drf_row_laws.specs.EntitlementLaws.{units_for}
+use Rattle.drf_row_laws.proofs.EntitlementLaws.{entitled_by_units}
+use Rattle.drf_row_laws.proofs.HoldingsLaws.{each-with_offer}
+use Rattle.drf_row_laws.proofs.QuotaLaws.{consumption-with_offer}
 use Rattle.drf_rows.specs.declared.rows.AgentRow.{AgentRow}
 use Rattle.drf_rows.specs.declared.rows.LimitRow.{LimitRow}
 use Rattle.drf_rows.specs.declared.rows.OfferRow.{OfferRow}

@@ -12,16 +12,17 @@ use Rattle.drf_role.specs.Parts.{parts_of}
 use Rattle.drf_bundle.specs.Value.{Point, Thousandths, Number, Member}
 use Rattle.drf_bundle.specs.Quantities.{amount_of}
 use Rattle.drf_bundle.specs.Bundle.{Key, IsBundle, units, rest, covers, quantities_of}
-use Rattle.drf_bundle.specs.laws.SumLaws.{amount-quantities_of}
-use Rattle.drf_bundle.specs.laws.RestLaws.{bundle-rest, covers_units, covered_units}
-use Rattle.drf_bundle.specs.laws.UnitProofs.{stocks_add, rest_and_part}
+use Rattle.drf_bundle.proofs.laws.SumLaws.{amount-quantities_of}
+use Rattle.drf_bundle.proofs.laws.RestLaws.{bundle-rest, covers_units, covered_units}
+use Rattle.drf_bundle.proofs.laws.UnitProofs.{stocks_add, rest_and_part}
 use Rattle.drf_bundle.specs.declared.resource.Resource.{Resource}
 use Rattle.drf_rows.specs.Client.{Client}
 use Rattle.drf_rows.specs.Filters.{is_held_back, is_in_force, is_of_client, is_on_agent}
 use Rattle.drf_rows.specs.Quota.{Consumed, consumption, is_within, binds, room_under, headroom_under, entitlement}
-use Rattle.drf_row_laws.specs.QuotaLaws.{rooms, rooms-here, rooms-past}
-use Rattle.drf_row_laws.specs.EntitlementLaws.{units_for, entitled_by_units}
-use Rattle.drf_row_laws.specs.CycleLaws.{bundle-free_of, bundle-entitlement}
+use Rattle.drf_row_laws.proofs.QuotaLaws.{rooms, rooms-here, rooms-past}
+use Rattle.drf_row_laws.specs.EntitlementLaws.{units_for}
+use Rattle.drf_row_laws.proofs.EntitlementLaws.{entitled_by_units}
+use Rattle.drf_row_laws.proofs.CycleLaws.{bundle-free_of, bundle-entitlement}
 use Rattle.drf_rows.specs.Cycle.{free_of, is_allocatable}
 use Rattle.drf_rows.specs.declared.rows.AgentRow.{AgentRow}
 use Rattle.drf_rows.specs.declared.rows.FilterRow.{FilterRow}

@@ -7,21 +7,21 @@ use Rattle.drf_role.specs.Path.{Path, begins_with}
 use Rattle.drf_bundle.specs.Bundle.{IsBundle, is_default, is_for, is_unreserved, rest, left_of}
 use Rattle.drf_bundle.specs.Value.{amount_in}
 use Rattle.drf_bundle.specs.Taken.{rest_of_all}
-use Rattle.drf_bundle.specs.laws.PartLaws.{part_for-all}
+use Rattle.drf_bundle.proofs.laws.PartLaws.{part_for-all}
 use Rattle.drf_bundle.specs.declared.resource.Resource.{Resource}
 use Rattle.drf_rows.specs.Client.{Client}
 use Rattle.drf_rows.specs.Cycle.{free_of, is_allocatable, grant, new_offer, with_offer, all_tried, turn_order, turn, at_moment, cycle}
 use Rattle.drf_rows.specs.Filters.{is_held_back}
 use Rattle.drf_rows.specs.Holdings.{holdings_of, parts_on, AreBundles}
 use Rattle.drf_rows.specs.Quota.{headroom, headrooms, consumption, entitlement}
-use Rattle.drf_row_laws.specs.CycleLaws.{bundle-free_of, entitlement-unlimited, all_tried_none, all_tried_first}
+use Rattle.drf_row_laws.proofs.CycleLaws.{bundle-free_of, entitlement-unlimited, all_tried_none, all_tried_first}
 use Rattle.drf_rows.specs.declared.rows.AgentRow.{AgentRow}
 use Rattle.drf_rows.specs.declared.rows.FilterRow.{FilterRow}
 use Rattle.drf_rows.specs.declared.rows.Rows.{Rows}
 use Rattle.drf_rows.specs.Consistent.{IsAgent}
 use Rattle.drf_rows.specs.Held.{active_clients}
-use Rattle.drf_bundle.specs.ListLaws.{each_at, each_filter, each_from_both}
-use Rattle.drf_row_laws.specs.LiveLaws.{kept-turns}
+use Rattle.drf_bundle.proofs.ListLaws.{each_at, each_filter, each_from_both}
+use Rattle.drf_row_laws.proofs.LiveLaws.{kept-turns}
 use Rattle.drf_row_laws.proofs.OthersLaws.{cycle_only_offers}
 use Rattle.drf_promises.specs.Cycles.{active_agents, AllIsHandedOut, GetsNothing, IsOpen}
 use Rattle.drf_promises.proofs.laws.Cycles.{cycles_leave_nothing, end}

@@ -15,8 +15,8 @@ use Rattle.drf_rows.specs.Cycle.{grant, new_offer, with_offer, tried, all_tried,
 use Rattle.drf_rows.specs.Held.{active_clients}
 use Rattle.drf_rows.specs.Held as rows_word
 use Rattle.drf_rows.specs.Share.{Standing, stands_before}
-use Rattle.drf_row_laws.specs.CycleLaws.{all_tried-append}
-use Rattle.drf_bundle.specs.ListLaws.{each_append, each_from}
+use Rattle.drf_row_laws.proofs.CycleLaws.{all_tried-append}
+use Rattle.drf_bundle.proofs.ListLaws.{each_append, each_from}
 use Rattle.drf_laws.proofs.OfferedLaws.{each_served}
 use Rattle.drf_row_laws.proofs.ServingOrder.{stands_before_itself, stands_before-back}
 use Rattle.drf_rows.specs.declared.rows.AgentRow.{AgentRow}

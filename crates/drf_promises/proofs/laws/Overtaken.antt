@@ -17,11 +17,11 @@ use Rattle.drf_rows.specs.LimitNumbers.{LimitNumbers}
 use Rattle.drf_rows.specs.Offers.{offer_accepted, offer_at}
 use Rattle.drf_rows.specs.Step.{refusal_of, effect, rows_after, rows_after_all}
 use Rattle.drf_rows.specs.Tasks.{uses}
-use Rattle.drf_row_laws.specs.FrameLaws.{any_turns}
-use Rattle.drf_row_laws.specs.HoldingsLaws.{held_where-with_offer}
-use Rattle.drf_row_laws.specs.MemberLaws.{cluster_total-with_activity}
-use Rattle.drf_row_laws.specs.StepLaws.{rows_after-accepted, rows_after-refused}
-use Rattle.drf_row_laws.specs.WeightLaws.{weight_of-in_range}
+use Rattle.drf_row_laws.proofs.FrameLaws.{any_turns}
+use Rattle.drf_row_laws.proofs.HoldingsLaws.{held_where-with_offer}
+use Rattle.drf_row_laws.proofs.MemberLaws.{cluster_total-with_activity}
+use Rattle.drf_row_laws.proofs.StepLaws.{rows_after-accepted, rows_after-refused}
+use Rattle.drf_row_laws.proofs.WeightLaws.{weight_of-in_range}
 use Rattle.drf_rows.specs.declared.event.Accept as accepting
 use Rattle.drf_rows.specs.declared.event.Event.{Event}
 use Rattle.drf_rows.specs.declared.event.Event.TheVariants.{ActivateAgent, Accept, Cycle, Report}

@@ -12,8 +12,8 @@ use Rattle.drf_rows.specs.Cycle.{at_moment, turn, turns, turn_order, cycle}
 use Rattle.drf_rows.specs.Held.{count_of}
 use Rattle.drf_rows.specs.LimitNumbers.{LimitNumbers}
 use Rattle.drf_rows.specs.Step.{refusal_of, effect, rows_after, rows_after_all}
-use Rattle.drf_row_laws.specs.FrameLaws.{only_changed}
-use Rattle.drf_row_laws.specs.StepLaws.{rows_after-accepted, rows_after-refused}
+use Rattle.drf_row_laws.proofs.FrameLaws.{only_changed}
+use Rattle.drf_row_laws.proofs.StepLaws.{rows_after-accepted, rows_after-refused}
 use Rattle.drf_rows.specs.declared.event.Event.{Event}
 use Rattle.drf_rows.specs.declared.event.Event.TheVariants.{AddFramework, SetFramework, RemoveFramework, Suppress, Revive, Cycle}
 use Rattle.drf_rows.specs.declared.reply.Refusal.{Refusal}

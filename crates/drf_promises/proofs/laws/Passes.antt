@@ -15,11 +15,11 @@ use Rattle.drf_rows.specs.Cycle.{grant, new_offer, with_offer, tried, all_tried,
 use Rattle.drf_rows.specs.Held.{active_clients, count_of, is_registered}
 use Rattle.drf_rows.specs.Held as rows_word
 use Rattle.drf_rows.specs.Share.{Fraction, Standing, is_less, is_same, is_ahead, stands_before_below, weighted_share_of}
-use Rattle.drf_row_laws.specs.ConsistentLaws.{registered_once}
+use Rattle.drf_row_laws.proofs.ConsistentLaws.{registered_once}
 use Rattle.drf_laws.proofs.OfferedLaws.{each_served}
 use Rattle.drf_role.specs.TextLaws.{same_from_test}
 use Rattle.drf_laws.proofs.laws.Turns.{turn_order-registered}
-use Rattle.drf_bundle.specs.ListLaws.{each_at}
+use Rattle.drf_bundle.proofs.ListLaws.{each_at}
 use Rattle.drf_rows.specs.declared.rows.AgentRow.{AgentRow}
 use Rattle.drf_rows.specs.declared.rows.Rows.{Rows}
 use Rattle.drf_promises.specs.Apart.{AreClientsOf}

@@ -10,7 +10,7 @@ use Rattle.drf_role.specs.Text.{same_text}
 use Rattle.drf_role.specs.TextLaws.{same_itself}
 use Rattle.drf_bundle.specs.Bundle.{IsBundle, is_unreserved, covers}
 use Rattle.drf_bundle.specs.Taken.{rest_of_all}
-use Rattle.drf_bundle.specs.laws.RestLaws.{covers_units}
+use Rattle.drf_bundle.proofs.laws.RestLaws.{covers_units}
 use Rattle.drf_bundle.specs.declared.resource.Resource.{Resource}
 use Rattle.drf_rows.specs.Client.{Client}
 use Rattle.drf_rows.specs.Consistent.{IsAgent, IsFilter, IsConsistent}
@@ -22,11 +22,11 @@ use Rattle.drf_rows.specs.Held as rows_word
 use Rattle.drf_rows.specs.Holdings.{of_offer, of_task, parts_on}
 use Rattle.drf_rows.specs.Offers.{filter_of, filtered_until, filters_with, offer_at, offer_declined}
 use Rattle.drf_rows.specs.Step.{effect}
-use Rattle.drf_row_laws.specs.ConsistentLaws.{bundles-consistent, numbers_within}
-use Rattle.drf_row_laws.specs.CycleLaws.{active_clients-with_offer, bundle-free_of}
-use Rattle.drf_row_laws.specs.EndingLaws.{IsConsistent-filters}
+use Rattle.drf_row_laws.proofs.ConsistentLaws.{bundles-consistent, numbers_within}
+use Rattle.drf_row_laws.proofs.CycleLaws.{active_clients-with_offer, bundle-free_of}
+use Rattle.drf_row_laws.proofs.EndingLaws.{IsConsistent-filters}
 use Rattle.drf_row_laws.specs.LifeLaws.{is_same_client}
-use Rattle.drf_bundle.specs.ListLaws.{each_append, each_filter, each_from, each_at, each_true, filter_each, filter_only, find_only}
+use Rattle.drf_bundle.proofs.ListLaws.{each_append, each_filter, each_from, each_at, each_true, filter_each, filter_only, find_only}
 use Rattle.drf_row_laws.proofs.OfferLaws.{offer_filter}
 use Rattle.drf_laws.proofs.OfferedLaws.{each_served}
 use Rattle.drf_rows.specs.declared.event.Decline as declining

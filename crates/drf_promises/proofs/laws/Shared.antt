@@ -6,7 +6,7 @@ use Rattle.std.proofs.lemmas.Bool.{cases_Bool, and_parts, or_cases, not-true, lt
 use Rattle.std.proofs.lemmas.List.Sums.{sum_by-cons}
 use Rattle.drf_role.specs.Path.{Path, begins_with}
 use Rattle.drf_role.specs.Text.{Text, same_text}
-use Rattle.drf_role.specs.TextLaws.{cases_same}
+use Rattle.drf_role.proofs.TextLaws.{cases_same}
 use Rattle.drf_bundle.specs.Bundle.{IsBundle, is_unreserved, quantities_of}
 use Rattle.drf_bundle.specs.Quantities.{amount_of}
 use Rattle.drf_bundle.specs.Taken.{rest_of_all}
@@ -19,11 +19,11 @@ use Rattle.drf_rows.specs.Held.{active_clients, cluster_total, held_by}
 use Rattle.drf_rows.specs.Held as rows_word
 use Rattle.drf_rows.specs.Holdings.{held_where, of_offer, of_task, is_under, parts_on}
 use Rattle.drf_rows.specs.Share.{Fraction}
-use Rattle.drf_row_laws.specs.ConsistentLaws.{bundles-consistent}
-use Rattle.drf_row_laws.specs.CycleLaws.{free_of-with_offer_other}
-use Rattle.drf_row_laws.specs.HoldingsLaws.{held_where-with_offer}
-use Rattle.drf_bundle.specs.ListLaws.{each_append, each_at, each_filter, each_from, filter_each}
-use Rattle.drf_row_laws.specs.MemberLaws.{amount_on, amount-cluster_total}
+use Rattle.drf_row_laws.proofs.ConsistentLaws.{bundles-consistent}
+use Rattle.drf_row_laws.proofs.CycleLaws.{free_of-with_offer_other}
+use Rattle.drf_row_laws.proofs.HoldingsLaws.{held_where-with_offer}
+use Rattle.drf_bundle.proofs.ListLaws.{each_append, each_at, each_filter, each_from, filter_each}
+use Rattle.drf_row_laws.proofs.MemberLaws.{amount_on, amount-cluster_total}
 use Rattle.drf_laws.proofs.OfferedLaws.{each_served}
 use Rattle.drf_rows.specs.declared.limits.TheConstants.{LATEST_MOMENT}
 use Rattle.drf_rows.specs.declared.rows.AgentRow.{AgentRow}

@@ -15,9 +15,9 @@ use Rattle.drf_rows.specs.Holdings.{amount_in, is_under, of_offer}
 use Rattle.drf_rows.specs.Held as rows_word
 use Rattle.drf_rows.specs.Client.{Client, path_of}
 use Rattle.drf_rows.specs.Step.{effect}
-use Rattle.drf_row_laws.specs.ConsistentLaws.{same_text-swap, times_registered}
-use Rattle.drf_row_laws.specs.HoldingsLaws.{held_where-with_offer}
-use Rattle.drf_row_laws.specs.WeightLaws.{weight_of-in_range, role_has_its_weight, others_keep_their_weight}
+use Rattle.drf_row_laws.proofs.ConsistentLaws.{same_text-swap, times_registered}
+use Rattle.drf_row_laws.proofs.HoldingsLaws.{held_where-with_offer}
+use Rattle.drf_row_laws.proofs.WeightLaws.{weight_of-in_range, role_has_its_weight, others_keep_their_weight}
 use Rattle.drf_rows.specs.declared.event.Event.TheVariants.{SetWeight}
 use Rattle.drf_rows.specs.declared.rows.Rows.{Rows}
 use Rattle.drf_sorter.specs.Fractions.{dominant_of, weigh}

@@ -8,7 +8,7 @@ use Rattle.drf_rows.specs.Cycle.{at_moment}
 use Rattle.drf_rows.specs.Offers.{offer_at, offer_accepted}
 use Rattle.drf_rows.specs.Step.{opening, effect, rows_after}
 use Rattle.drf_laws.proofs.EndedLaws.{accepted_starts_tasks}
-use Rattle.drf_row_laws.specs.FrameLaws.{step_keeps}
+use Rattle.drf_row_laws.proofs.FrameLaws.{step_keeps}
 use Rattle.drf_row_laws.specs.LifeLaws.{other_offers, other_tasks, task_started}
 use Rattle.drf_row_laws.proofs.OthersLaws.{cycle_only_offers, ended_is_gone}
 use Rattle.drf_row_laws.proofs.RegistrationLaws.{IsConsistent-opening}

@@ -9,7 +9,7 @@ use Rattle.drf_bundle.specs.declared.resource.Resource.{Resource}
 use Rattle.drf_rows.specs.Client.{Client}
 use Rattle.drf_rows.specs.Filters.{in_force, is_held_back}
 use Rattle.drf_rows.specs.Offers.{filtered_until}
-use Rattle.drf_row_laws.specs.FilterLaws.{held_back-in_force, in_force-later, in_force-left}
+use Rattle.drf_row_laws.proofs.FilterLaws.{held_back-in_force, in_force-later, in_force-left}
 use Rattle.drf_rows.specs.declared.rows.FilterRow.{FilterRow}
 
 module _ (now : ℕ) (fs : List FilterRow) (none : in_force now fs ≡ []) where

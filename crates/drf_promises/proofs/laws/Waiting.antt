@@ -10,7 +10,7 @@ use Rattle.drf_rows.specs.Client.{Client}
 use Rattle.drf_rows.specs.Cycle.{free_of, is_allocatable, grant, new_offer, with_offer, all_tried}
 use Rattle.drf_rows.specs.Filters.{is_held_back}
 use Rattle.drf_rows.specs.Holdings.{holdings_of, AreBundles}
-use Rattle.drf_row_laws.specs.CycleLaws.{all_tried_first}
+use Rattle.drf_row_laws.proofs.CycleLaws.{all_tried_first}
 use Rattle.drf_rows.specs.declared.rows.AgentRow.{AgentRow}
 use Rattle.drf_rows.specs.declared.rows.Rows.{Rows}
 use Rattle.drf_promises.specs.Runs.{Has}

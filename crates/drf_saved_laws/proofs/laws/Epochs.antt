@@ -14,10 +14,10 @@ use Rattle.drf_rows.specs.Held.{client_of, clients_in, clients_of, is_registered
 use Rattle.drf_rows.specs.Holdings.{Holding, of_offer, of_task, holdings_of}
 use Rattle.drf_rows.specs.LimitNumbers.{LimitNumbers}
 use Rattle.drf_rows.specs.Step.{live_rows}
-use Rattle.drf_row_laws.specs.FilterLaws.{number_in_force-later}
+use Rattle.drf_row_laws.proofs.FilterLaws.{number_in_force-later}
 use Rattle.drf_laws.specs.HeldForLaws.{IsForItsRole}
-use Rattle.drf_row_laws.specs.HoldingsLaws.{units_on-append}
-use Rattle.drf_bundle.specs.ListLaws.{each_from, each_map, each_parts, list_any-map, sum_by-map, sum_by_none}
+use Rattle.drf_row_laws.proofs.HoldingsLaws.{units_on-append}
+use Rattle.drf_bundle.proofs.ListLaws.{each_from, each_map, each_parts, list_any-map, sum_by-map, sum_by_none}
 use Rattle.drf_rows.specs.declared.rows.ClientRow.{ClientRow}
 use Rattle.drf_rows.specs.declared.rows.FrameworkRow.{FrameworkRow}
 use Rattle.drf_rows.specs.declared.rows.Rows.{Rows}

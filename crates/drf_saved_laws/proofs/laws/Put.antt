@@ -18,9 +18,9 @@ use Rattle.drf_rows.specs.LimitNumbers.{LimitNumbers}
 use Rattle.drf_rows.specs.Members.{has_agent}
 use Rattle.drf_rows.specs.Offers.{is_empty}
 use Rattle.drf_rows.specs.Weights.{is_weight}
-use Rattle.drf_row_laws.specs.EndingLaws.{IsOneLess, IsConsistent-filters, IsConsistent-held}
+use Rattle.drf_row_laws.proofs.EndingLaws.{IsOneLess, IsConsistent-filters, IsConsistent-held}
 use Rattle.drf_laws.specs.HeldForLaws.{IsForItsRole}
-use Rattle.drf_bundle.specs.ListLaws.{each_append, each_from}
+use Rattle.drf_bundle.proofs.ListLaws.{each_append, each_from}
 use Rattle.drf_row_laws.proofs.RegistrationLaws.{parts_on-nothing}
 use Rattle.drf_rows.specs.declared.limits.TheConstants.{LARGEST_AMOUNT}
 use Rattle.drf_rows.specs.declared.rows.AgentRow.{AgentRow}

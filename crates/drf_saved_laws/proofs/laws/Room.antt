@@ -10,8 +10,8 @@ use Rattle.drf_role.specs.Parts.{parts_of}
 use Rattle.drf_role.specs.Text.{same_text}
 use Rattle.drf_bundle.specs.Bundle.{Key, IsBundle, units, covers, part_for}
 use Rattle.drf_bundle.specs.Value.{Point, Thousandths, Number, Member}
-use Rattle.drf_bundle.specs.laws.PartLaws.{bundle-part_for}
-use Rattle.drf_bundle.specs.laws.UnitProofs.{covers_by_units}
+use Rattle.drf_bundle.proofs.laws.PartLaws.{bundle-part_for}
+use Rattle.drf_bundle.proofs.laws.UnitProofs.{covers_by_units}
 use Rattle.drf_bundle.specs.declared.resource.Resource.{Resource}
 use Rattle.drf_rows.specs.Client.{Client}
 use Rattle.drf_rows.specs.Consistent.{IsConsistent, IsCovered}
@@ -20,13 +20,14 @@ use Rattle.drf_rows.specs.Holdings.{Holding, of_offer, of_task, holdings_of}
 use Rattle.drf_rows.specs.Quota.{is_within}
 use Rattle.drf_rows.specs.Step.{opening}
 use Rattle.drf_rows.specs.Totals.{agent_at}
-use Rattle.drf_row_laws.specs.ConsistentLaws.{same_text-swap}
-use Rattle.drf_row_laws.specs.CycleLaws.{entitlement-unlimited, units-entitlement}
-use Rattle.drf_row_laws.specs.EndingLaws.{IsOneLess, units-one_less}
-use Rattle.drf_row_laws.specs.EntitlementLaws.{units_for, entitled_by_units}
+use Rattle.drf_row_laws.proofs.ConsistentLaws.{same_text-swap}
+use Rattle.drf_row_laws.proofs.CycleLaws.{entitlement-unlimited, units-entitlement}
+use Rattle.drf_row_laws.proofs.EndingLaws.{IsOneLess, units-one_less}
+use Rattle.drf_row_laws.specs.EntitlementLaws.{units_for}
+use Rattle.drf_row_laws.proofs.EntitlementLaws.{entitled_by_units}
 use Rattle.drf_laws.specs.HeldForLaws.{IsForItsRole}
-use Rattle.drf_bundle.specs.ListLaws.{cond_le, each_append, each_from_both, each_parts}
-use Rattle.drf_row_laws.specs.TotalsLaws.{bundle_free, if_named, units_free}
+use Rattle.drf_bundle.proofs.ListLaws.{cond_le, each_append, each_from_both, each_parts}
+use Rattle.drf_row_laws.proofs.TotalsLaws.{bundle_free, if_named, units_free}
 use Rattle.drf_rows.specs.declared.rows.AgentRow.{AgentRow}
 use Rattle.drf_rows.specs.declared.rows.OfferRow.{OfferRow}
 use Rattle.drf_rows.specs.declared.rows.TaskRow.{TaskRow}

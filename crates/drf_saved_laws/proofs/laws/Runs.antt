@@ -5,8 +5,8 @@ use Rattle.std.proofs.lemmas.Bool.{le-ltb}
 use Rattle.drf_rows.specs.Filters.{is_in_force}
 use Rattle.drf_rows.specs.LimitNumbers.{LimitNumbers}
 use Rattle.drf_rows.specs.Step.{opening, live_rows, rows_after_all, replies_to}
-use Rattle.drf_bundle.specs.ListLaws.{filter-again}
-use Rattle.drf_row_laws.specs.LiveLaws.{live_rows-twice, replies_to-same_live, rows_after_all-same_live}
+use Rattle.drf_bundle.proofs.ListLaws.{filter-again}
+use Rattle.drf_row_laws.proofs.LiveLaws.{live_rows-twice, replies_to-same_live, rows_after_all-same_live}
 use Rattle.drf_row_laws.proofs.RunLaws.{replies_to-append, rows_after_all-append}
 use Rattle.drf_rows.specs.declared.reply.Reply.{Reply}
 use Rattle.drf_rows.specs.declared.rows.Rows.{Rows}

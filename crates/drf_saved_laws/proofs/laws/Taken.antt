@@ -12,8 +12,8 @@ use Rattle.drf_role.specs.TextLaws.{same_from_test}
 use Rattle.drf_role.specs.Path.{Path}
 use Rattle.drf_bundle.specs.Bundle.{IsBundle, is_default, quantities_of, units}
 use Rattle.drf_bundle.specs.Quantities.{amount_of, is_in_order, plus}
-use Rattle.drf_bundle.specs.laws.QuantitiesLaws.{amount_first, amount_head, in_order-plus, length-plus, stands_first}
-use Rattle.drf_bundle.specs.laws.UnitProofs.{quantities_no_zeros}
+use Rattle.drf_bundle.proofs.laws.QuantitiesLaws.{amount_first, amount_head, in_order-plus, length-plus, stands_first}
+use Rattle.drf_bundle.proofs.laws.UnitProofs.{quantities_no_zeros}
 use Rattle.drf_bundle.specs.declared.quantities.Entry.{Entry}
 use Rattle.drf_rows.specs.Client.{Client}
 use Rattle.drf_rows.specs.Consistent.{are_distinct, are_distinct_roles, are_distinct_tasks, are_rising, offers_counted, IsAgent, IsFilter, IsHeld}
@@ -24,14 +24,14 @@ use Rattle.drf_rows.specs.LimitNumbers.{LimitNumbers}
 use Rattle.drf_rows.specs.Members.{has_agent, has_framework}
 use Rattle.drf_rows.specs.Offers.{is_empty}
 use Rattle.drf_rows.specs.Weights.{is_weight}
-use Rattle.drf_row_laws.specs.ConsistentLaws.{bundles-consistent, same_text-swap}
-use Rattle.drf_row_laws.specs.CycleLaws.{bundle-free_of, units-free_of}
-use Rattle.drf_row_laws.specs.EndingLaws.{each-one}
+use Rattle.drf_row_laws.proofs.ConsistentLaws.{bundles-consistent, same_text-swap}
+use Rattle.drf_row_laws.proofs.CycleLaws.{bundle-free_of, units-free_of}
+use Rattle.drf_row_laws.proofs.EndingLaws.{each-one}
 use Rattle.drf_laws.specs.HeldForLaws.{IsForItsRole}
-use Rattle.drf_row_laws.specs.HoldingsLaws.{units_on, units_on-append, units_on-cons}
-use Rattle.drf_bundle.specs.ListLaws.{each_filter, each_parts}
-use Rattle.drf_row_laws.specs.ReservationLaws.{found_known}
-use Rattle.drf_row_laws.specs.TotalsLaws.{at, is_agent, is_covered, no_zeros-total}
+use Rattle.drf_row_laws.proofs.HoldingsLaws.{units_on, units_on-append, units_on-cons}
+use Rattle.drf_bundle.proofs.ListLaws.{each_filter, each_parts}
+use Rattle.drf_row_laws.proofs.ReservationLaws.{found_known}
+use Rattle.drf_row_laws.proofs.TotalsLaws.{at, is_agent, is_covered, no_zeros-total}
 use Rattle.drf_rows.specs.declared.limits.TheConstants.{LARGEST_AMOUNT, LATEST_MOMENT}
 use Rattle.drf_rows.specs.declared.rows.AgentRow.{AgentRow}
 use Rattle.drf_rows.specs.declared.rows.FilterRow.{FilterRow}

@@ -8,7 +8,7 @@ use Rattle.std.specs.declared.cmp.Ordering.TheVariants.{Less, Equal, Greater}
 use Rattle.std.proofs.Common.{refl, ap, ◌∙◌}
 use Rattle.std.proofs.lemmas.Bool.{or_right}
 use Rattle.drf_bundle.specs.Quantities.{amount_of, is_in_order}
-use Rattle.drf_bundle.specs.laws.QuantitiesLaws.{amount-without_zeros, no_zeros-without_zeros}
+use Rattle.drf_bundle.proofs.laws.QuantitiesLaws.{amount-without_zeros, no_zeros-without_zeros}
 use Rattle.drf_bundle.specs.declared.quantities.Entry.{Entry}
 use Rattle.drf_role.specs.Text.{Text}
 use Rattle.drf_role.specs.Path.{Path, same_path}

@@ -8,13 +8,15 @@ use Rattle.std.specs.Cmp.Lexicographic.{slice_cmp, nat_list_cmp_total, nat_list_
 use Rattle.std.proofs.lemmas.Bool.{false≢true, cases_Bool, ltb-true}
 use Rattle.std.proofs.lemmas.Cmp.{then_total, on_total, tied_itself}
 use Rattle.drf_role.specs.Text.{Text, same_text}
-use Rattle.drf_role.specs.TextLaws.{less_from_test, cases_same, same_from_cmp, same_itself}
+use Rattle.drf_role.specs.TextLaws.{less_from_test, same_from_cmp, same_itself}
+use Rattle.drf_role.proofs.TextLaws.{cases_same}
 use Rattle.drf_bundle.specs.declared.quantities.Entry.{Entry}
 use Rattle.drf_role.specs.Path.{Path, begins_with}
 use Rattle.drf_rows.specs.Share.{Fraction, is_less, greatest, Standing, share_of, weighted_share_of, is_ahead, stands_before_below, stands_before}
 use Rattle.drf_row_laws.proofs.ServingOrder.{is_ahead-back}
 use Rattle.drf_sorter.specs.Fractions.{fraction_cmp, held_fractions}
-use Rattle.drf_sorter.specs.laws.FractionLaws.{fraction_cmp-antisymm, fraction_cmp-trans, fraction_cmp-congr, is_lt-fraction_cmp, product_above, is_eq-fraction_cmp, is_lt-nat_cmp}
+use Rattle.drf_sorter.specs.laws.FractionLaws.{fraction_cmp-antisymm, fraction_cmp-trans, fraction_cmp-congr, product_above, is_eq-fraction_cmp}
+use Rattle.drf_sorter.proofs.laws.FractionLaws.{is_lt-fraction_cmp, is_lt-nat_cmp}
 use Rattle.drf_sorter.specs.Keys.{Key, key_cmp, key_of, keys_of}
 
 -- ---- siblings

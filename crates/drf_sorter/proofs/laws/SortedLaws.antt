@@ -7,9 +7,10 @@ use Rattle.std.proofs.lemmas.Bool.{false≢true, cond_both, and_from, and_parts}
 use Rattle.std.proofs.lemmas.List.Sorted.{IsPermutation-refl, IsPermutation-sym, IsPermutation-trans, IsPermutation-cons, IsPermutation-middle}
 use Rattle.std.proofs.lemmas.Map.Keys.{IsDistinct-head, IsDistinct-tail}
 use Rattle.drf_role.specs.Path.{Path, IsClientPath, same_path, begins_with}
-use Rattle.drf_role.specs.PathLaws.{path_decides, client_paths-apart}
+use Rattle.drf_role.specs.PathLaws.{path_decides}
+use Rattle.drf_role.proofs.PathLaws.{client_paths-apart}
 use Rattle.drf_rows.specs.Share.{Standing, stands_before, is_serving_order}
-use Rattle.drf_bundle.specs.ListLaws.{each_from_both}
+use Rattle.drf_bundle.proofs.ListLaws.{each_from_both}
 use Rattle.drf_sorter.proofs.laws.OrderLaws.{stands_before-total, stands_before-transitive}
 use Rattle.drf_sorter.specs.Served.{Weighs}
 

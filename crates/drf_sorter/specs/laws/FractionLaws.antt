@@ -1,13 +1,12 @@
 -- Fractions whose denominators are above 0 are in a total order.
-use Rattle.std.proofs.Common.{◌≡◌, ℕ, ◌*◌, ◌<◌, ◌≤◌, Bool, true, false, cond, nat_lt, ◌==◌, refl, sym, ap, subst, ◌∙◌, arith}
-use Rattle.std.proofs.Math.Nat.{mul_right_comm, mul_assoc, mul-le-mul_right, mul-lt-mul_of_pos_right}
+use Rattle.std.proofs.Common.{◌≡◌, ℕ, ◌*◌, ◌<◌, ◌≤◌, sym, ap, subst, ◌∙◌, arith}
+use Rattle.std.proofs.Math.Nat.{mul_right_comm, mul-le-mul_right, mul-lt-mul_of_pos_right}
 use Rattle.std.specs.declared.cmp.Ordering.{Ordering}
 use Rattle.std.specs.declared.cmp.Ordering.TheVariants.{Less, Equal, Greater}
-use Rattle.std.specs.Ordering.{nat_cmp, is_lt, is_eq, ordering_reverse, MatchOrdering}
+use Rattle.std.specs.Ordering.{nat_cmp, is_eq, ordering_reverse, MatchOrdering}
 use Rattle.std.specs.Cmp.{nat_cmp_total, ranks, nat_cmp_is, unsigned_tied}
-use Rattle.std.proofs.lemmas.Bool.{eq-eqb}
-use Rattle.drf_rows.specs.Share.{Fraction, is_less, is_same}
-use Rattle.drf_sorter.specs.Fractions.{fraction_cmp, weigh}
+use Rattle.drf_rows.specs.Share.{Fraction, is_same}
+use Rattle.drf_sorter.specs.Fractions.{fraction_cmp}
 
 pub product_above : (n m : ℕ) → 1 ≤ n → 1 ≤ m → 0 < n * m
 product_above n m h k = let bound : 1 * m ≤ n * m = mul-le-mul_right m h in omega arith
@@ -21,18 +20,6 @@ scaled x y k p Greater h = mul-lt-mul_of_pos_right h p
 -- a common factor does not matter
 pub nat_cmp-scale : (x y k : ℕ) → 0 < k → nat_cmp x y ≡ nat_cmp (x * k) (y * k)
 nat_cmp-scale x y k p = nat_cmp_is (x * k) (y * k) (nat_cmp x y) (scaled x y k p (nat_cmp x y) (ranks x y))
-
-is_lt-cases : (a b : Bool) → is_lt (cond a Less (cond b Equal Greater)) ≡ a
-is_lt-cases true b = refl
-is_lt-cases false true = refl
-is_lt-cases false false = refl
-
-pub is_lt-nat_cmp : (x y : ℕ) → is_lt (nat_cmp x y) ≡ nat_lt x y
-is_lt-nat_cmp x y = is_lt-cases (nat_lt x y) (x == y)
-
--- the two tests of fractions agree with their comparison
-pub is_lt-fraction_cmp : (a b : Fraction) → is_lt (fraction_cmp a b) ≡ is_less a b
-is_lt-fraction_cmp a b = is_lt-nat_cmp (a.part * b.whole) (b.part * a.whole)
 
 pub is_eq-fraction_cmp : (a b : Fraction) → is_eq (fraction_cmp a b) ≡ is_same a b
 is_eq-fraction_cmp a b = unsigned_tied (a.part * b.whole) (b.part * a.whole)
@@ -68,10 +55,3 @@ fraction_cmp-congr a b c p q r h =
     ∙ ap (λ n. nat_cmp n (c.part * a.whole * b.whole)) left
     ∙ ap (λ n. nat_cmp (b.part * c.whole * a.whole) n) (mul_right_comm c.part a.whole b.whole)
     ∙ sym (nat_cmp-scale (b.part * c.whole) (c.part * b.whole) a.whole p)
-
--- a weight of 1000 thousandths changes nothing
-pub same_as_weighed : (f g : Fraction) → f ≡ weigh g 1000 → is_same f g ≡ true
-same_as_weighed f g is =
-    ap (λ h. is_same h g) is
-    ∙ eq-eqb (g.part * 1000 * g.whole) (g.part * (g.whole * 1000))
-    (mul_right_comm g.part 1000 g.whole ∙ mul_assoc g.part g.whole 1000)

@@ -6,7 +6,7 @@ use Rattle.std.proofs.Common.{refl, sym, ap, subst, ◌∙◌, arith, append_ass
 use Rattle.drf_role.specs.Text.{same_text}
 use Rattle.drf_role.specs.TextLaws.{same_from_test, same_itself, test_from_same}
 use Rattle.drf_rows.specs.LimitNumbers.{LimitNumbers}
-use Rattle.drf_bundle.specs.ListLaws.{each_from}
+use Rattle.drf_bundle.proofs.ListLaws.{each_from}
 use Rattle.drf_rows.specs.declared.rows.Rows.{Rows}
 use Rattle.drf_saved.specs.Saved.{saved_rows, head_of, begun, with_row, head_fault, row_fault, restored_from, restored, IsTyped}
 use Rattle.drf_saved.specs.declared.fault.RowFault.{RowFault}
@@ -30,7 +30,8 @@ use Rattle.drf_state.specs.StateLaws.{WhatIsSaidCanBeSaved, WhatIsSaidIsTheText,
 use Rattle.drf_state.specs.Valid.{IsValidRow}
 use Rattle.drf_state.specs.declared.fault.StateFault.{StateFault}
 use Rattle.drf_state.specs.declared.fault.StateFault.TheVariants.{NotWritten, Row, BadEnd}
-use Rattle.drf_state.specs.laws.Parts.{parts_of_text, parts-ended, parts-joined, parts-some}
+use Rattle.drf_state.specs.laws.Parts.{parts_of_text}
+use Rattle.drf_state.proofs.laws.Parts.{parts-ended, parts-joined, parts-some}
 
 -- ---- lines
 

@@ -7,7 +7,7 @@ use Rattle.std.proofs.lemmas.List.{length-map}
 use Rattle.drf_tables.proofs.tables.Names.{Text, same_text, Entry, Client, are_distinct, clients_of, cluster_total, holdings_of, each_filter, length-filter_le, active_at, with_activity, with_suppression, suppressed_in, revived, agent_removed, framework_removed, ClientRow, Rows, changed, with_active, count_clients, Agent, Inside}
 use Rattle.drf_rows.specs.Endings.{without_ended, all_on, all_of}
 use Rattle.drf_rows.specs.Filters.{filters_without_client, filters_without_agent, filters_without_framework}
-use Rattle.drf_row_laws.specs.MemberLaws.{IsConsistent-with_activity, cluster_total-with_activity, IsConsistent-with_suppression, clients_of-with_suppression, IsConsistent-revived, IsConsistent-agent_removed, IsConsistent-framework_removed}
+use Rattle.drf_row_laws.proofs.MemberLaws.{IsConsistent-with_activity, cluster_total-with_activity, IsConsistent-with_suppression, clients_of-with_suppression, IsConsistent-revived, IsConsistent-agent_removed, IsConsistent-framework_removed}
 use Rattle.drf_rows.specs.declared.rows.FilterRow.{FilterRow}
 use Rattle.drf_tables.specs.Inside.{agent_row, framework_rows, rows_of, rows_in, IsKnown, AreDerived}
 use Rattle.drf_tables.proofs.registry.Entries.{names-keys, removed_entry, rows-filter, stays}

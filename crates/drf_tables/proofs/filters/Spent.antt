@@ -2,8 +2,8 @@
 use Rattle.std.proofs.lemmas.List.Sums.{length-filter}
 use Rattle.std.proofs.Common.{refl, sym, ap, ◌∙◌, subst, ◌≡◌, List, length}
 use Rattle.drf_rows.specs.Filters.{is_in_force, in_force, number_in_force}
-use Rattle.drf_row_laws.specs.LiveLaws.{live_rows-twice}
-use Rattle.drf_row_laws.specs.MemberLaws.{IsConsistent-filters_kept}
+use Rattle.drf_row_laws.proofs.LiveLaws.{live_rows-twice}
+use Rattle.drf_row_laws.proofs.MemberLaws.{IsConsistent-filters_kept}
 use Rattle.drf_rows.specs.Step.{live_rows}
 use Rattle.drf_rows.specs.declared.rows.FilterRow.{FilterRow}
 use Rattle.drf_tables.proofs.tables.Names.{Rows, Inside}

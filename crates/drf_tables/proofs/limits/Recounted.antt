@@ -9,18 +9,18 @@ use Rattle.drf_tables.proofs.tables.Names.{Text, same_text, Path, same_path, Key
 use Rattle.drf_role.specs.PathLaws.{same_path_itself}
 use Rattle.drf_bundle.specs.laws.FitLaws.{join_some}
 use Rattle.drf_bundle.specs.laws.JoinLaws.{where-merged}
-use Rattle.drf_bundle.specs.laws.RestLaws.{bundle-rest}
-use Rattle.drf_bundle.specs.laws.SumLaws.{amount-quantities_of}
+use Rattle.drf_bundle.proofs.laws.RestLaws.{bundle-rest}
+use Rattle.drf_bundle.proofs.laws.SumLaws.{amount-quantities_of}
 use Rattle.drf_bundle.specs.Taken.{rest_of_all, units_of_all}
-use Rattle.drf_bundle.specs.laws.TakenLaws.{units-rest_of_all}
-use Rattle.drf_bundle.specs.laws.UnitProofs.{covers_by_units, rest_and_part}
+use Rattle.drf_bundle.proofs.laws.TakenLaws.{units-rest_of_all}
+use Rattle.drf_bundle.proofs.laws.UnitProofs.{covers_by_units, rest_and_part}
 use Rattle.drf_bundle.specs.Value.{Point, Thousandths}
-use Rattle.drf_row_laws.specs.EndingLaws.{IsOneLess, accepted_in, offer_held, offer_out, started_by, sum_by-out, tasks_last}
-use Rattle.drf_row_laws.specs.QuotaLaws.{consumption_is_part_of_total, parts_le}
+use Rattle.drf_row_laws.proofs.EndingLaws.{IsOneLess, accepted_in, offer_held, offer_out, started_by, sum_by-out, tasks_last}
+use Rattle.drf_row_laws.proofs.QuotaLaws.{consumption_is_part_of_total, parts_le}
 use Rattle.drf_row_laws.proofs.RegistrationLaws.{agent_added, new_agent}
-use Rattle.drf_rows.specs.TaskLaws.{units-covers_all}
+use Rattle.drf_rows.proofs.TaskLaws.{units-covers_all}
 use Rattle.drf_rows.specs.Tasks.{Start, uses}
-use Rattle.drf_row_laws.specs.TotalsLaws.{agents_after, agents_before, agents_stand, stock-exchanged, where-exchanged, with_total-place}
+use Rattle.drf_row_laws.proofs.TotalsLaws.{agents_after, agents_before, agents_stand, stock-exchanged, where-exchanged, with_total-place}
 use Rattle.drf_rows.specs.declared.limits.TheConstants.{LARGEST_AMOUNT}
 use Rattle.drf_rows.specs.declared.rows.FilterRow.{FilterRow}
 use Rattle.drf_tables.proofs.tables.Fields.{sums_fit}

@@ -2,8 +2,8 @@
 use Rattle.std.specs.Map.{remove_entry}
 use Rattle.std.proofs.Common.{refl, sym, ap, subst, arith, ◌≡◌, ◌+◌, ◌<◌, ◌≤◌, ◌^◌, Bool, false, not, List, filter, map, Option, Some, None, IfSome}
 use Rattle.drf_tables.proofs.tables.Names.{Text, same_text, Path, same_path, quantities_of, plus, Entry, Resource, cluster_total, consumption_where, reserved_for, reserved_in, CanExchange, exchanged, with_other_total, with_total, Rows, Usage, used_by, used_where, CanExchangeOn, CanHaveTotal, HasOther, changed, with_exchanged, with_other, CountsAll, IsRaisedIf, reserved_at, Agent, Inside}
-use Rattle.drf_row_laws.specs.QuotaLaws.{consumption_is_part_of_total}
-use Rattle.drf_row_laws.specs.TotalsLaws.{can_in_total, is_agent}
+use Rattle.drf_row_laws.proofs.QuotaLaws.{consumption_is_part_of_total}
+use Rattle.drf_row_laws.proofs.TotalsLaws.{can_in_total, is_agent}
 use Rattle.drf_rows.specs.declared.limits.TheConstants.{LARGEST_AMOUNT}
 use Rattle.drf_rows.specs.declared.rows.FilterRow.{FilterRow}
 use Rattle.drf_tables.specs.Inside.{agent_row, rows_of, rows_in, AreDerived}

@@ -6,17 +6,17 @@ use Rattle.std.proofs.Common.{refl, sym, ap, ◌∙◌, subst, inl, inr}
 use Rattle.drf_role.specs.Text.{Text}
 use Rattle.drf_bundle.specs.Bundle.{IsBundle, units}
 use Rattle.drf_bundle.specs.Taken.{units_of_all}
-use Rattle.drf_bundle.specs.laws.TakenLaws.{bundle-rest_of_all}
+use Rattle.drf_bundle.proofs.laws.TakenLaws.{bundle-rest_of_all}
 use Rattle.drf_bundle.specs.declared.resource.Resource.{Resource}
 use Rattle.drf_bundle.specs.declared.quantities.Entry.{Entry}
 use Rattle.drf_rows.specs.Consistent.{IsAgent, IsConsistent, IsCovered, IsHeld, IsFilter}
-use Rattle.drf_row_laws.specs.ConsistentLaws.{bundles-consistent}
+use Rattle.drf_row_laws.proofs.ConsistentLaws.{bundles-consistent}
 use Rattle.drf_rows.specs.Endings.{Ending, without_ended}
-use Rattle.drf_row_laws.specs.EndingLaws.{IsOneLess, held_where-one_less, parts_on-one_less, units-one_less, one-one_less, one_less-offer, IsConsistent-offer_out, without_ended-offer, left-offer, one_less-task, IsConsistent-task_out, without_ended-task, left-task, without_ended-none, parts_on-accepted, units-left, offer_held, IsConsistent-accepted, without_offer-place}
+use Rattle.drf_row_laws.proofs.EndingLaws.{IsOneLess, held_where-one_less, parts_on-one_less, units-one_less, one-one_less, one_less-offer, IsConsistent-offer_out, without_ended-offer, left-offer, one_less-task, IsConsistent-task_out, without_ended-task, left-task, without_ended-none, parts_on-accepted, units-left, offer_held, IsConsistent-accepted, without_offer-place}
 use Rattle.drf_rows.specs.Held.{clients_of, cluster_total}
 use Rattle.drf_rows.specs.Holdings.{Holding, of_offer, of_task, holdings_of, parts_on}
 use Rattle.drf_rows.specs.Offers.{CanStart, left_of_offer, offer_at, task_of}
-use Rattle.drf_rows.specs.TaskLaws.{units-covers_all}
+use Rattle.drf_rows.proofs.TaskLaws.{units-covers_all}
 use Rattle.drf_rows.specs.Tasks.{Start, uses}
 use Rattle.drf_rows.specs.declared.rows.AgentRow.{AgentRow}
 use Rattle.drf_rows.specs.declared.rows.FilterRow.{FilterRow}

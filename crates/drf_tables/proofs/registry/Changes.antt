@@ -5,7 +5,7 @@ use Rattle.std.specs.Option.{option_map}
 use Rattle.std.proofs.lemmas.List.{drop_more, map-append}
 use Rattle.std.proofs.lemmas.List.Sums.{sum_by-append}
 use Rattle.drf_tables.proofs.tables.Names.{filled, Text, same_text, Path, reserved_for, reserved_in, AgentRow, changed, agent_row, name_of, slot_of, IsRegistry, Agent}
-use Rattle.drf_hash.specs.SlotLaws.{filled-changed, read_is, registry-set}
+use Rattle.drf_hash.proofs.SlotLaws.{filled-changed, read_is, registry-set}
 use Rattle.drf_tables.proofs.registry.Entries.{changed_none}
 use Rattle.drf_tables.proofs.registry.Slots.{Entry, Slots, IsFound, slot_none}
 

@@ -7,7 +7,7 @@ use Rattle.std.proofs.lemmas.List.{length-map, with_items_is}
 use Rattle.std.specs.Option.{option_copied, option_map, option_map_or}
 use Rattle.std.proofs.lemmas.Map.Made.{is_some-lookup}
 use Rattle.std.proofs.lemmas.Option.{slice_get-map}
-use Rattle.drf_bundle.specs.ListLaws.{list_any-map}
+use Rattle.drf_bundle.proofs.ListLaws.{list_any-map}
 use Rattle.drf_role.specs.TextLaws.{same_from_test}
 use Rattle.std.proofs.lemmas.Bool.{cases_Bool, and_parts, not-true}
 use Rattle.drf_tables.proofs.tables.Names.{changed, with_each, Text, same_text, are_distinct, same_text-swap, none_has, ClientRow, FrameworkRow, same_path, Client, is_registered, count_clients, framework_row, framework_rows}

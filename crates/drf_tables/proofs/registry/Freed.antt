@@ -7,13 +7,13 @@ use Rattle.drf_bundle.specs.Value.{Point}
 use Rattle.drf_bundle.specs.Bundle.{Key, IsBundle, join, merged, refusal, units}
 use Rattle.drf_bundle.specs.laws.FitLaws.{join_or_some}
 use Rattle.drf_bundle.specs.Taken.{units_of_all, rest_of_all}
-use Rattle.drf_bundle.specs.laws.TakenLaws.{bundle-rest_of_all, units-rest_of_all}
-use Rattle.drf_bundle.specs.laws.UnitProofs.{join_by_units}
+use Rattle.drf_bundle.proofs.laws.TakenLaws.{bundle-rest_of_all, units-rest_of_all}
+use Rattle.drf_bundle.proofs.laws.UnitProofs.{join_by_units}
 use Rattle.drf_bundle.specs.declared.resource.Resource.{Resource}
 use Rattle.drf_rows.specs.Consistent.{IsAgent, IsCovered}
-use Rattle.drf_row_laws.specs.ConsistentLaws.{same_text-swap}
+use Rattle.drf_row_laws.proofs.ConsistentLaws.{same_text-swap}
 use Rattle.drf_rows.specs.Holdings.{Holding, AreBundles, parts_on}
-use Rattle.drf_row_laws.specs.HoldingsLaws.{each_part}
+use Rattle.drf_row_laws.proofs.HoldingsLaws.{each_part}
 use Rattle.drf_tables.specs.registry.Changing.{changed, freed, joined_free, CanGiveBack, CanTakeBack}
 use Rattle.drf_tables.specs.Inside.{agent_row, IsKnown}
 use Rattle.drf_tables.specs.declared.tables.Agent.{Agent}

@@ -8,7 +8,7 @@ use Rattle.std.proofs.lemmas.Cmp.{nat_list_eq_equiv}
 use Rattle.std.proofs.lemmas.List.{get_or_default}
 use Rattle.std.proofs.lemmas.Map.Entries.{lookup_from_place}
 use Rattle.std.proofs.lemmas.Map.Keys.{IsDistinct-head, IsDistinct-tail}
-use Rattle.drf_hash.specs.SlotLaws.{IsIn, filled-short, read_is, slot-known, slot_found}
+use Rattle.drf_hash.proofs.SlotLaws.{IsIn, filled-short, read_is, slot-known, slot_found}
 use Rattle.drf_tables.proofs.tables.Names.{set_value_at, Resource, filled, Text, same_text, are_distinct, name_of, slot_of, with_free_at, IsRanked, Agent}
 use Rattle.drf_tables.proofs.registry.Entries.{any-lookup}
 

@@ -8,15 +8,16 @@ use Rattle.drf_tables.proofs.tables.Names.{Text, same_text, Path, Key, IsBundle,
 use Rattle.drf_role.specs.Role.{IsRole}
 use Rattle.drf_bundle.specs.Value.{Point}
 use Rattle.drf_bundle.specs.laws.BundleLaws.{bundle-empty, known_by_units}
-use Rattle.drf_bundle.specs.laws.RestLaws.{bundle-rest, units-rest}
+use Rattle.drf_bundle.proofs.laws.RestLaws.{bundle-rest, units-rest}
 use Rattle.drf_bundle.specs.Taken.{units_of_all, rest_of_all}
-use Rattle.drf_bundle.specs.laws.TakenLaws.{bundle-rest_of_all, rest-itself, units-rest_of_all}
+use Rattle.drf_bundle.proofs.laws.TakenLaws.{bundle-rest_of_all, rest-itself, units-rest_of_all}
 use Rattle.drf_rows.specs.Cycle.{free_of}
-use Rattle.drf_row_laws.specs.HoldingsLaws.{each_part}
-use Rattle.drf_row_laws.specs.LimitLaws.{IsConsistent-limit_set}
-use Rattle.drf_row_laws.specs.QuotaLaws.{consumption_is_part_of_total}
-use Rattle.drf_row_laws.specs.ReservationLaws.{IsConsistent-other_total}
-use Rattle.drf_row_laws.specs.TotalsLaws.{if_named, can_in_total, IsConsistent-exchanged, free_of-exchanged, cluster_total-exchanged, cluster_total-other_total}
+use Rattle.drf_row_laws.proofs.HoldingsLaws.{each_part}
+use Rattle.drf_row_laws.proofs.LimitLaws.{IsConsistent-limit_set}
+use Rattle.drf_row_laws.proofs.QuotaLaws.{consumption_is_part_of_total}
+use Rattle.drf_row_laws.proofs.ReservationLaws.{IsConsistent-other_total}
+use Rattle.drf_row_laws.specs.TotalsLaws.{IsConsistent-exchanged, free_of-exchanged, cluster_total-exchanged}
+use Rattle.drf_row_laws.proofs.TotalsLaws.{if_named, can_in_total, cluster_total-other_total}
 use Rattle.drf_tables.specs.Inside.{agent_row, rows_of, rows_in, IsKnown, AreDerived, IsWhole}
 use Rattle.drf_tables.proofs.agents.Changes.{rows_but}
 use Rattle.drf_tables.proofs.limits.Counts.{counts-same}

@@ -1,6 +1,6 @@
 -- Definitions of other crates that the proofs of this crate use, re-exported from one place.
 pub use Rattle.drf_bundle.specs.Bundle.{IsBundle, Key, covers, is_default, merged, part_for, quantities_of, refusal, rest, units, units_where}
-pub use Rattle.drf_bundle.specs.ListLaws.{each_append, each_at, each_filter, each_find, each_from, each_from_both, each_map, length-filter_le, none_has, sum_by-map}
+pub use Rattle.drf_bundle.proofs.ListLaws.{each_append, each_at, each_filter, each_find, each_from, each_from_both, each_map, length-filter_le, none_has, sum_by-map}
 pub use Rattle.drf_bundle.specs.Quantities.{amount_of, plus}
 pub use Rattle.drf_bundle.specs.declared.quantities.Entry.{Entry}
 pub use Rattle.drf_bundle.specs.declared.resource.Resource.{Resource}
@@ -8,7 +8,7 @@ pub use Rattle.drf_hash.specs.Slots.{IsRegistry, filled, slot_of}
 pub use Rattle.drf_gates.specs.quota.Allowance.{Allowance, IsAllowanceOf, IsConsumptionOf, IsRaisedBy, Usage, quota_under, used_by, used_where}
 pub use Rattle.drf_role.specs.Path.{Path, same_path}
 pub use Rattle.drf_role.specs.Text.{Text, same_text}
-pub use Rattle.drf_row_laws.specs.ConsistentLaws.{bundles-consistent, same_text-swap}
+pub use Rattle.drf_row_laws.proofs.ConsistentLaws.{bundles-consistent, same_text-swap}
 pub use Rattle.drf_rows.specs.Client.{Client}
 pub use Rattle.drf_rows.specs.Consistent.{AreAgents, IsAgent, IsConsistent, IsCovered, IsFilter, IsFramework, IsHeld, are_distinct, are_distinct_roles, are_distinct_tasks, are_rising, offers_counted}
 pub use Rattle.drf_rows.specs.Cycle.{at_moment, count_offer, counted}

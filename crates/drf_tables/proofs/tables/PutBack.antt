@@ -8,7 +8,7 @@ use Rattle.std.proofs.lemmas.List.Folds.{list_all-append}
 use Rattle.drf_tables.proofs.tables.Names.{Path, Text, same_text, covers, part_for, rest, Resource, are_distinct_tasks, IsConsistent, IsHeld, Holding, holdings_of, of_offer, of_task, has_agent, agent_at, AgentRow, OfferRow, Rows, changed, with_held, Agent, Inside}
 use Rattle.drf_rows.specs.Cycle.{free_of}
 use Rattle.drf_rows.specs.Endings.{is_task}
-use Rattle.drf_row_laws.specs.EndingLaws.{IsOneLess, is_task-swap, one-one_less}
+use Rattle.drf_row_laws.proofs.EndingLaws.{IsOneLess, is_task-swap, one-one_less}
 use Rattle.drf_saved.specs.Saved.{is_usable}
 use Rattle.drf_rows.specs.declared.rows.TaskRow.{TaskRow}
 use Rattle.drf_holdings.specs.Stored.{OffersAndTasks}

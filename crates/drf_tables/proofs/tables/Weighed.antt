@@ -4,10 +4,10 @@ use Rattle.std.specs.Map.{lookup}
 use Rattle.std.proofs.Common.{refl, ap, ◌∙◌, inl, inr, ◌≡◌, ℕ, List, [], ◌∷◌, is_some, true}
 use Rattle.std.proofs.lemmas.Bool.{cases_Bool}
 use Rattle.drf_tables.proofs.tables.Names.{insert_entry, Path, same_path, Entry, Rows, Agent, Inside, Text}
-use Rattle.drf_role.specs.PathLaws.{same_path-swap}
+use Rattle.drf_role.proofs.PathLaws.{same_path-swap}
 use Rattle.drf_role.specs.Role.{IsRole}
 use Rattle.drf_rows.specs.Weights.{has_weight, is_weight, weights_with}
-use Rattle.drf_row_laws.specs.WeightLaws.{IsConsistent-weight_set}
+use Rattle.drf_row_laws.proofs.WeightLaws.{IsConsistent-weight_set}
 use Rattle.drf_tables.specs.Inside.{weight_row, weight_rows, rows_of, rows_in, AreDerived}
 use Rattle.drf_tables.proofs.tables.Kept.{AreDerived-same}
 

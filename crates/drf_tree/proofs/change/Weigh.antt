@@ -3,7 +3,7 @@ use Rattle.std.proofs.Common.{refl, sym, ap, subst, ◌∙◌, inl, inr, arith, 
 use Rattle.std.proofs.lemmas.Bool.{cases_Bool, cases_eq}
 use Rattle.drf_tree.proofs.Names.{Path, same_path, same_path-true, each_from_both, Key, key_by, Child, Place, Sum, Tree, IsSameKey, child_name, children_at, is_live, path_at, AreRight, AreSums, IsChildOf, IsMarkedOrRight, IsRight, IsSumOf, IsTreeOf}
 use Rattle.drf_rows.specs.Held.{weight_of}
-use Rattle.drf_row_laws.specs.WeightLaws.{weight_of-set}
+use Rattle.drf_row_laws.proofs.WeightLaws.{weight_of-set}
 use Rattle.drf_rows.specs.Weights.{weights_with}
 use Rattle.drf_rows.specs.declared.rows.WeightRow.{WeightRow}
 use Rattle.drf_sorter.specs.Content.{Content, standing_in, with_weight}

@@ -15,7 +15,7 @@ use Rattle.drf_sorter.specs.Fractions.{dominant_of, fraction_cmp, weigh}
 use Rattle.drf_sorter.proofs.laws.OrderLaws.{weighted_share-above}
 use Rattle.drf_sorter.specs.Served.{Weighs}
 use Rattle.drf_tree.specs.declared.ledger.Ledger.{Ledger}
-use Rattle.drf_row_laws.specs.WeightLaws.{weight-found}
+use Rattle.drf_row_laws.proofs.WeightLaws.{weight-found}
 use Rattle.drf_tree.proofs.sums.Fit.{part_less}
 use Rattle.drf_tree.proofs.shape.Node.{node_within}
 use Rattle.drf_tree.proofs.shape.SameFamily.{each_unmapped, renewed_known, same_complete, same_name, same_shape}

@@ -6,7 +6,7 @@ use Rattle.std.proofs.lemmas.List.{append-nil, get_or-map, length-map, map-set, 
 use Rattle.std.proofs.lemmas.List.Elements.{filter_map-append}
 use Rattle.drf_hash.specs.Slots.{filled, ranks_of, slot_of, IsRegistry}
 use Rattle.drf_hash.proofs.GapLaws.{closed-seen, ranks-seen, registry-closed}
-use Rattle.drf_hash.specs.SlotLaws.{IsIn, each_slot, filled-changed, filled-push, new_to_come, registry-set, slot_found, slot_in_sum, slot_missed}
+use Rattle.drf_hash.proofs.SlotLaws.{IsIn, each_slot, filled-changed, filled-push, new_to_come, registry-set, slot_found, slot_in_sum, slot_missed}
 use Rattle.drf_tree.proofs.Names.{Path, same_path, path_decides, same_path_itself, Content, Ranked, has_client, ledger_content}
 use Rattle.drf_tree.specs.Booked.{client_of, path_of, seen_slot}
 use Rattle.drf_tree.specs.Ledger.{rows_in}

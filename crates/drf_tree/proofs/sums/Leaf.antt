@@ -7,7 +7,7 @@ use Rattle.std.proofs.lemmas.List.Sums.{sum_by-cons}
 use Rattle.std.proofs.lemmas.Option.{slice_get-get_or}
 use Rattle.drf_tree.proofs.Names.{amount_of, Entry, Path, IsClientPath, begins_with, same_path, same_path-true, each_from, length-filter_le, ledger_content, Sum, Tree, CanLower, CanLowerAt, HasRoomFor, IsLeast, IsLowerable, OnWay, lowered, client_at, is_live, path_at, IsSumOf, IsTreeOf}
 use Rattle.drf_sorter.specs.Content.{Content, HasCharge, HasChargeAt, Holds, HoldsAt, IsSound, Ranked, charged, clients_under, has_client, refunded, standing_in, with_change}
-use Rattle.drf_hash.specs.SlotLaws.{filled-short}
+use Rattle.drf_hash.proofs.SlotLaws.{filled-short}
 use Rattle.drf_tree.specs.Booked.{seen_slot}
 use Rattle.drf_tree.specs.Ledger.{rows_in}
 use Rattle.drf_tree.specs.declared.ledger.Ledger.{Ledger}

@@ -4,7 +4,7 @@ use Rattle.std.specs.List.{AllByRecursion}
 use Rattle.std.specs.Option.{MatchOption, option_copied}
 use Rattle.drf_role.specs.Path.{Path, role_part}
 use Rattle.drf_bundle.specs.Bundle.{rest, quantities_of}
-use Rattle.drf_bundle.specs.ListLaws.{each_at}
+use Rattle.drf_bundle.proofs.ListLaws.{each_at}
 use Rattle.drf_gates.specs.quota.Allowance.{Allowance, quota_under}
 use Rattle.drf_rows.specs.Client.{path_of}
 use Rattle.drf_rows.specs.Holdings.{of_offer}

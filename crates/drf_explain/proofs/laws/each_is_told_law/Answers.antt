@@ -1,4 +1,4 @@
-use Rattle.drf_explain.specs.EachLaws.{each_grant_is_an_offer, each_is_told_at_its_moment, each_is_told_once, explained_is_cut, live_rows_are_told}
+use Rattle.drf_explain.proofs.EachLaws.{each_grant_is_an_offer, each_is_told_at_its_moment, each_is_told_once, explained_is_cut, live_rows_are_told}
 use Rattle.drf_explain.proofs.laws.each_is_told_law.Goals as goal
 
 pub returns-clause-once : goal.returns-clause-once

@@ -1,4 +1,4 @@
-use Rattle.drf_explain.specs.EachLaws.{each_is_untouched, live_turns_are_told, turns_are_told, untouched_is_told}
+use Rattle.drf_explain.proofs.EachLaws.{each_is_untouched, live_turns_are_told, turns_are_told, untouched_is_told}
 use Rattle.drf_explain.proofs.laws.each_is_untouched_law.Goals as goal
 
 pub returns-clause-told : goal.returns-clause-told

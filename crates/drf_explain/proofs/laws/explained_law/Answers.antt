@@ -1,4 +1,4 @@
-use Rattle.drf_explain.specs.ExplainedLaws.{grants_are_offers, live_rows_are_explained}
+use Rattle.drf_explain.proofs.ExplainedLaws.{grants_are_offers, live_rows_are_explained}
 use Rattle.drf_explain.proofs.Reasons.{nothing_left_is_not_explained}
 use Rattle.drf_explain.proofs.laws.explained_law.Goals as goal
 

@@ -1,6 +1,6 @@
 use Rattle.std.proofs.Common.{◌≡◌, ◌+◌, ◌++◌, ◌∷◌, [], ℕ, List, sym, ap, ◌∙◌, length, take, arith, take_all}
 use Rattle.drf_hash.proofs.GapLaws.{counted-none, counted-some, length-ranks, ranks-next}
-use Rattle.drf_hash.specs.SlotLaws.{filled-short}
+use Rattle.drf_hash.proofs.SlotLaws.{filled-short}
 use Rattle.drf_hash.specs.Slots.{ranks_of}
 use Rattle.drf_hash.proofs.gaps.ranks.Goals as goal
 use Rattle.drf_hash.proofs.gaps.ranks.Goals.{then-is_some, else-is_some}

@@ -1,5 +1,5 @@
 use Rattle.drf_rows.specs.Step.{live_rows}
-use Rattle.drf_row_laws.specs.LiveLaws.{reply_to-live, rows_after-live, replies_to-same_live, rows_after_all-same_live, live_rows-twice}
+use Rattle.drf_row_laws.proofs.LiveLaws.{reply_to-live, rows_after-live, replies_to-same_live, rows_after_all-same_live, live_rows-twice}
 use Rattle.drf_laws.proofs.definition.live_rows_law.Goals as goal
 
 pub returns-clause-reply : goal.returns-clause-reply

@@ -1,5 +1,5 @@
 use Rattle.drf_row_laws.proofs.ReportLaws.{total_is_reported, held_is_reported, amounts_are_above_zero, count_is_reported, nodes_rise, nodes_begin_paths}
-use Rattle.drf_row_laws.specs.ReportedShares.{shares_are_lowest}
+use Rattle.drf_row_laws.proofs.ReportedShares.{shares_are_lowest}
 use Rattle.drf_laws.proofs.definition.report_law.Goals as goal
 
 pub returns-clause-total : goal.returns-clause-total

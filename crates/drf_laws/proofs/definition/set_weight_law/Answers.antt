@@ -1,4 +1,4 @@
-use Rattle.drf_row_laws.specs.WeightLaws.{role_has_its_weight, others_keep_their_weight, each_has_one_row, no_role_has_two_rows}
+use Rattle.drf_row_laws.proofs.WeightLaws.{role_has_its_weight, others_keep_their_weight, each_has_one_row, no_role_has_two_rows}
 use Rattle.drf_laws.proofs.definition.set_weight_law.Goals as goal
 
 pub returns-clause-set : goal.returns-clause-set

@@ -1,4 +1,4 @@
-use Rattle.drf_row_laws.specs.StepLaws.{cases_rise, least_is_told, reply_to-refused, rows_after-refused, reply_to-accepted, rows_after-accepted}
+use Rattle.drf_row_laws.proofs.StepLaws.{cases_rise, least_is_told, reply_to-refused, rows_after-refused, reply_to-accepted, rows_after-accepted}
 use Rattle.drf_row_laws.proofs.RunLaws.{replies_to-append, rows_after_all-append}
 use Rattle.drf_laws.proofs.definition.step_law.Goals as goal
 

@@ -1,4 +1,4 @@
-use Rattle.drf_row_laws.specs.CycleLaws.{all_tried_none, all_tried_first}
+use Rattle.drf_row_laws.proofs.CycleLaws.{all_tried_none, all_tried_first}
 use Rattle.drf_laws.proofs.definition.turn_law.Goals as goal
 
 pub returns-clause-little : goal.returns-clause-little

@@ -1,4 +1,4 @@
-use Rattle.drf_laws.specs.ConsumptionLaws.{roles_above_consume_more, rest_is_consumed_no_longer, consumption_is_small}
+use Rattle.drf_laws.proofs.ConsumptionLaws.{roles_above_consume_more, rest_is_consumed_no_longer, consumption_is_small}
 use Rattle.drf_laws.proofs.limits.consumption_law.Goals as goal
 
 pub returns : goal.returns

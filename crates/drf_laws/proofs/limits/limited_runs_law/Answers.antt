@@ -1,4 +1,4 @@
-use Rattle.drf_laws.specs.KeptLimitLaws.{runs_keep_limits}
+use Rattle.drf_laws.proofs.KeptLimitLaws.{runs_keep_limits}
 use Rattle.drf_laws.proofs.limits.limited_runs_law.Goals as goal
 
 pub returns : goal.returns

@@ -1,4 +1,4 @@
-use Rattle.drf_row_laws.specs.LimitLaws.{role_has_its_limit, others_keep_their_limit, limit_takes_nothing}
+use Rattle.drf_row_laws.proofs.LimitLaws.{role_has_its_limit, others_keep_their_limit, limit_takes_nothing}
 use Rattle.drf_laws.proofs.limits.set_limit_law.Goals as goal
 
 pub returns : goal.returns

@@ -1,4 +1,4 @@
-use Rattle.drf_role.specs.PathLaws.{client_paths-apart}
+use Rattle.drf_role.proofs.PathLaws.{client_paths-apart}
 use Rattle.drf_role.proofs.laws.client_path_law.Goals as goal
 
 pub returns : goal.returns

@@ -1,4 +1,4 @@
-use Rattle.drf_rows.specs.TaskLaws.{covers_from}
+use Rattle.drf_rows.proofs.TaskLaws.{covers_from}
 use Rattle.drf_rows.proofs.tasks.covers.Goals as goal
 
 pub returns : goal.returns

@@ -3,7 +3,7 @@ use Rattle.std.proofs.lemmas.List.{at_drop_more, at_drop_all}
 use Rattle.drf_bundle.specs.Bundle.{key_of, units}
 use Rattle.drf_bundle.specs.Taken.{units_of_all}
 use Rattle.drf_bundle.specs.Value.{Thousandths}
-use Rattle.drf_rows.specs.TaskLaws.{enough-left, enough-lacking, more_taken}
+use Rattle.drf_rows.proofs.TaskLaws.{enough-left, enough-lacking, more_taken}
 use Rattle.drf_rows.specs.Tasks.{Start, uses}
 use Rattle.drf_rows.proofs.tasks.is_enough.Goals as goal
 

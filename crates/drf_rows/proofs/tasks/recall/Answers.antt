@@ -1,7 +1,7 @@
 use Rattle.std.proofs.Common.{All, subst, take_all}
 use Rattle.std.proofs.lemmas.List.Elements.{All-more}
 use Rattle.drf_bundle.specs.Bundle.{IsBundle}
-use Rattle.drf_rows.specs.TaskLaws.{uses_each}
+use Rattle.drf_rows.proofs.TaskLaws.{uses_each}
 use Rattle.drf_rows.specs.Tasks.{Start}
 use Rattle.drf_rows.proofs.tasks.recall.Goals as goal
 

@@ -1,6 +1,6 @@
 use Rattle.std.proofs.Common.{Some, None, ◌∙◌}
 use Rattle.drf_bundle.specs.Bundle.{key_of}
-use Rattle.drf_rows.specs.TaskLaws.{scalar_found}
+use Rattle.drf_rows.proofs.TaskLaws.{scalar_found}
 use Rattle.drf_rows.proofs.tasks.scalar_in.Goals as goal
 
 pub returns-in-Some : goal.returns-in-Some

@@ -1,7 +1,7 @@
 use Rattle.std.proofs.Common.{All, take_all, subst}
 use Rattle.std.proofs.lemmas.List.Elements.{All-more, recursion_from_All}
 use Rattle.drf_role.specs.Role.{IsRole}
-use Rattle.drf_bundle.specs.ListLaws.{each_map}
+use Rattle.drf_bundle.proofs.ListLaws.{each_map}
 use Rattle.drf_rows.specs.declared.rows.ClientRow.{ClientRow}
 use Rattle.drf_saved.proofs.saved.recall_roles.Goals as goal
 

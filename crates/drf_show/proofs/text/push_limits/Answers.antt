@@ -1,5 +1,5 @@
 use Rattle.std.proofs.Common.{arith}
-use Rattle.drf_laws.specs.ConsumptionLaws.{consumption_is_small}
+use Rattle.drf_laws.proofs.ConsumptionLaws.{consumption_is_small}
 use Rattle.drf_show.proofs.text.push_limits.Goals as goal
 
 pub limit_lines-requires : goal.limit_lines-requires

@@ -1,4 +1,4 @@
-use Rattle.drf_row_laws.specs.LowestLaws.{lowest-unique, lowest_terms-is, lowest_terms-same, lowest_terms-nothing}
+use Rattle.drf_row_laws.proofs.LowestLaws.{lowest-unique, lowest_terms-is, lowest_terms-same, lowest_terms-nothing}
 use Rattle.drf_sorter.proofs.laws.lowest_terms_law.Goals as goal
 
 pub returns-clause-found : goal.returns-clause-found

@@ -2,7 +2,7 @@ use Rattle.std.proofs.Common.{◌-◌, length, take, drop, sym, ap, ◌∙◌, a
 use Rattle.std.proofs.lemmas.Bool.Decides.{Decides-eqb}
 use Rattle.std.proofs.lemmas.Slice.Eq.{starts_is}
 use Rattle.drf_role.specs.Parts.{parts_of}
-use Rattle.drf_role.specs.TextLaws.{cmp_above}
+use Rattle.drf_role.proofs.TextLaws.{cmp_above}
 use Rattle.drf_sorter.proofs.BehindLemmas.{ends_behind, part_fits}
 use Rattle.drf_sorter.proofs.lines.is_beside.Goals as goal
 

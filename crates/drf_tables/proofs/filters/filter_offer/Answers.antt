@@ -1,5 +1,5 @@
 use Rattle.std.proofs.Common.{◌≡◌, Some, sym, ap, ◌∙◌, option_copied}
-use Rattle.drf_row_laws.specs.EndingLaws.{held-offer_at}
+use Rattle.drf_row_laws.proofs.EndingLaws.{held-offer_at}
 use Rattle.drf_tables.proofs.tables.Names.{offer_at, OfferRow, Rows}
 use Rattle.drf_row_laws.proofs.OfferLaws.{offer_filter}
 use Rattle.drf_tables.proofs.filters.filter_offer.Goals as goal

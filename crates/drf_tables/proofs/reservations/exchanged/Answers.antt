@@ -2,7 +2,7 @@ use Rattle.std.proofs.Common.{sym, ap, ◌∙◌, List, Option}
 use Rattle.std.specs.Option.{option_map_or}
 use Rattle.drf_tables.proofs.tables.Names.{merged, refusal, rest, Resource, exchanged}
 use Rattle.drf_bundle.specs.laws.FitLaws.{join_or_some}
-use Rattle.drf_row_laws.specs.TotalsLaws.{joined-exchanged}
+use Rattle.drf_row_laws.proofs.TotalsLaws.{joined-exchanged}
 use Rattle.drf_tables.proofs.reservations.exchanged.Goals as goal
 
 pub exchange-requires : goal.exchange-requires

@@ -3,7 +3,7 @@ use Rattle.std.specs.List.{flat_map}
 use Rattle.drf_explain.specs.Each.{turns_by_agent}
 use Rattle.drf_explain.specs.Explained.{suppressed_of}
 use Rattle.drf_explain.specs.ExplainedText.{explained_text}
-use Rattle.drf_row_laws.specs.LiveLaws.{report_of-live}
+use Rattle.drf_row_laws.proofs.LiveLaws.{report_of-live}
 use Rattle.drf_rows.specs.declared.rows.Rows.{Rows}
 use Rattle.drf_summary.specs.Tally.{tally_lines, tallies_of}
 use Rattle.drf_why.specs.Asked.{summed_text}

@@ -1,7 +1,7 @@
 use Rattle.std.proofs.Common.{◌++◌, ap, sym, ◌∙◌}
 use Rattle.std.proofs.lemmas.Result.{err_from_is_err_and}
 use Rattle.drf_explain.specs.Each.{each_by_agent, turns_by_agent}
-use Rattle.drf_explain.specs.EachLaws.{turns_are_told}
+use Rattle.drf_explain.proofs.EachLaws.{turns_are_told}
 use Rattle.drf_explain.specs.Explained.{suppressed_of}
 use Rattle.drf_explain.specs.ExplainedText.{explained_text}
 use Rattle.drf_summary.specs.Pick.{picked}

@@ -1,11 +1,11 @@
 use Rattle.std.proofs.Common.{◌≡◌, List, [], ◌∷◌, None, Some, sym, ap, ◌∙◌, subst, arith, rules}
 use Rattle.std.proofs.lemmas.Bool.{false≢true}
 use Rattle.drf_bundle.specs.Value.{Thousandths}
-use Rattle.drf_bundle.specs.laws.ValueLaws.{units-most}
+use Rattle.drf_bundle.proofs.laws.ValueLaws.{units-most}
 use Rattle.drf_bundle.specs.Bundle.{key_of, stock, merged}
 use Rattle.drf_bundle.specs.Quantities.{amount_of}
 use Rattle.drf_bundle.specs.KeyPlaces.{IsNameGap}
-use Rattle.drf_bundle.specs.laws.SumLaws.{amount-kept}
+use Rattle.drf_bundle.proofs.laws.SumLaws.{amount-kept}
 use Rattle.drf_bundle.specs.Union.{IsPiece, union_refusal}
 use Rattle.drf_bundle.proofs.laws.UnionLaws.{union_empty, union_filled, some_in, kept-merged}
 use Rattle.drf_bundle.specs.declared.resource.Resource.{Resource}

@@ -2,7 +2,7 @@ use Rattle.std.proofs.Common.{sym, ap, ◌∙◌}
 use Rattle.std.proofs.lemmas.Result.{IfOk-weaker}
 use Rattle.drf_rows.specs.Step.{live_rows}
 use Rattle.drf_explain.specs.Explained.{explained}
-use Rattle.drf_explain.specs.ExplainedLaws.{live_rows_are_explained}
+use Rattle.drf_explain.proofs.ExplainedLaws.{live_rows_are_explained}
 use Rattle.drf_core.specs.Machine.{Engine}
 use Rattle.drf_core.proofs.allocator.Core.explain.Goals as goal
 

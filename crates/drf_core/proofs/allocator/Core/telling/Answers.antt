@@ -2,7 +2,7 @@ use Rattle.std.proofs.Common.{sym, ap, ◌∙◌}
 use Rattle.std.proofs.lemmas.Result.{IfOk-weaker}
 use Rattle.drf_rows.specs.Step.{live_rows}
 use Rattle.drf_explain.specs.Each.{turns_by_agent}
-use Rattle.drf_explain.specs.EachLaws.{live_turns_are_told}
+use Rattle.drf_explain.proofs.EachLaws.{live_turns_are_told}
 use Rattle.drf_core.specs.Machine.{Engine}
 use Rattle.drf_core.proofs.allocator.Core.telling.Goals as goal
 

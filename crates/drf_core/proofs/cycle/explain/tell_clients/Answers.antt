@@ -3,7 +3,7 @@ use Rattle.std.specs.Prelude.{slice_get, is_some, ◌&&◌}
 use Rattle.std.specs.List.{AllByRecursion}
 use Rattle.std.proofs.lemmas.Bool.{and_parts}
 use Rattle.std.proofs.lemmas.Result.{on_ok_weaker}
-use Rattle.drf_bundle.specs.ListLaws.{each_at}
+use Rattle.drf_bundle.proofs.ListLaws.{each_at}
 use Rattle.drf_role.specs.Path.{Path}
 use Rattle.drf_rows.specs.Cycle.{free_of, is_allocatable, turn_order}
 use Rattle.drf_rows.specs.declared.rows.AgentRow.{AgentRow}

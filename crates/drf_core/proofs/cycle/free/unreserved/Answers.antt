@@ -7,7 +7,7 @@ use Rattle.drf_bundle.specs.Value.{Thousandths}
 use Rattle.drf_bundle.specs.laws.KeyLaws.{where-cons}
 use Rattle.drf_bundle.specs.declared.resource.Resource.{Resource}
 use Rattle.drf_rows.specs.Quota.{unreserved_in}
-use Rattle.drf_row_laws.specs.QuotaLaws.{parts_le}
+use Rattle.drf_row_laws.proofs.QuotaLaws.{parts_le}
 use Rattle.drf_core.proofs.cycle.free.unreserved.Goals.{After-unreserved_one-sum}
 use Rattle.drf_core.proofs.cycle.free.unreserved.Goals as goal
 

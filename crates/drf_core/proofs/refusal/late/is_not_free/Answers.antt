@@ -1,5 +1,5 @@
 use Rattle.std.proofs.Common.{Some, not, sym, ap, ◌∙◌}
-use Rattle.drf_rows.specs.TaskLaws.{covers_from}
+use Rattle.drf_rows.proofs.TaskLaws.{covers_from}
 use Rattle.drf_core.proofs.refusing.Late.{not_free}
 use Rattle.drf_core.proofs.refusal.late.is_not_free.Goals as goal
 

@@ -2,9 +2,9 @@ use Rattle.std.proofs.Common.{◌≡◌, List, ◌∷◌, [], not, ap, ◌∙◌
 use Rattle.drf_bundle.specs.Bundle.{covers, rest}
 use Rattle.drf_bundle.specs.declared.resource.Resource.{Resource}
 use Rattle.drf_rows.specs.Cycle.{free_of}
-use Rattle.drf_row_laws.specs.ReservationLaws.{found_known}
+use Rattle.drf_row_laws.proofs.ReservationLaws.{found_known}
 use Rattle.drf_rows.specs.Step.{first_case}
-use Rattle.drf_rows.specs.TaskLaws.{covers_from}
+use Rattle.drf_rows.proofs.TaskLaws.{covers_from}
 use Rattle.drf_rows.specs.Totals.{is_below_held}
 use Rattle.drf_rows.specs.declared.reply.Refusal.TheVariants.{NotCovered, TooLarge}
 use Rattle.drf_rows.specs.declared.rows.Rows.{Rows}

@@ -3,7 +3,8 @@ use Rattle.std.specs.Prelude.{◌&&◌}
 use Rattle.std.specs.List.{list_all, AllByRecursion}
 use Rattle.std.proofs.lemmas.List.Folds.{list_all-map}
 use Rattle.drf_bundle.specs.Bundle.{IsBundle, covers}
-use Rattle.drf_rows.specs.TaskLaws.{are_apart, is_enough, covers_all-decided}
+use Rattle.drf_rows.specs.TaskLaws.{are_apart, is_enough}
+use Rattle.drf_rows.proofs.TaskLaws.{covers_all-decided}
 use Rattle.drf_rows.specs.Tasks.{Start, uses}
 use Rattle.drf_rows.proofs.tasks.TaskList.are_covered_by.Goals as goal
 

@@ -1,7 +1,7 @@
 use Rattle.std.proofs.Common.{List, sym, ap, ◌∙◌}
 use Rattle.std.specs.List.{list_any}
 use Rattle.drf_bundle.specs.declared.resource.Resource.{Resource}
-use Rattle.drf_bundle.specs.ListLaws.{list_any-map}
+use Rattle.drf_bundle.proofs.ListLaws.{list_any-map}
 use Rattle.drf_rows.specs.Offers.{is_empty}
 use Rattle.drf_rows.specs.Tasks.{Start}
 use Rattle.drf_rows.proofs.tasks.TaskList.has_empty.Goals as goal

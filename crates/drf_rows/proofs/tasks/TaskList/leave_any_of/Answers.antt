@@ -2,7 +2,7 @@ use Rattle.std.proofs.Common.{◌≡◌, ℕ, ◌-◌, ◌≤◌, List, length, 
 use Rattle.std.specs.List.{AllByRecursion}
 use Rattle.std.proofs.lemmas.List.{at_drop_all}
 use Rattle.drf_bundle.specs.Bundle.{IsBundle, amount}
-use Rattle.drf_rows.specs.TaskLaws.{leaves}
+use Rattle.drf_rows.proofs.TaskLaws.{leaves}
 use Rattle.drf_rows.specs.Tasks.{Start, uses}
 use Rattle.drf_rows.proofs.tasks.TaskList.leave_any_of.Goals as goal
 

@@ -1,7 +1,7 @@
 use Rattle.std.proofs.Common.{◌≡◌, ◌∙◌, ◌*◌, ap, sym, arith}
 use Rattle.std.specs.Int.{IsGcd}
 use Rattle.drf_rows.specs.Share.{Fraction, lowest_terms}
-use Rattle.drf_row_laws.specs.LowestLaws.{divisor-above, lowest_terms-by, lowest_terms-nothing}
+use Rattle.drf_row_laws.proofs.LowestLaws.{divisor-above, lowest_terms-by, lowest_terms-nothing}
 use Rattle.drf_sorter.specs.Fractions.{weighted}
 use Rattle.drf_sorter.specs.Share.{fraction_of, terms}
 use Rattle.drf_sorter.specs.laws.ShareLaws.{above_zero, below_128}

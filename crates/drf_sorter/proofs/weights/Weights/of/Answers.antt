@@ -2,7 +2,7 @@ use Rattle.std.proofs.Common.{ap, ◌∙◌}
 use Rattle.std.specs.List.{find}
 use Rattle.drf_role.specs.Path.{same_path}
 use Rattle.drf_rows.specs.declared.rows.WeightRow.{WeightRow}
-use Rattle.drf_row_laws.specs.WeightLaws.{weight-found}
+use Rattle.drf_row_laws.proofs.WeightLaws.{weight-found}
 use Rattle.drf_sorter.proofs.weights.Weights.of.Goals as goal
 
 pub returns-in-Some-clause-weighs : goal.returns-in-Some-clause-weighs

@@ -1,7 +1,7 @@
 use Rattle.std.proofs.Common.{◌≡◌, ◌++◌, ◌∷◌, [], Some, is_some, false, cond, length, ap, sym, ◌∙◌, arith}
 use Rattle.std.specs.Map.{lookup}
 use Rattle.std.specs.Cmp.Lexicographic.{bytes_decides}
-use Rattle.drf_hash.specs.SlotLaws.{filled-push, filled-short, registry-push}
+use Rattle.drf_hash.proofs.SlotLaws.{filled-push, filled-short, registry-push}
 use Rattle.drf_tables.proofs.tables.Names.{Text, same_text, filled, name_of, Registered}
 use Rattle.drf_tables.proofs.registry.Entries.{any-lookup, from_ok}
 use Rattle.drf_tables.proofs.registry.Slots.{Slots}

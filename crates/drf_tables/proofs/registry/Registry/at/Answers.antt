@@ -1,6 +1,6 @@
 use Rattle.std.proofs.Common.{◌≡◌, ◌<◌, ℕ, None, Some, is_some, get_or, length, take, slice_get, sym, ap, ◌∙◌, arith}
 use Rattle.std.specs.Option.{option_copied}
-use Rattle.drf_hash.specs.SlotLaws.{read_is}
+use Rattle.drf_hash.proofs.SlotLaws.{read_is}
 use Rattle.drf_tables.proofs.tables.Names.{filled, Registered}
 use Rattle.drf_tables.proofs.registry.Slots.{Slots, filled_at, slot-below}
 use Rattle.drf_tables.proofs.registry.Registry.at.Given as given

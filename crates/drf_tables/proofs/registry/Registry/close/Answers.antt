@@ -1,7 +1,7 @@
 use Rattle.std.proofs.Common.{Some, length, ap, sym, ◌∙◌, arith}
 use Rattle.std.proofs.lemmas.List.{length-map}
 use Rattle.drf_hash.proofs.GapLaws.{filled-all, registry-closed}
-use Rattle.drf_hash.specs.SlotLaws.{filled-short}
+use Rattle.drf_hash.proofs.SlotLaws.{filled-short}
 use Rattle.drf_tables.proofs.tables.Names.{filled, same_text, name_of, Registered}
 use Rattle.drf_tables.proofs.registry.Slots.{Slots}
 use Rattle.drf_tables.proofs.registry.Registry.close.Goals as goal

@@ -1,7 +1,7 @@
 use Rattle.std.proofs.Common.{◌≡◌, ◌≤◌, None, sym, ap, ◌∙◌, arith}
 use Rattle.std.specs.Map.{remove_entry}
 use Rattle.std.specs.Cmp.Lexicographic.{bytes_decides}
-use Rattle.drf_hash.specs.SlotLaws.{filled-gap, live_one, registry-gap}
+use Rattle.drf_hash.proofs.SlotLaws.{filled-gap, live_one, registry-gap}
 use Rattle.drf_tables.proofs.tables.Names.{filled, same_text, Registered, name_of, slot_of}
 use Rattle.drf_tables.proofs.registry.Entries.{removed-none, removed_entry}
 use Rattle.drf_tables.proofs.registry.Slots.{IsFound, found_in, names_apart, slot_none}

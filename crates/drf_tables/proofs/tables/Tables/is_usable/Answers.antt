@@ -3,7 +3,7 @@ use Rattle.std.specs.Map.{lookup}
 use Rattle.std.specs.Option.{option_copied, option_map}
 use Rattle.drf_tables.proofs.tables.Names.{Text, same_text, covers, Resource, agent_at, rows_in, agent_row, is_settled, Stored, Agent}
 use Rattle.drf_rows.specs.Cycle.{free_of}
-use Rattle.drf_rows.specs.TaskLaws.{covers_from}
+use Rattle.drf_rows.proofs.TaskLaws.{covers_from}
 use Rattle.drf_tables.proofs.tables.Fields.{agent_at-rows_in}
 use Rattle.drf_tables.proofs.registry.Known.{free_found}
 use Rattle.drf_tables.proofs.tables.PutBack.{usable_free}

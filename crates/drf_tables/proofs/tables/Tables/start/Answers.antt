@@ -1,6 +1,6 @@
 use Rattle.std.proofs.Common.{◌≡◌, ◌==◌, Bool, List, [], ◌∷◌, Some, Option, map, refl, sym, ap, ◌∙◌, subst}
 use Rattle.std.specs.Option.{option_map_or}
-use Rattle.drf_row_laws.specs.EndingLaws.{new_starts}
+use Rattle.drf_row_laws.proofs.EndingLaws.{new_starts}
 use Rattle.drf_rows.specs.Consistent.{IsFilter}
 use Rattle.drf_rows.specs.Offers.{CanAccept, left_of_offer, offer_at, task_of, AreNew}
 use Rattle.drf_rows.specs.declared.rows.FilterRow.{FilterRow}

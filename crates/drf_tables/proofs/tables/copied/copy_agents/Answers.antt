@@ -2,7 +2,7 @@ use Rattle.std.proofs.Common.{List, [], ◌∷◌, ◌++◌, is_some, sym, ap, �
 use Rattle.std.specs.Cmp.Lexicographic.{bytes_decides}
 use Rattle.std.specs.List.{IsDistinct}
 use Rattle.std.specs.Map.{keys_of, lookup}
-use Rattle.drf_hash.specs.SlotLaws.{new_to_come}
+use Rattle.drf_hash.proofs.SlotLaws.{new_to_come}
 use Rattle.drf_tables.proofs.tables.Names.{filled, same_text, name_of, Agent}
 use Rattle.drf_tables.proofs.registry.Entries.{any-lookup}
 use Rattle.drf_hash.proofs.GapLaws.{filled-more}

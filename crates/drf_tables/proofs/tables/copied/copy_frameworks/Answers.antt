@@ -4,8 +4,8 @@ use Rattle.std.specs.Cmp.Lexicographic.{bytes_decides}
 use Rattle.std.specs.List.{IsDistinct, list_any}
 use Rattle.std.specs.Map.{keys_of}
 use Rattle.std.proofs.lemmas.List.{map-append}
-use Rattle.drf_bundle.specs.ListLaws.{list_any-map}
-use Rattle.drf_hash.specs.SlotLaws.{new_to_come}
+use Rattle.drf_bundle.proofs.ListLaws.{list_any-map}
+use Rattle.drf_hash.proofs.SlotLaws.{new_to_come}
 use Rattle.drf_tables.proofs.tables.Names.{filled, same_text, name_of, framework_row, framework_rows, ClientRow, FrameworkRow}
 use Rattle.drf_tables.proofs.registry.Entries.{known-lookup}
 use Rattle.drf_hash.proofs.GapLaws.{filled-more}

@@ -1,6 +1,6 @@
 use Rattle.std.proofs.Common.{◌≡◌, ℕ, List, ◌∷◌, ◌++◌, sym, ap, ◌∙◌}
 use Rattle.drf_tables.proofs.tables.Names.{insert_entry, Path, same_path}
-use Rattle.drf_role.specs.PathLaws.{same_path-swap}
+use Rattle.drf_role.proofs.PathLaws.{same_path-swap}
 use Rattle.drf_tables.proofs.tables.Copies.{copied_more}
 use Rattle.drf_tables.proofs.tables.copied.copy_weights.Goals as goal
 

@@ -2,7 +2,7 @@ use Rattle.std.proofs.Common.{◌≡◌, ◌+◌, ◌++◌, ◌∷◌, [], List,
 use Rattle.std.specs.Map.{lookup}
 use Rattle.std.proofs.lemmas.List.{length-map, map_push}
 use Rattle.drf_hash.specs.Slots.{filled, IsRegistry}
-use Rattle.drf_hash.specs.SlotLaws.{filled-push, filled-short, registry-push}
+use Rattle.drf_hash.proofs.SlotLaws.{filled-push, filled-short, registry-push}
 use Rattle.drf_tree.proofs.Names.{same_path, path_decides, Ranked}
 use Rattle.drf_tree.proofs.ledger.Rows.{with_clients}
 use Rattle.drf_tree.specs.Booked.{client_of, path_of, seen_slot}

@@ -1,7 +1,7 @@
 use Rattle.std.proofs.Common.{◌≡◌, ◌-◌, None, Some, sym, ap, ◌∙◌, subst, arith, List, Option}
 use Rattle.std.proofs.lemmas.List.{map-set}
 use Rattle.drf_hash.specs.Slots.{filled, slot_of, IsRegistry}
-use Rattle.drf_hash.specs.SlotLaws.{filled-gap, live_one, registry-gap}
+use Rattle.drf_hash.proofs.SlotLaws.{filled-gap, live_one, registry-gap}
 use Rattle.drf_tree.proofs.Names.{same_path, path_decides, Ranked}
 use Rattle.drf_tree.proofs.ledger.Rows.{here, here_below, row_missed, with_clients}
 use Rattle.drf_tree.specs.Booked.{path_of, seen_slot}

@@ -3,7 +3,7 @@ use Rattle.std.proofs.Common.{ap, arith, refl, subst, sym, ◌∙◌, ◌≡◌,
 use Rattle.std.proofs.lemmas.List.{drop_all, nil_from_length}
 use Rattle.std.proofs.lemmas.Option.{same_Some, slice_get_read}
 use Rattle.drf_tree.proofs.Names.{Path, Content, Family, Place, Tree, Frame, IsShapeOf, numbers_of, client_at, path_at, place_at, AreFrames, IsAtClient, IsSettled, frames_queue, IsTreeOf}
-use Rattle.drf_row_laws.specs.EndingLaws.{split_at}
+use Rattle.drf_row_laws.proofs.EndingLaws.{split_at}
 use Rattle.drf_tree.proofs.shape.Node.{read_at}
 use Rattle.drf_tree.proofs.walk.Step.{first_is, frames_last, nobody_left, settled_last}
 use Rattle.drf_tree.proofs.walk.Walk.first.Goals as goal

@@ -2,7 +2,7 @@ use Rattle.std.proofs.Common.{List, [], ◌∷◌, ◌++◌, Option, Some, ap, r
 use Rattle.drf_rows.specs.declared.rows.FilterRow.{FilterRow}
 use Rattle.drf_gates.specs.declared.filters.index.Key.TheVariants.{Client, ClientAndAgent}
 use Rattle.drf_gates.proofs.filters.Gaps.{filled-push, live-push}
-use Rattle.drf_hash.specs.SlotLaws.{filled-short}
+use Rattle.drf_hash.proofs.SlotLaws.{filled-short}
 use Rattle.drf_gates.proofs.filters.Held.{indexed-push, slots-room}
 use Rattle.drf_gates.proofs.filters.slots.Slots.add.Goals as goal
 

@@ -1,7 +1,7 @@
 use Rattle.std.proofs.Common.{◌≡◌, ◌<◌, ℕ, Option, None, Some, get_or, length, set, take, slice_get, sym, ap, ◌∙◌, arith}
 use Rattle.std.specs.Option.{option_map}
 use Rattle.drf_tables.proofs.tables.Names.{set_value_at, filled, Registered, with_free_at, Agent}
-use Rattle.drf_hash.specs.SlotLaws.{read_is}
+use Rattle.drf_hash.proofs.SlotLaws.{read_is}
 use Rattle.drf_tables.proofs.registry.Changes.{registry_with}
 use Rattle.drf_tables.proofs.registry.Slots.{Entry, Slots, filled_at, filled_set, slot-below, written_free}
 use Rattle.drf_tables.proofs.registry.members.Registry+Agent.set_free_at.Goals.{After-ranked-slot}

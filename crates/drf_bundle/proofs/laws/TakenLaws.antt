@@ -9,8 +9,8 @@ use Rattle.drf_bundle.specs.Bundle.{Key, units, stock, IsBundle, join, rest}
 use Rattle.drf_bundle.specs.Taken.{rest_of_all, joined, units_of_all, TakenAndLeftJoin, OnlyTheRestJoins}
 use Rattle.drf_bundle.specs.laws.BundleLaws.{known_by_units, bundle-empty}
 use Rattle.drf_bundle.specs.laws.FitLaws.{join_some}
-use Rattle.drf_bundle.specs.laws.RestLaws.{units-rest, bundle-rest}
-use Rattle.drf_bundle.specs.laws.UnitProofs.{join_by_units}
+use Rattle.drf_bundle.proofs.laws.RestLaws.{units-rest, bundle-rest}
+use Rattle.drf_bundle.proofs.laws.UnitProofs.{join_by_units}
 use Rattle.drf_bundle.specs.declared.resource.Resource.{Resource}
 
 -- ---- what is left, by units

@@ -15,7 +15,7 @@ use Rattle.drf_bundle.specs.Value.{Point, Thousandths, Number, Member, units_in,
 use Rattle.drf_bundle.specs.Bundle.{Key, is_default, reservation, key_of, key_below, is_in_order, units_where, stock, IsResource, IsBundle, is_unreserved, is_for, part_for, filled_of, cut, clipped, clip, moved_to, relabel}
 use Rattle.drf_bundle.specs.laws.KeyLaws.{stands_first, where-cons, below_from_name, cases_below}
 use Rattle.drf_bundle.specs.laws.FitLaws.{fits_less}
-use Rattle.drf_bundle.specs.laws.RestLaws.{KeepsKeys, bundle-changed}
+use Rattle.drf_bundle.proofs.laws.RestLaws.{KeepsKeys, bundle-changed}
 use Rattle.drf_bundle.specs.Quantities.{amount_of, is_named}
 use Rattle.drf_bundle.specs.declared.quantities.Entry.{Entry}
 use Rattle.drf_bundle.specs.declared.resource.Resource.{Resource}

@@ -14,16 +14,17 @@ use Rattle.drf_bundle.specs.declared.value.Value.{Value}
 use Rattle.drf_bundle.specs.declared.value.Value.TheVariants.{Scalar, Ranges, Items}
 use Rattle.drf_bundle.specs.Bundle.{Key, IsResource, IsBundle, same_key, units, units_where, rest, with_value, filled_of, quantities_of, is_default, is_for, part_for, cut, clipped, clip}
 use Rattle.drf_bundle.specs.Quantities.{amount_of, is_named}
-use Rattle.drf_bundle.specs.laws.SumLaws.{of_name, amount-quantities_of}
-use Rattle.drf_bundle.specs.laws.PartLaws.{where-some, bundle-part_for, keeps-clipped, cut-falls, bundle-clip}
-use Rattle.drf_bundle.specs.laws.RestLaws.{where-changed-le}
+use Rattle.drf_bundle.specs.laws.SumLaws.{of_name}
+use Rattle.drf_bundle.proofs.laws.SumLaws.{amount-quantities_of}
+use Rattle.drf_bundle.proofs.laws.PartLaws.{where-some, bundle-part_for, keeps-clipped, cut-falls, bundle-clip}
+use Rattle.drf_bundle.proofs.laws.RestLaws.{where-changed-le}
 use Rattle.drf_bundle.specs.Taken.{rest_of_all, units_of_all}
-use Rattle.drf_bundle.specs.laws.TakenLaws.{bundle-rest_of_all, units-rest_of_all, rest_of_all-insert, rest-itself}
+use Rattle.drf_bundle.proofs.laws.TakenLaws.{bundle-rest_of_all, units-rest_of_all, rest_of_all-insert, rest-itself}
 use Rattle.drf_bundle.specs.declared.quantities.Entry.{Entry}
 use Rattle.drf_bundle.specs.declared.resource.Resource.{Resource}
 use Rattle.drf_rows.specs.Client.{Client}
 use Rattle.drf_rows.specs.Holdings.{of_offer, of_task, holdings_of, parts_on, AreBundles}
-use Rattle.drf_row_laws.specs.HoldingsLaws.{parts_on-append, each_part, parts_on-with_offer, parts_on-other, each-with_offer}
+use Rattle.drf_row_laws.proofs.HoldingsLaws.{parts_on-append, each_part, parts_on-with_offer, parts_on-other, each-with_offer}
 use Rattle.drf_rows.specs.Held.{client_of, clients_of, active_clients}
 use Rattle.drf_rows.specs.Quota.{entitlement, headroom}
 use Rattle.drf_rows.specs.Cycle.{free_of, is_allocatable, grant, counted, count_offer, new_offer, with_offer, tried, all_tried}

@@ -13,27 +13,27 @@ use Rattle.drf_role.specs.Parts.{parts_of, text_of}
 use Rattle.drf_role.specs.Role.{IsRole}
 use Rattle.drf_bundle.specs.Value.{Point, Thousandths}
 use Rattle.drf_bundle.specs.Quantities.{amount_of, plus, HasNoZeros}
-use Rattle.drf_bundle.specs.laws.QuantitiesLaws.{same_quantities, no_zeros-empty, no_zeros-plus, amount-plus}
+use Rattle.drf_bundle.proofs.laws.QuantitiesLaws.{same_quantities, no_zeros-empty, no_zeros-plus, amount-plus}
 use Rattle.drf_bundle.specs.Bundle.{Key, IsBundle, same_key, units, units_where, stock, merged, join, rest, covers, quantities_of, is_unreserved, relabel}
 use Rattle.drf_bundle.specs.laws.BundleLaws.{known_by_units}
 use Rattle.drf_bundle.specs.laws.FitLaws.{stock_of_both, fits_less, IsJoinOf, join_some, join_fits}
 use Rattle.drf_bundle.specs.laws.JoinLaws.{where-merged}
-use Rattle.drf_bundle.specs.laws.RestLaws.{bundle-rest}
-use Rattle.drf_bundle.specs.laws.UnitProofs.{covers_by_units, rest_and_part, moved_bundle, moved_stocks, quantities_no_zeros}
-use Rattle.drf_bundle.specs.laws.SumLaws.{amount-quantities_of}
+use Rattle.drf_bundle.proofs.laws.RestLaws.{bundle-rest}
+use Rattle.drf_bundle.proofs.laws.UnitProofs.{covers_by_units, rest_and_part, moved_bundle, moved_stocks, quantities_no_zeros}
+use Rattle.drf_bundle.proofs.laws.SumLaws.{amount-quantities_of}
 use Rattle.drf_bundle.specs.Taken.{units_of_all}
 use Rattle.drf_bundle.specs.declared.quantities.Entry.{Entry}
 use Rattle.drf_bundle.specs.declared.resource.Resource.{Resource}
 use Rattle.drf_rows.specs.Holdings.{Holding, holdings_of, parts_on}
 use Rattle.drf_rows.specs.Held.{cluster_total}
 use Rattle.drf_rows.specs.Cycle.{free_of}
-use Rattle.drf_row_laws.specs.CycleLaws.{bundle-free_of, units-free_of}
+use Rattle.drf_row_laws.proofs.CycleLaws.{bundle-free_of, units-free_of}
 use Rattle.drf_rows.specs.Consistent.{are_distinct, IsAgent, IsHeld, IsCovered, IsFilter, IsConsistent}
-use Rattle.drf_row_laws.specs.ConsistentLaws.{bundles-consistent}
-use Rattle.drf_row_laws.specs.EndingLaws.{IsPlace, find-place, each-one, each-out, sum_by-out}
-use Rattle.drf_row_laws.specs.MemberLaws.{others_of_name, without_named, amount_on, amount-cluster_total}
+use Rattle.drf_row_laws.proofs.ConsistentLaws.{bundles-consistent}
+use Rattle.drf_row_laws.proofs.EndingLaws.{IsPlace, find-place, each-one, each-out, sum_by-out}
+use Rattle.drf_row_laws.proofs.MemberLaws.{others_of_name, without_named, amount_on, amount-cluster_total}
 use Rattle.drf_rows.specs.Members.{has_agent}
-use Rattle.drf_bundle.specs.ListLaws.{list_any-map, each_from, each_from_both, each_append, each_parts, each_map}
+use Rattle.drf_bundle.proofs.ListLaws.{list_any-map, each_from, each_from_both, each_append, each_parts, each_map}
 use Rattle.drf_rows.specs.Totals.{CanExchange, agent_at, total_at, with_total, exchanged, with_other_total}
 use Rattle.drf_rows.specs.declared.rows.AgentRow.{AgentRow}
 use Rattle.drf_rows.specs.declared.rows.Rows.{Rows}

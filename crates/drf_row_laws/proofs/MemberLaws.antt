@@ -12,20 +12,20 @@ use Rattle.drf_role.specs.TextLaws.{same_itself, same_from_test}
 use Rattle.drf_role.specs.Path.{same_path}
 use Rattle.drf_role.specs.Role.{IsRole}
 use Rattle.drf_bundle.specs.Quantities.{amount_of, plus}
-use Rattle.drf_bundle.specs.laws.QuantitiesLaws.{amount-plus}
+use Rattle.drf_bundle.proofs.laws.QuantitiesLaws.{amount-plus}
 use Rattle.drf_bundle.specs.Bundle.{quantities_of}
-use Rattle.drf_bundle.specs.laws.UnitProofs.{quantities_no_zeros}
+use Rattle.drf_bundle.proofs.laws.UnitProofs.{quantities_no_zeros}
 use Rattle.drf_bundle.specs.declared.quantities.Entry.{Entry}
 use Rattle.drf_rows.specs.Client.{Client}
 use Rattle.drf_rows.specs.Holdings.{Holding, of_offer, of_task, holdings_of}
 use Rattle.drf_rows.specs.Held.{client_of, clients_of, cluster_total, is_registered}
 use Rattle.drf_rows.specs.Filters.{is_of_client, is_on_agent, filters_without_agent, filters_without_framework}
 use Rattle.drf_rows.specs.Consistent.{are_distinct, are_distinct_roles, IsAgent, AreAgents, IsFramework, AreFrameworks, IsHeld, IsCovered, IsFilter, offers_counted, IsConsistent}
-use Rattle.drf_row_laws.specs.ConsistentLaws.{same_text-swap}
+use Rattle.drf_row_laws.proofs.ConsistentLaws.{same_text-swap}
 use Rattle.drf_rows.specs.Members.{has_agent, active_at, with_activity, suppressed_at, suppressed_in, with_suppression, revived, agent_removed, framework_removed}
 use Rattle.drf_rows.specs.Endings.{without_ended, all_on, all_of}
-use Rattle.drf_row_laws.specs.EndingLaws.{sum_by-out, filter-one, none-filter, find-place, IsConsistent-filters}
-use Rattle.drf_bundle.specs.ListLaws.{list_any-map, sum_by-map, sum_by-filter-cons, cond_le, each_from, each_from_both, each_append, each_map, each_filter, none_has}
+use Rattle.drf_row_laws.proofs.EndingLaws.{sum_by-out, filter-one, none-filter, find-place, IsConsistent-filters}
+use Rattle.drf_bundle.proofs.ListLaws.{list_any-map, sum_by-map, sum_by-filter-cons, cond_le, each_from, each_from_both, each_append, each_map, each_filter, none_has}
 use Rattle.drf_rows.specs.declared.rows.AgentRow.{AgentRow}
 use Rattle.drf_rows.specs.declared.rows.ClientRow.{ClientRow}
 use Rattle.drf_rows.specs.declared.rows.FilterRow.{FilterRow}

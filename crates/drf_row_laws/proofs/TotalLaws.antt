@@ -7,9 +7,9 @@ use Rattle.drf_bundle.specs.Quantities.{amount_of}
 use Rattle.drf_rows.specs.Holdings.{Holding, holdings_of, held_where, amount_in, is_on}
 use Rattle.drf_rows.specs.Held.{cluster_total}
 use Rattle.drf_rows.specs.Consistent.{IsAgent, IsCovered, IsHeld, IsConsistent}
-use Rattle.drf_row_laws.specs.ConsistentLaws.{same_text-swap, count_named, bundles-consistent, held_on-le}
-use Rattle.drf_bundle.specs.ListLaws.{sum_by_each_le, sum_by-groups, count_by-any, each_from, each_from_both}
-use Rattle.drf_row_laws.specs.MemberLaws.{amount_on, amount-cluster_total}
+use Rattle.drf_row_laws.proofs.ConsistentLaws.{same_text-swap, count_named, bundles-consistent, held_on-le}
+use Rattle.drf_bundle.proofs.ListLaws.{sum_by_each_le, sum_by-groups, count_by-any, each_from, each_from_both}
+use Rattle.drf_row_laws.proofs.MemberLaws.{amount_on, amount-cluster_total}
 use Rattle.drf_rows.specs.declared.rows.AgentRow.{AgentRow}
 use Rattle.drf_rows.specs.declared.rows.Rows.{Rows}
 

@@ -8,8 +8,8 @@ use Rattle.drf_rows.specs.LimitNumbers.{LimitNumbers}
 use Rattle.drf_rows.specs.Client.{Client}
 use Rattle.drf_rows.specs.Held.{standing_of}
 use Rattle.drf_rows.specs.Filters.{in_force, is_of_client, is_on_agent, is_held_back}
-use Rattle.drf_row_laws.specs.FrameLaws.{by_offer, with_tables, all_tried_only, turn_only, turns_only}
-use Rattle.drf_row_laws.specs.FilterLaws.{held_back-in_force, in_force-later, number_in_force-later, in_force-left, in_force-more}
+use Rattle.drf_row_laws.proofs.FrameLaws.{by_offer, with_tables, all_tried_only, turn_only, turns_only}
+use Rattle.drf_row_laws.proofs.FilterLaws.{held_back-in_force, in_force-later, number_in_force-later, in_force-left, in_force-more}
 use Rattle.drf_rows.specs.Quota.{entitlement}
 use Rattle.drf_rows.specs.Cycle.{free_of, is_allocatable, grant, new_offer, with_offer, tried, all_tried, turn_order, turn, turns, at_moment, cycle}
 use Rattle.drf_rows.specs.Roles.{is_of_left}

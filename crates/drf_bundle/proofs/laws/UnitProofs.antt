@@ -4,14 +4,14 @@ use Rattle.std.proofs.Common.{sym, ap, ◌∙◌, arith}
 use Rattle.drf_bundle.specs.Value.{Point, Thousandths, amount_in}
 use Rattle.drf_bundle.specs.Bundle.{Key, same_key, units, join, rest, is_default, is_for, part_for, clipped, clip, IsResource, with_value, add_scalar, add_scalars, quantities_of}
 use Rattle.drf_bundle.specs.laws.FitLaws.{join_some}
-use Rattle.drf_bundle.specs.laws.RestLaws.{covered_units, covers_units, rest_join, units-rest, bundle-rest, where-changed-le}
-use Rattle.drf_bundle.specs.laws.PartLaws.{where-some, bundle-part_for, keeps-clipped, cut-falls, bundle-clip, bundle-relabel, relabel-stock}
+use Rattle.drf_bundle.proofs.laws.RestLaws.{covered_units, covers_units, rest_join, units-rest, bundle-rest, where-changed-le}
+use Rattle.drf_bundle.proofs.laws.PartLaws.{where-some, bundle-part_for, keeps-clipped, cut-falls, bundle-clip, bundle-relabel, relabel-stock}
 use Rattle.drf_bundle.specs.Quantities.{amount_of, is_named, HasNoZeros, plus}
 use Rattle.drf_bundle.specs.laws.BundleLaws.{known_by_units}
 use Rattle.drf_bundle.specs.laws.UnitLaws.{JoinHasUnitsOfBoth, StocksAdd, CoversByUnits, RestHasTheOthers, RestAndPartJoin, PartIsCovered, ClippedIsCovered, MovedIsBundle, MovedKeepsStocks, QuantitiesHaveNoZeros, QuantitiesAdd}
 use Rattle.std.proofs.lemmas.List.Elements.{All-head, All-tail}
-use Rattle.drf_bundle.specs.laws.QuantitiesLaws.{in_order-with, above_zero-with, no_zeros-empty, no_zeros-plus, same_quantities, amount-plus}
-use Rattle.drf_bundle.specs.laws.SumLaws.{amount-quantities_of}
+use Rattle.drf_bundle.proofs.laws.QuantitiesLaws.{in_order-with, above_zero-with, no_zeros-empty, no_zeros-plus, same_quantities, amount-plus}
+use Rattle.drf_bundle.proofs.laws.SumLaws.{amount-quantities_of}
 use Rattle.drf_bundle.specs.declared.value.Value.TheVariants.{Scalar, Ranges, Items}
 use Rattle.drf_bundle.specs.declared.value.Value.{Value}
 use Rattle.drf_bundle.specs.declared.quantities.Entry.{Entry}

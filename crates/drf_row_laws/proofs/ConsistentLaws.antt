@@ -11,24 +11,25 @@ use Rattle.drf_role.specs.Text.{Text, same_text}
 use Rattle.drf_role.specs.TextLaws.{same_itself, same_from_test}
 use Rattle.drf_role.specs.Name.{IsName}
 use Rattle.drf_role.specs.Path.{Path, same_path}
-use Rattle.drf_role.specs.PathLaws.{same_path-true, same_path-swap}
+use Rattle.drf_role.specs.PathLaws.{same_path-true}
+use Rattle.drf_role.proofs.PathLaws.{same_path-swap}
 use Rattle.drf_role.specs.Role.{IsRole}
 use Rattle.drf_bundle.specs.Value.{Point, Thousandths}
 use Rattle.drf_bundle.specs.Bundle.{Key, IsBundle, units, stock, quantities_of}
 use Rattle.drf_bundle.specs.Quantities.{amount_of}
-use Rattle.drf_bundle.specs.laws.SumLaws.{amount-quantities_of}
+use Rattle.drf_bundle.proofs.laws.SumLaws.{amount-quantities_of}
 use Rattle.drf_bundle.specs.Taken.{units_of_all}
-use Rattle.drf_bundle.specs.laws.TakenLaws.{joined-rest_of_all, sum-joined, stock-adds_up}
+use Rattle.drf_bundle.proofs.laws.TakenLaws.{joined-rest_of_all, sum-joined, stock-adds_up}
 use Rattle.drf_bundle.specs.declared.resource.Resource.{Resource}
 use Rattle.drf_rows.specs.Client.{Client}
 use Rattle.drf_rows.specs.Holdings.{Holding, of_offer, of_task, holdings_of, held_where, is_on, parts_on, AreBundles}
-use Rattle.drf_row_laws.specs.HoldingsLaws.{parts_on-append, each_part, parts_on-with_offer, parts_on-other, each-with_offer}
+use Rattle.drf_row_laws.proofs.HoldingsLaws.{parts_on-append, each_part, parts_on-with_offer, parts_on-other, each-with_offer}
 use Rattle.drf_rows.specs.Cycle.{free_of, new_offer, with_offer, counted, count_offer}
 use Rattle.drf_rows.specs.Step.{live_rows}
-use Rattle.drf_row_laws.specs.CycleLaws.{bundle-free_of, units-free_of}
+use Rattle.drf_row_laws.proofs.CycleLaws.{bundle-free_of, units-free_of}
 use Rattle.drf_rows.specs.Consistent.{are_distinct, are_distinct_roles, IsAgent, IsFramework, AreFrameworks, IsHeld, IsCovered, offers_counted, are_rising, IsConsistent, IsConserved, IsFilter}
 use Rattle.drf_rows.specs.Held.{is_registered}
-use Rattle.drf_bundle.specs.ListLaws.{sum_by-map, sum_by-plus, sum_by_each_le, sum_by_none, count_by-any, list_any_at, list_any-both, none_has, none_has_at, only_none, count_once, each_at, each_from, each_from_both, each_map}
+use Rattle.drf_bundle.proofs.ListLaws.{sum_by-map, sum_by-plus, sum_by_each_le, sum_by_none, count_by-any, list_any_at, list_any-both, none_has, none_has_at, only_none, count_once, each_at, each_from, each_from_both, each_map}
 use Rattle.drf_rows.specs.declared.rows.AgentRow.{AgentRow}
 use Rattle.drf_rows.specs.declared.rows.ClientRow.{ClientRow}
 use Rattle.drf_rows.specs.declared.rows.FrameworkRow.{FrameworkRow}

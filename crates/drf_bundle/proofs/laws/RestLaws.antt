@@ -7,9 +7,11 @@ use Rattle.std.proofs.lemmas.List.Elements.{All-head, All-tail, All-nil, All-con
 use Rattle.drf_role.specs.Text.{Text, same_text}
 use Rattle.drf_amount.specs.Algebra.{Covers}
 use Rattle.drf_bundle.specs.Value.{Point, Thousandths, units_in, most, amount_in, IsGiven, has_all_of}
-use Rattle.drf_bundle.specs.laws.ValueLaws.{amount-united, given-united, filled_point, units-less, given-less, point_filled, joinable_from, units_covered, covered_from}
+use Rattle.drf_bundle.specs.laws.ValueLaws.{amount-united, given-united, filled_point}
+use Rattle.drf_bundle.proofs.laws.ValueLaws.{units-less, given-less, point_filled, joinable_from, units_covered, covered_from}
 use Rattle.drf_bundle.specs.Bundle.{Key, key_of, key_below, same_key, is_in_order, units_where, units, stock, value_at, IsResource, IsBundle, both_of, merged, join, less_at, filled_of, left_of, rest, covers}
-use Rattle.drf_bundle.specs.laws.KeyLaws.{Has, at_each, stands_first, cases_same, same_key_itself, unit_of, where-cons, unit-here, unit-none, units_first, units_head, units_other, units_its_own, units_found, units_at}
+use Rattle.drf_bundle.specs.laws.KeyLaws.{Has, at_each, stands_first, cases_same, same_key_itself, unit_of, where-cons, unit-here, unit-none, units_first, units_head, units_other}
+use Rattle.drf_bundle.proofs.laws.KeyLaws.{units_its_own, units_found, units_at}
 use Rattle.drf_bundle.specs.laws.JoinLaws.{KeysJoin, where-merged, in_order-merged, each-merged, same_bundle}
 use Rattle.drf_bundle.specs.laws.FitLaws.{fits_less, stock_of_both, join_some, join_fits}
 use Rattle.drf_bundle.specs.declared.resource.Resource.{Resource}

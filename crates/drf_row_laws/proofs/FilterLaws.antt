@@ -11,7 +11,7 @@ use Rattle.drf_bundle.specs.Bundle.{covers}
 use Rattle.drf_bundle.specs.declared.resource.Resource.{Resource}
 use Rattle.drf_rows.specs.Client.{Client}
 use Rattle.drf_rows.specs.Filters.{is_in_force, in_force, number_in_force, is_of_client, is_on_agent, holds_back, is_held_back}
-use Rattle.drf_bundle.specs.ListLaws.{filter-swap}
+use Rattle.drf_bundle.proofs.ListLaws.{filter-swap}
 use Rattle.drf_rows.specs.declared.rows.FilterRow.{FilterRow}
 
 -- the filters in force at an earlier time decide what is covered at a later one

@@ -6,7 +6,8 @@ use Rattle.std.proofs.Common.{refl, sym, ap, ◌∙◌, subst, inl, inr, cond, a
 use Rattle.std.proofs.lemmas.Bool.{false≢true, cases_Bool, and_parts, and_from, leb-true, le-leb, ltb-true, lt-ltb}
 use Rattle.std.proofs.lemmas.Bool.Decides.{nat_tests}
 use Rattle.drf_role.specs.Text.{same_text, text_below}
-use Rattle.drf_role.specs.TextLaws.{same_itself, same_from_test, test_from_same, cases_same, cases_cmp, same_from_cmp, below_from_cmp, above_from_cmp, below_other, above_other, below_trans}
+use Rattle.drf_role.specs.TextLaws.{same_itself, same_from_test, test_from_same, cases_cmp, same_from_cmp, below_from_cmp, above_from_cmp, below_trans}
+use Rattle.drf_role.proofs.TextLaws.{cases_same, below_other, above_other}
 use Rattle.drf_bundle.specs.Quantities.{HasNoZeros, amount_of, is_named, is_in_order, with_amount, plus, minus, covers, without_zeros}
 use Rattle.drf_bundle.specs.declared.quantities.Entry.{Entry}
 

@@ -10,19 +10,19 @@ use Rattle.drf_role.specs.Text.{Text, same_text}
 use Rattle.drf_bundle.specs.Value.{Point, Thousandths}
 use Rattle.drf_bundle.specs.Quantities.{amount_of}
 use Rattle.drf_bundle.specs.Bundle.{Key, IsBundle, units, quantities_of}
-use Rattle.drf_bundle.specs.laws.SumLaws.{amount-quantities_of}
-use Rattle.drf_bundle.specs.laws.UnitProofs.{stocks_add}
+use Rattle.drf_bundle.proofs.laws.SumLaws.{amount-quantities_of}
+use Rattle.drf_bundle.proofs.laws.UnitProofs.{stocks_add}
 use Rattle.drf_bundle.specs.Taken.{units_of_all, rest_of_all}
-use Rattle.drf_bundle.specs.laws.TakenLaws.{bundle-rest_of_all, units-rest_of_all, joined-rest_of_all, AddsUp, sum-joined}
+use Rattle.drf_bundle.proofs.laws.TakenLaws.{bundle-rest_of_all, units-rest_of_all, joined-rest_of_all, AddsUp, sum-joined}
 use Rattle.drf_bundle.specs.declared.resource.Resource.{Resource}
 use Rattle.drf_rows.specs.Holdings.{Holding, of_offer, of_task, holdings_of, amount_in, held_where, is_on, parts_on}
-use Rattle.drf_row_laws.specs.HoldingsLaws.{held_where-append, held_where-cons, parts_on-append, units_on, units_on-append, units_on-cons}
+use Rattle.drf_row_laws.proofs.HoldingsLaws.{held_where-append, held_where-cons, parts_on-append, units_on, units_on-append, units_on-cons}
 use Rattle.drf_rows.specs.Consistent.{are_distinct, IsHeld, IsCovered, IsConsistent, IsFilter, are_rising, are_distinct_tasks}
-use Rattle.drf_row_laws.specs.ConsistentLaws.{same_text-swap}
+use Rattle.drf_row_laws.proofs.ConsistentLaws.{same_text-swap}
 use Rattle.drf_rows.specs.Endings.{Ending, one_offer, ends_offer, ends_task, without_ended, is_task}
-use Rattle.drf_bundle.specs.ListLaws.{each_from, each_append}
+use Rattle.drf_bundle.proofs.ListLaws.{each_from, each_append}
 use Rattle.drf_rows.specs.Offers.{has_task, offer_at, task_of, AreNew, CanStart}
-use Rattle.drf_rows.specs.TaskLaws.{HasAll, units-covers_all}
+use Rattle.drf_rows.proofs.TaskLaws.{HasAll, units-covers_all}
 use Rattle.drf_rows.specs.Tasks.{Start, names_of, uses}
 use Rattle.drf_rows.specs.declared.rows.AgentRow.{AgentRow}
 use Rattle.drf_rows.specs.declared.rows.FilterRow.{FilterRow}

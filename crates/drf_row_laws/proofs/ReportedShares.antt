@@ -6,22 +6,22 @@ use Rattle.std.proofs.Math.Nat.{mul-le-mul_left}
 use Rattle.std.proofs.lemmas.Bool.{cases_Bool, and_parts, ltb-true}
 use Rattle.std.proofs.lemmas.List.Sums.{sum_by-cons}
 use Rattle.drf_role.specs.Text.{Text, text_below}
-use Rattle.drf_role.specs.TextLaws.{cases_same}
+use Rattle.drf_role.proofs.TextLaws.{cases_same}
 use Rattle.drf_role.specs.Path.{Path}
 use Rattle.drf_bundle.specs.Quantities.{plus, amount_of, is_in_order}
-use Rattle.drf_bundle.specs.laws.QuantitiesLaws.{amount_first, amount_head, in_order-plus}
+use Rattle.drf_bundle.proofs.laws.QuantitiesLaws.{amount_first, amount_head, in_order-plus}
 use Rattle.drf_bundle.specs.Bundle.{quantities_of}
 use Rattle.drf_bundle.specs.declared.quantities.Entry.{Entry}
 use Rattle.drf_rows.specs.LimitNumbers.{ceilings}
 use Rattle.drf_rows.specs.Held.{cluster_total, standing_of, weight_of}
 use Rattle.drf_rows.specs.Weights.{are_weights}
-use Rattle.drf_row_laws.specs.WeightLaws.{weight_of-in_range}
+use Rattle.drf_row_laws.proofs.WeightLaws.{weight_of-in_range}
 use Rattle.drf_rows.specs.Share.{Fraction, is_less, greater, greatest, share_of, weighted_share_of}
-use Rattle.drf_row_laws.specs.LowestLaws.{lowest_terms-is}
+use Rattle.drf_row_laws.proofs.LowestLaws.{lowest_terms-is}
 use Rattle.drf_rows.specs.Report.{report_of, node_line, nodes_of}
 use Rattle.drf_rows.specs.Consistent.{IsAgent}
-use Rattle.drf_row_laws.specs.MemberLaws.{amount_on, amount-cluster_total}
-use Rattle.drf_bundle.specs.ListLaws.{each_made}
+use Rattle.drf_row_laws.proofs.MemberLaws.{amount_on, amount-cluster_total}
+use Rattle.drf_bundle.proofs.ListLaws.{each_made}
 use Rattle.drf_row_laws.specs.Laws.{TellsLowest, SharesAreLowest}
 use Rattle.drf_rows.specs.declared.limits.TheConstants.{LARGEST_AMOUNT}
 use Rattle.drf_rows.specs.declared.rows.AgentRow.{AgentRow}

@@ -1,7 +1,7 @@
 //! The program `drf`: passes its arguments, the files and the three standard streams to the command line.
 #![tactic(auto)]
 
-use drf_app::{command, no_words};
+use drf_app::{command, report_no_arguments};
 use drf_files::{SystemFiles, random_key};
 use drf_journal::Device;
 use std::env::Env;
@@ -9,12 +9,12 @@ use std::process::ExitCode;
 use std::{env, io};
 
 /// Returns the arguments of the program. The first is always `drf`, which messages use as the program's name.
-fn words<R: Env + AllocGlobal>(rt: &R) -> io::Result<Vec<String>> {
-    let mut words = env::args(rt)?.collect::<Vec<String>>(rt.alloc())?;
-    if let Some(name) = words.first_mut() {
+fn arguments<R: Env + AllocGlobal>(rt: &R) -> io::Result<Vec<String>> {
+    let mut arguments = env::args(rt)?.collect::<Vec<String>>(rt.alloc())?;
+    if let Some(name) = arguments.first_mut() {
         *name = String::from_str(rt.alloc(), "drf")?;
     }
-    Ok(words)
+    Ok(arguments)
 }
 
 fn main(rt: HostRuntime) -> ExitCode {
@@ -25,17 +25,17 @@ fn main(rt: HostRuntime) -> ExitCode {
     let mut input = Device::new(rt.stdin());
     let mut output = Device::new(rt.stdout());
     let mut errors = Device::new(rt.stderr());
-    let status = match words(&rt) {
-        Ok(words) => command(
+    let status = match arguments(&rt) {
+        Ok(arguments) => command(
             &rt,
             rt.alloc(),
-            &words,
+            &arguments,
             &mut files,
             &mut input,
             &mut output,
             &mut errors,
         ),
-        Err(error) => no_words(&error, &mut errors),
+        Err(error) => report_no_arguments(&error, &mut errors),
     };
     ExitCode::from(status)
 }

@@ -92,12 +92,12 @@ values_of-append [] more = refl
 values_of-append (part ∷ parts) more = ap (λ rest. part.1 ∷ rest) (values_of-append parts more)
 
 -- removing a part keeps the parts after it
-pub remove_entry-front : {A : Type 0} (test : ℕ → Bool) (parts more : List (ℕ × A)) (part : A) → lookup test parts ≡ Some part → remove_entry test (parts ++ more) ≡ remove_entry test parts ++ more
-remove_entry-front test [] more part found = absurd (none-some part found)
-remove_entry-front test (first ∷ parts) more part found =
+pub remove_entry-prefix : {A : Type 0} (test : ℕ → Bool) (parts more : List (ℕ × A)) (part : A) → lookup test parts ≡ Some part → remove_entry test (parts ++ more) ≡ remove_entry test parts ++ more
+remove_entry-prefix test [] more part found = absurd (none-some part found)
+remove_entry-prefix test (first ∷ parts) more part found =
     elim (test first.0) as (λ b. cond b (Some first.1) (lookup test parts) ≡ Some part → cond b (parts ++ more) (first ∷ remove_entry test (parts ++ more)) ≡ cond b parts (first ∷ remove_entry test parts) ++ more) [
       | true ↦ λ _. refl
-      | false ↦ λ found. ap (λ rest. first ∷ rest) (remove_entry-front test parts more part found)
+      | false ↦ λ found. ap (λ rest. first ∷ rest) (remove_entry-prefix test parts more part found)
     ] found
 
 -- ---- joins

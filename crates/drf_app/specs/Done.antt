@@ -9,7 +9,7 @@ use Rattle.drf_drive.specs.Driven.{HasDrivenFiles}
 use Rattle.drf_drive.specs.JournalText.{is_write_fault}
 use Rattle.drf_drive.specs.declared.script.ScriptFault.{ScriptFault}
 use Rattle.drf_files.specs.Files.{Known}
-use Rattle.drf_journal.specs.Audited.{HasAudited, HasToldOfRows, cycle_text}
+use Rattle.drf_journal.specs.Audited.{HasAudited, HasReportedOfRows, cycle_text}
 use Rattle.drf_journal.specs.Ended.{HasAnswered, HasCause}
 use Rattle.drf_journal.specs.declared.fault.RunFault.{RunFault}
 use Rattle.drf_journal.specs.declared.journal.Verdict.{Verdict}
@@ -21,9 +21,9 @@ use Rattle.drf_resume.specs.Saving.{HasSaved as HasSavedState}
 use Rattle.drf_app.specs.Starts.{HasNotStarted, IsStart}
 use Rattle.drf_app.specs.Refused.{HasRefused}
 use Rattle.drf_app.specs.Streams.{Streams}
-use Rattle.drf_app.specs.Told.{IsTold, IsToldOf, status_of}
+use Rattle.drf_app.specs.Told.{IsReported, IsReportedOf, status_of}
 use Rattle.drf_why.specs.Asked.{asked_text, summed_text}
-use Rattle.drf_app.specs.Drives.{HasToldDrive}
+use Rattle.drf_app.specs.Drives.{HasReportedDrive}
 use Rattle.drf_app.specs.Line.{Asks, AsksDrive, Drive, IsRefused, drive_of}
 use Rattle.drf_app.specs.Lints.{IsLinted}
 use Rattle.drf_app.specs.Verdicts.{IsJudged, check_status}
@@ -46,7 +46,7 @@ pub record HasRun (machine : Machine) (echo ask : Bool) (old new : Streams) (ans
   pub whole : OnOk ended (IsAtEnd new.input.bytes)
   pub cause : HasCause ended new.input.failed new.input.calls new.output.failed
   pub status : answer ≡ status_of ended
-  pub told : IsToldOf ended old.errors.bytes new.errors.bytes new.errors.failed
+  pub reported : IsReportedOf ended old.errors.bytes new.errors.bytes new.errors.failed
 
 -- `drf check`, from this state
 pub record HasChecked (machine : Machine) (old new : Streams) (answer : ℕ) : Type 0 where
@@ -54,7 +54,7 @@ pub record HasChecked (machine : Machine) (old new : Streams) (answer : ℕ) : T
   pub judged : IsJudged machine old.input.bytes ended old.output.bytes new.output.bytes
   pub cause : HasCause ended new.input.failed new.input.calls new.output.failed
   pub status : answer ≡ check_status ended
-  pub told : IsToldOf ended old.errors.bytes new.errors.bytes new.errors.failed
+  pub reported : IsReportedOf ended old.errors.bytes new.errors.bytes new.errors.failed
 
 -- `drf audit`, from this state
 pub record HasAudit (machine : Machine) (old new : Streams) (answer : ℕ) : Type 0 where
@@ -62,15 +62,15 @@ pub record HasAudit (machine : Machine) (old new : Streams) (answer : ℕ) : Typ
   pub audited : HasAudited machine old.input.bytes new.input.bytes old.output.bytes new.output.bytes ended
   pub cause : HasCause ended new.input.failed new.input.calls new.output.failed
   pub status : answer ≡ status_of ended
-  pub told : IsToldOf ended old.errors.bytes new.errors.bytes new.errors.failed
+  pub reported : IsReportedOf ended old.errors.bytes new.errors.bytes new.errors.failed
 
--- the text that `tell` gives for rows, with the cycle at a timestamp, was written
-pub record HasToldCycle (tell : Rows → List ℕ) (machine : Machine) (old new : Streams) (answer : ℕ) : Type 0 where
+-- the text that `report` gives for rows, with the cycle at a timestamp, was written
+pub record HasReportedCycle (report : Rows → List ℕ) (machine : Machine) (old new : Streams) (answer : ℕ) : Type 0 where
   pub ended : Result (Unit {0}) RunFault
-  pub rows : HasToldOfRows tell machine old.input.bytes new.input.bytes old.output.bytes new.output.bytes ended
+  pub rows : HasReportedOfRows report machine old.input.bytes new.input.bytes old.output.bytes new.output.bytes ended
   pub cause : HasCause ended new.input.failed new.input.calls new.output.failed
   pub status : answer ≡ status_of ended
-  pub told : IsToldOf ended old.errors.bytes new.errors.bytes new.errors.failed
+  pub reported : IsReportedOf ended old.errors.bytes new.errors.bytes new.errors.failed
 
 -- the message if the arguments ask for several explanations
 abbrev pub several_line : List ℕ
@@ -81,13 +81,13 @@ pub record HasAskedSeveral (old new : Streams) (answer : ℕ) : Type 0 where
   pub input : new.input ≡ old.input
   pub output : new.output ≡ old.output
   pub status : answer ≡ 2
-  pub told : IsTold several_line old.errors.bytes new.errors.bytes new.errors.failed
+  pub reported : IsReported several_line old.errors.bytes new.errors.bytes new.errors.failed
 
 -- `drf explain`: the explanation of the cycle at a timestamp was written
 abbrev pub HasExplained : Machine → ℕ → Scope → Streams → Streams → ℕ → Type 0
-HasExplained machine at Short old new answer = HasToldCycle (cycle_text at) machine old new answer
-HasExplained machine at (Each whom) old new answer = HasToldCycle (asked_text whom at) machine old new answer
-HasExplained machine at Summary old new answer = HasToldCycle (summed_text at) machine old new answer
+HasExplained machine at Short old new answer = HasReportedCycle (cycle_text at) machine old new answer
+HasExplained machine at (Each whom) old new answer = HasReportedCycle (asked_text whom at) machine old new answer
+HasExplained machine at Summary old new answer = HasReportedCycle (summed_text at) machine old new answer
 HasExplained machine at Several old new answer = HasAskedSeveral old new answer
 
 -- `drf save`: the state was saved, with `epoch` without offers and with counts restarted
@@ -96,7 +96,7 @@ pub record HasSaved (machine : Machine) (epoch : Bool) (old new : Streams) (answ
   pub saved : HasSavedState machine epoch old.input.bytes new.input.bytes old.output.bytes new.output.bytes ended
   pub cause : HasCause ended new.input.failed new.input.calls new.output.failed
   pub status : answer ≡ status_of ended
-  pub told : IsToldOf ended old.errors.bytes new.errors.bytes new.errors.failed
+  pub reported : IsReportedOf ended old.errors.bytes new.errors.bytes new.errors.failed
 
 abbrev pub form_of : Bool → Form
 form_of true = Json
@@ -108,7 +108,7 @@ pub record HasShown (machine : Machine) (json : Bool) (old new : Streams) (answe
   pub shown : HasShownRows (form_of json) machine old.input.bytes new.input.bytes old.output.bytes new.output.bytes ended
   pub cause : HasCause ended new.input.failed new.input.calls new.output.failed
   pub status : answer ≡ status_of ended
-  pub told : IsToldOf ended old.errors.bytes new.errors.bytes new.errors.failed
+  pub reported : IsReportedOf ended old.errors.bytes new.errors.bytes new.errors.failed
 
 -- `drf drive` for the files with these names, from this state
 pub record HasDriven (start : Machine) (known : Known) (names : List (List ℕ)) (old new : Streams) (answer : ℕ) : Type 0 where
@@ -116,7 +116,7 @@ pub record HasDriven (start : Machine) (known : Known) (names : List (List ℕ))
   pub input : new.input ≡ old.input
   pub driven : HasDrivenFiles start known names old.output.bytes new.output.bytes ended
   pub cause : new.output.failed ≡ is_write_fault ended
-  pub told : HasToldDrive names ended answer old.errors.bytes new.errors.bytes new.errors.failed
+  pub reported : HasReportedDrive names ended answer old.errors.bytes new.errors.bytes new.errors.failed
 
 -- what a task does from this state
 abbrev pub HasDoneFrom : Machine → Task → Streams → Streams → ℕ → Type 0

@@ -4,7 +4,7 @@ use Rattle.drf_drive.specs.declared.script.BadLine.{BadLine}
 use Rattle.drf_drive.specs.declared.script.ScriptFault.{ScriptFault}
 use Rattle.drf_drive.specs.declared.script.ScriptFault.TheVariants.{Run, Unread, Line, Close}
 use Rattle.drf_lines.specs.Fault.{fault_name, fault_number}
-use Rattle.drf_app.specs.Told.{HasToldLine, HasToldUnread, IsTold, fault_line, refused_line}
+use Rattle.drf_app.specs.Told.{HasReportedLine, HasReportedUnread, IsReported, fault_line, refused_line}
 
 -- the name of the file at this index
 abbrev pub name_at : List (List ℕ) → ℕ → List ℕ
@@ -18,9 +18,9 @@ abbrev pub close_line : List ℕ
 close_line = codes "drf: close fault" ++ 10 ∷ []
 
 -- the message and the exit status for the end of a drive
-abbrev pub HasToldDrive : List (List ℕ) → Result (Unit {0}) ScriptFault → ℕ → Option (List ℕ) → Option (List ℕ) → Bool → Type 0
-HasToldDrive names (Ok done) answer old new failed = (answer ≡ 0) × ((new ≡ old) × (failed ≡ false))
-HasToldDrive names (Err (Unread file)) answer old new failed = HasToldUnread (name_at names file) answer old new failed
-HasToldDrive names (Err (Run fault)) answer old new failed = (answer ≡ 1) × IsTold (fault_line fault) old new failed
-HasToldDrive names (Err (Close misfit)) answer old new failed = (answer ≡ 1) × IsTold close_line old new failed
-HasToldDrive names (Err (Line bad)) answer old new failed = HasToldLine (bad_line names bad) answer old new failed
+abbrev pub HasReportedDrive : List (List ℕ) → Result (Unit {0}) ScriptFault → ℕ → Option (List ℕ) → Option (List ℕ) → Bool → Type 0
+HasReportedDrive names (Ok done) answer old new failed = (answer ≡ 0) × ((new ≡ old) × (failed ≡ false))
+HasReportedDrive names (Err (Unread file)) answer old new failed = HasReportedUnread (name_at names file) answer old new failed
+HasReportedDrive names (Err (Run fault)) answer old new failed = (answer ≡ 1) × IsReported (fault_line fault) old new failed
+HasReportedDrive names (Err (Close misfit)) answer old new failed = (answer ≡ 1) × IsReported close_line old new failed
+HasReportedDrive names (Err (Line bad)) answer old new failed = HasReportedLine (bad_line names bad) answer old new failed

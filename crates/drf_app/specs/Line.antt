@@ -5,7 +5,7 @@ use Rattle.clap.specs.Words.{App, Row, Rule, Text, HasKind, all_of, fault_of, fi
 use Rattle.clap.specs.declared.builder.action.ArgAction.TheVariants.{Append, Set}
 use Rattle.clap.specs.declared.builder.value_parser.ValueParser.TheVariants.{Unsigned}
 use Rattle.clap.specs.declared.error.Error.{Error}
-use Rattle.drf_rows.specs.declared.limits.TheConstants.{LATEST_MOMENT}
+use Rattle.drf_rows.specs.declared.limits.TheConstants.{LATEST_TIMESTAMP}
 use Rattle.drf_app.specs.Arguments.{HasFlag, IsNameOf, flag, top_line}
 use Rattle.drf_app.specs.declared.request.Request.{Request}
 use Rattle.drf_why.specs.declared.whom.Whom.{Whom}
@@ -21,8 +21,8 @@ use Rattle.drf_app.specs.declared.request.Task.TheVariants.{Run, Check, Audit, E
 abbrev pub from_option : Rule
 from_option = record (new_rule (codes "from")) { long = Some (codes "from"); value_names = 1; action = Some Set }
 
-abbrev pub moment_option : Rule
-moment_option = record (new_rule (codes "at")) { long = Some (codes "at"); action = Some Set; parser = Some (Unsigned 0 LATEST_MOMENT) }
+abbrev pub timestamp_option : Rule
+timestamp_option = record (new_rule (codes "at")) { long = Some (codes "at"); action = Some Set; parser = Some (Unsigned 0 LATEST_TIMESTAMP) }
 
 -- `run [--echo] [--ask]`
 abbrev pub run_line : App
@@ -44,10 +44,10 @@ client_option = record (new_rule (codes "client")) { long = Some (codes "client"
 abbrev pub agent_option : Rule
 agent_option = record (new_rule (codes "agent")) { long = Some (codes "agent"); value_names = 1; action = Some Set }
 
--- `explain [--at MOMENT] [--each] [--client FRAMEWORK ROLE] [--agent NAME] [--summary]`
+-- `explain [--at TIMESTAMP] [--each] [--client FRAMEWORK ROLE] [--agent NAME] [--summary]`
 abbrev pub explain_line : App
 explain_line =
-    with_rule (with_rule (with_rule (with_rule (with_rule (with_rule (new_app (codes "explain")) moment_option) (flag (codes "each"))) client_option)
+    with_rule (with_rule (with_rule (with_rule (with_rule (with_rule (new_app (codes "explain")) timestamp_option) (flag (codes "each"))) client_option)
     agent_option) (flag (codes "summary"))) from_option
 
 -- `save [--epoch]`
@@ -63,8 +63,8 @@ abbrev pub lint_line : App
 lint_line = with_rule (new_app (codes "lint")) (flag (codes "write"))
 
 -- 1 to 64 files
-abbrev pub file_words : Rule
-file_words = record (new_rule (codes "FILE")) {
+abbrev pub file_arguments : Rule
+file_arguments = record (new_rule (codes "FILE")) {
   required = true;
   range = Some (record { start_inclusive = 1; end_inclusive = 64 });
   action = Some Append;
@@ -72,7 +72,7 @@ file_words = record (new_rule (codes "FILE")) {
 
 -- `drive FILE..`
 abbrev pub drive_line : App
-drive_line = with_rule (with_rule (new_app (codes "drive")) from_option) file_words
+drive_line = with_rule (with_rule (new_app (codes "drive")) from_option) file_arguments
 
 -- the command line of `drf`
 abbrev pub drf_line : App
@@ -83,11 +83,11 @@ drf_line =
 -- ---- what the arguments of a command say
 
 -- the timestamp of `--at`: 0 without it; otherwise the number in its digits, if it is at most the latest timestamp, as it is for right arguments
-pub record SaysMoment (rows : List Row) (at : ℕ) : Type 0 where
+pub record SaysTimestamp (rows : List Row) (at : ℕ) : Type 0 where
   pub unsaid : one_of (codes "at") rows ≡ None → at ≡ 0
   pub said : (text : Text) → one_of (codes "at") rows ≡ Some text → IsNumeral 10 (without_leading_plus text)
-      → digits_value 10 (without_leading_plus text) ≤ LATEST_MOMENT → at ≡ digits_value 10 (without_leading_plus text)
-  pub early : at ≤ LATEST_MOMENT
+      → digits_value 10 (without_leading_plus text) ≤ LATEST_TIMESTAMP → at ≡ digits_value 10 (without_leading_plus text)
+  pub early : at ≤ LATEST_TIMESTAMP
 
 -- what `explain` is asked for
 pub data Asked : Type 0 where
@@ -152,7 +152,7 @@ abbrev pub SaysTask : List Row → Task → Type 0
 SaysTask rows (Run echo ask) = HasFlag rows (codes "echo") echo × HasFlag rows (codes "ask") ask
 SaysTask rows Check = ⊤
 SaysTask rows Audit = ⊤
-SaysTask rows (Explain at scope) = SaysMoment rows at × SaysScope rows scope
+SaysTask rows (Explain at scope) = SaysTimestamp rows at × SaysScope rows scope
 SaysTask rows (Save epoch) = HasFlag rows (codes "epoch") epoch
 SaysTask rows (Show json) = HasFlag rows (codes "json") json
 SaysTask rows (Lint write) = HasFlag rows (codes "write") write
@@ -167,7 +167,7 @@ abbrev pub IsWithinBounds : Task → Type 0
 IsWithinBounds (Run echo ask) = ⊤
 IsWithinBounds Check = ⊤
 IsWithinBounds Audit = ⊤
-IsWithinBounds (Explain at scope) = at ≤ LATEST_MOMENT
+IsWithinBounds (Explain at scope) = at ≤ LATEST_TIMESTAMP
 IsWithinBounds (Save epoch) = ⊤
 IsWithinBounds (Show json) = ⊤
 IsWithinBounds (Lint write) = ⊤

@@ -5,25 +5,25 @@ use Rattle.clap.specs.declared.error.kind.ErrorKind.TheVariants.{OutOfMemory, Di
 use Rattle.drf_journal.specs.declared.fault.RunFault.{RunFault}
 use Rattle.drf_journal.specs.declared.fault.RunFault.TheVariants.{Write, Memory}
 use Rattle.drf_app.specs.Streams.{Streams}
-use Rattle.drf_app.specs.Told.{IsTold, IsToldOf, fault_line, status_of}
+use Rattle.drf_app.specs.Told.{IsReported, IsReportedOf, fault_line, status_of}
 
 -- memory ran out before anything was written
 pub record HasNoMemory (old new : Streams) (answer : ℕ) : Type 0 where
   pub input : new.input ≡ old.input
   pub output : new.output ≡ old.output
   pub status : answer ≡ 1
-  pub told : IsTold (fault_line Memory) old.errors.bytes new.errors.bytes new.errors.failed
+  pub reported : IsReported (fault_line Memory) old.errors.bytes new.errors.bytes new.errors.failed
 
 -- help or the version was written
 pub record HasShown (old new : Streams) (answer : ℕ) : Type 0 where
   pub ended : Result (Unit {0}) RunFault
   pub text : List ℕ
   pub input : new.input ≡ old.input
-  pub shown : IsTold text old.output.bytes new.output.bytes new.output.failed
+  pub shown : IsReported text old.output.bytes new.output.bytes new.output.failed
   pub fault : IfErr ended (λ fault. fault ≡ Write)
   pub cause : new.output.failed ≡ is_err ended
   pub status : answer ≡ status_of ended
-  pub told : IsToldOf ended old.errors.bytes new.errors.bytes new.errors.failed
+  pub reported : IsReportedOf ended old.errors.bytes new.errors.bytes new.errors.failed
 
 -- the message about wrong arguments was written
 pub record HasExplained (old new : Streams) (answer : ℕ) : Type 0 where
@@ -31,7 +31,7 @@ pub record HasExplained (old new : Streams) (answer : ℕ) : Type 0 where
   pub input : new.input ≡ old.input
   pub output : new.output ≡ old.output
   pub status : answer ≡ 2
-  pub told : IsTold text old.errors.bytes new.errors.bytes new.errors.failed
+  pub reported : IsReported text old.errors.bytes new.errors.bytes new.errors.failed
 
 -- what is written for each kind of refusal
 abbrev pub HasRefused : ErrorKind → Streams → Streams → ℕ → Type 0

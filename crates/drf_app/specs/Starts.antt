@@ -10,7 +10,7 @@ use Rattle.drf_state.specs.declared.fault.StateError.{StateError}
 use Rattle.drf_state.specs.declared.fault.StateError.TheVariants as error
 use Rattle.drf_state.specs.declared.fault.StateFault.{StateFault}
 use Rattle.drf_app.specs.Streams.{Streams}
-use Rattle.drf_app.specs.Told.{HasToldFile, HasToldLine, refused_line}
+use Rattle.drf_app.specs.Told.{HasReportedFile, HasReportedLine, refused_line}
 use Rattle.drf_app.specs.declared.start.StartFault.{StartFault}
 use Rattle.drf_app.specs.declared.start.StartFault.TheVariants.{Run, Line}
 
@@ -45,10 +45,10 @@ start_fault_of (error.Line line fault) = Line line fault
 start_fault_of error.Memory = Run Memory
 
 -- the message for it, and the exit status
-abbrev pub HasToldStart : List ℕ → StartFault → ℕ → Option (List ℕ) → Option (List ℕ) → Bool → Type 0
-HasToldStart name (Run fault) answer old new failed = HasToldFile name fault answer old new failed
-HasToldStart name (Line line fault) answer old new failed =
-    HasToldLine (refused_line name line (state_fault_number fault) (state_fault_name fault)) answer old new failed
+abbrev pub HasReportedStart : List ℕ → StartFault → ℕ → Option (List ℕ) → Option (List ℕ) → Bool → Type 0
+HasReportedStart name (Run fault) answer old new failed = HasReportedFile name fault answer old new failed
+HasReportedStart name (Line line fault) answer old new failed =
+    HasReportedLine (refused_line name line (state_fault_number fault) (state_fault_name fault)) answer old new failed
 
 -- a task could not start: no input was read, and no output was written
 pub record HasNotStarted (known : Known) (from : Option (List ℕ)) (old new : Streams) (answer : ℕ) : Type 0 where
@@ -56,4 +56,4 @@ pub record HasNotStarted (known : Known) (from : Option (List ℕ)) (old new : S
   pub why : IsStartFault known from fault
   pub input : new.input ≡ old.input
   pub output : new.output ≡ old.output
-  pub told : HasToldStart (unwrap_or from []) fault answer old.errors.bytes new.errors.bytes new.errors.failed
+  pub reported : HasReportedStart (unwrap_or from []) fault answer old.errors.bytes new.errors.bytes new.errors.failed

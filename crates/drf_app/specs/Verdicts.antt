@@ -2,7 +2,7 @@
 use Rattle.std.specs.Prelude.{◌≡◌, ℕ, Bool, true, false, List, [], ◌∷◌, ◌++◌, Option, Result, Ok, Err, IfSome, codes, decimal}
 use Rattle.std.specs.Io.KnownBytes.{Appends}
 use Rattle.drf_core.specs.Machine.{Machine}
-use Rattle.drf_journal.specs.Device.{AppendsFrontOf}
+use Rattle.drf_journal.specs.Device.{AppendsPrefixOf}
 use Rattle.drf_journal.specs.Journal.{IsVerdict}
 use Rattle.drf_journal.specs.declared.fault.RunFault.{RunFault}
 use Rattle.drf_journal.specs.declared.fault.RunFault.TheVariants.{Read, Write, Memory}
@@ -23,7 +23,7 @@ verdict_status (Bad line) = 3
 abbrev pub IsSaid : Verdict → Result (Unit {0}) RunFault → Option (List ℕ) → Option (List ℕ) → Bool → Type 0
 IsSaid verdict (Ok done) old new failed = Appends old new (verdict_line verdict) × (failed ≡ false)
 IsSaid verdict (Err Read) old new failed = ⊥
-IsSaid verdict (Err Write) old new failed = AppendsFrontOf old new (verdict_line verdict) × (failed ≡ true)
+IsSaid verdict (Err Write) old new failed = AppendsPrefixOf old new (verdict_line verdict) × (failed ≡ true)
 IsSaid verdict (Err Memory) old new failed = (new ≡ old) × (failed ≡ false)
 
 -- it is the verdict on the journal, from this state
@@ -34,7 +34,7 @@ IsOf machine unread verdict = IfSome unread (λ journal. IsVerdict machine journ
 abbrev pub IsJudged : Machine → Option (List ℕ) → Result Verdict RunFault → Option (List ℕ) → Option (List ℕ) → Type 0
 IsJudged machine unread (Ok verdict) old new = IsOf machine unread verdict × Appends old new (verdict_line verdict)
 IsJudged machine unread (Err Read) old new = new ≡ old
-IsJudged machine unread (Err Write) old new = (verdict : Verdict) × IsOf machine unread verdict × AppendsFrontOf old new (verdict_line verdict)
+IsJudged machine unread (Err Write) old new = (verdict : Verdict) × IsOf machine unread verdict × AppendsPrefixOf old new (verdict_line verdict)
 IsJudged machine unread (Err Memory) old new = new ≡ old
 
 -- the exit status of a check

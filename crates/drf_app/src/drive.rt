@@ -3,19 +3,19 @@ ghost use Rattle.std.specs.Prelude.{◌≡◌, ◌≤◌, true, false, length, m
 ghost use Rattle.drf_core.specs.Machine.{live};
 ghost use Rattle.drf_rows.specs.LimitNumbers.{ceilings};
 ghost use Rattle.drf_app.specs.Streams.{Stream, stream_of};
-ghost use Rattle.drf_app.specs.Told.{HasToldUnread};
+ghost use Rattle.drf_app.specs.Told.{HasReportedUnread};
 ghost use Rattle.clap.specs.Words.{found_of, rows_of};
 ghost use Rattle.drf_app.specs.Done.{HasDoneDrive, HasDriven, HasObeyed};
 ghost use Rattle.drf_app.specs.Line.{AsksDrive, drive_of};
-ghost use Rattle.drf_app.specs.Drives.{HasToldDrive, name_at};
+ghost use Rattle.drf_app.specs.Drives.{HasReportedDrive, name_at};
 
 use crate::arguments::read_arguments;
-use crate::messages::{finish, tell};
+use crate::messages::{finish, report};
 use crate::refusal::refuse;
-use crate::refused_line::{RefusedLine, tell_line};
+use crate::refused_line::{RefusedLine, report_line};
 use crate::request::files_of;
-use crate::start::{begin, tell_start};
-use crate::unread::tell_file;
+use crate::start::{begin, report_start};
+use crate::unread::report_file;
 use clap::ArgMatches;
 use drf_core::Core;
 use drf_drive::{ScriptFault, run_drive};
@@ -39,29 +39,29 @@ fn name_at<'a>(names: &[&'a str], file: usize) -> &'a str
 }
 
 /// Reports the file at an index, which cannot be read, and returns the exit status.
-fn tell_unread<E: Write>(alloc: Global, names: &[&str], file: usize, errors: &mut Device<E>) -> u8
+fn report_unread<E: Write>(alloc: Global, names: &[&str], file: usize, errors: &mut Device<E>) -> u8
     requires { errors.old.failed ≡ false }
-    ensures { HasToldUnread (name_at (map (λ name. name.now) names.now) file) result (E.contents errors.old.inner) (E.contents errors.new.inner) errors.new.failed }
+    ensures { HasReportedUnread (name_at (map (λ name. name.now) names.now) file) result (E.contents errors.old.inner) (E.contents errors.new.inner) errors.new.failed }
 {
-    tell_file(alloc, name_at(names, file), RunFault::Read, errors)
+    report_file(alloc, name_at(names, file), RunFault::Read, errors)
 }
 
 /// Reports how a drive ended, and returns the exit status.
-fn tell_end<E: Write>(
+fn report_end<E: Write>(
     alloc: Global,
     names: &[&str],
     ended: Result<(), ScriptFault>,
     errors: &mut Device<E>,
 ) -> u8
     requires { errors.old.failed ≡ false }
-    ensures { HasToldDrive (map (λ name. name.now) names.now) ended result (E.contents errors.old.inner) (E.contents errors.new.inner) errors.new.failed }
+    ensures { HasReportedDrive (map (λ name. name.now) names.now) ended result (E.contents errors.old.inner) (E.contents errors.new.inner) errors.new.failed }
 {
     match ended {
         Ok(()) => 0,
-        Err(ScriptFault::Unread(file)) => tell_unread(alloc, names, file, errors),
+        Err(ScriptFault::Unread(file)) => report_unread(alloc, names, file, errors),
         Err(ScriptFault::Run(fault)) => finish::<(), E>(Err(fault), errors),
         Err(ScriptFault::Close(_misfit)) => {
-            tell(errors, "drf: close fault\n");
+            report(errors, "drf: close fault\n");
             1
         }
         Err(ScriptFault::Line(bad)) => {
@@ -71,7 +71,7 @@ fn tell_end<E: Write>(
                 fault: bad.fault.number(),
                 name: bad.fault.name(),
             };
-            tell_line(alloc, line, errors)
+            report_line(alloc, line, errors)
         }
     }
 }
@@ -97,7 +97,7 @@ fn drive_files<F: FileBytes, W: Write, E: Write>(
     ensures flushed { output.old.flushed ≡ true → output.new.failed ≡ false → output.new.flushed ≡ true }
 {
     let ended = run_drive(rt, alloc, Limits::full(), core, files, names, output);
-    tell_end(alloc, names, ended, errors)
+    report_end(alloc, names, ended, errors)
 }
 
 /// Runs the files that the arguments of `drive` name, from the state in the file of `--from`. Returns the exit status.
@@ -121,7 +121,7 @@ fn drive_named<F: FileBytes, W: Write, E: Write>(
     let from = arguments.get_str("from");
     match begin(alloc, files, from) {
         Ok(core) => drive_files(rt, alloc, core, files, names, output, errors),
-        Err(fault) => tell_start(alloc, from, fault, errors),
+        Err(fault) => report_start(alloc, from, fault, errors),
     }
 }
 

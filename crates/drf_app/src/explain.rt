@@ -2,15 +2,15 @@
 ghost use Rattle.std.specs.Prelude.{◌≡◌, ◌≤◌, ◌^◌, true, false};
 ghost use Rattle.drf_core.specs.Machine.{live};
 ghost use Rattle.drf_journal.specs.Device.{IsNew};
-ghost use Rattle.drf_rows.specs.declared.limits.TheConstants.{LATEST_MOMENT};
+ghost use Rattle.drf_rows.specs.declared.limits.TheConstants.{LATEST_TIMESTAMP};
 ghost use Rattle.drf_app.specs.Streams.{stream_of};
 ghost use Rattle.drf_app.specs.Done.{HasExplained};
 
-use crate::messages::{finish, tell};
+use crate::messages::{finish, report};
 use crate::request::Scope;
 use drf_core::Core;
 use drf_journal::{Device, ProgramSorter, run_explain};
-use drf_why::{tell_each, tell_summary};
+use drf_why::{write_cycle_summary, write_each};
 use std::alloc::Global;
 use std::io::{Read, Write};
 
@@ -25,7 +25,7 @@ pub(crate) fn explain<R: Read, W: Write, E: Write>(
     output: &mut Device<W>,
     errors: &mut Device<E>,
 ) -> u8
-    requires early { at ≤ LATEST_MOMENT }
+    requires early { at ≤ LATEST_TIMESTAMP }
     requires input { IsNew input.old.calls input.old.failed }
     requires output { IsNew output.old.calls output.old.failed }
     requires errors { IsNew errors.old.calls errors.old.failed }
@@ -42,15 +42,15 @@ pub(crate) fn explain<R: Read, W: Write, E: Write>(
             finish(ended, errors)
         }
         Scope::Each(whom) => {
-            let ended = tell_each(alloc, core, at, whom, input, output);
+            let ended = write_each(alloc, core, at, whom, input, output);
             finish(ended, errors)
         }
         Scope::Summary => {
-            let ended = tell_summary(alloc, core, at, input, output);
+            let ended = write_cycle_summary(alloc, core, at, input, output);
             finish(ended, errors)
         }
         Scope::Several => {
-            tell(
+            report(
                 errors,
                 "drf: explain takes one of --client, --agent and --summary at a time\n",
             );

@@ -20,6 +20,6 @@ mod tasks;
 mod unread;
 
 pub use commands::command;
-pub use messages::no_words;
+pub use messages::report_no_arguments;
 pub use request::{Request, Scope, Task};
 pub use tasks::perform;

@@ -1,12 +1,12 @@
 //! The command line: each command with its options and its help texts.
 ghost use Rattle.std.specs.Prelude.{◌≡◌, false, IfOk};
 ghost use Rattle.clap.specs.Words.{app_of, rule_of};
-ghost use Rattle.drf_app.specs.Line.{agent_option, audit_line, check_line, client_option, drf_line, drive_line, explain_line, file_words, from_option, lint_line, moment_option, run_line, save_line, show_line};
+ghost use Rattle.drf_app.specs.Line.{agent_option, audit_line, check_line, client_option, drf_line, drive_line, explain_line, file_arguments, from_option, lint_line, timestamp_option, run_line, save_line, show_line};
 
 use crate::arguments::{flag, top_line, with_argument, with_command};
 use clap::builder::ValueParser;
 use clap::{Arg, ArgAction, Command};
-use drf_rows::LATEST_MOMENT;
+use drf_rows::LATEST_TIMESTAMP;
 use std::alloc::{AllocError, Global};
 
 /// The names of the two values of `--client` in help.
@@ -86,9 +86,9 @@ fn show_line<'a>(alloc: Global) -> Result<Command<'a>, AllocError>
     with_argument(line, from_option(alloc))
 }
 
-/// Returns the option `--at MOMENT`.
-fn moment_option<'a>(alloc: Global) -> Arg<'a>
-    ensures rule { rule_of result ≡ moment_option }
+/// Returns the option `--at TIMESTAMP`.
+fn timestamp_option<'a>(alloc: Global) -> Arg<'a>
+    ensures rule { rule_of result ≡ timestamp_option }
     ensures local { result.global ≡ false }
 {
     Arg::new(alloc, "at")
@@ -96,7 +96,7 @@ fn moment_option<'a>(alloc: Global) -> Arg<'a>
         .help(
             "The time of that cycle, in milliseconds; without it, the latest timestamp of the lines",
         )
-        .value_parser(ValueParser::Unsigned(0, LATEST_MOMENT))
+        .value_parser(ValueParser::Unsigned(0, LATEST_TIMESTAMP))
         .action(ArgAction::Set)
 }
 
@@ -137,7 +137,7 @@ fn explain_line<'a>(alloc: Global) -> Result<Command<'a>, AllocError>
         .after_help(
             "Examples: head -12 examples/day.jsonl | drf explain, and with explain --summary or explain --client batch data in its place",
         )
-        .arg(moment_option(alloc));
+        .arg(timestamp_option(alloc));
     let each = flag(
         alloc,
         "each",
@@ -189,8 +189,8 @@ fn lint_line<'a>(alloc: Global) -> Result<Command<'a>, AllocError>
 }
 
 /// Returns the arguments `FILE..` of `drive`.
-fn file_words<'a>(alloc: Global) -> Arg<'a>
-    ensures rule { rule_of result ≡ file_words }
+fn file_arguments<'a>(alloc: Global) -> Arg<'a>
+    ensures rule { rule_of result ≡ file_arguments }
     ensures local { result.global ≡ false }
 {
     Arg::new(alloc, "FILE")
@@ -210,7 +210,7 @@ fn drive_line<'a>(alloc: Global) -> Result<Command<'a>, AllocError>
         )
         .after_help("Example: drf drive examples/first.jsonl examples/teams.jsonl | drf check")
         .arg(from_option(alloc));
-    with_argument(line, file_words(alloc))
+    with_argument(line, file_arguments(alloc))
 }
 
 /// Returns the whole command line.

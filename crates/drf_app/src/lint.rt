@@ -50,7 +50,7 @@ fn hand_on<W: Write>(output: &mut Device<W>)
 /// Reports an error, unless standard error itself has failed, and returns the exit status.
 fn close<E: Write>(ended: Result<u64, RunFault>, errors: &mut Device<E>) -> u8
     ensures status { result ≡ lint_status ended }
-    ensures told { IsLintEnd ended errors.old.failed (E.contents errors.old.inner) (E.contents errors.new.inner) errors.new.failed }
+    ensures reported { IsLintEnd ended errors.old.failed (E.contents errors.old.inner) (E.contents errors.new.inner) errors.new.failed }
 {
     match ended {
         Ok(0) => 0,

@@ -2,7 +2,7 @@
 ghost use Rattle.std.specs.Prelude.{◌≡◌, false, Err};
 ghost use Rattle.drf_journal.specs.declared.fault.RunFault.{RunFault};
 ghost use Rattle.std.specs.IoError.{error_kind};
-ghost use Rattle.drf_app.specs.Told.{fault_line, no_text_line, status_of, IsTold, IsToldOf};
+ghost use Rattle.drf_app.specs.Told.{fault_line, no_text_line, status_of, IsReported, IsReportedOf};
 
 use drf_journal::{Device, RunFault, write_whole};
 use std::io;
@@ -20,47 +20,47 @@ fn fault_line(fault: RunFault) -> &'static str
 }
 
 /// Writes bytes as far as the device takes them. If that fails, only the exit status shows the error.
-pub(crate) fn tell_bytes<W: Write>(errors: &mut Device<W>, bytes: &[u8])
+pub(crate) fn report_bytes<W: Write>(errors: &mut Device<W>, bytes: &[u8])
     requires { errors.old.failed ≡ false }
-    ensures { IsTold bytes.now (W.contents errors.old.inner) (W.contents errors.new.inner) errors.new.failed }
+    ensures { IsReported bytes.now (W.contents errors.old.inner) (W.contents errors.new.inner) errors.new.failed }
 {
     let _ = write_whole(errors, bytes);
 }
 
 /// Writes a text as far as the device takes it. If that fails, only the exit status shows the error.
-pub(crate) fn tell<W: Write>(errors: &mut Device<W>, text: &str)
+pub(crate) fn report<W: Write>(errors: &mut Device<W>, text: &str)
     requires { errors.old.failed ≡ false }
-    ensures { IsTold text.now (W.contents errors.old.inner) (W.contents errors.new.inner) errors.new.failed }
+    ensures { IsReported text.now (W.contents errors.old.inner) (W.contents errors.new.inner) errors.new.failed }
 {
-    tell_bytes(errors, text.as_bytes());
+    report_bytes(errors, text.as_bytes());
 }
 
 /// Reports an error, if there is one, and returns the exit status: 0 or 1.
 pub(crate) fn finish<T: Drop, E: Write>(ended: Result<T, RunFault>, errors: &mut Device<E>) -> u8
     requires { errors.old.failed ≡ false }
     ensures status { result ≡ status_of ended }
-    ensures told { IsToldOf ended (E.contents errors.old.inner) (E.contents errors.new.inner) errors.new.failed }
+    ensures reported { IsReportedOf ended (E.contents errors.old.inner) (E.contents errors.new.inner) errors.new.failed }
 {
     match ended {
         Ok(_) => 0,
         Err(fault) => {
-            tell(errors, fault_line(fault));
+            report(errors, fault_line(fault));
             1
         }
     }
 }
 
 /// Reports that the arguments cannot be read, and returns the exit status: 1 if memory ran out, 2 if one is not UTF-8.
-pub fn no_words<E: Write>(error: &io::Error, errors: &mut Device<E>) -> u8
+pub fn report_no_arguments<E: Write>(error: &io::Error, errors: &mut Device<E>) -> u8
     requires { errors.old.failed ≡ false }
     ensures memory { error_kind error.now ≡ ErrorKind.OutOfMemory → (result ≡ 1)
-        × IsTold (fault_line RunFault.Memory) (E.contents errors.old.inner) (E.contents errors.new.inner) errors.new.failed }
+        × IsReported (fault_line RunFault.Memory) (E.contents errors.old.inner) (E.contents errors.new.inner) errors.new.failed }
     ensures no_text { ¬ (error_kind error.now ≡ ErrorKind.OutOfMemory) → (result ≡ 2)
-        × IsTold no_text_line (E.contents errors.old.inner) (E.contents errors.new.inner) errors.new.failed }
+        × IsReported no_text_line (E.contents errors.old.inner) (E.contents errors.new.inner) errors.new.failed }
 {
     if error.kind() == ErrorKind::OutOfMemory {
         return finish::<(), E>(Err(RunFault::Memory), errors);
     }
-    tell(errors, "drf: a word of the command line is not UTF-8\n");
+    report(errors, "drf: a word of the command line is not UTF-8\n");
     2
 }

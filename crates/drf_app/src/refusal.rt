@@ -5,7 +5,7 @@ ghost use Rattle.drf_journal.specs.declared.fault.RunFault.{RunFault};
 ghost use Rattle.drf_app.specs.Refused.{HasRefused};
 ghost use Rattle.drf_app.specs.Streams.{Stream, stream_of};
 
-use crate::messages::{finish, tell};
+use crate::messages::{finish, report};
 use clap::Error;
 use clap::error::ErrorKind;
 use drf_journal::{Device, RunFault, write_whole};
@@ -34,7 +34,7 @@ pub(crate) fn refuse<W: Write, E: Write>(
         return finish::<(), E>(Err(RunFault::Memory), errors);
     };
     if error.use_stderr() {
-        tell(errors, text.as_str());
+        report(errors, text.as_str());
         return 2;
     }
     let shown = write_whole(output, text.as_bytes());

@@ -1,9 +1,9 @@
 //! The report of a wrong line in a file.
 ghost use Rattle.std.specs.Prelude.{◌≡◌, ◌∷◌, ◌++◌, [], false, OnOk, IfOk, codes, decimal};
-ghost use Rattle.drf_app.specs.Told.{HasToldLine, refused_line};
+ghost use Rattle.drf_app.specs.Told.{HasReportedLine, refused_line};
 
 use crate::file_name::push_name;
-use crate::messages::{finish, tell_bytes};
+use crate::messages::{finish, report_bytes};
 use drf_journal::{Device, RunFault};
 use itoa::Buffer;
 use std::alloc::{AllocError, Global};
@@ -53,18 +53,18 @@ fn refused_line(alloc: Global, line: RefusedLine<'_>) -> Result<Vec<u8>, AllocEr
 }
 
 /// Reports a wrong line, and returns the exit status: 3, or 1 if memory ran out.
-pub(crate) fn tell_line<E: Write>(
+pub(crate) fn report_line<E: Write>(
     alloc: Global,
     line: RefusedLine<'_>,
     errors: &mut Device<E>,
 ) -> u8
     requires { errors.old.failed ≡ false }
-    ensures { HasToldLine (refused_line line.entry.file.now line.entry.line line.entry.fault line.entry.name.now) result
+    ensures { HasReportedLine (refused_line line.entry.file.now line.entry.line line.entry.fault line.entry.name.now) result
         (E.contents errors.old.inner) (E.contents errors.new.inner) errors.new.failed }
 {
     match refused_line(alloc, line) {
         Ok(text) => {
-            tell_bytes(errors, &text);
+            report_bytes(errors, &text);
             3
         }
         Err(_) => finish::<(), E>(Err(RunFault::Memory), errors),

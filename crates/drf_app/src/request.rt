@@ -1,12 +1,12 @@
 //! What the arguments of a command ask for.
 ghost use Rattle.std.specs.Prelude.{◌≡◌, [], map, take, unwrap_or, option_map, codes};
 ghost use Rattle.clap.specs.Words.{all_of, found_of, rows_of};
-ghost use Rattle.drf_app.specs.Line.{asked_by, asked_for, asked_of_client, name_of, IsCommand, SaysMoment, SaysRequest, SaysScope, SaysTask};
+ghost use Rattle.drf_app.specs.Line.{asked_by, asked_for, asked_of_client, name_of, IsCommand, SaysTimestamp, SaysRequest, SaysScope, SaysTask};
 
 use crate::arguments::flag_of;
 use crate::line::MOST_FILES;
 use clap::ArgMatches;
-use drf_rows::LATEST_MOMENT;
+use drf_rows::LATEST_TIMESTAMP;
 use drf_why::Whom;
 
 /// Which clients and agents `explain` writes about.
@@ -51,11 +51,11 @@ pub struct Request<'a> {
 }
 
 /// Returns the value of `--at` (milliseconds), at most the latest timestamp; 0 without it.
-fn moment_of(explain: &ArgMatches) -> u64
-    ensures { SaysMoment (rows_of (found_of explain.now)) result }
+fn timestamp_of(explain: &ArgMatches) -> u64
+    ensures { SaysTimestamp (rows_of (found_of explain.now)) result }
 {
     match explain.get_one::<u64>("at") {
-        Some(at) => at.min(LATEST_MOMENT),
+        Some(at) => at.min(LATEST_TIMESTAMP),
         None => 0,
     }
 }
@@ -120,7 +120,7 @@ fn task_of<'a>(name: &str, command: &ArgMatches<'a>) -> Task<'a>
         return Task::Audit;
     }
     if name == "explain" {
-        let at = moment_of(command);
+        let at = timestamp_of(command);
         let scope = scope_of(command);
         return Task::Explain { at, scope };
     }

@@ -3,11 +3,11 @@ ghost use Rattle.std.specs.Prelude.{◌≡◌, Some, [], false, IfErr, IfOk, opt
 ghost use Rattle.drf_core.specs.Machine.{live, opened};
 ghost use Rattle.drf_journal.specs.declared.fault.RunFault.TheVariants.{Memory};
 ghost use Rattle.drf_rows.specs.LimitNumbers.{ceilings};
-ghost use Rattle.drf_app.specs.Starts.{HasToldStart, IsInFile, IsStart, IsStartFault};
+ghost use Rattle.drf_app.specs.Starts.{HasReportedStart, IsInFile, IsStart, IsStartFault};
 ghost use Rattle.drf_app.specs.declared.start.StartFault.TheVariants.{Run};
 
-use crate::refused_line::{RefusedLine, tell_line};
-use crate::unread::tell_file;
+use crate::refused_line::{RefusedLine, report_line};
+use crate::unread::report_file;
 use drf_core::Core;
 use drf_files::FileBytes;
 use drf_hash::HashKey;
@@ -106,19 +106,19 @@ pub(crate) fn begin<F: FileBytes>(
 }
 
 /// Reports why a command could not start, and returns the exit status.
-pub(crate) fn tell_start<E: Write>(
+pub(crate) fn report_start<E: Write>(
     alloc: Global,
     from: Option<&str>,
     fault: StartFault,
     errors: &mut Device<E>,
 ) -> u8
     requires { errors.old.failed ≡ false }
-    ensures { HasToldStart (unwrap_or (option_map (λ name. name.now) from.entry) []) fault result
+    ensures { HasReportedStart (unwrap_or (option_map (λ name. name.now) from.entry) []) fault result
         (E.contents errors.old.inner) (E.contents errors.new.inner) errors.new.failed }
 {
     let file = from.unwrap_or("");
     match fault {
-        StartFault::Run(fault) => tell_file(alloc, file, fault, errors),
+        StartFault::Run(fault) => report_file(alloc, file, fault, errors),
         StartFault::Line { number, fault } => {
             let line = RefusedLine {
                 file,
@@ -126,7 +126,7 @@ pub(crate) fn tell_start<E: Write>(
                 fault: fault.number(),
                 name: fault.name(),
             };
-            tell_line(alloc, line, errors)
+            report_line(alloc, line, errors)
         }
     }
 }

@@ -17,7 +17,7 @@ use crate::refusal::refuse;
 use crate::request::{Request, Task, request_of};
 use crate::run::answer;
 use crate::show::show;
-use crate::start::{begin, tell_start};
+use crate::start::{begin, report_start};
 use clap::ArgMatches;
 use drf_core::Core;
 use drf_files::FileBytes;
@@ -100,7 +100,7 @@ fn perform_request<F: FileBytes, R: Read, W: Write, E: Write>(
 {
     match begin(alloc, files, request.from) {
         Ok(core) => perform_task(rt, alloc, core, request.task, input, output, errors),
-        Err(fault) => tell_start(alloc, request.from, fault, errors),
+        Err(fault) => report_start(alloc, request.from, fault, errors),
     }
 }
 

@@ -1,9 +1,9 @@
 //! The report of a file that cannot be read.
 ghost use Rattle.std.specs.Prelude.{◌≡◌, false, IfOk};
-ghost use Rattle.drf_app.specs.Told.{HasToldFile, HasToldUnread, unread_line};
+ghost use Rattle.drf_app.specs.Told.{HasReportedFile, HasReportedUnread, unread_line};
 
 use crate::file_name::push_name;
-use crate::messages::{finish, tell_bytes};
+use crate::messages::{finish, report_bytes};
 use drf_journal::{Device, RunFault};
 use std::alloc::{AllocError, Global};
 use std::io::Write;
@@ -20,13 +20,13 @@ fn unread_line(alloc: Global, file: &str) -> Result<Vec<u8>, AllocError>
 }
 
 /// Reports a file that cannot be read, and returns the exit status.
-fn tell_unread<E: Write>(alloc: Global, file: &str, errors: &mut Device<E>) -> u8
+fn report_unread<E: Write>(alloc: Global, file: &str, errors: &mut Device<E>) -> u8
     requires { errors.old.failed ≡ false }
-    ensures { HasToldUnread file.now result (E.contents errors.old.inner) (E.contents errors.new.inner) errors.new.failed }
+    ensures { HasReportedUnread file.now result (E.contents errors.old.inner) (E.contents errors.new.inner) errors.new.failed }
 {
     match unread_line(alloc, file) {
         Ok(line) => {
-            tell_bytes(errors, &line);
+            report_bytes(errors, &line);
             1
         }
         Err(_) => finish::<(), E>(Err(RunFault::Read), errors),
@@ -34,17 +34,17 @@ fn tell_unread<E: Write>(alloc: Global, file: &str, errors: &mut Device<E>) -> u
 }
 
 /// Reports why a file gave no bytes, and returns the exit status. A read error is followed by the file's name, if there is memory for it.
-pub(crate) fn tell_file<E: Write>(
+pub(crate) fn report_file<E: Write>(
     alloc: Global,
     file: &str,
     fault: RunFault,
     errors: &mut Device<E>,
 ) -> u8
     requires { errors.old.failed ≡ false }
-    ensures { HasToldFile file.now fault result (E.contents errors.old.inner) (E.contents errors.new.inner) errors.new.failed }
+    ensures { HasReportedFile file.now fault result (E.contents errors.old.inner) (E.contents errors.new.inner) errors.new.failed }
 {
     match fault {
-        RunFault::Read => tell_unread(alloc, file, errors),
+        RunFault::Read => report_unread(alloc, file, errors),
         RunFault::Write | RunFault::Memory => finish::<(), E>(Err(fault), errors),
     }
 }

@@ -89,10 +89,10 @@ module _ (stay : EndedLinesStay) (machine : Machine) (echo : Bool) where
         → ((written : List ℕ) → StartsWith written (asked_of machine echo before)
         → StartsWith written (asked_of machine echo (ended_lines_of (take (length read - 65536) read))))
         → HasAsked machine echo unread_first unread_after written_first written_after (Err fault)
-    stopped_with Read before all rest stopped told ended prompt = absurd stopped.front
-    stopped_with Write before all rest stopped told ended prompt =
+    stopped_with Read before all rest stopped reported ended prompt = absurd stopped.prefix
+    stopped_with Write before all rest stopped reported ended prompt =
         let parted : lines_of read ≡ stopped.answered ++ (stopped.more ++ rest) =
-        told.1 ∙ ap (λ ls. ls ++ rest) stopped.whole ∙ append_assoc stopped.answered stopped.more rest in
+        reported.1 ∙ ap (λ ls. ls ++ rest) stopped.whole ∙ append_assoc stopped.answered stopped.more rest in
         record {
           read = read;
           written = stopped.written;
@@ -100,15 +100,15 @@ module _ (stay : EndedLinesStay) (machine : Machine) (echo : Bool) where
           appended = stopped.appended;
           lines = length stopped.answered;
           answered = record {
-            count = stopped.front.0;
-            output = stopped.front.1
-                ∙ ap (λ ls. take stopped.front.0 (asked_of machine echo ls)) (sym (first_lines _ _ _ parted));
+            count = stopped.prefix.0;
+            output = stopped.prefix.1
+                ∙ ap (λ ls. take stopped.prefix.0 (asked_of machine echo ls)) (sym (first_lines _ _ _ parted));
           };
           ended = ended (length stopped.answered) (few_lines _ _ _ stopped.whole);
           prompt = prompt stopped.written stopped.prompt;
         }
-    stopped_with Memory before all rest stopped told ended prompt =
-        let parted : ended_lines_of read ≡ stopped.answered ++ stopped.more = told.0 ∙ stopped.whole in
+    stopped_with Memory before all rest stopped reported ended prompt =
+        let parted : ended_lines_of read ≡ stopped.answered ++ stopped.more = reported.0 ∙ stopped.whole in
         record {
           read = read;
           written = stopped.written;
@@ -116,7 +116,7 @@ module _ (stay : EndedLinesStay) (machine : Machine) (echo : Bool) where
           appended = stopped.appended;
           lines = length stopped.answered;
           answered = record {
-            output = stopped.front ∙ ap (asked_of machine echo) (sym (first_lines _ _ _ parted));
+            output = stopped.prefix ∙ ap (asked_of machine echo) (sym (first_lines _ _ _ parted));
             had_ended = few_lines _ _ _ parted;
           };
           ended = ended (length stopped.answered) (few_lines _ _ _ stopped.whole);
@@ -144,7 +144,7 @@ serving-begins old begins unread written = record {
   so_far = record {
     written = subst (λ ls. Appends written written (asked_of old.machine old.echo ls)) (sym none_ended) (Appends-nil written);
     machine = ap (after_all_asked old.machine) (sym none_ended);
-    told_too = refl;
+    reported_too = refl;
     pending = ap (λ (a : Asking). a.pending) begins ∙ ap kept_of (sym none_open);
     events = ap (λ (a : Asking). a.events) begins ∙ ap (λ ls. length (event_lines_of ls)) (sym none_ended);
   };
@@ -178,10 +178,10 @@ module _ (stay : EndedLinesStay) (old : Asking) (unread_first unread unread_next
     all_consumed : Consumes unread_first unread_next serving.read
     all_consumed = subst (Consumes unread_first unread_next) (append-nil serving.read) (Consumes-trans _ _ _ _ _ serving.consumed consumed)
 
-    pub run-ends : (next : Asking) (told : ℕ) → told ≡ next.events
+    pub run-ends : (next : Asking) (reported : ℕ) → reported ≡ next.events
         → ((start : Machine) (echo : Bool) (read : List ℕ) (first : Option (List ℕ)) → IsAskedTo start echo read first written asking → HasClosed start echo read first written_next next)
-        → HasAsked old.machine old.echo unread_first unread_next written_first written_next (Ok told)
-    run-ends next told is closed =
+        → HasAsked old.machine old.echo unread_first unread_next written_first written_next (Ok reported)
+    run-ends next reported is closed =
         let end = closed old.machine old.echo serving.read written_first serving.so_far in
         record {
           read = serving.read;
@@ -198,7 +198,7 @@ module _ (stay : EndedLinesStay) (old : Asking) (unread_first unread unread_next
         → ((start : Machine) (echo : Bool) (read : List ℕ) (first : Option (List ℕ)) → IsAskedTo start echo read first written asking
         → HasStoppedIn fault start echo (ended_lines_of read) (lines_reached fault read) first written_next)
         → HasAsked old.machine old.echo unread_first unread_next written_first written_next (Err fault)
-    run-unclosed Read stops = absurd (stops old.machine old.echo serving.read written_first serving.so_far).front
+    run-unclosed Read stops = absurd (stops old.machine old.echo serving.read written_first serving.so_far).prefix
     run-unclosed Write stops =
         stopped_with stay old.machine old.echo unread_first unread_next written_first written_next serving.read all_consumed Write
         (ended_lines_of serving.read) (lines_of serving.read) [] (stops old.machine old.echo serving.read written_first serving.so_far)
@@ -217,13 +217,13 @@ module _ (stay : EndedLinesStay) (old : Asking) (unread_first unread unread_next
   run-stops fault piece short consumed stops =
       let read = serving.read ++ piece in
       let last = all_lines read in
-      let front : take (length read - 65536) read ≡ take (length read - 65536) serving.read =
+      let prefix : take (length read - 65536) read ≡ take (length read - 65536) serving.read =
       take-append-le _ serving.read piece (let sum = length-append serving.read piece in omega arith) in
       stopped_with stay old.machine old.echo unread_first unread_next written_first written_next read
       (Consumes-trans _ _ _ _ _ serving.consumed consumed) fault
       (ended_lines_of serving.read) (ended_lines_of read) last.0 (stops old.machine old.echo serving.read written_first serving.so_far)
       (ends_there fault read, last.1) (λ answered few. inl few)
-      (λ text whole. subst (λ (l : List ℕ). StartsWith text (asked_of old.machine old.echo (ended_lines_of l))) (sym front)
+      (λ text whole. subst (λ (l : List ℕ). StartsWith text (asked_of old.machine old.echo (ended_lines_of l))) (sym prefix)
       (earlier stay old.machine old.echo text serving.read (length read - 65536) whole))
 
 -- ---- the cause of an error

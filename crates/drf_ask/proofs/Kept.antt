@@ -8,7 +8,7 @@ use Rattle.drf_journal.specs.JournalLaws.{LineFeedEndsLine, LineGoesOn, EndedLin
 use Rattle.drf_journal.specs.Output.{kept_of}
 use Rattle.drf_journal.specs.State.{machine_after}
 use Rattle.drf_lines.specs.ReplyLine.{line_of}
-use Rattle.drf_ask.specs.Answer.{not_told, answer_value, mark_of, answer_line}
+use Rattle.drf_ask.specs.Answer.{not_reported, answer_value, mark_of, answer_line}
 use Rattle.drf_ask.specs.Asked.{text_for, after_asked}
 use Rattle.drf_ask.specs.Asking.{count_of}
 use Rattle.drf_ask.specs.Question.{is_question, word_at, fault_name}
@@ -27,7 +27,7 @@ question-kept : (line : List ℕ) → is_question (kept_of line) ≡ is_question
 question-kept [] = refl
 question-kept (b ∷ line) = refl
 
-too_long : (machine : Machine) (line : List ℕ) → longest_line < length line → answer_value machine line ≡ not_told (word_at None) (fault_name LineTooLong)
+too_long : (machine : Machine) (line : List ℕ) → longest_line < length line → answer_value machine line ≡ not_reported (word_at None) (fault_name LineTooLong)
 unfolding answer_value
 too_long machine line long = rw (lt-ltb longest_line (length line) long)
 

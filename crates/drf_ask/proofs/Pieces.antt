@@ -16,13 +16,13 @@ use Rattle.drf_ask.proofs.Steps.{cut_at, line_answered, line_goes_on, stopped_at
 
 -- a run has processed a prefix of a chunk, and the rest remains
 pub record WentOver (old now : Asking) (piece rest : List ℕ) (written_old written : Option (List ℕ)) : Type 0 where
-  pub front : List ℕ
-  pub whole : piece ≡ front ++ rest
-  pub gone : HasGone front old now written_old written
+  pub prefix : List ℕ
+  pub whole : piece ≡ prefix ++ rest
+  pub gone : HasGone prefix old now written_old written
 
 pub went-begins : (old : Asking) (piece : List ℕ) (written : Option (List ℕ)) → WentOver old old piece piece written written
 went-begins old piece written = record {
-  front = [];
+  prefix = [];
   whole = refl;
   gone = λ start echo read first so_far. subst (λ r. IsAskedTo start echo r first written old) (sym (append-nil read)) so_far;
 }
@@ -34,25 +34,25 @@ module _ (laws : Laws) (old now : Asking) (piece rest : List ℕ) (written_old w
       → IsWithinLine (take at rest) → next ≡ after_line now (kept_of (now.pending ++ take at rest))
       → Appends written written_next (text_for now.echo now.machine (kept_of (now.pending ++ take at rest)))
       → WentOver old next piece (drop (at + 1) rest) written_old written_next
-  went-line next written_next at inside feed within is told =
+  went-line next written_next at inside feed within is reported =
       let end = take at rest in
       record {
-        front = went.front ++ (end ++ 10 ∷ []);
-        whole = went.whole ∙ ap (λ l. went.front ++ l) (cut_at rest at inside feed)
-            ∙ sym (append_assoc went.front (end ++ 10 ∷ []) (drop (at + 1) rest));
+        prefix = went.prefix ++ (end ++ 10 ∷ []);
+        whole = went.whole ∙ ap (λ l. went.prefix ++ l) (cut_at rest at inside feed)
+            ∙ sym (append_assoc went.prefix (end ++ 10 ∷ []) (drop (at + 1) rest));
         gone = λ start echo read first so_far.
-            subst (λ r. IsAskedTo start echo r first written_next next) (append_assoc read went.front (end ++ 10 ∷ []))
-            (line_answered laws start echo (read ++ went.front) first written now (went.gone start echo read first so_far) end
-            next written_next within is told);
+            subst (λ r. IsAskedTo start echo r first written_next next) (append_assoc read went.prefix (end ++ 10 ∷ []))
+            (line_answered laws start echo (read ++ went.prefix) first written now (went.gone start echo read first so_far) end
+            next written_next within is reported);
       }
 
   -- the rest is part of one line
   pub went-all : (next : Asking) → IsWithinLine rest → next ≡ record now { pending = kept_of (now.pending ++ rest) }
       → HasGone piece old next written_old written
   went-all next within is = λ start echo read first so_far.
-      let here = line_goes_on laws start echo (read ++ went.front) first written now (went.gone start echo read first so_far) rest next within is in
+      let here = line_goes_on laws start echo (read ++ went.prefix) first written now (went.gone start echo read first so_far) rest next within is in
       subst (λ r. IsAskedTo start echo r first written next)
-      (append_assoc read went.front rest ∙ ap (λ l. read ++ l) (sym went.whole)) here
+      (append_assoc read went.prefix rest ∙ ap (λ l. read ++ l) (sym went.whole)) here
 
   -- the run stops at the next line of the rest
   pub went-stops : (fault : RunFault) (written_next : Option (List ℕ)) (at : ℕ) → at < length rest → get_or rest at 0 ≡ 10
@@ -61,13 +61,13 @@ module _ (laws : Laws) (old now : Asking) (piece rest : List ℕ) (written_old w
       → HasStopped fault piece old written_old written_next
   went-stops fault written_next at inside feed within part = λ start echo read first so_far.
       let end = take at rest in
-      let here = read ++ went.front in
+      let here = read ++ went.prefix in
       let line = open_line_of here ++ end in
       let stay = laws.stay (here ++ (end ++ 10 ∷ [])) (drop (at + 1) rest) in
-      let later = laws.stay read went.front in
+      let later = laws.stay read went.prefix in
       let whole : read ++ piece ≡ (here ++ (end ++ 10 ∷ [])) ++ drop (at + 1) rest =
-      ap (λ l. read ++ l) (went.whole ∙ ap (λ l. went.front ++ l) (cut_at rest at inside feed))
-      ∙ sym (append_assoc read went.front _) ∙ sym (append_assoc here (end ++ 10 ∷ []) (drop (at + 1) rest)) in
+      ap (λ l. read ++ l) (went.whole ∙ ap (λ l. went.prefix ++ l) (cut_at rest at inside feed))
+      ∙ sym (append_assoc read went.prefix _) ∙ sym (append_assoc here (end ++ 10 ∷ []) (drop (at + 1) rest)) in
       let all : ended_lines_of (read ++ piece) ≡ ended_lines_of here ++ line ∷ stay.0 =
       ap ended_lines_of whole ∙ stay.1 ∙ ap (λ ls. ls ++ stay.0) (laws.feed here end within).0
       ∙ append_assoc (ended_lines_of here) (line ∷ []) stay.0 in
@@ -78,11 +78,11 @@ module _ (laws : Laws) (old now : Asking) (piece rest : List ℕ) (written_old w
   -- the run stops before the rest
   pub went-forgotten : HasStopped Memory piece old written_old written
   went-forgotten = λ start echo read first so_far.
-      let here = read ++ went.front in
+      let here = read ++ went.prefix in
       let stay = laws.stay here rest in
-      let later = laws.stay read went.front in
+      let later = laws.stay read went.prefix in
       let all : ended_lines_of (read ++ piece) ≡ ended_lines_of here ++ stay.0 =
-      ap ended_lines_of (ap (λ l. read ++ l) went.whole ∙ sym (append_assoc read went.front rest)) ∙ stay.1 in
+      ap ended_lines_of (ap (λ l. read ++ l) went.whole ∙ sym (append_assoc read went.prefix rest)) ∙ stay.1 in
       subst (λ ls. HasStoppedIn Memory start echo (ended_lines_of read) ls first written) (sym all)
       (stopped_between laws start echo here first written now (went.gone start echo read first so_far) (ended_lines_of read) later.0 stay.0 later.1)
 
@@ -123,12 +123,12 @@ module _ (laws : Laws) (start : Machine) (echo : Bool) (read : List ℕ) (first 
     pub closed-line : (next : Asking) → next ≡ after_line asking (kept_of (asking.pending ++ []))
         → Appends now written_next (text_for asking.echo asking.machine (kept_of (asking.pending ++ [])))
         → HasClosed start echo read first written_next next
-    closed-line next is told =
+    closed-line next is reported =
         let all = last-line some in
         record {
           written = subst (Appends first written_next)
               (text_after laws start echo read first now asking so_far [] ∙ ap (asked_of start echo) (sym all))
-              (Appends-trans _ _ _ _ _ so_far.written told);
+              (Appends-trans _ _ _ _ _ so_far.written reported);
           events = ap (λ (a : Asking). a.events) is ∙ events_after laws start echo read first now asking so_far []
               ∙ ap (λ ls. length (event_lines_of ls)) (sym all);
         }
@@ -148,7 +148,7 @@ module _ (laws : Laws) (start : Machine) (echo : Bool) (read : List ℕ) (first 
         (stopped_between laws start echo read first written_next asking (record {
           written = text;
           machine = so_far.machine;
-          told_too = so_far.told_too;
+          reported_too = so_far.reported_too;
           pending = so_far.pending;
           events = so_far.events;
         }) (ended_lines_of read) [] [] (sym (append-nil _)))

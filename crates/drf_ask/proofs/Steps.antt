@@ -17,36 +17,36 @@ use Rattle.drf_ask.proofs.Kept.{Laws, text-kept, after-kept, count-kept}
 
 -- ---- lines in two parts
 
-pub asked-append : (machine : Machine) (echo : Bool) (front more : List (List ℕ))
-    → asked_of machine echo (front ++ more) ≡ asked_of machine echo front ++ asked_of (after_all_asked machine front) echo more
+pub asked-append : (machine : Machine) (echo : Bool) (prefix more : List (List ℕ))
+    → asked_of machine echo (prefix ++ more) ≡ asked_of machine echo prefix ++ asked_of (after_all_asked machine prefix) echo more
 asked-append machine echo [] more = refl
-asked-append machine echo (line ∷ front) more =
-    ap (λ text. text_for echo machine line ++ text) (asked-append (after_asked machine line) echo front more)
+asked-append machine echo (line ∷ prefix) more =
+    ap (λ text. text_for echo machine line ++ text) (asked-append (after_asked machine line) echo prefix more)
     ∙ sym (append_assoc (text_for echo machine line) _ _)
 
-after-append : (machine : Machine) (front more : List (List ℕ))
-    → after_all_asked machine (front ++ more) ≡ after_all_asked (after_all_asked machine front) more
+after-append : (machine : Machine) (prefix more : List (List ℕ))
+    → after_all_asked machine (prefix ++ more) ≡ after_all_asked (after_all_asked machine prefix) more
 after-append machine [] more = refl
-after-append machine (line ∷ front) more = after-append (after_asked machine line) front more
+after-append machine (line ∷ prefix) more = after-append (after_asked machine line) prefix more
 
-pub asked-one : (machine : Machine) (echo : Bool) (front : List (List ℕ)) (line : List ℕ)
-    → asked_of machine echo (front ++ line ∷ []) ≡ asked_of machine echo front ++ text_for echo (after_all_asked machine front) line
-asked-one machine echo front line =
-    asked-append machine echo front (line ∷ [])
-    ∙ ap (λ text. asked_of machine echo front ++ text) (append-nil (text_for echo (after_all_asked machine front) line))
+pub asked-one : (machine : Machine) (echo : Bool) (prefix : List (List ℕ)) (line : List ℕ)
+    → asked_of machine echo (prefix ++ line ∷ []) ≡ asked_of machine echo prefix ++ text_for echo (after_all_asked machine prefix) line
+asked-one machine echo prefix line =
+    asked-append machine echo prefix (line ∷ [])
+    ∙ ap (λ text. asked_of machine echo prefix ++ text) (append-nil (text_for echo (after_all_asked machine prefix) line))
 
-pub events-one : (front : List (List ℕ)) (line : List ℕ)
-    → length (event_lines_of (front ++ line ∷ [])) ≡ length (event_lines_of front) + count_of line
+pub events-one : (prefix : List (List ℕ)) (line : List ℕ)
+    → length (event_lines_of (prefix ++ line ∷ [])) ≡ length (event_lines_of prefix) + count_of line
 events-one [] line = one (is_question line)
   where
     one : (asks : Bool) → length (cond (not asks) (line ∷ []) []) ≡ 0 + (if asks then 0 else 1)
     one true = refl
     one false = refl
-events-one (first ∷ front) line = more (is_question first) (events-one front line)
+events-one (first ∷ prefix) line = more (is_question first) (events-one prefix line)
   where
-    more : (asks : Bool) → length (event_lines_of (front ++ line ∷ [])) ≡ length (event_lines_of front) + count_of line
-        → length (cond (not asks) (first ∷ event_lines_of (front ++ line ∷ [])) (event_lines_of (front ++ line ∷ [])))
-        ≡ length (cond (not asks) (first ∷ event_lines_of front) (event_lines_of front)) + count_of line
+    more : (asks : Bool) → length (event_lines_of (prefix ++ line ∷ [])) ≡ length (event_lines_of prefix) + count_of line
+        → length (cond (not asks) (first ∷ event_lines_of (prefix ++ line ∷ [])) (event_lines_of (prefix ++ line ∷ [])))
+        ≡ length (cond (not asks) (first ∷ event_lines_of prefix) (event_lines_of prefix)) + count_of line
     more true same = same
     more false same = omega (arith, same)
 
@@ -101,7 +101,7 @@ module _ (laws : Laws) where
     line_is = ap (λ (l : List ℕ). kept_of (l ++ end)) so_far.pending ∙ laws.kept (open_line_of read) end
 
     pub text_is : text_for asking.echo asking.machine (kept_of (asking.pending ++ end)) ≡ text_for echo (after_all_asked start ended) line
-    text_is = (λ i. text_for (so_far.told_too i) (so_far.machine i) (line_is i)) ∙ text-kept laws echo (after_all_asked start ended) line
+    text_is = (λ i. text_for (so_far.reported_too i) (so_far.machine i) (line_is i)) ∙ text-kept laws echo (after_all_asked start ended) line
 
     pub text_after : asked_of start echo ended ++ text_for asking.echo asking.machine (kept_of (asking.pending ++ end))
         ≡ asked_of start echo (ended ++ line ∷ [])
@@ -122,13 +122,13 @@ module _ (laws : Laws) where
     pub line_answered : (next : Asking) (written_next : Option (List ℕ)) → IsWithinLine end → next ≡ after_line asking (kept_of (asking.pending ++ end))
         → Appends now written_next (text_for asking.echo asking.machine (kept_of (asking.pending ++ end)))
         → IsAskedTo start echo (read ++ (end ++ 10 ∷ [])) first written_next next
-    line_answered next written_next within is told =
+    line_answered next written_next within is reported =
         let cut = laws.feed read end within in
         record {
           written = subst (Appends first written_next) (text_after ∙ ap (asked_of start echo) (sym cut.0))
-              (Appends-trans _ _ _ _ _ so_far.written told);
+              (Appends-trans _ _ _ _ _ so_far.written reported);
           machine = ap (λ (a : Asking). a.machine) is ∙ machine_after_it ∙ ap (after_all_asked start) (sym cut.0);
-          told_too = ap (λ (a : Asking). a.echo) is ∙ so_far.told_too;
+          reported_too = ap (λ (a : Asking). a.echo) is ∙ so_far.reported_too;
           pending = ap (λ (a : Asking). a.pending) is ∙ ap kept_of (sym cut.1);
           events = ap (λ (a : Asking). a.events) is ∙ events_after ∙ ap (λ ls. length (event_lines_of ls)) (sym cut.0);
         }
@@ -141,7 +141,7 @@ module _ (laws : Laws) where
         record {
           written = subst (λ ls. Appends first now (asked_of start echo ls)) (sym on.0) so_far.written;
           machine = ap (λ (a : Asking). a.machine) is ∙ so_far.machine ∙ ap (after_all_asked start) (sym on.0);
-          told_too = ap (λ (a : Asking). a.echo) is ∙ so_far.told_too;
+          reported_too = ap (λ (a : Asking). a.echo) is ∙ so_far.reported_too;
           pending = ap (λ (a : Asking). a.pending) is ∙ line_is ∙ ap kept_of (sym on.1);
           events = ap (λ (a : Asking). a.events) is ∙ so_far.events ∙ ap (λ ls. length (event_lines_of ls)) (sym on.0);
         }
@@ -162,7 +162,7 @@ module _ (laws : Laws) where
           whole = sym (append_assoc ended (line ∷ []) others);
           written = text ++ take part.0 next;
           appended = Appends-trans _ _ _ _ _ so_far.written part.1;
-          front = (length text + part.0, behind text next part.0 ∙ ap (take (length text + part.0)) text_after);
+          prefix = (length text + part.0, behind text next part.0 ∙ ap (take (length text + part.0)) text_after);
           prompt = begins_after is (take part.0 next);
         }
       where
@@ -179,7 +179,7 @@ module _ (laws : Laws) where
           whole = refl;
           written = text;
           appended = subst (Appends first written_next) (append-nil text) (Appends-trans _ _ _ _ _ so_far.written part);
-          front = refl;
+          prefix = refl;
           prompt = begins_before text (asked_of start echo before) _
               (subst (λ (t : List ℕ). StartsWith text t) (ap (asked_of start echo) is ∙ asked-append start echo before later)
               (subst (λ (t : List ℕ). StartsWith t text) (append-nil text) (begins text [])));
@@ -198,7 +198,7 @@ module _ (laws : Laws) where
         whole = refl;
         written = text;
         appended = so_far.written;
-        front = refl;
+        prefix = refl;
         prompt = begins_before text (asked_of start echo before) _
             (subst (λ (t : List ℕ). StartsWith text t) (ap (asked_of start echo) is ∙ asked-append start echo before later)
             (subst (λ (t : List ℕ). StartsWith t text) (append-nil text) (begins text [])));

@@ -8,7 +8,7 @@ use Rattle.serde_json.specs.View.{items_of}
 use Rattle.serde_json.specs.Written.{compact_text, items_text, comma_if}
 use Rattle.drf_lines.specs.ReplyLine.{line_of}
 use Rattle.drf_role.specs.Text.{Text}
-use Rattle.drf_ask.specs.Answer.{opening, told, list_value, listed}
+use Rattle.drf_ask.specs.Answer.{opening, reported, list_value, listed}
 
 -- two texts that are appended one after another
 pub then : (old first second : List ℕ) {mid new : List ℕ} → mid ≡ old ++ first → new ≡ mid ++ second → new ≡ old ++ (first ++ second)
@@ -88,24 +88,24 @@ parts w text =
     ∙ ap (λ l. w ++ (44 ∷ l)) (sym (append_assoc w (58 ∷ (text ++ 125 ∷ [])) (10 ∷ [])))
     ∙ sym (append_assoc w (44 ∷ (w ++ 58 ∷ (text ++ 125 ∷ []))) (10 ∷ [])))
 
-whole_answer : (word : Text) (value : Data) → opening word ++ (compact_text value ++ 125 ∷ 10 ∷ []) ≡ line_of (told word value)
+whole_answer : (word : Text) (value : Data) → opening word ++ (compact_text value ++ 125 ∷ 10 ∷ []) ≡ line_of (reported word value)
 unfolding escape_byte
 whole_answer word value = parts (quoted word) (compact_text value)
 
 -- an answer consists of its beginning, its value and its end
 pub answer_whole : (old : List ℕ) (word : Text) (value : Data) (opened said new : List ℕ) → opened ≡ old ++ opening word
-    → said ≡ opened ++ compact_text value → new ≡ said ++ 125 ∷ 10 ∷ [] → new ≡ old ++ line_of (told word value)
+    → said ≡ opened ++ compact_text value → new ≡ said ++ 125 ∷ 10 ∷ [] → new ≡ old ++ line_of (reported word value)
 answer_whole old word value opened said new a b end =
     then old (opening word) (compact_text value ++ 125 ∷ 10 ∷ []) a (then opened (compact_text value) (125 ∷ 10 ∷ []) b end)
     ∙ ap (λ text. old ++ text) (whole_answer word value)
 
 -- a line that was appended, and whose line feed was removed
-pub unfed : (front line fed new : List ℕ) → fed ≡ front ++ (line ++ 10 ∷ []) → new ≡ take (length fed - 1) fed → new ≡ front ++ line
-unfed front line fed new is cut =
-    let whole : fed ≡ (front ++ line) ++ 10 ∷ [] = is ∙ sym (append_assoc front line (10 ∷ [])) in
-    let count : length fed - 1 ≡ length (front ++ line) =
-    let all = ap length whole in let sum = length-append (front ++ line) (10 ∷ []) in omega arith in
-    cut ∙ (λ i. take (count i) (whole i)) ∙ take-append_seam (front ++ line) (10 ∷ [])
+pub unfed : (prefix line fed new : List ℕ) → fed ≡ prefix ++ (line ++ 10 ∷ []) → new ≡ take (length fed - 1) fed → new ≡ prefix ++ line
+unfed prefix line fed new is cut =
+    let whole : fed ≡ (prefix ++ line) ++ 10 ∷ [] = is ∙ sym (append_assoc prefix line (10 ∷ [])) in
+    let count : length fed - 1 ≡ length (prefix ++ line) =
+    let all = ap length whole in let sum = length-append (prefix ++ line) (10 ∷ []) in omega arith in
+    cut ∙ (λ i. take (count i) (whole i)) ∙ take-append_seam (prefix ++ line) (10 ∷ [])
 
 -- if no framework is named, all items are listed
 pub all_listed : {A : Type 0} (is_of : Text → A → Bool) (xs : List A) → listed is_of [] xs ≡ xs

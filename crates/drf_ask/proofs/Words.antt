@@ -3,7 +3,7 @@ use Rattle.std.proofs.Common.{◌≡◌, ℕ, List, [], ◌∷◌, ◌++◌, Opt
 use Rattle.json.specs.Print.{escape, escape_byte}
 use Rattle.drf_lines.specs.ReplyLine.{line_of}
 use Rattle.drf_role.specs.Text.{Text}
-use Rattle.drf_ask.specs.Answer.{opening, not_told}
+use Rattle.drf_ask.specs.Answer.{opening, not_reported}
 use Rattle.drf_ask.specs.Question.{word_of, word_at, fault_name}
 use Rattle.drf_ask.specs.declared.question.Fault.{Fault}
 use Rattle.drf_ask.specs.declared.question.Fault.TheVariants.{UnknownQuestion, UnknownFramework, BadArgument, LineTooLong}
@@ -62,13 +62,13 @@ regrouped w f =
     ∙ sym (append_assoc (w ++ 34 ∷ []) rest (10 ∷ []))
 
 refused : (word fault : Text) → escape word ≡ word → escape fault ≡ fault
-    → codes "{\"asked\":\"" ++ (word ++ (codes "\",\"fault\":\"" ++ (fault ++ codes "\"}\n"))) ≡ line_of (not_told word fault)
+    → codes "{\"asked\":\"" ++ (word ++ (codes "\",\"fault\":\"" ++ (fault ++ codes "\"}\n"))) ≡ line_of (not_reported word fault)
 unfolding escape_byte between
 refused word fault plain also =
     ap (λ (l : List ℕ). codes "{\"asked\":\"" ++ l)
     ((λ i. sym plain i ++ (codes "\",\"fault\":\"" ++ (sym also i ++ codes "\"}\n"))) ∙ regrouped (escape word) (escape fault))
 
-pub not_told_is : (kind : Option Kind) (fault : Fault)
+pub not_reported_is : (kind : Option Kind) (fault : Fault)
     → codes "{\"asked\":\"" ++ (word_at kind ++ (codes "\",\"fault\":\"" ++ (fault_name fault ++ codes "\"}\n")))
-    ≡ line_of (not_told (word_at kind) (fault_name fault))
-not_told_is kind fault = refused (word_at kind) (fault_name fault) (at_plain kind) (fault_plain fault)
+    ≡ line_of (not_reported (word_at kind) (fault_name fault))
+not_reported_is kind fault = refused (word_at kind) (fault_name fault) (at_plain kind) (fault_plain fault)

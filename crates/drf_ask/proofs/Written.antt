@@ -167,16 +167,16 @@ reply_begins : (echo : Bool) (machine : Machine) (meaning : Result Event LineFau
 reply_begins echo machine (Ok event) = begins_other echo (reply_to machine.limits machine.rows event)
 reply_begins echo machine (Err fault) = begins_fault echo fault
 
-told_begins : (line : List ℕ) → is_question line ≡ false → begins_as_answer true (kept_of line ++ 10 ∷ []) ≡ false
-told_begins [] other = refl
-told_begins (b ∷ line) other = rw other refl
+reported_begins : (line : List ℕ) → is_question line ≡ false → begins_as_answer true (kept_of line ++ 10 ∷ []) ≡ false
+reported_begins [] other = refl
+reported_begins (b ∷ line) other = rw other refl
 
 event_begins : (echo : Bool) (machine : Machine) (line : List ℕ) (others : List Written) → is_question line ≡ false
     → map (λ (w : Written). begins_as_answer echo w.text) others ≡ map (λ (w : Written). w.is_answer) others
     → map (λ (w : Written). begins_as_answer echo w.text) (event_written echo machine line ++ others)
     ≡ map (λ (w : Written). w.is_answer) (event_written echo machine line ++ others)
 event_begins true machine line others other rest =
-    λ i. told_begins line other i ∷ reply_begins true machine (meaning_of line) i ∷ rest i
+    λ i. reported_begins line other i ∷ reply_begins true machine (meaning_of line) i ∷ rest i
 event_begins false machine line others other rest =
     λ i. reply_begins false machine (meaning_of line) i ∷ rest i
 

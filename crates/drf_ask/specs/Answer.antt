@@ -21,7 +21,7 @@ use Rattle.drf_rows.specs.declared.rows.OfferRow.{OfferRow}
 use Rattle.drf_rows.specs.declared.rows.Rows.{Rows}
 use Rattle.drf_rows.specs.declared.rows.TaskRow.{TaskRow}
 use Rattle.drf_state.specs.State.{state_text}
-use Rattle.drf_ask.specs.Question.{Question, question_of, kind_of, word_of, word_at, fault_name, has_right_words, moment_of}
+use Rattle.drf_ask.specs.Question.{Question, question_of, kind_of, word_of, word_at, fault_name, has_right_words, timestamp_of}
 use Rattle.drf_ask.specs.declared.question.Fault.TheVariants.{UnknownQuestion, UnknownFramework, BadArgument, LineTooLong}
 use Rattle.drf_ask.specs.declared.question.Kind.{Kind}
 use Rattle.drf_ask.specs.declared.question.Kind.TheVariants.{Report, Explain, Offers, Tasks, State, Tables}
@@ -29,16 +29,16 @@ use Rattle.drf_ask.specs.declared.question.Kind.TheVariants.{Report, Explain, Of
 -- ---- the two forms of an answer
 
 -- an answer
-abbrev pub told : Text → Data → Data
-told word value = object (member (codes "asked") (string word) (member word value no_members))
+abbrev pub reported : Text → Data → Data
+reported word value = object (member (codes "asked") (string word) (member word value no_members))
 
 -- the beginning of an answer, up to its value
 abbrev pub opening : Text → List ℕ
 opening word = 123 ∷ (quoted (codes "asked") ++ 58 ∷ (quoted word ++ 44 ∷ (quoted word ++ 58 ∷ [])))
 
 -- the object that reports an error
-abbrev pub not_told : Text → Text → Data
-not_told word fault =
+abbrev pub not_reported : Text → Text → Data
+not_reported word fault =
     object (member (codes "asked") (string word) (member (codes "fault") (string fault) no_members))
 
 -- ---- offers and tasks
@@ -64,15 +64,15 @@ is_task_of framework task = same_text task.framework framework
 abbrev pub is_known : Rows → Text → Bool
 is_known rows framework = (length framework == 0) || has_framework rows framework
 
-abbrev pub offers_told : Rows → Text → Data
-offers_told rows framework = told (word_of Offers) (list_value offer_row_value (listed is_offer_of framework rows.offers))
+abbrev pub offers_reported : Rows → Text → Data
+offers_reported rows framework = reported (word_of Offers) (list_value offer_row_value (listed is_offer_of framework rows.offers))
 
-abbrev pub tasks_told : Rows → Text → Data
-tasks_told rows framework = told (word_of Tasks) (list_value task_row_value (listed is_task_of framework rows.tasks))
+abbrev pub tasks_reported : Rows → Text → Data
+tasks_reported rows framework = reported (word_of Tasks) (list_value task_row_value (listed is_task_of framework rows.tasks))
 
 abbrev pub if_known : Rows → Text → Text → Data → Data
 if_known rows framework word answer =
-    if is_known rows framework then answer else not_told word (fault_name UnknownFramework)
+    if is_known rows framework then answer else not_reported word (fault_name UnknownFramework)
 
 -- ---- how full the tables are
 
@@ -97,28 +97,28 @@ tables_value limits rows = object (
 
 -- ---- answers
 
-abbrev pub explained_told : Rows → Option ℕ → Data
-explained_told rows None = not_told (word_of Explain) (fault_name BadArgument)
-explained_told rows (Some at) = told (word_of Explain) (list_value finding_value (explained rows at))
+abbrev pub explained_reported : Rows → Option ℕ → Data
+explained_reported rows None = not_reported (word_of Explain) (fault_name BadArgument)
+explained_reported rows (Some at) = reported (word_of Explain) (list_value finding_value (explained rows at))
 
 -- the answer to a question of each kind; the argument is empty if there is none
 abbrev pub answer_of_kind : Machine → Kind → Text → Data
-answer_of_kind machine Report argument = told (word_of Report) (report_value (report_of machine.rows))
-answer_of_kind machine Explain argument = explained_told machine.rows (moment_of argument)
-answer_of_kind machine Offers argument = if_known machine.rows argument (word_of Offers) (offers_told machine.rows argument)
-answer_of_kind machine Tasks argument = if_known machine.rows argument (word_of Tasks) (tasks_told machine.rows argument)
-answer_of_kind machine State argument = told (word_of State) (string (state_text machine.rows))
-answer_of_kind machine Tables argument = told (word_of Tables) (tables_value machine.limits machine.rows)
+answer_of_kind machine Report argument = reported (word_of Report) (report_value (report_of machine.rows))
+answer_of_kind machine Explain argument = explained_reported machine.rows (timestamp_of argument)
+answer_of_kind machine Offers argument = if_known machine.rows argument (word_of Offers) (offers_reported machine.rows argument)
+answer_of_kind machine Tasks argument = if_known machine.rows argument (word_of Tasks) (tasks_reported machine.rows argument)
+answer_of_kind machine State argument = reported (word_of State) (string (state_text machine.rows))
+answer_of_kind machine Tables argument = reported (word_of Tables) (tables_value machine.limits machine.rows)
 
 abbrev pub answer_of_words : Machine → Question → Option Kind → Data
-answer_of_words machine question None = not_told (word_at None) (fault_name UnknownQuestion)
+answer_of_words machine question None = not_reported (word_at None) (fault_name UnknownQuestion)
 answer_of_words machine question (Some kind) =
     if has_right_words kind question then answer_of_kind machine kind question.argument
-    else not_told (word_of kind) (fault_name BadArgument)
+    else not_reported (word_of kind) (fault_name BadArgument)
 
 unfoldable pub answer_value : Machine → List ℕ → Data
 answer_value machine line =
-    if nat_lt longest_line (length line) then not_told (word_at None) (fault_name LineTooLong)
+    if nat_lt longest_line (length line) then not_reported (word_at None) (fault_name LineTooLong)
     else answer_of_words machine (question_of line) (kind_of (question_of line).word)
 
 -- the beginning of an answer: `?` if lines are echoed, because no event line begins with it

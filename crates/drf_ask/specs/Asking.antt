@@ -6,7 +6,7 @@ use Rattle.std.specs.Io.KnownBytes.{Appends}
 use Rattle.drf_core.specs.Machine.{Machine, machine_code}
 use Rattle.drf_journal.specs.declared.fault.RunFault.{RunFault}
 use Rattle.drf_journal.specs.declared.fault.RunFault.TheVariants.{Read, Write, Memory}
-use Rattle.drf_journal.specs.Device.{AppendsFrontOf}
+use Rattle.drf_journal.specs.Device.{AppendsPrefixOf}
 use Rattle.drf_journal.specs.Lines.{ended_lines_of, open_line_of, lines_of}
 use Rattle.drf_journal.specs.Output.{kept_of}
 use Rattle.drf_ask.specs.Asked.{after_asked, after_all_asked, asked_of, event_lines_of}
@@ -47,7 +47,7 @@ after_line asking line = record {
 pub record IsAskedTo (start : Machine) (echo : Bool) (read : List ℕ) (first now : Option (List ℕ)) (asking : Asking) : Type 0 where
   pub written : Appends first now (asked_of start echo (ended_lines_of read))
   pub machine : asking.machine ≡ after_all_asked start (ended_lines_of read)
-  pub told_too : asking.echo ≡ echo
+  pub reported_too : asking.echo ≡ echo
   pub pending : asking.pending ≡ kept_of (open_line_of read)
   pub events : asking.events ≡ length (event_lines_of (ended_lines_of read))
 
@@ -60,14 +60,14 @@ HasGone piece old new written_old written_new =
 -- what was written of the text for a line: nothing if memory ran out, and a prefix if a write failed
 unfoldable pub HasPart : RunFault → (written_old written_new : Option (List ℕ)) → List ℕ → Type 0
 HasPart Read written_old written_new text = ⊥
-HasPart Write written_old written_new text = AppendsFrontOf written_old written_new text
+HasPart Write written_old written_new text = AppendsPrefixOf written_old written_new text
 HasPart Memory written_old written_new text = Appends written_old written_new []
 
 -- What was written of the text for some lines: all of it if memory ran out, and a prefix if a write failed.
-abbrev pub IsFrontFor : RunFault → List ℕ → List ℕ → Type 0
-IsFrontFor Read text written = ⊥
-IsFrontFor Write text written = (count : ℕ) × (written ≡ take count text)
-IsFrontFor Memory text written = written ≡ text
+abbrev pub IsPrefixFor : RunFault → List ℕ → List ℕ → Type 0
+IsPrefixFor Read text written = ⊥
+IsPrefixFor Write text written = (count : ℕ) × (written ≡ take count text)
+IsPrefixFor Memory text written = written ≡ text
 
 -- A run stopped: the text for the first of all these lines was written, or a prefix of it. The text for the lines
 -- before the last chunk was written as a whole.
@@ -78,7 +78,7 @@ pub record HasStoppedIn (fault : RunFault) (start : Machine) (echo : Bool) (befo
   pub whole : all ≡ answered ++ more
   pub written : List ℕ
   pub appended : Appends first now written
-  pub front : IsFrontFor fault (asked_of start echo answered) written
+  pub prefix : IsPrefixFor fault (asked_of start echo answered) written
   pub prompt : StartsWith written (asked_of start echo before)
 
 -- a run stopped within the next bytes

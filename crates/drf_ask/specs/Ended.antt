@@ -10,10 +10,10 @@ use Rattle.drf_journal.specs.Lines.{lines_of, ended_lines_of}
 use Rattle.drf_ask.specs.Asked.{asked_of, event_lines_of}
 
 -- at `Ok`: all lines were answered, and the number of those that are not questions is returned
-pub record AskedAll (machine : Machine) (echo : Bool) (told answered : ℕ) (read written : List ℕ) : Type 0 where
+pub record AskedAll (machine : Machine) (echo : Bool) (reported answered : ℕ) (read written : List ℕ) : Type 0 where
   pub output : written ≡ asked_of machine echo (lines_of read)
   pub all_lines : answered ≡ length (lines_of read)
-  pub events : told ≡ length (event_lines_of (lines_of read))
+  pub events : reported ≡ length (event_lines_of (lines_of read))
 
 -- after a failed read: all lines that had ended were answered
 pub record AskedEnded (machine : Machine) (echo : Bool) (answered : ℕ) (read written : List ℕ) : Type 0 where
@@ -21,7 +21,7 @@ pub record AskedEnded (machine : Machine) (echo : Bool) (answered : ℕ) (read w
   pub all_ended : answered ≡ length (ended_lines_of read)
 
 -- after a failed write: a prefix of the text for the lines up to the current one was written
-pub record AskedFront (machine : Machine) (echo : Bool) (answered : ℕ) (read written : List ℕ) : Type 0 where
+pub record AskedPrefix (machine : Machine) (echo : Bool) (answered : ℕ) (read written : List ℕ) : Type 0 where
   pub count : ℕ
   pub output : written ≡ take count (asked_of machine echo (take answered (lines_of read)))
 
@@ -32,9 +32,9 @@ pub record AskedFirst (machine : Machine) (echo : Bool) (answered : ℕ) (read w
 
 -- what was written for the bytes read, when the first `answered` lines were answered
 abbrev pub IsAsked : Machine → Bool → Result ℕ RunFault → ℕ → List ℕ → List ℕ → Type 0
-IsAsked machine echo (Ok told) answered read written = AskedAll machine echo told answered read written
+IsAsked machine echo (Ok reported) answered read written = AskedAll machine echo reported answered read written
 IsAsked machine echo (Err Read) answered read written = AskedEnded machine echo answered read written
-IsAsked machine echo (Err Write) answered read written = AskedFront machine echo answered read written
+IsAsked machine echo (Err Write) answered read written = AskedPrefix machine echo answered read written
 IsAsked machine echo (Err Memory) answered read written = AskedFirst machine echo answered read written
 
 -- a run of an allocator read bytes from a reader and wrote bytes to a writer. However it ended, the whole text was

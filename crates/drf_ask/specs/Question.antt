@@ -3,7 +3,7 @@ use Rattle.std.specs.Prelude.{ℕ, ◌+◌, ◌*◌, ◌-◌, ◌==◌, Bool, tr
 use Rattle.std.specs.List.{list_all, before_first, position_or_len, prefix_len}
 use Rattle.std.specs.Char.{is_ascii_digit}
 use Rattle.drf_role.specs.Text.{Text, same_text}
-use Rattle.drf_rows.specs.declared.limits.TheConstants.{LATEST_MOMENT}
+use Rattle.drf_rows.specs.declared.limits.TheConstants.{LATEST_TIMESTAMP}
 use Rattle.drf_ask.specs.declared.question.Fault.{Fault}
 use Rattle.drf_ask.specs.declared.question.Fault.TheVariants.{UnknownQuestion, UnknownFramework, BadArgument, LineTooLong}
 use Rattle.drf_ask.specs.declared.question.Kind.{Kind}
@@ -95,7 +95,7 @@ number_from number [] = number
 number_from number (digit ∷ digits) = number_from (number * 10 + (digit - 48)) digits
 
 -- the timestamp that an argument gives in digits; without one it is 0, which means the current time of the clock
-abbrev pub moment_of : Text → Option ℕ
-moment_of argument =
-    if list_all is_ascii_digit argument && nat_le (number_from 0 argument) LATEST_MOMENT
+abbrev pub timestamp_of : Text → Option ℕ
+timestamp_of argument =
+    if list_all is_ascii_digit argument && nat_le (number_from 0 argument) LATEST_TIMESTAMP
     then Some (number_from 0 argument) else None

@@ -2,13 +2,13 @@
 ghost use Rattle.std.specs.Prelude.{◌≡◌, ◌≤◌, ◌++◌, [], true, Some, OnOk};
 ghost use Rattle.drf_core.specs.Machine.{live};
 ghost use Rattle.drf_lines.specs.ReplyLine.{line_of};
-ghost use Rattle.drf_rows.specs.declared.limits.TheConstants.{LATEST_MOMENT};
+ghost use Rattle.drf_rows.specs.declared.limits.TheConstants.{LATEST_TIMESTAMP};
 ghost use Rattle.drf_rows.specs.Members.{has_framework};
-ghost use Rattle.drf_ask.specs.Answer.{opening, told, not_told, list_value, listed, is_known, if_known, explained_told, answer_of_kind, answer_value, answer_line};
-ghost use Rattle.drf_ask.specs.Question.{is_question, word_of, word_at, fault_name, moment_of};
+ghost use Rattle.drf_ask.specs.Answer.{opening, reported, not_reported, list_value, listed, is_known, if_known, explained_reported, answer_of_kind, answer_value, answer_line};
+ghost use Rattle.drf_ask.specs.Question.{is_question, word_of, word_at, fault_name, timestamp_of};
 
 use crate::list::{Listed, has_name, push_list};
-use crate::question::{Fault, Kind, kind_of, moment_of, question_of};
+use crate::question::{Fault, Kind, kind_of, question_of, timestamp_of};
 use crate::table::push_tables;
 use crate::text::{drop_last, push_string, put};
 use drf_core::Core;
@@ -32,8 +32,8 @@ fn word_at(kind: Option<Kind>) -> &'static str
 }
 
 /// Appends the line that reports why a question has no answer.
-fn push_not_told(text: &mut Vec<u8>, kind: Option<Kind>, fault: Fault) -> Result<(), AllocError>
-    ensures { OnOk result (text.new.items ≡ text.old.items ++ line_of (not_told (word_at kind) (fault_name fault))) }
+fn push_no_answer(text: &mut Vec<u8>, kind: Option<Kind>, fault: Fault) -> Result<(), AllocError>
+    ensures { OnOk result (text.new.items ≡ text.old.items ++ line_of (not_reported (word_at kind) (fault_name fault))) }
 {
     put(text, "{\"asked\":\"")?;
     put(text, word_at(kind))?;
@@ -66,8 +66,8 @@ fn push_report<S: Sorter>(core: &Core<S>, text: &mut Vec<u8>) -> Result<(), Allo
 
 /// Appends the answer to `?explain` for the timestamp `at`, in milliseconds.
 fn push_findings<S: Sorter>(core: &Core<S>, at: u64, text: &mut Vec<u8>) -> Result<(), AllocError>
-    requires { at ≤ LATEST_MOMENT }
-    ensures { OnOk result (text.new.items ≡ text.old.items ++ line_of (explained_told (live core.now).rows (Some at))) }
+    requires { at ≤ LATEST_TIMESTAMP }
+    ensures { OnOk result (text.new.items ≡ text.old.items ++ line_of (explained_reported (live core.now).rows (Some at))) }
 {
     push_opening(text, Kind::Explain)?;
     let findings = core.explain(at)?;
@@ -81,11 +81,11 @@ fn push_explained<S: Sorter>(
     argument: &[u8],
     text: &mut Vec<u8>,
 ) -> Result<(), AllocError>
-    ensures { OnOk result (text.new.items ≡ text.old.items ++ line_of (explained_told (live core.now).rows (moment_of argument.now))) }
+    ensures { OnOk result (text.new.items ≡ text.old.items ++ line_of (explained_reported (live core.now).rows (timestamp_of argument.now))) }
 {
-    match moment_of(argument) {
+    match timestamp_of(argument) {
         Some(at) => push_findings(core, at, text),
-        None => push_not_told(text, Some(Kind::Explain), Fault::BadArgument),
+        None => push_no_answer(text, Some(Kind::Explain), Fault::BadArgument),
     }
 }
 
@@ -114,14 +114,14 @@ fn push_listed<T: Listed>(
     text: &mut Vec<u8>,
 ) -> Result<(), AllocError>
     ensures { OnOk result (text.new.items ≡ text.old.items ++ line_of (if_known rows.now framework.now (word_of kind)
-        (told (word_of kind) (list_value T.value (listed T.is_of framework.now items.now))))) }
+        (reported (word_of kind) (list_value T.value (listed T.is_of framework.now items.now))))) }
 {
     if is_known(rows, framework) {
         push_opening(text, kind)?;
         push_list(text, items, framework)?;
         return put(text, "}\n");
     }
-    push_not_told(text, Some(kind), Fault::UnknownFramework)
+    push_no_answer(text, Some(kind), Fault::UnknownFramework)
 }
 
 /// Appends the answer to `?offers`.
@@ -210,14 +210,14 @@ fn push_answer_line<S: Sorter>(
     ensures { OnOk result (text.new.items ≡ text.old.items ++ line_of (answer_value (live core.now) line.now)) }
 {
     if line.len() > LONGEST_LINE {
-        return push_not_told(text, None, Fault::LineTooLong);
+        return push_no_answer(text, None, Fault::LineTooLong);
     }
     let question = question_of(line);
     let Some(kind) = kind_of(question.word) else {
-        return push_not_told(text, None, Fault::UnknownQuestion);
+        return push_no_answer(text, None, Fault::UnknownQuestion);
     };
     if !question.has_right_words(kind) {
-        return push_not_told(text, Some(kind), Fault::BadArgument);
+        return push_no_answer(text, Some(kind), Fault::BadArgument);
     }
     push_answer_of_kind(core, limits, kind, question.argument, text)
 }

@@ -11,7 +11,9 @@ ghost use Rattle.drf_ask.specs.Asking.{not_asked, after_line, count_of, IsAskedT
 use crate::answer::push_answer;
 use crate::question::is_question;
 use drf_core::Core;
-use drf_journal::{Device, OpenLine, RunFault, answer_end, line_feed_in, line_law, write_whole};
+use drf_journal::{
+    Device, OpenLine, RunFault, line_feed_in, line_law, reply_to_parted_line, write_whole,
+};
 use drf_lines::LineReader;
 use drf_rows::Limits;
 use drf_sorter::Sorter;
@@ -29,14 +31,14 @@ fn push_text_for<S: Sorter>(
     text: &mut Vec<u8>,
 ) -> Result<(), AllocError>
     requires { limits.now ≡ (live core.old).limits }
-    ensures told { OnOk result (text.new.items ≡ text.old.items ++ text_for echo (live core.old) line.old) }
+    ensures reported { OnOk result (text.new.items ≡ text.old.items ++ text_for echo (live core.old) line.old) }
     ensures ok { OnOk result (live core.new ≡ after_asked (live core.old) line.old) }
     ensures limits { (live core.new).limits ≡ (live core.old).limits }
 {
     if is_question(line.bytes()) {
         return push_answer(core, limits, echo, line.bytes(), text);
     }
-    answer_end(reader, core, echo, line, &[], text)
+    reply_to_parted_line(reader, core, echo, line, &[], text)
 }
 
 /// Takes the event of a line, or answers its question, and writes the text for the line. `text` is a buffer that is

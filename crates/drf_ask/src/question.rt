@@ -3,10 +3,10 @@ ghost use Rattle.std.specs.Prelude.{◌≡◌, ◌≤◌, ◌-◌, ◌^◌, true
 ghost use Rattle.std.specs.Char.{is_ascii_digit};
 ghost use Rattle.std.specs.List.{list_all, position_or_len, prefix_len};
 ghost use Rattle.drf_role.specs.Text.{same_text};
-ghost use Rattle.drf_rows.specs.declared.limits.TheConstants.{LATEST_MOMENT};
-ghost use Rattle.drf_ask.specs.Question.{is_question, is_blank, without_blanks, question_of, kind_of, word_of, fault_name, takes_argument, has_right_words, number_from, moment_of};
+ghost use Rattle.drf_rows.specs.declared.limits.TheConstants.{LATEST_TIMESTAMP};
+ghost use Rattle.drf_ask.specs.Question.{is_question, is_blank, without_blanks, question_of, kind_of, word_of, fault_name, takes_argument, has_right_words, number_from, timestamp_of};
 
-use drf_rows::LATEST_MOMENT;
+use drf_rows::LATEST_TIMESTAMP;
 
 /// The kinds of questions.
 #[derive(Clone, Copy)]
@@ -208,16 +208,16 @@ fn are_digits(text: &[u8]) -> bool
 
 /// Returns the timestamp that an argument gives, in milliseconds, or `None` if it is not a number up to 2^62. Without
 /// an argument it is 0, which means the current time of the clock.
-pub(crate) fn moment_of(argument: &[u8]) -> Option<u64>
-    ensures value { result ≡ moment_of argument.now }
-    ensures early { IfSome result (λ at. at ≤ LATEST_MOMENT) }
+pub(crate) fn timestamp_of(argument: &[u8]) -> Option<u64>
+    ensures value { result ≡ timestamp_of argument.now }
+    ensures early { IfSome result (λ at. at ≤ LATEST_TIMESTAMP) }
 {
     if !are_digits(argument) {
         return None;
     }
-    let moment = number_of(argument);
-    if moment > LATEST_MOMENT {
+    let timestamp = number_of(argument);
+    if timestamp > LATEST_TIMESTAMP {
         return None;
     }
-    Some(moment)
+    Some(timestamp)
 }

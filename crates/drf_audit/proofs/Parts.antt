@@ -13,17 +13,17 @@ use Rattle.drf_role.specs.TextLaws.{same_from_test}
 use Rattle.drf_rows.specs.Holdings.{Holding, is_on, parts_on}
 use Rattle.drf_audit.specs.Held.{parts_of}
 
-abbrev pub Lent : Type 0
-Lent = Vec (Bor (List Resource))
+abbrev pub Borrowed : Type 0
+Borrowed = Vec (Bor (List Resource))
 
-abbrev pub bundles_or : Option Lent → List (List Resource)
+abbrev pub bundles_or : Option Borrowed → List (List Resource)
 bundles_or o = option_map_or (λ v. parts_of v.items) o []
 
-abbrev pub parts_at : List (Text × Lent) → Text → List (List Resource)
+abbrev pub parts_at : List (Text × Borrowed) → Text → List (List Resource)
 parts_at es q = bundles_or (lookup (same_text q) es)
 
 -- one more bundle is stored for an agent
-pub added_at : (old new : List (Text × Lent)) (agent : Text) (w : Option Lent) (bundle : List Resource)
+pub added_at : (old new : List (Text × Borrowed)) (agent : Text) (w : Option Borrowed) (bundle : List Resource)
     → ((q : Text) → lookup (same_text q) new ≡ cond (same_text agent q) w (lookup (same_text q) old))
     → bundles_or w ≡ parts_at old agent ++ bundle ∷ []
     → (q : Text) → parts_at new q ≡ parts_at old q ++ cond (same_text agent q) (bundle ∷ []) []

@@ -1,7 +1,7 @@
 //! The bundles that are held on each agent.
 ghost use Rattle.std.specs.Prelude.{◌≡◌, [], ◌∷◌, ◌++◌, cond, map, IfOk, OnOk};
 ghost use Rattle.drf_role.specs.Text.{Text, same_text};
-ghost use Rattle.drf_rows.specs.Holdings.{holdings_of, of_offer, of_task, parts_on};
+ghost use Rattle.drf_rows.specs.Holdings.{holdings_of, holding_of_offer, holding_of_task, parts_on};
 ghost use Rattle.drf_audit.specs.Held.{parts_in};
 
 use drf_bundle::Bundle;
@@ -44,7 +44,7 @@ impl<'a> Held<'a> {
     /// Adds the bundles of offers, in their order.
     fn add_offers(&mut self, offers: &'a [OfferRow]) -> Result<(), AllocError>
         ensures { OnOk result ((name : Text) → parts_in self.new name
-            ≡ parts_in self.old name ++ parts_on name (map of_offer offers.now)) }
+            ≡ parts_in self.old name ++ parts_on name (map holding_of_offer offers.now)) }
     {
         for offer in offers {
             self.add(&offer.agent, &offer.bundle)?;
@@ -55,7 +55,7 @@ impl<'a> Held<'a> {
     /// Adds the bundles of tasks, in their order.
     fn add_tasks(&mut self, tasks: &'a [TaskRow]) -> Result<(), AllocError>
         ensures { OnOk result ((name : Text) → parts_in self.new name
-            ≡ parts_in self.old name ++ parts_on name (map of_task tasks.now)) }
+            ≡ parts_in self.old name ++ parts_on name (map holding_of_task tasks.now)) }
     {
         for task in tasks {
             self.add(&task.agent, &task.bundle)?;

@@ -37,6 +37,6 @@ pub fn write_audit_line(
     ensures ok { OnOk result (text.new.items ≡ text.old.items ++ audit_text line.now) }
     ensures err { OnErr result (text.new.items ≡ text.old.items) }
 {
-    let told = line_text(alloc, line)?;
-    text.extend_from_slice(&told)
+    let reported = line_text(alloc, line)?;
+    text.extend_from_slice(&reported)
 }

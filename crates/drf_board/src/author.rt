@@ -5,7 +5,7 @@ ghost use Rattle.logbook.specs.Pages.{may_write};
 ghost use Rattle.drf_board.specs.Chains.{head_of, word_of};
 ghost use Rattle.drf_board.specs.History.{IsLegal, entry};
 
-use crate::history::{AddLink, Chained, Expected, Lent, Link, Look, Naming, NewPen, NoGain};
+use crate::history::{AddLink, Borrowed, Chained, Expected, Link, Look, Naming, NewPen, NoGain};
 use crate::prefix::Prefix;
 use drf_rows::{Event, Reply};
 use logbook::{Offer, Pen, Seen, Word};
@@ -111,7 +111,7 @@ impl<K: Naming> Author<K> {
         ensures { self.new ≡ self.old ++ entry event.now reply.now ∷ [] }
     {
         let (_, next) = new_word(&self.head, &self.seen);
-        let lent = Lent {
+        let borrowed = Borrowed {
             root: &self.root,
             next: &next,
             event,
@@ -119,7 +119,7 @@ impl<K: Naming> Author<K> {
         };
         let mut offer: Offer<Link, u64, Chained, NoGain> = self
             .seen
-            .plain::<NoGain, Lent<'_>, AddLink>(&lent);
+            .plain::<NoGain, Borrowed<'_>, AddLink>(&borrowed);
         self.head
             .compare_exchange::<AddLink, NoGain>(0, 0, &mut self.seen, &mut offer, &mut self.pen);
         self.pen = next;

@@ -62,7 +62,7 @@ impl Plain<(), Link, u64> for NewPen {
 
 /// What a link is made from: the word that names the chain, the pen that can add the next link, and the event and reply of the entry.
 #[derive(Clone, Copy)]
-pub struct Lent<'a> {
+pub struct Borrowed<'a> {
     pub root: &'a Word<Link, u64, Chained>,
     pub next: &'a Pen,
     pub event: &'a Event,
@@ -78,14 +78,14 @@ impl Play<Link, u64> for AddLink {
     ghost then = { HasLinked };
 }
 
-impl<'a> Plain<Lent<'a>, Link, u64> for AddLink {
+impl<'a> Plain<Borrowed<'a>, Link, u64> for AddLink {
     ghost use Rattle.std.specs.Prelude.{None};
     ghost use Rattle.drf_board.specs.Chains.{link_of};
     ghost use Rattle.drf_board.specs.History.{entry};
 
-    ghost ask = { λ lent. link_of lent.root.now.key lent.next.now.nib.key (entry lent.event.now lent.reply.now) };
+    ghost ask = { λ borrowed. link_of borrowed.root.now.key borrowed.next.now.nib.key (entry borrowed.event.now borrowed.reply.now) };
 
-    ghost state = { λ lent. None };
+    ghost state = { λ borrowed. None };
 }
 
 /// The number of links that a chain is expected to have.

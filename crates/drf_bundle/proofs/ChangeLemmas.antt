@@ -99,8 +99,8 @@ less_by others e = record { label = e.label; amount = e.amount - amount_of other
 -- an entry that was not reached yet is unchanged
 pub unchanged_at : (others es now : List Entry) (i : ℕ) (e : Entry) → i < length es → now ≡ map (less_by others) (take i es) ++ drop i es → e ≡ get_or now i e → e ≡ get_or es i e
 unchanged_at others es now i e in_range so_far read =
-    let front : length (map (less_by others) (take i es)) ≡ i = grind (arith, common_steps) in
-    read ∙ ap (λ (l : List Entry). get_or l i e) so_far ∙ get_or-append_right (map (less_by others) (take i es)) (drop i es) i i e front (omega arith) ∙ get_or-drop i es (i - i) e ∙ ap (λ (k : ℕ). get_or es k e) (omega arith)
+    let prefix : length (map (less_by others) (take i es)) ≡ i = grind (arith, common_steps) in
+    read ∙ ap (λ (l : List Entry). get_or l i e) so_far ∙ get_or-append_right (map (less_by others) (take i es)) (drop i es) i i e prefix (omega arith) ∙ get_or-drop i es (i - i) e ∙ ap (λ (k : ℕ). get_or es k e) (omega arith)
 
 -- each entry has at least what is subtracted
 pub enough_at : (es others : List Entry) (i : ℕ) (e : Entry) → IsTrue (is_in_order es) → IsTrue (covers es others) → i < length es → e ≡ get_or es i e → amount_of others e.label ≤ e.amount

@@ -19,7 +19,7 @@ use Rattle.drf_bundle.proofs.laws.ValueLaws.{units-most}
 use Rattle.drf_bundle.specs.Bundle.{Key, key_of, same_key, is_in_order, stock}
 use Rattle.drf_bundle.specs.laws.KeyLaws.{cases_below, below_from_name, Has, where-cons, unit-none}
 use Rattle.drf_bundle.specs.laws.SumLaws.{of_name}
-use Rattle.drf_bundle.specs.KeyPlaces.{IsKeyGap, IsNameGap}
+use Rattle.drf_bundle.specs.KeyPlaces.{IsKeyFreeSlot, IsNameFreeSlot}
 use Rattle.drf_bundle.specs.Union.{has_other_kind, is_reserved_elsewhere, is_too_much, union_refusal}
 use Rattle.drf_bundle.specs.declared.resource.Resource.{Resource}
 use Rattle.drf_bundle.proofs.SearchLemmas.{in_order_at, has_index}
@@ -37,7 +37,7 @@ module _ (rs : List Resource) (name : Text) (ordered : IsTrue (is_in_order rs)) 
 
   -- a search by name that finds nothing ends at the place where the name would be inserted
   pub name_searched : (r : Result ℕ ℕ) → IsSearchInRange r (length rs)
-      → IsBinarySearchResult (λ s. slice_cmp nat_cmp s.label name) rs r → IfSome (result_err r) (IsNameGap rs name)
+      → IsBinarySearchResult (λ s. slice_cmp nat_cmp s.label name) rs r → IfSome (result_err r) (IsNameFreeSlot rs name)
   name_searched (Ok at) in_range equal = tt
   name_searched (Err at) in_range parted = record {
     in_range = in_range;
@@ -46,7 +46,7 @@ module _ (rs : List Resource) (name : Text) (ordered : IsTrue (is_in_order rs)) 
   }
 
 -- a name that comes after that of the last resource belongs at the end
-pub name_behind : (rs : List Resource) (name : Text) → IsTrue (is_in_order rs) → (r : Resource) → slice_get rs (length rs - 1) ≡ Some r → IsTrue (text_below r.label name) → IsNameGap rs name (length rs)
+pub name_behind : (rs : List Resource) (name : Text) → IsTrue (is_in_order rs) → (r : Resource) → slice_get rs (length rs - 1) ≡ Some r → IsTrue (text_below r.label name) → IsNameFreeSlot rs name (length rs)
 name_behind rs name ordered r last below = record {
   in_range = omega arith;
   smaller_before = λ k d lt. elim (cases_lt k (length rs - 1)) [
@@ -65,21 +65,21 @@ name_behind rs name ordered r last below = record {
     last_below d = rw (get_or_from_slice_get rs (length rs - 1) r d last) below
 
 -- it is the place for each reservation of the name
-pub key_gap : (rs : List Resource) (key : Key) (i : ℕ) → IsNameGap rs key.0 i → IsKeyGap rs key i
-key_gap rs key i gap = record {
-  in_range = gap.in_range;
-  below_before = λ k d lt. below_from_name (key_of (get_or rs k d)) key (cmp_below (get_or rs k d).label key.0 (gap.smaller_before k d lt));
-  above_after = λ k d le lt. below_from_name key (key_of (get_or rs k d)) (cmp_below key.0 (get_or rs k d).label (gap.greater_after k d le lt));
+pub key_free_slot : (rs : List Resource) (key : Key) (i : ℕ) → IsNameFreeSlot rs key.0 i → IsKeyFreeSlot rs key i
+key_free_slot rs key i free_slot = record {
+  in_range = free_slot.in_range;
+  below_before = λ k d lt. below_from_name (key_of (get_or rs k d)) key (cmp_below (get_or rs k d).label key.0 (free_slot.smaller_before k d lt));
+  above_after = λ k d le lt. below_from_name key (key_of (get_or rs k d)) (cmp_below key.0 (get_or rs k d).label (free_slot.greater_after k d le lt));
 }
 
 -- no resource has the name
-unnamed : (rs : List Resource) (name : Text) (i : ℕ) → IsNameGap rs name i → (s : Resource) → Has rs s
+unnamed : (rs : List Resource) (name : Text) (i : ℕ) → IsNameFreeSlot rs name i → (s : Resource) → Has rs s
     → (same_text s.label name ≡ false) × (same_text name s.label ≡ false)
-unnamed rs name i gap s has =
+unnamed rs name i free_slot s has =
     let at = has_index rs s has in
     subst (λ (t : Resource). (same_text t.label name ≡ false) × (same_text name t.label ≡ false)) (sym at.2) (elim (cases_lt at.0 i) [
-      | inl before ↦ let below = gap.smaller_before at.0 s before in (below_other (get_or rs at.0 s).label name below, above_other (get_or rs at.0 s).label name below)
-      | inr after ↦ let below = gap.greater_after at.0 s after at.1 in (above_other name (get_or rs at.0 s).label below, below_other name (get_or rs at.0 s).label below)
+      | inl before ↦ let below = free_slot.smaller_before at.0 s before in (below_other (get_or rs at.0 s).label name below, above_other (get_or rs at.0 s).label name below)
+      | inr after ↦ let below = free_slot.greater_after at.0 s after at.1 in (above_other name (get_or rs at.0 s).label below, below_other name (get_or rs at.0 s).label below)
     ])
 
 none_passes : (name : Text) (test : Resource → Bool) (rs : List Resource) → ((s : Resource) → Has rs s → same_text s.label name ≡ false)
@@ -93,15 +93,15 @@ no_stock name p [] other = refl
 no_stock name p (s ∷ ss) other =
     omega (arith, where-cons (of_name name) p s ss, unit-none (of_name name) p s (other s (inl refl)), no_stock name p ss (λ t later. other t (inr later)))
 
-pub stock_first : (rs : List Resource) (name : Text) (i : ℕ) (p : Point) → IsNameGap rs name i → stock rs name p ≡ 0
-stock_first rs name i p gap = no_stock name p rs (λ s has. (unnamed rs name i gap s has).1)
+pub stock_first : (rs : List Resource) (name : Text) (i : ℕ) (p : Point) → IsNameFreeSlot rs name i → stock rs name p ≡ 0
+stock_first rs name i p free_slot = no_stock name p rs (λ s has. (unnamed rs name i free_slot s has).1)
 
 -- nothing refuses it
-pub first_is_free : (rs : List Resource) (r : Resource) (i : ℕ) → IsNameGap rs r.label i → IsGiven r.value → union_refusal rs r ≡ None
-first_is_free rs r i gap given =
-    let kinds : has_other_kind rs r.label r.value ≡ false = none_passes r.label (λ s. not (is_same_kind s.value r.value)) rs (λ s has. (unnamed rs r.label i gap s has).0) in
-    let members : is_reserved_elsewhere rs r ≡ false = none_passes r.label (λ s. not (same_key (key_of s) (key_of r)) && share_members s.value r.value) rs (λ s has. (unnamed rs r.label i gap s has).0) in
-    let none = stock_first rs r.label i Thousandths gap in
+pub first_is_free : (rs : List Resource) (r : Resource) (i : ℕ) → IsNameFreeSlot rs r.label i → IsGiven r.value → union_refusal rs r ≡ None
+first_is_free rs r i free_slot given =
+    let kinds : has_other_kind rs r.label r.value ≡ false = none_passes r.label (λ s. not (is_same_kind s.value r.value)) rs (λ s has. (unnamed rs r.label i free_slot s has).0) in
+    let members : is_reserved_elsewhere rs r ≡ false = none_passes r.label (λ s. not (same_key (key_of s) (key_of r)) && share_members s.value r.value) rs (λ s has. (unnamed rs r.label i free_slot s has).0) in
+    let none = stock_first rs r.label i Thousandths free_slot in
     let most = units-most r.value Thousandths given in
     let small : is_too_much rs r ≡ false = grind (arith, nat_tests, none, most) in
     λ j. cond (kinds j) (Some fault.Kind) (cond (members j) (Some fault.Overlap) (cond (small j) (Some fault.TooLarge) None))

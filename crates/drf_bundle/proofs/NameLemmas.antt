@@ -39,12 +39,12 @@ filter-none p [] none = refl
 filter-none p (x ∷ xs) none = rw (none 0 x (omega arith)) (filter-none p xs (λ k d lt. none (suc k) d (omega arith)))
 
 -- those that pass are the first
-filter-front : {A : Type 0} (p : A → Bool) (xs : List A) (n : ℕ) → IsPartitionPoint (λ x. p x ≡ true) (λ x. p x ≡ false) xs n
+filter-prefix : {A : Type 0} (p : A → Bool) (xs : List A) (n : ℕ) → IsPartitionPoint (λ x. p x ≡ true) (λ x. p x ≡ false) xs n
     → take n xs ≡ filter p xs
-filter-front p xs zero parted = sym (filter-none p xs (λ k d lt. parted.1 k d (omega arith) lt))
-filter-front p [] (suc n) parted = refl
-filter-front {A} p (x ∷ xs) (suc n) parted =
-    rw (parted.0 0 x (omega arith) (omega arith)) (ap (λ (l : List A). x ∷ l) (filter-front p xs n
+filter-prefix p xs zero parted = sym (filter-none p xs (λ k d lt. parted.1 k d (omega arith) lt))
+filter-prefix p [] (suc n) parted = refl
+filter-prefix {A} p (x ∷ xs) (suc n) parted =
+    rw (parted.0 0 x (omega arith) (omega arith)) (ap (λ (l : List A). x ∷ l) (filter-prefix p xs n
     (λ k d le lt. parted.0 (suc k) d (omega arith) (omega arith), λ k d le lt. parted.1 (suc k) d (omega arith) (omega arith))))
 
 -- ---- names in order
@@ -88,6 +88,6 @@ module _ (rs : List Resource) (name : Text) (ordered : IsTrue (is_in_order rs)) 
 
     pub named_is : (count : ℕ) → IsPartitionPoint (λ r. has_name name r ≡ true) (λ r. has_name name r ≡ false) rest count
         → take count rest ≡ filter (has_name name) rs
-    named_is count front =
-        filter-front (has_name name) rest count front ∙ ap (filter (has_name name)) is_rest
+    named_is count prefix =
+        filter-prefix (has_name name) rest count prefix ∙ ap (filter (has_name name)) is_rest
         ∙ filter-past (has_name name) rs start (λ k d lt in_range. below_other (get_or rs k d).label name (parted.0 k d (omega arith) lt))

@@ -18,7 +18,7 @@ use Rattle.drf_role.proofs.TextLaws.{cmp_above, below_other, above_other}
 use Rattle.drf_bundle.specs.Quantities.{amount_of, is_named, is_in_order, with_amount}
 use Rattle.drf_bundle.proofs.laws.ListLaws.{position-none}
 use Rattle.drf_bundle.proofs.laws.QuantitiesLaws.{stands_first, amount-with}
-use Rattle.drf_bundle.specs.KeyPlaces.{IsAt, IsGapFor}
+use Rattle.drf_bundle.specs.KeyPlaces.{IsAt, IsFreeSlotFor}
 use Rattle.drf_bundle.specs.declared.quantities.Entry.{Entry}
 
 first_at : (n : List ℕ) (es : List Entry) (k : ℕ) (d : Entry) → IsTrue (stands_first n es) → k < length es → IsTrue (text_below n (get_or es k d).label)
@@ -42,7 +42,7 @@ module _ (es : List Entry) (label : List ℕ) where
       (λ k d low high. ap is_lt (cmp_above (get_or es k d).label (get_or es (k + 1) d).label (in_order_at es k (k + 1) d ordered (omega arith) high)))
 
   -- a binary search by label ends at the label, or at the place where it would be inserted
-  pub searched : IsTrue (is_in_order es) → (r : Result ℕ ℕ) → IsSearchInRange r (length es) → IsBinarySearchResult (λ e. slice_cmp nat_cmp e.label label) es r → record { found : IfOk r (IsAt es label); absent : IfErr r (IsGapFor es label) }
+  pub searched : IsTrue (is_in_order es) → (r : Result ℕ ℕ) → IsSearchInRange r (length es) → IsBinarySearchResult (λ e. slice_cmp nat_cmp e.label label) es r → record { found : IfOk r (IsAt es label); absent : IfErr r (IsFreeSlotFor es label) }
   searched ordered (Ok at) in_range equal = record { found = record { in_range = in_range; has_label = λ d. same_from_cmp _ _ (equal d) }; absent = tt }
   searched ordered (Err at) in_range parted = record {
     found = tt;
@@ -54,7 +54,7 @@ module _ (es : List Entry) (label : List ℕ) where
   }
 
   -- a label that comes after that of the last entry belongs at the end
-  pub behind_last : IsTrue (is_in_order es) → (e : Entry) → slice_get es (length es - 1) ≡ Some e → IsTrue (text_below e.label label) → IsGapFor es label (length es)
+  pub behind_last : IsTrue (is_in_order es) → (e : Entry) → slice_get es (length es - 1) ≡ Some e → IsTrue (text_below e.label label) → IsFreeSlotFor es label (length es)
   behind_last ordered e last below = record {
     in_range = omega arith;
     smaller_before = λ k d lt. elim (cases_lt k (length es - 1)) [
@@ -81,21 +81,21 @@ module _ (es : List Entry) (label : List ℕ) where
   named_at i at = or_at (λ l. is_named l label) (λ e. same_text e.label label) refl (λ _ _. refl) es i nothing at.in_range (test_from_same _ _ (at.has_label nothing))
 
   -- if the label would be inserted at a place, no entry has it
-  other_around : (i : ℕ) → IsGapFor es label i → (k : ℕ) (d : Entry) → k < length es → same_text (get_or es k d).label label ≡ false
-  other_around i gap k d in_range = elim (cases_lt k i) [
-    | inl before ↦ below_other (get_or es k d).label label (gap.smaller_before k d before)
-    | inr after ↦ above_other label (get_or es k d).label (gap.greater_after k d after in_range)
+  other_around : (i : ℕ) → IsFreeSlotFor es label i → (k : ℕ) (d : Entry) → k < length es → same_text (get_or es k d).label label ≡ false
+  other_around i free_slot k d in_range = elim (cases_lt k i) [
+    | inl before ↦ below_other (get_or es k d).label label (free_slot.smaller_before k d before)
+    | inr after ↦ above_other label (get_or es k d).label (free_slot.greater_after k d after in_range)
   ]
 
-  pub amount_in_gap : (i : ℕ) → IsGapFor es label i → amount_of es label ≡ 0
-  amount_in_gap i gap = found_nowhere (λ l. amount_of l label) (λ e. same_text e.label label) (λ e. e.amount) 0 refl (λ _ _. refl) es nothing (λ k lt. other_around i gap k nothing lt)
+  pub amount_in_free_slot : (i : ℕ) → IsFreeSlotFor es label i → amount_of es label ≡ 0
+  amount_in_free_slot i free_slot = found_nowhere (λ l. amount_of l label) (λ e. same_text e.label label) (λ e. e.amount) 0 refl (λ _ _. refl) es nothing (λ k lt. other_around i free_slot k nothing lt)
 
   -- the sum, if the label was not there
-  pub sum_in_gap : (i n : ℕ) → IsGapFor es label i → n ≡ amount_of es label + n
-  sum_in_gap i n gap = omega (arith, amount_in_gap i gap)
+  pub sum_in_free_slot : (i n : ℕ) → IsFreeSlotFor es label i → n ≡ amount_of es label + n
+  sum_in_free_slot i n free_slot = omega (arith, amount_in_free_slot i free_slot)
 
-  pub named_in_gap : (i : ℕ) → IsGapFor es label i → is_named es label ≡ false
-  named_in_gap i gap = or_from_places (λ l. is_named l label) (λ e. same_text e.label label) refl (λ _ _. refl) es nothing (λ k lt. other_around i gap k nothing lt)
+  pub named_in_free_slot : (i : ℕ) → IsFreeSlotFor es label i → is_named es label ≡ false
+  named_in_free_slot i free_slot = or_from_places (λ l. is_named l label) (λ e. same_text e.label label) refl (λ _ _. refl) es nothing (λ k lt. other_around i free_slot k nothing lt)
 
   abbrev its : Entry → Bool
   its e = same_text e.label label
@@ -112,14 +112,14 @@ module _ (es : List Entry) (label : List ℕ) where
   named_nowhere None is = position-none its es is
 
   -- a search by order fails only if the label is not named
-  pub unnamed_from_search : (r : Result ℕ ℕ) → IfErr r (IsGapFor es label) → IfNone (result_ok r) (is_named es label ≡ false)
+  pub unnamed_from_search : (r : Result ℕ ℕ) → IfErr r (IsFreeSlotFor es label) → IfNone (result_ok r) (is_named es label ≡ false)
   unnamed_from_search (Ok at) absent = tt
-  unnamed_from_search (Err at) absent = named_in_gap at absent
+  unnamed_from_search (Err at) absent = named_in_free_slot at absent
 
   -- a search succeeds exactly if the label is named
-  pub named_from_search : (r : Result ℕ ℕ) → IfOk r (IsAt es label) → IfErr r (IsGapFor es label) → is_ok r ≡ is_named es label
+  pub named_from_search : (r : Result ℕ ℕ) → IfOk r (IsAt es label) → IfErr r (IsFreeSlotFor es label) → is_ok r ≡ is_named es label
   named_from_search (Ok at) found absent = sym (named_at at found)
-  named_from_search (Err at) found absent = sym (named_in_gap at absent)
+  named_from_search (Err at) found absent = sym (named_in_free_slot at absent)
 
 pub amount_unnamed : (es : List Entry) (label : List ℕ) → is_named es label ≡ false → amount_of es label ≡ 0
 amount_unnamed [] label none = refl
@@ -139,17 +139,17 @@ with_at (e ∷ es) label a (suc i) ordered at =
     rw (cmp_above e.label label above) (ap (λ l. e ∷ l) (with_at es label a i parts.1 tail))
 
 -- inserting an entry at its place names the label
-pub with_in_gap : (es : List Entry) (label : List ℕ) (a i : ℕ) → IsGapFor es label i → with_amount es label a ≡ insert es i (record { label = label; amount = a })
-with_in_gap [] label a zero gap = refl
-with_in_gap [] label a (suc i) gap = absurd (omega (arith, gap.in_range))
-with_in_gap (e ∷ es) label a zero gap = rw (cmp_below label e.label (gap.greater_after 0 e (omega arith) (omega arith)))
-with_in_gap (e ∷ es) label a (suc i) gap =
-    let tail : IsGapFor es label i = record {
-      in_range = omega (arith, gap.in_range);
-      smaller_before = λ k d lt. gap.smaller_before (suc k) d (omega arith);
-      greater_after = λ k d le lt. gap.greater_after (suc k) d (omega arith) (omega arith);
+pub with_in_free_slot : (es : List Entry) (label : List ℕ) (a i : ℕ) → IsFreeSlotFor es label i → with_amount es label a ≡ insert es i (record { label = label; amount = a })
+with_in_free_slot [] label a zero free_slot = refl
+with_in_free_slot [] label a (suc i) free_slot = absurd (omega (arith, free_slot.in_range))
+with_in_free_slot (e ∷ es) label a zero free_slot = rw (cmp_below label e.label (free_slot.greater_after 0 e (omega arith) (omega arith)))
+with_in_free_slot (e ∷ es) label a (suc i) free_slot =
+    let tail : IsFreeSlotFor es label i = record {
+      in_range = omega (arith, free_slot.in_range);
+      smaller_before = λ k d lt. free_slot.smaller_before (suc k) d (omega arith);
+      greater_after = λ k d le lt. free_slot.greater_after (suc k) d (omega arith) (omega arith);
     } in
-    rw (cmp_above e.label label (gap.smaller_before 0 e (omega arith))) (ap (λ l. e ∷ l) (with_in_gap es label a i tail))
+    rw (cmp_above e.label label (free_slot.smaller_before 0 e (omega arith))) (ap (λ l. e ∷ l) (with_in_free_slot es label a i tail))
 
 -- ---- the same, with what the code has computed
 
@@ -172,9 +172,9 @@ set_here items es text label x a i had view ordered same amount at read =
     let written = with_at items text x i ordered found in
     cc
 
-pub added_here : (items es new : List Entry) (text label : List ℕ) (x a i : ℕ) → items ≡ es → text ≡ label → x ≡ a → IsGapFor es text i → new ≡ insert items i (record { label = label; amount = x }) → new ≡ with_amount es label a
-added_here items es new text label x a i view same amount gap made =
-    let written = with_in_gap es text x i gap in
+pub added_here : (items es new : List Entry) (text label : List ℕ) (x a i : ℕ) → items ≡ es → text ≡ label → x ≡ a → IsFreeSlotFor es text i → new ≡ insert items i (record { label = label; amount = x }) → new ≡ with_amount es label a
+added_here items es new text label x a i view same amount free_slot made =
+    let written = with_in_free_slot es text x i free_slot in
     cc
 
 -- what is true if it was done, given that it was done

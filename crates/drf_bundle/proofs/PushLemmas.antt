@@ -18,34 +18,34 @@ use Rattle.drf_bundle.proofs.MergeLemmas.{pushed}
 
 -- ---- a prefix of a bundle is a bundle
 
-front_in_order : (rs more : List Resource) → IsTrue (is_in_order (rs ++ more)) → IsTrue (is_in_order rs)
-front_in_order [] more ordered = refl
-front_in_order (r ∷ rs) more ordered =
+prefix_in_order : (rs more : List Resource) → IsTrue (is_in_order (rs ++ more)) → IsTrue (is_in_order rs)
+prefix_in_order [] more ordered = refl
+prefix_in_order (r ∷ rs) more ordered =
     let parts = and_parts (stands_first (key_of r) (rs ++ more)) (is_in_order (rs ++ more)) ordered in
     let first : IsTrue (stands_first (key_of r) rs) =
     (and_parts (stands_first (key_of r) rs) (stands_first (key_of r) more) (sym (list_all-append (λ s. key_below (key_of r) (key_of s)) rs more) ∙ parts.0)).0 in
-    and_from _ _ first (front_in_order rs more parts.1)
+    and_from _ _ first (prefix_in_order rs more parts.1)
 
-front_each : (rs more : List Resource) → All IsResource (rs ++ more) → All IsResource rs
-front_each [] more all = All-nil IsResource
-front_each (r ∷ rs) more all = All-cons IsResource r rs (All-head IsResource r (rs ++ more) all) (front_each rs more (All-tail IsResource r (rs ++ more) all))
+prefix_each : (rs more : List Resource) → All IsResource (rs ++ more) → All IsResource rs
+prefix_each [] more all = All-nil IsResource
+prefix_each (r ∷ rs) more all = All-cons IsResource r rs (All-head IsResource r (rs ++ more) all) (prefix_each rs more (All-tail IsResource r (rs ++ more) all))
 
-front_units : (test : Key → Bool) (p : Point) (rs more : List Resource) → units_where test p rs ≤ units_where test p (rs ++ more)
-front_units test p [] more = omega arith
-front_units test p (r ∷ rs) more = omega (arith, where-cons test p r rs, where-cons test p r (rs ++ more), front_units test p rs more)
+prefix_units : (test : Key → Bool) (p : Point) (rs more : List Resource) → units_where test p rs ≤ units_where test p (rs ++ more)
+prefix_units test p [] more = omega arith
+prefix_units test p (r ∷ rs) more = omega (arith, where-cons test p r rs, where-cons test p r (rs ++ more), prefix_units test p rs more)
 
-pub bundle-front : (rs more : List Resource) → IsBundle (rs ++ more) → IsBundle rs
-bundle-front rs more is = record {
-  in_order = front_in_order rs more is.in_order;
-  each = front_each rs more is.each;
-  fits = fits_less (stock (rs ++ more)) (stock rs) is.fits (λ name p. front_units (of_name name) p rs more);
+pub bundle-prefix : (rs more : List Resource) → IsBundle (rs ++ more) → IsBundle rs
+bundle-prefix rs more is = record {
+  in_order = prefix_in_order rs more is.in_order;
+  each = prefix_each rs more is.each;
+  fits = fits_less (stock (rs ++ more)) (stock rs) is.fits (λ name p. prefix_units (of_name name) p rs more);
 }
 
 -- what was found, with the next resource, is a prefix of the whole
 pub bundle-next : (found left more whole : List Resource) (x y : Resource) → IsBundle whole → found ++ left ≡ whole → left ≡ y ∷ more → x ≡ y
     → IsBundle (found ++ x ∷ [])
 bundle-next found left more whole x y is known next same =
-    bundle-front (found ++ x ∷ []) more (subst IsBundle (sym (pushed found left more whole x y known next same)) is)
+    bundle-prefix (found ++ x ∷ []) more (subst IsBundle (sym (pushed found left more whole x y known next same)) is)
 
 -- ---- the sums
 

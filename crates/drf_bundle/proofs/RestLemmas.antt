@@ -12,7 +12,7 @@ use Rattle.drf_bundle.proofs.laws.KeyLaws.{above_other}
 use Rattle.drf_bundle.specs.declared.merge.Side.TheVariants.{Left, Right, Both}
 use Rattle.drf_bundle.specs.declared.resource.Resource.{Resource}
 use Rattle.drf_bundle.proofs.MergeLemmas.{tail, tail_is, side_less, side_equal, side_greater}
-use Rattle.drf_bundle.proofs.PushLemmas.{bundle-front}
+use Rattle.drf_bundle.proofs.PushLemmas.{bundle-prefix}
 
 -- a resource before others, unless it is empty
 abbrev put : Resource → List Resource → List Resource
@@ -122,7 +122,7 @@ module _ (left a b all : List Resource) (known : IsRestOf left a b all) where
   pub both_bundle : (y z : Resource) → next_side a b ≡ Some Both → y ≡ get_or a 0 y → z ≡ get_or b 0 z → IsBundle all
       → IsBundle (left ++ filled_of (with_value y (less y.value z.value) ∷ []))
   both_bundle y z side is other bundle =
-      bundle-front (left ++ filled_of (with_value y (less y.value z.value) ∷ [])) (rest (tail a) (tail b)) (subst IsBundle (sym (both_next y z side is other)) bundle)
+      bundle-prefix (left ++ filled_of (with_value y (less y.value z.value) ∷ [])) (rest (tail a) (tail b)) (subst IsBundle (sym (both_next y z side is other)) bundle)
 
   pub past_both : (now : List Resource) (y z : Resource) → next_side a b ≡ Some Both → y ≡ get_or a 0 y → z ≡ get_or b 0 z
       → now ≡ left ++ filled_of (with_value y (less y.value z.value) ∷ []) → IsRestOf now (tail a) (tail b) all

@@ -22,7 +22,7 @@ use Rattle.drf_bundle.specs.laws.FitLaws.{stock_has}
 use Rattle.drf_bundle.specs.Quantities.{amount_of}
 use Rattle.drf_bundle.specs.Value.{Thousandths, units_in}
 use Rattle.drf_bundle.specs.declared.quantities.Entry.{Entry}
-use Rattle.drf_bundle.specs.KeyPlaces.{IsKeyAt, IsKeyGap}
+use Rattle.drf_bundle.specs.KeyPlaces.{IsKeyAt, IsKeyFreeSlot}
 use Rattle.drf_bundle.specs.declared.resource.Resource.{Resource}
 
 less_from_below : (k l : Key) → IsTrue (key_below k l) → key_cmp k l ≡ Less
@@ -93,7 +93,7 @@ module _ (rs : List Resource) (key : Key) (ordered : IsTrue (is_in_order rs)) wh
   -- a binary search by key ends at the key, or at the place where it would be inserted
   pub searched : (r : Result ℕ ℕ) → IsSearchInRange r (length rs)
       → IsBinarySearchResult (λ s. key_cmp (key_of s) key) rs r
-      → record { found : IfOk r (IsKeyAt rs key); absent : IfErr r (IsKeyGap rs key) }
+      → record { found : IfOk r (IsKeyAt rs key); absent : IfErr r (IsKeyFreeSlot rs key) }
   searched (Ok at) in_range equal = record { found = record { in_range = in_range; has_key = λ d. key_equal (key_of (get_or rs at d)) key (equal d) }; absent = tt }
   searched (Err at) in_range parted = record {
     found = tt;
@@ -109,15 +109,15 @@ module _ (rs : List Resource) (key : Key) (ordered : IsTrue (is_in_order rs)) wh
       let keys : key_of r ≡ key = ap key_of read ∙ is.has_key r in
       sym (value_of_its_own rs r ordered (has_at rs at r is.in_range read)) ∙ ap (value_at rs) keys
 
-  pub nothing_found : (at : ℕ) → IsKeyGap rs key at → None ≡ value_at rs key
-  nothing_found at gap = sym (no_value rs key other)
+  pub nothing_found : (at : ℕ) → IsKeyFreeSlot rs key at → None ≡ value_at rs key
+  nothing_found at free_slot = sym (no_value rs key other)
     where
       other : (r : Resource) → Has rs r → same_key key (key_of r) ≡ false
       other r has =
           let i = has_index rs r has in
           subst (λ (s : Resource). same_key key (key_of s) ≡ false) (sym i.2) (elim (cases_lt i.0 at) [
-            | inl before ↦ above_other (key_of (get_or rs i.0 r)) key (gap.below_before i.0 r before)
-            | inr after ↦ below_other key (key_of (get_or rs i.0 r)) (gap.above_after i.0 r after i.1)
+            | inl before ↦ above_other (key_of (get_or rs i.0 r)) key (free_slot.below_before i.0 r before)
+            | inr after ↦ below_other key (key_of (get_or rs i.0 r)) (free_slot.above_after i.0 r after i.1)
           ])
 
 -- ---- inserting a resource
@@ -161,19 +161,19 @@ merged_at (s ∷ ss) r had (suc i) ordered at read =
     rw (less_from_below (key_of s) (key_of r) below) (ap (λ (l : List Resource). s ∷ l) (merged_at ss r had i parts.1 tail read))
 
 -- if it does not, the resource is inserted at its place
-pub merged_in_gap : (rs : List Resource) (r : Resource) (i : ℕ) → IsKeyGap rs (key_of r) i
+pub merged_in_free_slot : (rs : List Resource) (r : Resource) (i : ℕ) → IsKeyFreeSlot rs (key_of r) i
     → merged rs (r ∷ []) ≡ insert rs i r
-merged_in_gap [] r zero gap = refl
-merged_in_gap [] r (suc i) gap = absurd (omega (arith, gap.in_range))
-merged_in_gap (s ∷ ss) r zero gap =
-    rw (key_above (key_of r) (key_of s) (gap.above_after 0 s (omega arith) (omega arith))) (ap (λ (l : List Resource). r ∷ s ∷ l) (merged-empty ss))
-merged_in_gap (s ∷ ss) r (suc i) gap =
-    let tail : IsKeyGap ss (key_of r) i = record {
-      in_range = omega (arith, gap.in_range);
-      below_before = λ k d lt. gap.below_before (suc k) d (omega arith);
-      above_after = λ k d le lt. gap.above_after (suc k) d (omega arith) (omega arith);
+merged_in_free_slot [] r zero free_slot = refl
+merged_in_free_slot [] r (suc i) free_slot = absurd (omega (arith, free_slot.in_range))
+merged_in_free_slot (s ∷ ss) r zero free_slot =
+    rw (key_above (key_of r) (key_of s) (free_slot.above_after 0 s (omega arith) (omega arith))) (ap (λ (l : List Resource). r ∷ s ∷ l) (merged-empty ss))
+merged_in_free_slot (s ∷ ss) r (suc i) free_slot =
+    let tail : IsKeyFreeSlot ss (key_of r) i = record {
+      in_range = omega (arith, free_slot.in_range);
+      below_before = λ k d lt. free_slot.below_before (suc k) d (omega arith);
+      above_after = λ k d le lt. free_slot.above_after (suc k) d (omega arith) (omega arith);
     } in
-    rw (less_from_below (key_of s) (key_of r) (gap.below_before 0 s (omega arith))) (ap (λ (l : List Resource). s ∷ l) (merged_in_gap ss r i tail))
+    rw (less_from_below (key_of s) (key_of r) (free_slot.below_before 0 s (omega arith))) (ap (λ (l : List Resource). s ∷ l) (merged_in_free_slot ss r i tail))
 
 -- a resource with this name and role at an index has the key there
 pub key_here : (rs : List Resource) (i : ℕ) (r : Resource) (label : Text) (role : Path) → i < length rs → ((d : Resource) → r ≡ get_or rs i d) → same_text r.label label ≡ true → same_path r.role role ≡ true

@@ -11,7 +11,7 @@ pub record IsAt (entries : List Entry) (label : List ℕ) (i : ℕ) : Type 0 whe
   pub has_label : (d : Entry) → (slice_index_or entries i d).label ≡ label
 
 -- place i is where the label would be inserted: the labels before it are smaller, and those from it on are greater
-pub record IsGapFor (entries : List Entry) (label : List ℕ) (i : ℕ) : Type 0 where
+pub record IsFreeSlotFor (entries : List Entry) (label : List ℕ) (i : ℕ) : Type 0 where
   pub in_range : i ≤ length entries
   pub smaller_before : (k : ℕ) (d : Entry) → k < i → IsTrue (text_below (slice_index_or entries k d).label label)
   pub greater_after : (k : ℕ) (d : Entry) → i ≤ k → k < length entries → IsTrue (text_below label (slice_index_or entries k d).label)
@@ -22,14 +22,14 @@ pub record IsKeyAt (resources : List Resource) (key : Key) (i : ℕ) : Type 0 wh
   pub has_key : (d : Resource) → key_of (slice_index_or resources i d) ≡ key
 
 -- place i is where the key would be inserted: the keys before it are smaller, and those from it on are greater
-pub record IsKeyGap (resources : List Resource) (key : Key) (i : ℕ) : Type 0 where
+pub record IsKeyFreeSlot (resources : List Resource) (key : Key) (i : ℕ) : Type 0 where
   pub in_range : i ≤ length resources
   pub below_before : (k : ℕ) (d : Resource) → k < i → IsTrue (key_below (key_of (slice_index_or resources k d)) key)
   pub above_after : (k : ℕ) (d : Resource) → i ≤ k → k < length resources → IsTrue (key_below key (key_of (slice_index_or resources k d)))
 
 -- no resource has the name, and place i is where one would be inserted: the names before it are smaller, and those from
 -- it on are greater
-pub record IsNameGap (resources : List Resource) (name : Text) (i : ℕ) : Type 0 where
+pub record IsNameFreeSlot (resources : List Resource) (name : Text) (i : ℕ) : Type 0 where
   pub in_range : i ≤ length resources
   pub smaller_before : (k : ℕ) (d : Resource) → k < i → IsTrue (text_below (slice_index_or resources k d).label name)
   pub greater_after : (k : ℕ) (d : Resource) → i ≤ k → k < length resources → IsTrue (text_below name (slice_index_or resources k d).label)

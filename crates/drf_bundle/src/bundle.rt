@@ -6,7 +6,7 @@ ghost use Rattle.drf_bundle.specs.Bundle.{IsBundle, amount, join, key_of, refusa
 ghost use Rattle.drf_bundle.specs.Value.{IsGiven};
 ghost use Rattle.drf_bundle.specs.Taken.{less_all, rest_of_all};
 ghost use Rattle.drf_bundle.specs.declared.value.Value.TheVariants as value;
-ghost use Rattle.drf_bundle.specs.KeyPlaces.{IsKeyAt, IsKeyGap};
+ghost use Rattle.drf_bundle.specs.KeyPlaces.{IsKeyAt, IsKeyFreeSlot};
 ghost use Rattle.drf_bundle.specs.laws.BundleLaws.{bundle_laws};
 
 use crate::merge::{clash_fault, merged, rest};
@@ -83,7 +83,7 @@ fn place_near(
 ) -> Result<usize, usize>
     requires { IsTrue (is_in_order resources.now) }
     ensures found { IfOk result (IsKeyAt resources.now (label.now, reservation role.now)) }
-    ensures absent { IfErr result (IsKeyGap resources.now (label.now, reservation role.now)) }
+    ensures absent { IfErr result (IsKeyFreeSlot resources.now (label.now, reservation role.now)) }
 {
     for at in hint..hint.saturating_add(3) {
         if is_at(resources, label, role, at) {

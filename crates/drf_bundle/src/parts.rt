@@ -3,7 +3,7 @@ ghost use Rattle.std.specs.Prelude.{◌≡◌, ◌+◌, ◌<◌, ◌^◌, IsTrue
 ghost use Rattle.drf_bundle.specs.Bundle.{IsBundle, is_in_order, reservation, add_scalar, quantities_of};
 ghost use Rattle.drf_bundle.specs.Value.{Thousandths, units_in};
 ghost use Rattle.drf_bundle.specs.Quantities.{amount_of};
-ghost use Rattle.drf_bundle.specs.KeyPlaces.{IsKeyAt, IsKeyGap};
+ghost use Rattle.drf_bundle.specs.KeyPlaces.{IsKeyAt, IsKeyFreeSlot};
 
 use crate::quantities::Quantities;
 use crate::resource::Resource;
@@ -78,7 +78,7 @@ fn sums(alloc: Global, resources: &[Resource]) -> Result<Quantities, AllocError>
 pub fn place(resources: &[Resource], label: &Label, role: &Role) -> Result<usize, usize>
     requires { IsTrue (is_in_order resources.now) }
     ensures found { IfOk result (IsKeyAt resources.now (label.now, reservation role.now)) }
-    ensures absent { IfErr result (IsKeyGap resources.now (label.now, reservation role.now)) }
+    ensures absent { IfErr result (IsKeyFreeSlot resources.now (label.now, reservation role.now)) }
 {
     resources.binary_search_by(|resource| resource.cmp_key(label, role))
 }

@@ -2,7 +2,7 @@
 ghost use Rattle.std.specs.Prelude.{◌≡◌, ℕ, List, [], length, ◌^◌, ◌<◌, IsTrue, ◌+◌, ◌≤◌, ◌&&◌, nat_lt, nat_le, if◌then◌else◌, IfOk, IfErr, OnOk, OnErr, IsOk, IfSome, IfNone, false};
 ghost use Rattle.std.specs.List.{insert, position};
 ghost use Rattle.drf_bundle.specs.Quantities.{HasNoZeros, amount_of, is_named, known_amount, names_all, is_in_order, with_amount, plus, minus, covers, without_zeros, names_of};
-ghost use Rattle.drf_bundle.specs.KeyPlaces.{IsAt, IsGapFor};
+ghost use Rattle.drf_bundle.specs.KeyPlaces.{IsAt, IsFreeSlotFor};
 ghost use Rattle.drf_role.specs.Text.{same_text};
 
 use crate::names::Names;
@@ -263,7 +263,7 @@ impl Quantities {
 
     // Inserts a label with its amount at the place where it belongs.
     fn name_at(&mut self, at: usize, label: &Label, thousandths: u64) -> Result<(), AllocError>
-        requires { IsGapFor self.old label.now at }
+        requires { IsFreeSlotFor self.old label.now at }
         ensures ok { OnOk result (self.new ≡ with_amount self.old label.now thousandths) }
         ensures err { OnErr result (self.new ≡ self.old) }
     {
@@ -455,7 +455,7 @@ impl Quantities {
     // one first.
     fn place_among(&self, label: &Label) -> Result<usize, usize>
         ensures found { IfOk result (IsAt self.now label.now) }
-        ensures absent { IfErr result (IsGapFor self.now label.now) }
+        ensures absent { IfErr result (IsFreeSlotFor self.now label.now) }
     {
         if self.entries.len() <= FEW {
             if let Some(at) = self.first_place(label) {
@@ -469,7 +469,7 @@ impl Quantities {
     // tried first.
     fn place_of_label(&self, label: &Label, hint: usize) -> Result<usize, usize>
         ensures found { IfOk result (IsAt self.now label.now) }
-        ensures absent { IfErr result (IsGapFor self.now label.now) }
+        ensures absent { IfErr result (IsFreeSlotFor self.now label.now) }
     {
         if self.label_is_at(label, hint) {
             return Ok(hint);
@@ -485,7 +485,7 @@ impl Quantities {
     // places are tried first.
     fn place_of_text(&self, label: &str) -> Result<usize, usize>
         ensures found { IfOk result (IsAt self.now label.now) }
-        ensures absent { IfErr result (IsGapFor self.now label.now) }
+        ensures absent { IfErr result (IsFreeSlotFor self.now label.now) }
     {
         if self.text_is_at(label, 0) {
             return Ok(0);
@@ -503,17 +503,17 @@ impl Quantities {
     // first, because entries are mostly added in order.
     fn place_by_order(&self, label: &str) -> Result<usize, usize>
         ensures found { IfOk result (IsAt self.now label.now) }
-        ensures absent { IfErr result (IsGapFor self.now label.now) }
+        ensures absent { IfErr result (IsFreeSlotFor self.now label.now) }
     {
-        if self.is_behind(label) {
+        if self.comes_last(label) {
             return Err(self.entries.len());
         }
         self.search(label)
     }
 
     // Returns whether the label would come after all others.
-    fn is_behind(&self, label: &str) -> bool
-        ensures { IsTrue result → IsGapFor self.now label.now (length self.now) }
+    fn comes_last(&self, label: &str) -> bool
+        ensures { IsTrue result → IsFreeSlotFor self.now label.now (length self.now) }
     {
         match self.entries.last() {
             Some(entry) => entry.label.text() < label,
@@ -524,7 +524,7 @@ impl Quantities {
     /// Returns the place of the label with this text (`Ok`), or where it would be inserted (`Err`), by binary search.
     fn search(&self, label: &str) -> Result<usize, usize>
         ensures found { IfOk result (IsAt self.now label.now) }
-        ensures absent { IfErr result (IsGapFor self.now label.now) }
+        ensures absent { IfErr result (IsFreeSlotFor self.now label.now) }
     {
         self.entries
             .binary_search_by(|entry| entry.label.text().cmp(label))

@@ -5,7 +5,7 @@ ghost use Rattle.drf_role.specs.Text.{same_text};
 ghost use Rattle.drf_bundle.specs.Value.{Thousandths, units_in, share_members};
 ghost use Rattle.drf_bundle.specs.Bundle.{HasSums, is_in_order, key_of, same_key, merged, add_scalar};
 ghost use Rattle.drf_bundle.specs.Quantities.{amount_of};
-ghost use Rattle.drf_bundle.specs.KeyPlaces.{IsKeyGap, IsNameGap};
+ghost use Rattle.drf_bundle.specs.KeyPlaces.{IsKeyFreeSlot, IsNameFreeSlot};
 ghost use Rattle.drf_bundle.specs.Union.{has_other_kind, is_reserved_elsewhere, union_refusal, union};
 
 use crate::parts::{Parts, add_scalar, place};
@@ -67,9 +67,9 @@ fn is_too_much(sums: &Quantities, resource: &Resource) -> bool
 
 /// Returns whether a resource with this name would come after all others. This is the most frequent case when a text is
 /// read, because texts are mostly in order.
-fn is_behind(resources: &[Resource], label: &Label) -> bool
+fn comes_last(resources: &[Resource], label: &Label) -> bool
     requires { IsTrue (is_in_order resources.now) }
-    ensures { IsTrue result → IsNameGap resources.now label.now (length resources.now) }
+    ensures { IsTrue result → IsNameFreeSlot resources.now label.now (length resources.now) }
 {
     match resources.last() {
         Some(resource) => resource.label < *label,
@@ -78,11 +78,11 @@ fn is_behind(resources: &[Resource], label: &Label) -> bool
 }
 
 /// Returns the place where a resource with this name would be inserted, or `None` if the name exists already.
-fn gap_of_name(resources: &[Resource], label: &Label) -> Option<usize>
+fn free_slot_of_name(resources: &[Resource], label: &Label) -> Option<usize>
     requires { IsTrue (is_in_order resources.now) }
-    ensures { IfSome result (IsNameGap resources.now label.now) }
+    ensures { IfSome result (IsNameFreeSlot resources.now label.now) }
 {
-    if is_behind(resources, label) {
+    if comes_last(resources, label) {
         return Some(resources.len());
     }
     resources
@@ -92,13 +92,13 @@ fn gap_of_name(resources: &[Resource], label: &Label) -> Option<usize>
 
 /// Inserts the resource at the free place of its key, and adds its scalar to the sum of its name. On an error nothing
 /// changes.
-fn put_in_gap(
+fn put_in_free_slot(
     resources: &mut Vec<Resource>,
     sums: &mut Quantities,
     at: usize,
     resource: Resource,
 ) -> Result<(), AllocError>
-    requires gap { IsKeyGap resources.old.items (key_of resource) at }
+    requires free_slot { IsKeyFreeSlot resources.old.items (key_of resource) at }
     requires fits { amount_of sums.old resource.label + units_in resource.value Thousandths < 2 ^ 64 }
     ensures ok { OnOk result ((resources.new.items ≡ merged resources.old.items (resource ∷ [])) × (sums.new ≡ add_scalar sums.old resource)) }
     ensures err { OnErr result ((resources.new.items ≡ resources.old.items) × (sums.new ≡ sums.old)) }
@@ -130,7 +130,7 @@ fn put(
             had.value = value;
             Ok(())
         }
-        Err(at) => put_in_gap(resources, sums, at, resource),
+        Err(at) => put_in_free_slot(resources, sums, at, resource),
     }
 }
 
@@ -157,7 +157,7 @@ impl Parts {
 
     /// Unites the bundle with the first resource of a name, whose place is known.
     fn unite_first(&mut self, at: usize, first: Resource) -> Result<(), AlgebraFault>
-        requires { IsNameGap self.old first.label at }
+        requires { IsNameFreeSlot self.old first.label at }
         ensures ok { OnOk result (union self.old first ≡ Some self.new) }
         ensures err { OnErr result (self.new ≡ self.old) }
         ensures fault { IfErr result (IsJoinFault (union_refusal self.old first)) }
@@ -167,7 +167,7 @@ impl Parts {
         }
         first.label.recall();
         first.role.recall();
-        Ok(put_in_gap(&mut self.resources, &mut self.quantities, at, first)?)
+        Ok(put_in_free_slot(&mut self.resources, &mut self.quantities, at, first)?)
     }
 
     /// Unites the bundle with a resource whose name can already exist.
@@ -197,7 +197,7 @@ impl Parts {
         ensures fault { IfErr result (IsJoinFault (union_refusal self.old (record { label = label; role = role; value = value }))) }
     {
         let resource = Resource { label, role, value };
-        match gap_of_name(&self.resources, &resource.label) {
+        match free_slot_of_name(&self.resources, &resource.label) {
             Some(at) => self.unite_first(at, resource),
             None => self.unite_further(resource),
         }

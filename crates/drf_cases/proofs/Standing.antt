@@ -7,7 +7,7 @@ use Rattle.drf_rows.specs.declared.event.Event.{Event}
 use Rattle.drf_rows.specs.declared.event.Event.TheVariants.{RemoveAgent, SetFramework, RemoveFramework, Accept, Decline, Revive, SetWeight, SetLimit, Cycle}
 use Rattle.drf_rows.specs.declared.rows.Rows.{Rows}
 use Rattle.drf_cases.specs.FullCases.{FullRefusesAll}
-use Rattle.drf_cases.specs.Untouched.{TouchesNoFilter, SetsNoLimit, SetsNoWeight, HasNoMoment, IsNoCycle, FiltersStand, LimitsStand, WeightsStand, ClockStands, NumberStands}
+use Rattle.drf_cases.specs.Untouched.{TouchesNoFilter, SetsNoLimit, SetsNoWeight, HasNoTimestamp, IsNoCycle, FiltersStand, LimitsStand, WeightsStand, ClockStands, NumberStands}
 
 weights_kept : (rows : Rows) (event : Event) → SetsNoWeight event → (effect rows event).weights ≡ rows.weights
 weights_kept rows (SetWeight role weight) spared = absurd spared
@@ -38,7 +38,7 @@ pub filters_stand : FiltersStand
 filters_stand limits rows event spared =
     step_keeps (λ after. after.filters ≡ rows.filters) limits rows event refl (filters_kept rows event spared)
 
-clock_kept : (rows : Rows) (event : Event) → HasNoMoment event → (effect rows event).clock ≡ rows.clock
+clock_kept : (rows : Rows) (event : Event) → HasNoTimestamp event → (effect rows event).clock ≡ rows.clock
 clock_kept rows (Accept a) spared = absurd spared
 clock_kept rows (Decline d) spared = absurd spared
 clock_kept rows (Cycle at) spared = absurd spared

@@ -8,8 +8,8 @@ use Rattle.drf_worked.specs.LifeExamples.{one}
 use Rattle.drf_cases.specs.Told.{Told, too_large}
 
 -- an agent registers, is activated and deactivated (each also twice), gets another total, and is removed with its offer
-abbrev pub agents_told : Told
-agents_told =
+abbrev pub agents_reported : Told
+agents_reported =
     (RemoveAgent (codes "n1"), Refused UnknownAgent)
     ∷ (ActivateAgent (codes "n1"), Refused UnknownAgent)
     ∷ (DeactivateAgent (codes "n1"), Refused UnknownAgent)

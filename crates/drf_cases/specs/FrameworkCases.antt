@@ -18,8 +18,8 @@ role_d = codes "d" ∷ []
 
 -- a framework registers, is suppressed and revived (each also twice), and is removed; the capacities for roles,
 -- frameworks and clients are each exceeded alone
-abbrev pub frameworks_told : Told
-frameworks_told =
+abbrev pub frameworks_reported : Told
+frameworks_reported =
     (RemoveFramework (codes "f1"), Refused UnknownFramework)
     ∷ (Suppress (codes "f1") role_a, Refused UnknownFramework)
     ∷ (Revive (codes "f1") role_a, Refused UnknownFramework)
@@ -49,8 +49,8 @@ frameworks_told =
 abbrev roles_set : List Path → Event
 roles_set roles = SetFramework (codes "f1") roles
 
-abbrev pub set_framework_told : Told
-set_framework_told =
+abbrev pub set_framework_reported : Told
+set_framework_reported =
     (roles_set (role_a ∷ []), Refused UnknownFramework)
     ∷ (framework_in (codes "f1") (codes "a"), Done)
     ∷ (roles_set [], Refused Empty)

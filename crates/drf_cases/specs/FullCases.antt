@@ -20,8 +20,8 @@ abbrev pub one_event : LimitNumbers
 one_event = record few { events = 1 }
 
 -- an event that would be accepted, one that is wrong in another way too, and the first event again
-abbrev pub full_told : Told
-full_told =
+abbrev pub full_reported : Told
+full_reported =
     (AddAgent (codes "n1") (cpus 1000 ∷ []), Done)
     ∷ (event.Report, Refused HistoryFull)
     ∷ (Cycle too_late, Refused HistoryFull)

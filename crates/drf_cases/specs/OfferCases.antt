@@ -29,8 +29,8 @@ all_there_is = 18446744073709551615
 
 -- an offer is accepted, what is left is offered and accepted as a whole, an offer is declined, and a task finishes;
 -- while there are too many filters, accepts and declines that set none are accepted
-abbrev pub offers_told : Told
-offers_told =
+abbrev pub offers_reported : Told
+offers_reported =
     two_offers
     ++ (Cycle too_late, Refused BadMoment)
     ∷ (accept_for (codes "f1") 1 ((codes "t", cpus 1000 ∷ []) ∷ []) too_late 0, Refused BadMoment)

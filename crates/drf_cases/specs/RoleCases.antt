@@ -8,12 +8,12 @@ use Rattle.drf_rows.specs.declared.reply.Reply.TheVariants.{Done, Refused}
 use Rattle.drf_worked.specs.Examples.{cpus, cpus_for}
 use Rattle.drf_worked.specs.OrderExamples.{eng, ops, role_a, role_b}
 use Rattle.drf_worked.specs.QuotaExamples.{cpus_limit}
-use Rattle.drf_worked.specs.ReportExamples.{told_cpus}
+use Rattle.drf_worked.specs.ReportExamples.{reported_cpus}
 use Rattle.drf_cases.specs.Told.{Told}
 
 -- a part of an inactive agent is reserved and unreserved
-abbrev pub reservations_told : Told
-reservations_told =
+abbrev pub reservations_reported : Told
+reservations_reported =
     (Reserve (codes "n1") eng (cpus 1000 ∷ []), Refused UnknownAgent)
     ∷ (Unreserve (codes "n1") eng (cpus 1000 ∷ []), Refused UnknownAgent)
     ∷ (AddAgent (codes "n1") (cpus 2000 ∷ []), Done)
@@ -37,11 +37,11 @@ reservations_told =
 
 -- one name of a scalar more than the capacity
 abbrev three_scalars : List Entry
-three_scalars = told_cpus 0 ++ record { label = codes "gpus"; amount = 0 } ∷ record { label = codes "mem"; amount = 0 } ∷ []
+three_scalars = reported_cpus 0 ++ record { label = codes "gpus"; amount = 0 } ∷ record { label = codes "mem"; amount = 0 } ∷ []
 
 -- one role has a weight, which is replaced, and one has a limit, which is replaced and removed
-abbrev pub roles_told : Told
-roles_told =
+abbrev pub roles_reported : Told
+roles_reported =
     (SetWeight role_a 0, Refused BadWeight)
     ∷ (SetWeight role_a 1000001, Refused BadWeight)
     ∷ (SetWeight role_a 1000000, Done)

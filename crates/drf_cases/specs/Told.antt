@@ -8,15 +8,15 @@ use Rattle.drf_rows.specs.declared.reply.Reply.{Reply}
 abbrev pub Told : Type 0
 Told = List (Event × Reply)
 
-abbrev pub events_told : Told → List Event
-events_told told = map (λ t. t.0) told
+abbrev pub events_reported : Told → List Event
+events_reported reported = map (λ t. t.0) reported
 
-abbrev pub replies_told : Told → List Reply
-replies_told told = map (λ t. t.1) told
+abbrev pub replies_reported : Told → List Reply
+replies_reported reported = map (λ t. t.1) reported
 
 -- a new allocator gives these replies to these events
 abbrev pub IsRun : LimitNumbers → Told → Type 0
-IsRun limits told = replies_to limits opening (events_told told) ≡ replies_told told
+IsRun limits reported = replies_to limits opening (events_reported reported) ≡ replies_reported reported
 
 -- capacities that are soon reached
 abbrev pub few : LimitNumbers

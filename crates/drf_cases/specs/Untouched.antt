@@ -35,11 +35,11 @@ TouchesNoFilter (Decline d) = ⊥
 TouchesNoFilter (Revive framework role) = ⊥
 TouchesNoFilter event = ⊤
 
-abbrev pub HasNoMoment : Event → Type 0
-HasNoMoment (Accept a) = ⊥
-HasNoMoment (Decline d) = ⊥
-HasNoMoment (Cycle at) = ⊥
-HasNoMoment event = ⊤
+abbrev pub HasNoTimestamp : Event → Type 0
+HasNoTimestamp (Accept a) = ⊥
+HasNoTimestamp (Decline d) = ⊥
+HasNoTimestamp (Cycle at) = ⊥
+HasNoTimestamp event = ⊤
 
 abbrev pub IsNoCycle : Event → Type 0
 IsNoCycle (Cycle at) = ⊥
@@ -51,7 +51,7 @@ FiltersStand = (limits : LimitNumbers) (rows : Rows) (event : Event) → Touches
 
 -- the clock stays during events without a timestamp
 abbrev pub ClockStands : Type 0
-ClockStands = (limits : LimitNumbers) (rows : Rows) (event : Event) → HasNoMoment event → (rows_after limits rows event).clock ≡ rows.clock
+ClockStands = (limits : LimitNumbers) (rows : Rows) (event : Event) → HasNoTimestamp event → (rows_after limits rows event).clock ≡ rows.clock
 
 -- the next offer number stays between cycles
 abbrev pub NumberStands : Type 0

@@ -5,7 +5,7 @@ use Rattle.drf_role.specs.Path.{client_path}
 use Rattle.drf_bundle.specs.Bundle.{quantities_of}
 use Rattle.drf_bundle.specs.Quantities.{plus}
 use Rattle.drf_rows.specs.Client.{path_of}
-use Rattle.drf_rows.specs.Holdings.{Holding, of_offer, of_task}
+use Rattle.drf_rows.specs.Holdings.{Holding, holding_of_offer, holding_of_task}
 use Rattle.drf_rows.specs.Members.{has_framework}
 use Rattle.drf_rows.specs.Weights.{has_weight}
 use Rattle.drf_rows.specs.declared.rows.ClientRow.{ClientRow}
@@ -52,8 +52,8 @@ with_put content (Agent a) = record content { total = plus content.total (quanti
 with_put content (Framework f) = with_all_back content f.name f.clients
 with_put content (Weight w) = with_weight content w.role w.weight
 with_put content (Limit l) = content
-with_put content (Offer o) = with_held content (of_offer o)
-with_put content (Task t) = with_held content (of_task t)
+with_put content (Offer o) = with_held content (holding_of_offer o)
+with_put content (Task t) = with_held content (holding_of_task t)
 with_put content (Filter f) = content
 
 -- the framework is not registered, or the role has no weight

@@ -78,10 +78,10 @@ pub record IsAfterAll (old new : Engine) (events : List Event) : Type 0 where
 
 -- A run stopped at an event: the events before it were applied, and their replies appended. If there is room for one more reply, no early refusal
 -- applies to the event.
-pub record HasStopped (old new : Engine) (events : List Event) (before told : List Reply) (room : ℕ) : Type 0 where
+pub record HasStopped (old new : Engine) (events : List Event) (before reported : List Reply) (room : ℕ) : Type 0 where
   pub number : ℕ
   pub event : Event
   pub at : slice_get events number ≡ Some event
   pub ended : IsAfterAll old new (take number events)
-  pub replies : told ≡ before ++ replies_to old.limits old.rows (take number events)
+  pub replies : reported ≡ before ++ replies_to old.limits old.rows (take number events)
   pub not_refused : 0 < room → early_refusal_of old.limits (rows_after_all old.limits old.rows (take number events)) event ≡ None

@@ -3,9 +3,9 @@ use Rattle.std.specs.Prelude.{ℕ, ◌+◌, ◌≤◌, Bool, true, false, not, I
 use Rattle.std.specs.Option.{option_map_or}
 use Rattle.drf_role.specs.Text.{same_text}
 use Rattle.drf_rows.specs.Client.{Client, path_of}
-use Rattle.drf_rows.specs.Endings.{Ending, one_offer, one_task, offers_on, all_on, all_of, ends_offer, ends_task}
+use Rattle.drf_rows.specs.Releases.{Release, one_offer, one_task, offers_on, all_on, all_of, ends_offer, ends_task}
 use Rattle.drf_rows.specs.Held.{clients_of}
-use Rattle.drf_rows.specs.Holdings.{of_offer, of_task}
+use Rattle.drf_rows.specs.Holdings.{holding_of_offer, holding_of_task}
 use Rattle.drf_rows.specs.LimitNumbers.{LimitNumbers}
 use Rattle.drf_rows.specs.Members.{distinct}
 use Rattle.drf_rows.specs.Report as report
@@ -23,12 +23,12 @@ nodes_of clients = sum_by (λ c. length (path_of c)) clients
 
 -- the clients of offers
 abbrev pub offered_to : List OfferRow → List Client
-offered_to offers = map (λ o. (of_offer o).client) offers
+offered_to offers = map (λ o. (holding_of_offer o).client) offers
 
 -- the clients of the offers and tasks that end
-abbrev pub losers : Rows → Ending → List Client
-losers rows ending =
-    offered_to (filter (ends_offer ending) rows.offers) ++ map (λ t. (of_task t).client) (filter (ends_task ending) rows.tasks)
+abbrev pub losers : Rows → Release → List Client
+losers rows release =
+    offered_to (filter (ends_offer release) rows.offers) ++ map (λ t. (holding_of_task t).client) (filter (ends_task release) rows.tasks)
 
 -- The client of each offer that an event adds, of each offer and task that it ends, and each client that it adds, changes or removes. The offer and
 -- the tasks of an accept belong to one client, which is listed once.

@@ -6,7 +6,7 @@ ghost use Rattle.drf_core.specs.Copies.{copies_if};
 ghost use Rattle.drf_core.specs.Machine.{IsOpened, IsSafe, IsSame, IsAfter, IsAfterAll, HasStopped};
 
 use crate::cluster::Cluster;
-use crate::cycle::explain::Telling;
+use crate::cycle::explain::Explanations;
 use crate::stepped::Stepped;
 use drf_explain::Finding;
 use drf_hash::HashKey;
@@ -62,7 +62,7 @@ impl<S: Sorter> Core<S> {
     ghost use Rattle.drf_explain.specs.Explained.{explained};
     ghost use Rattle.drf_core.specs.Keeping.{IsStanding};
     ghost use Rattle.drf_saved_laws.specs.SavedLaws.{IsSaveable};
-    ghost use Rattle.drf_rows.specs.declared.limits.TheConstants.{LATEST_MOMENT};
+    ghost use Rattle.drf_rows.specs.declared.limits.TheConstants.{LATEST_TIMESTAMP};
 
     /// Returns an allocator without rows. Its hash key is always the same: use `open_keyed` if untrusted users choose names.
     pub fn open(alloc: Global, limits: Limits) -> Result<Core<S>, AllocError>
@@ -158,14 +158,14 @@ impl<S: Sorter> Core<S> {
     }
 
     /// Proves that nothing is granted twice in the current state.
-    fn tell_safe(&self)
+    fn prove_safe(&self)
         ensures { IsSafe (live_rows self.now.rows) }
     {
         let _ = self.limits.agents();
     }
 
     /// Like `step`, but borrows the event. An event that is refused early is not copied, so it needs no memory.
-    fn step_lent(&mut self, event: &Event) -> Result<Reply, AllocError>
+    fn step_borrowed(&mut self, event: &Event) -> Result<Reply, AllocError>
         ensures reply { IfOk result (λ reply. reply ≡ reply_to self.old.limits self.old.rows event.now) }
         ensures ok { OnOk result (IsAfter self.old self.new event.now) }
         ensures err { OnErr result (IsSame self.old self.new) }
@@ -174,7 +174,7 @@ impl<S: Sorter> Core<S> {
         ensures spends { SpendsOnOk S.COUNTED result self.old.work self.new.work (allowance self.old.limits self.old.rows event.now) }
         ensures keys { may_make_keys event.now ≡ false → self.new.work.made ≡ self.old.work.made }
     {
-        self.tell_safe();
+        self.prove_safe();
         if let Some(refusal) = self.cluster.early_refusal(&self.limits, event) {
             return Ok(Reply::Refused(refusal));
         }
@@ -197,10 +197,10 @@ impl<S: Sorter> Core<S> {
         ensures spends { SpendsOnOk S.COUNTED result self.old.work self.new.work (allowance_of_all self.old.limits self.old.rows events.now) }
         ensures keys { list_any may_make_keys events.now ≡ false → self.new.work.made ≡ self.old.work.made }
     {
-        self.tell_safe();
+        self.prove_safe();
         for event in events {
             replies.reserve(1)?;
-            let reply = self.step_lent(event)?;
+            let reply = self.step_borrowed(event)?;
             replies.push_reserved(reply);
         }
         Ok(())
@@ -224,7 +224,7 @@ impl<S: Sorter> Core<S> {
     /// Returns what a cycle at a timestamp (in milliseconds) would offer to each client, or why it would offer nothing. A
     /// timestamp before the clock counts as the clock, so 0 means the current time of the allocator.
     pub fn explain(&self, at: u64) -> Result<Vec<Finding>, AllocError>
-        requires { at ≤ LATEST_MOMENT }
+        requires { at ≤ LATEST_TIMESTAMP }
         ensures { IfOk result (λ findings. findings.items ≡ explained (live_rows self.now.rows) at) }
     {
         self.cluster.explain(self.alloc, &self.limits, at)
@@ -233,11 +233,11 @@ impl<S: Sorter> Core<S> {
     /// Returns an explanation like that of `explain`, but agent by agent and with an outcome for each client that is not
     /// suppressed: on each active agent with free resources, clients are tried even if too little is left for an offer.
     /// Suppressed clients are not reported. It needs memory for a copy of the state and for the findings of one agent.
-    pub fn telling(&self, at: u64) -> Result<Telling<S>, AllocError>
-        requires { at ≤ LATEST_MOMENT }
-        ensures { IfOk result (λ telling. telling ≡ turns_by_agent (live_rows self.now.rows) at) }
+    pub fn explanations(&self, at: u64) -> Result<Explanations<S>, AllocError>
+        requires { at ≤ LATEST_TIMESTAMP }
+        ensures { IfOk result (λ explanations. explanations ≡ turns_by_agent (live_rows self.now.rows) at) }
     {
-        self.cluster.telling(self.alloc, &self.limits, at)
+        self.cluster.explanations(self.alloc, &self.limits, at)
     }
 
     /// Returns the key of the hashes of names, for other tables of the same names. No contract mentions it.

@@ -5,7 +5,7 @@
 ghost use Rattle.std.specs.Prelude.{◌≡◌, ◌≢◌, ℕ, false, true, ◌<◌, ◌≤◌, ◌+◌, List, None, [], length, map, slice_get, is_some, ◌&&◌, Some, IfOk, OnOk, OnErr};
 ghost use Rattle.drf_role.specs.Path.{Path, role_part, framework_part};
 ghost use Rattle.drf_rows.specs.Cycle.{is_allocatable, turn_order, with_offer};
-ghost use Rattle.drf_rows.specs.Step.{line_told, new_offers, refusal_of, effect};
+ghost use Rattle.drf_rows.specs.Step.{line_reported, new_offers, refusal_of, effect};
 ghost use Rattle.drf_rows.specs.declared.event.Event.TheVariants.{Cycle};
 ghost use Rattle.drf_rows.specs.declared.reply.Reply.TheVariants.{Offers};
 ghost use Rattle.drf_rows.specs.Client.{path_of};
@@ -202,7 +202,7 @@ fn pass_tried<S: Sorter>(sorter: &mut S, free: &Free)
     ensures work { S.work sorter.new ≡ S.work sorter.old }
 {
     match &free.known {
-        Known::Barred { front, .. } => sorter.pass_front(*front),
+        Known::Barred { prefix, .. } => sorter.pass_prefix(*prefix),
         _ => sorter.pass(),
     }
 }
@@ -267,7 +267,7 @@ fn turns<S: Sorter>(tables: &Tables, sorter: &mut S, drafts: &mut Drafts) -> Res
 
 /// Returns an offer as it is reported.
 fn offer_line(offer: &OfferRow) -> Result<OfferLine, AllocError>
-    ensures { IfOk result (λ line. line ≡ line_told offer.now) }
+    ensures { IfOk result (λ line. line ≡ line_reported offer.now) }
 {
     Ok(OfferLine {
         number: offer.number,
@@ -280,7 +280,7 @@ fn offer_line(offer: &OfferRow) -> Result<OfferLine, AllocError>
 
 /// Returns offers as they are reported.
 fn offer_lines(alloc: Global, offers: &[OfferRow]) -> Result<Vec<OfferLine>, AllocError>
-    ensures { IfOk result (λ lines. lines.items ≡ map line_told offers.now) }
+    ensures { IfOk result (λ lines. lines.items ≡ map line_reported offers.now) }
 {
     let mut lines = Vec::with_capacity(alloc, offers.len())?;
     for offer in offers {
@@ -327,7 +327,7 @@ fn offer_all<S: Sorter>(
     requires nothing_left { drafts.old.lefts.items ≡ [] }
     ensures ok { OnOk result (tables.new.rows ≡ turns_of tables.old.rows) }
     ensures sorted { OnOk result (IsSame (S.content sorter.new) (content_of tables.new.rows)) }
-    ensures reply { IfOk result (λ stepped. stepped.reply ≡ Offers (map line_told (new_offers tables.old.rows (turns_of tables.old.rows)))) }
+    ensures reply { IfOk result (λ stepped. stepped.reply ≡ Offers (map line_reported (new_offers tables.old.rows (turns_of tables.old.rows)))) }
     ensures copies { IfOk result (λ stepped. stepped.copies ≡ copies_if copied stepped.reply) }
     ensures err { OnErr result (tables.new.rows ≡ tables.old.rows) }
     ensures drafting { OnErr result (IsDrafting (S.content sorter.new) tables.old.rows drafts.new.offers.items) }
@@ -363,7 +363,7 @@ impl<S: Sorter> Cluster<S> {
     ) -> Result<Stepped, AllocError>
         requires kept { IsKept limits.now self.old.rows }
         requires welcome { refusal_of limits.now self.old.rows (Cycle at) ≡ None }
-        ensures reply { IfOk result (λ stepped. stepped.reply ≡ Offers (map line_told (new_offers self.old.rows (effect self.old.rows (Cycle at))))) }
+        ensures reply { IfOk result (λ stepped. stepped.reply ≡ Offers (map line_reported (new_offers self.old.rows (effect self.old.rows (Cycle at))))) }
         ensures copies { IfOk result (λ stepped. stepped.copies ≡ copies_if copied stepped.reply) }
         ensures ok { OnOk result (self.new.rows ≡ effect self.old.rows (Cycle at)) }
         ensures err { OnErr result (self.new.rows ≡ self.old.rows) }

@@ -9,9 +9,9 @@ ghost use Rattle.drf_core.specs.events.Answered.{has_answer};
 ghost use Rattle.drf_core.specs.Copies.{copies_if};
 
 mod agents;
-mod ending;
 mod frameworks;
 mod offers;
+mod release;
 mod report;
 mod reservations;
 

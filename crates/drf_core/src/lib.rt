@@ -9,5 +9,5 @@ mod refusal;
 mod stepped;
 
 pub use allocator::Core;
-pub use cycle::explain::Telling;
+pub use cycle::explain::Explanations;
 pub use stepped::Stepped;

@@ -7,7 +7,7 @@ ghost use Rattle.drf_rows.specs.Consistent.{IsConsistent};
 ghost use Rattle.drf_rows.specs.Step.{accept_is_too_much, decline_is_too_much, first_case, is_full, is_in_role, too_many_frameworks, too_many_limits, refusal_of};
 ghost use Rattle.drf_rows.specs.Roles.{too_many_roles};
 ghost use Rattle.drf_rows.specs.Members.{distinct, has_framework};
-ghost use Rattle.drf_rows.specs.Offers.{are_many_filters, has_task, is_beyond, is_empty, is_task_known, left_of_offer, offer_at};
+ghost use Rattle.drf_rows.specs.Offers.{are_many_filters, has_task, exceeds_offer, is_empty, is_task_known, left_of_offer, offer_at};
 ghost use Rattle.drf_rows.specs.Tasks.{covers_all, uses};
 ghost use Rattle.drf_rows.specs.Weights.{is_weight, too_many_weights};
 ghost use Rattle.drf_rows.specs.declared.event.Event.TheVariants.{AddAgent, AddFramework, SetFramework, Rescind, Finish, SetWeight, SetLimit, Cycle};
@@ -21,7 +21,9 @@ mod late;
 use crate::refusal::late::refuse_late;
 use drf_bundle::{Bundle, Quantities};
 use drf_role::{Name, Role};
-use drf_rows::{Accept, Decline, Event, LATEST_MOMENT, Limits, OfferRow, Refusal, Table, TaskList};
+use drf_rows::{
+    Accept, Decline, Event, LATEST_TIMESTAMP, Limits, OfferRow, Refusal, Table, TaskList,
+};
 use drf_tables::{Tables, is_too_large};
 use std::alloc::AllocError;
 
@@ -152,7 +154,7 @@ fn is_unknown(tables: &Tables, framework: &Name, holds: bool) -> bool
 }
 
 /// Returns whether the offer exists and belongs to another framework.
-fn is_anothers(framework: &Name, offer: Option<&OfferRow>) -> bool
+fn belongs_to_another(framework: &Name, offer: Option<&OfferRow>) -> bool
     ensures { result ≡ option_map_or (λ o. not (same_text o.framework framework.now)) (option_copied offer.entry) false }
 {
     match offer {
@@ -181,7 +183,7 @@ fn is_task_known(tables: &Tables, framework: &Name, tasks: &TaskList) -> bool
 }
 
 /// Returns whether the offer exists and does not cover what all tasks use together.
-fn is_beyond(offer: Option<&OfferRow>, tasks: &TaskList) -> bool
+fn exceeds_offer(offer: Option<&OfferRow>, tasks: &TaskList) -> bool
     ensures { result ≡ option_map_or (λ o. not (covers_all o.bundle (uses tasks.now))) (option_copied offer.entry) false }
 {
     match offer {
@@ -217,7 +219,7 @@ fn accept_is_too_much(
     accept: &Accept,
 ) -> bool
     requires found { option_copied offer ≡ offer_at tables.now.rows accept.now.offer }
-    requires covered { is_beyond tables.now.rows accept.now.offer accept.now.tasks ≡ false }
+    requires covered { exceeds_offer tables.now.rows accept.now.offer accept.now.tasks ≡ false }
     ensures { result ≡ accept_is_too_much limits.now tables.now.rows accept.now }
 {
     0 < accept.refuse_ms
@@ -348,16 +350,16 @@ fn refuse_tasks(
     let holds = is_its(framework, offer);
     first_case(&[
         (is_full(limits, tables), Refusal::HistoryFull),
-        (LATEST_MOMENT < *at, Refusal::BadMoment),
+        (LATEST_TIMESTAMP < *at, Refusal::BadMoment),
         (
             is_unknown(tables, framework, holds),
             Refusal::UnknownFramework,
         ),
         (!stands(offer), Refusal::UnknownOffer),
-        (is_anothers(framework, offer), Refusal::NotYours),
+        (belongs_to_another(framework, offer), Refusal::NotYours),
         (is_task_known(tables, framework, tasks), Refusal::KnownTask),
         (tasks.has_empty(), Refusal::Empty),
-        (is_beyond(offer, tasks), Refusal::NotCovered),
+        (exceeds_offer(offer, tasks), Refusal::NotCovered),
     ])
 }
 
@@ -369,7 +371,7 @@ fn refuse_rest(
     accept: &Accept,
 ) -> Option<Refusal>
     requires found { option_copied offer ≡ offer_at tables.now.rows accept.now.offer }
-    requires covered { is_beyond tables.now.rows accept.now.offer accept.now.tasks ≡ false }
+    requires covered { exceeds_offer tables.now.rows accept.now.offer accept.now.tasks ≡ false }
     ensures { result ≡ first_case ((accept_is_too_much limits.now tables.now.rows accept.now, TooMany) ∷ []) }
 {
     first_case(&[(
@@ -399,13 +401,13 @@ fn refuse_decline(limits: &Limits, tables: &Tables, decline: &Decline) -> Option
     let holds = is_its(framework, offer);
     first_case(&[
         (is_full(limits, tables), Refusal::HistoryFull),
-        (LATEST_MOMENT < *at, Refusal::BadMoment),
+        (LATEST_TIMESTAMP < *at, Refusal::BadMoment),
         (
             is_unknown(tables, framework, holds),
             Refusal::UnknownFramework,
         ),
         (!stands(offer), Refusal::UnknownOffer),
-        (is_anothers(framework, offer), Refusal::NotYours),
+        (belongs_to_another(framework, offer), Refusal::NotYours),
         (
             decline_is_too_much(limits, tables, decline),
             Refusal::TooMany,
@@ -495,7 +497,7 @@ fn refuse_cycle(limits: &Limits, tables: &Tables, at: u64) -> Option<Refusal>
 {
     first_case(&[
         (is_full(limits, tables), Refusal::HistoryFull),
-        (LATEST_MOMENT < at, Refusal::BadMoment),
+        (LATEST_TIMESTAMP < at, Refusal::BadMoment),
     ])
 }
 

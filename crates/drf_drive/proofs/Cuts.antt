@@ -9,14 +9,14 @@ use Rattle.drf_journal.specs.Lines.{is_line_feed, all_but_last, last_part, ended
 abbrev last_line : List ℕ → List (List ℕ)
 last_line line = if length line == 0 then [] else line ∷ []
 
-first_ended : (front : List ℕ) (parts : List (List ℕ)) → 0 < length parts
-    → all_but_last (front ∷ parts) ≡ front ∷ all_but_last parts
-first_ended front [] some = absurd (omega arith)
-first_ended front (part ∷ parts) some = refl
+first_ended : (prefix : List ℕ) (parts : List (List ℕ)) → 0 < length parts
+    → all_but_last (prefix ∷ parts) ≡ prefix ∷ all_but_last parts
+first_ended prefix [] some = absurd (omega arith)
+first_ended prefix (part ∷ parts) some = refl
 
-first_passed : (front : List ℕ) (parts : List (List ℕ)) → 0 < length parts → last_part (front ∷ parts) ≡ last_part parts
-first_passed front [] some = absurd (omega arith)
-first_passed front (part ∷ parts) some = refl
+first_passed : (prefix : List ℕ) (parts : List (List ℕ)) → 0 < length parts → last_part (prefix ∷ parts) ≡ last_part parts
+first_passed prefix [] some = absurd (omega arith)
+first_passed prefix (part ∷ parts) some = refl
 
 pub lines-nil : lines_of [] ≡ []
 unfolding lines_of ended_lines_of open_line_of

@@ -3,4 +3,4 @@ pub mod Cuts
 pub mod Contents
 pub mod Scripts
 pub mod Sent
-pub mod Endings
+pub mod Releases

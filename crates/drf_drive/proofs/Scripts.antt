@@ -15,10 +15,10 @@ use Rattle.drf_drive.proofs.Cuts.{lines-nil}
 -- ---- the lines of a file
 
 -- the first lines are these events, and the others are left
-abbrev pub ReadFront : List ℕ → List ℕ → List Event → Type 0
-ReadFront bytes rest events = meanings_of bytes ≡ as_meant events ++ meanings_of rest
+abbrev pub ReadPrefix : List ℕ → List ℕ → List Event → Type 0
+ReadPrefix bytes rest events = meanings_of bytes ≡ as_meant events ++ meanings_of rest
 
-pub read-all : (bytes rest : List ℕ) (events : List Event) → ReadFront bytes rest events → length rest ≡ 0 → IsScript bytes events
+pub read-all : (bytes rest : List ℕ) (events : List Event) → ReadPrefix bytes rest events → length rest ≡ 0 → IsScript bytes events
 read-all bytes [] events read none =
     read ∙ ap (λ (ls : List (List ℕ)). as_meant events ++ map meaning_of ls) lines-nil ∙ append-nil (as_meant events)
 read-all bytes (b ∷ rest) events read none = absurd (omega arith)
@@ -83,12 +83,12 @@ scripts-whole (f ∷ files) (s ∷ scripts) (e ∷ events) of whole =
 
 -- the files before the first that has a line that is not an event
 record IsCutAt (files : List (Vec ℕ)) (before : List Script) (script : Script) (events : List (Vec Event)) : Type 0 where
-  front : List (List ℕ)
+  prefix : List (List ℕ)
   bytes : List ℕ
   rest : List (List ℕ)
-  files_are : bytes_of files ≡ front ++ bytes ∷ rest
-  long : length front ≡ length before
-  good : AreScripts front events
+  files_are : bytes_of files ≡ prefix ++ bytes ∷ rest
+  long : length prefix ≡ length before
+  good : AreScripts prefix events
   of : IsScriptOf bytes script
 
 cut-at : (files : List (Vec ℕ)) (before : List Script) (script : Script) (after : List Script) (events : List (Vec Event))
@@ -96,7 +96,7 @@ cut-at : (files : List (Vec ℕ)) (before : List Script) (script : Script) (afte
 cut-at [] [] script after events of whole = absurd of
 cut-at [] (s ∷ before) script after events of whole = absurd of
 cut-at (f ∷ files) [] script after [] of whole = record {
-  front = [];
+  prefix = [];
   bytes = f.items;
   rest = bytes_of files;
   files_are = refl;
@@ -109,7 +109,7 @@ cut-at (f ∷ files) (s ∷ before) script after [] of whole = absurd whole
 cut-at (f ∷ files) (s ∷ before) script after (e ∷ events) of whole =
     let cut = cut-at files before script after events of.1 whole.1 in
     record {
-      front = f.items ∷ cut.front;
+      prefix = f.items ∷ cut.prefix;
       bytes = cut.bytes;
       rest = cut.rest;
       files_are = ap (λ (l : List (List ℕ)). f.items ∷ l) cut.files_are;
@@ -129,7 +129,7 @@ scripts-stopped files scripts of (Close misfit) stopped = stopped
 scripts-stopped files scripts of (Line bad) stopped =
     let cut = cut-at files stopped.before stopped.script stopped.after stopped.events (subst (AreScriptsOf files) stopped.scripts_are of) stopped.whole in
     record {
-      before = cut.front;
+      before = cut.prefix;
       bytes = cut.bytes;
       after = cut.rest;
       files = cut.files_are;

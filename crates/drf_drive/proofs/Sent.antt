@@ -5,7 +5,7 @@ use Rattle.std.proofs.lemmas.Grind.{flat_map-append}
 use Rattle.std.specs.Io.KnownBytes.{Appends}
 use Rattle.std.proofs.KnownBytes.{Appends-nil, Appends-trans}
 use Rattle.drf_board.specs.declared.entry.Entry.{Entry}
-use Rattle.drf_journal.specs.Device.{AppendsFrontOf}
+use Rattle.drf_journal.specs.Device.{AppendsPrefixOf}
 use Rattle.drf_drive.specs.JournalText.{HasSent, entry_text, journal_text}
 use Rattle.drf_drive.proofs.Contents.{take-next}
 
@@ -37,24 +37,24 @@ sent-whole old now next text waits sent appended =
     subst (Appends old next) (sym sent.whole) (Appends-trans old now next sent.sent waits sent.appended appended)
 
 -- a prefix of the collected text is written, and more text was to come
-pub sent-front : (old now next : Option (List ℕ)) (text waits more whole : List ℕ) → HasSent old now text waits
-    → AppendsFrontOf now next waits → whole ≡ text ++ more → AppendsFrontOf old next whole
-sent-front old now next text waits more whole sent front longer =
-    let part = take front.0 waits in
-    let tail = drop front.0 waits ++ more in
+pub sent-prefix : (old now next : Option (List ℕ)) (text waits more whole : List ℕ) → HasSent old now text waits
+    → AppendsPrefixOf now next waits → whole ≡ text ++ more → AppendsPrefixOf old next whole
+sent-prefix old now next text waits more whole sent prefix longer =
+    let part = take prefix.0 waits in
+    let tail = drop prefix.0 waits ++ more in
     let parted : whole ≡ (sent.sent ++ part) ++ tail =
-    longer ∙ ap (λ l. l ++ more) (sent.whole ∙ ap (λ l. sent.sent ++ l) (sym (take-append-drop front.0 waits))
-    ∙ sym (append_assoc sent.sent part (drop front.0 waits)))
-    ∙ append_assoc (sent.sent ++ part) (drop front.0 waits) more in
+    longer ∙ ap (λ l. l ++ more) (sent.whole ∙ ap (λ l. sent.sent ++ l) (sym (take-append-drop prefix.0 waits))
+    ∙ sym (append_assoc sent.sent part (drop prefix.0 waits)))
+    ∙ append_assoc (sent.sent ++ part) (drop prefix.0 waits) more in
     let cut : sent.sent ++ part ≡ take (length (sent.sent ++ part)) whole =
     sym (ap (take (length (sent.sent ++ part))) parted ∙ take-append_seam (sent.sent ++ part) tail) in (
       length (sent.sent ++ part),
-      subst (Appends old next) cut (Appends-trans old now next sent.sent part sent.appended front.1),
+      subst (Appends old next) cut (Appends-trans old now next sent.sent part sent.appended prefix.1),
     )
 
 -- nothing more is written
-pub front-nothing : (now : Option (List ℕ)) (text : List ℕ) → AppendsFrontOf now now text
-front-nothing now text = (0, Appends-nil now)
+pub prefix-nothing : (now : Option (List ℕ)) (text : List ℕ) → AppendsPrefixOf now now text
+prefix-nothing now text = (0, Appends-nil now)
 
 -- ---- the entries
 

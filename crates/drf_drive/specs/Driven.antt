@@ -5,7 +5,7 @@ use Rattle.std.specs.Io.KnownBytes.{Appends}
 use Rattle.drf_board.specs.History.{IsLegal}
 use Rattle.drf_board.specs.declared.entry.Entry.{Entry}
 use Rattle.drf_core.specs.Machine.{Machine}
-use Rattle.drf_journal.specs.Device.{AppendsFrontOf}
+use Rattle.drf_journal.specs.Device.{AppendsPrefixOf}
 use Rattle.drf_journal.specs.declared.fault.RunFault.TheVariants.{Read, Write, Memory}
 use Rattle.drf_master.specs.Matching.{IsFault, receipts_of}
 use Rattle.drf_master.specs.Receipts.{Held}
@@ -69,15 +69,15 @@ pub record IsHandedOn {K : Type 0} (refused : CloseRefused K) (misfit : Misfit) 
   pub found : ¬ (refused.fault ≡ why.Memory)
 
 -- the error for passes that do not fit
-abbrev pub IsToldUnfit : {K : Type 0} → CloseRefused K → ScriptFault → Type 0
-IsToldUnfit refused (Run Memory) = ⊤
-IsToldUnfit refused (Close misfit) = IsHandedOn refused misfit
-IsToldUnfit refused _ = ⊥
+abbrev pub IsReportedUnfit : {K : Type 0} → CloseRefused K → ScriptFault → Type 0
+IsReportedUnfit refused (Run Memory) = ⊤
+IsReportedUnfit refused (Close misfit) = IsHandedOn refused misfit
+IsReportedUnfit refused _ = ⊥
 
 -- the error for a drive that returned no book
-abbrev pub IsToldAs : {K : Type 0} → Undriven K → ScriptFault → Type 0
-IsToldAs (Undone fault) told = told ≡ Run Memory
-IsToldAs (Unfit refused) told = IsToldUnfit refused told
+abbrev pub IsReportedAs : {K : Type 0} → Undriven K → ScriptFault → Type 0
+IsReportedAs (Undone fault) reported = reported ≡ Run Memory
+IsReportedAs (Unfit refused) reported = IsReportedUnfit refused reported
 
 -- no worker was stopped, and no pass has another key
 abbrev pub IsTellable : {K : Type 0} → Undriven K → Type 0
@@ -100,10 +100,10 @@ pub record HasWritten (start : Machine) (known : Known) (names : List (List ℕ)
   pub appended : Appends old new (journal_text journal)
 
 -- a prefix of such a text was written
-pub record HasWrittenFront (start : Machine) (known : Known) (names : List (List ℕ)) (old new : Option (List ℕ)) : Type 0 where
+pub record HasWrittenPrefix (start : Machine) (known : Known) (names : List (List ℕ)) (old new : Option (List ℕ)) : Type 0 where
   pub journal : List Entry
   pub right : IsJournalOfFiles start known names journal
-  pub appended : AppendsFrontOf old new (journal_text journal)
+  pub appended : AppendsPrefixOf old new (journal_text journal)
 
 -- What was written for the files with these names. Without an error it is a whole journal. Nothing was written if a file could not be read,
 -- a line is not an event, or the passes do not fit the journal. If a write failed, a prefix was written. If memory ran out, a prefix or nothing was.
@@ -111,7 +111,7 @@ abbrev pub HasDrivenFiles : Machine → Known → List (List ℕ) → Option (Li
 HasDrivenFiles start known names old new (Ok done) = HasWritten start known names old new
 HasDrivenFiles start known names old new (Err (Unread file)) = (new ≡ old) × HasUnread known names file
 HasDrivenFiles start known names old new (Err (Run Read)) = ⊥
-HasDrivenFiles start known names old new (Err (Run Write)) = HasWrittenFront start known names old new
-HasDrivenFiles start known names old new (Err (Run Memory)) = (new ≡ old) ⊎ HasWrittenFront start known names old new
+HasDrivenFiles start known names old new (Err (Run Write)) = HasWrittenPrefix start known names old new
+HasDrivenFiles start known names old new (Err (Run Memory)) = (new ≡ old) ⊎ HasWrittenPrefix start known names old new
 HasDrivenFiles start known names old new (Err (Line bad)) = (new ≡ old) × HasRefused known names bad
 HasDrivenFiles start known names old new (Err (Close misfit)) = (new ≡ old) × HasNotClosed start known names misfit

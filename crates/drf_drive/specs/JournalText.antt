@@ -3,7 +3,7 @@ use Rattle.std.specs.Prelude.{◌≡◌, ℕ, Bool, true, false, List, ◌∷◌
 use Rattle.std.specs.List.{flat_map}
 use Rattle.std.specs.Io.KnownBytes.{Appends}
 use Rattle.drf_board.specs.declared.entry.Entry.{Entry}
-use Rattle.drf_journal.specs.Device.{AppendsFrontOf}
+use Rattle.drf_journal.specs.Device.{AppendsPrefixOf}
 use Rattle.drf_journal.specs.declared.fault.RunFault.TheVariants.{Write, Memory}
 use Rattle.drf_lines.specs.EventLine.{event_line}
 use Rattle.drf_lines.specs.ReplyLine.{reply_line}
@@ -26,8 +26,8 @@ pub record HasSent (old new : Option (List ℕ)) (text waits : List ℕ) : Type 
 
 -- a prefix of a text was written before the writer failed or memory ran out
 abbrev pub IsCutOff : Option (List ℕ) → Option (List ℕ) → List ℕ → ScriptFault → Type 0
-IsCutOff old new text (Run Write) = AppendsFrontOf old new text
-IsCutOff old new text (Run Memory) = AppendsFrontOf old new text
+IsCutOff old new text (Run Write) = AppendsPrefixOf old new text
+IsCutOff old new text (Run Memory) = AppendsPrefixOf old new text
 IsCutOff old new text _ = ⊥
 
 -- the writer failed

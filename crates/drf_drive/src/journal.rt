@@ -1,7 +1,7 @@
 //! Writes the text of a journal.
 ghost use Rattle.std.specs.Prelude.{◌≡◌, ◌++◌, [], true, false, OnOk, OnErr, IfErr};
 ghost use Rattle.std.specs.Io.KnownBytes.{Appends};
-ghost use Rattle.drf_journal.specs.Device.{AppendsFrontOf};
+ghost use Rattle.drf_journal.specs.Device.{AppendsPrefixOf};
 ghost use Rattle.drf_journal.specs.Ended.{HasCause};
 ghost use Rattle.drf_drive.specs.JournalText.{HasSent, IsCutOff, entry_text, is_write_fault, journal_text};
 
@@ -28,7 +28,7 @@ fn push_entry(entry: &Entry, text: &mut Vec<u8>) -> Result<(), AllocError>
 fn send_long<W: Write>(text: &mut Vec<u8>, writer: &mut Device<W>) -> Result<(), RunFault>
     requires { writer.old.failed ≡ false }
     ensures ok { OnOk result (HasSent (W.contents writer.old.inner) (W.contents writer.new.inner) text.old.items text.new.items) }
-    ensures err { OnErr result (AppendsFrontOf (W.contents writer.old.inner) (W.contents writer.new.inner) text.old.items) }
+    ensures err { OnErr result (AppendsPrefixOf (W.contents writer.old.inner) (W.contents writer.new.inner) text.old.items) }
     ensures cause { HasCause result false 0 writer.new.failed }
     ensures flushed { writer.old.flushed ≡ true → writer.new.failed ≡ false → writer.new.flushed ≡ true }
 {
@@ -48,7 +48,7 @@ fn write_entries<W: Write>(
 ) -> Result<(), RunFault>
     requires { writer.old.failed ≡ false }
     ensures ok { OnOk result (Appends (W.contents writer.old.inner) (W.contents writer.new.inner) (journal_text entries.now)) }
-    ensures err { OnErr result (AppendsFrontOf (W.contents writer.old.inner) (W.contents writer.new.inner) (journal_text entries.now)) }
+    ensures err { OnErr result (AppendsPrefixOf (W.contents writer.old.inner) (W.contents writer.new.inner) (journal_text entries.now)) }
     ensures cause { HasCause result false 0 writer.new.failed }
     ensures flushed { writer.old.flushed ≡ true → writer.new.failed ≡ false → writer.new.flushed ≡ true }
 {

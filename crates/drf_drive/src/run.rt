@@ -4,7 +4,7 @@ ghost use Rattle.drf_board.specs.History.{IsLegal};
 ghost use Rattle.drf_core.specs.Machine.{live};
 ghost use Rattle.drf_files.specs.Files.{Known};
 ghost use Rattle.drf_master.specs.Journal.{Begins};
-ghost use Rattle.drf_drive.specs.Driven.{HasDrivenFiles, IsRunFault, IsShuffleOf, IsTellable, IsToldAs, IsToldUnfit};
+ghost use Rattle.drf_drive.specs.Driven.{HasDrivenFiles, IsRunFault, IsShuffleOf, IsTellable, IsReportedAs, IsReportedUnfit};
 ghost use Rattle.drf_drive.specs.JournalText.{is_write_fault};
 ghost use Rattle.drf_drive.specs.Scripts.{HasScripts};
 
@@ -37,7 +37,7 @@ fn misfit_of<K: Naming>(refused: CloseRefused<K>) -> Misfit
     let CloseRefused {
         fault,
         book,
-        told: _told,
+        reported: _reported,
         passes,
     } = refused;
     Misfit {
@@ -48,8 +48,8 @@ fn misfit_of<K: Naming>(refused: CloseRefused<K>) -> Misfit
 }
 
 // Returns the error for passes that do not fit the journal.
-fn tell_unfit<K: Naming>(refused: CloseRefused<K>) -> ScriptFault
-    ensures { IsToldUnfit refused result }
+fn unfit_error<K: Naming>(refused: CloseRefused<K>) -> ScriptFault
+    ensures { IsReportedUnfit refused result }
 {
     if refused.fault == CloseFault::Memory {
         drop(refused);
@@ -59,12 +59,12 @@ fn tell_unfit<K: Naming>(refused: CloseRefused<K>) -> ScriptFault
 }
 
 // Returns the error for a drive that returned no book. No worker was stopped, and no pass has another key.
-fn tell_undriven<K: Naming>(undriven: Undriven<K>) -> ScriptFault
+fn undriven_error<K: Naming>(undriven: Undriven<K>) -> ScriptFault
     requires { IsTellable undriven }
-    ensures { IsToldAs undriven result }
+    ensures { IsReportedAs undriven result }
 {
     match undriven {
-        Undriven::Unfit(refused) => tell_unfit(refused),
+        Undriven::Unfit(refused) => unfit_error(refused),
         Undriven::Undone(DriveFault::Memory) => ScriptFault::Run(RunFault::Memory),
         Undriven::Undone(_) => unreachable!(),
     }
@@ -91,7 +91,7 @@ fn run_named<K: Naming + Send + Sync, W: Threads + Wait + Sync>(
     )?;
     match drive(rt, alloc, master, passes, &OpenGate, scripts) {
         Ok(driven) => Ok(driven.into_entries()),
-        Err(undriven) => Err(tell_undriven(undriven)),
+        Err(undriven) => Err(undriven_error(undriven)),
     }
 }
 

@@ -20,7 +20,7 @@ struct Wanted<'a> {
     words: &'a str,
     input: &'a str,
     written: &'a str,
-    told: &'a str,
+    reported: &'a str,
 }
 
 /// Returns the expectation that a line of `commands` states, or `None` if it has another form.
@@ -29,14 +29,14 @@ fn wanted_of(row: &str) -> Option<Wanted<'_>> {
     let (status, rest) = rest.split_once('|')?;
     let (words, rest) = rest.split_once('|')?;
     let (input, rest) = rest.split_once('|')?;
-    let (written, told) = rest.split_once('|')?;
+    let (written, reported) = rest.split_once('|')?;
     Some(Wanted {
         failing,
         status: status.parse::<u8>().ok()?,
         words,
         input,
         written,
-        told,
+        reported,
     })
 }
 
@@ -134,7 +134,7 @@ impl<R: Files + AllocGlobal> FileBytes for WithState<'_, R> {
 pub struct Done {
     pub status: u8,
     pub written: Vec<u8>,
-    pub told: Vec<u8>,
+    pub reported: Vec<u8>,
 }
 
 /// Runs a command with these arguments, with a state under the name `STATE`.
@@ -162,7 +162,7 @@ pub fn done_from<R: Files + Threads + Wait + Sync + AllocGlobal>(
     Done {
         status,
         written: writer.into_inner().into_taken(),
-        told: errors.into_inner().into_taken(),
+        reported: errors.into_inner().into_taken(),
     }
 }
 
@@ -184,8 +184,8 @@ fn is_done<R: Files + Threads + Wait + Sync + AllocGlobal>(
     wanted: Wanted,
 ) -> io::Result<bool> {
     let is_written = is_text(rt, words, &done.written, wanted.written)?;
-    let is_told = is_text(rt, words, &done.told, wanted.told)?;
-    Ok(done.status == wanted.status && is_written && is_told)
+    let is_reported = is_text(rt, words, &done.reported, wanted.reported)?;
+    Ok(done.status == wanted.status && is_written && is_reported)
 }
 
 /// Returns whether the command of a line of `commands` does what is expected.

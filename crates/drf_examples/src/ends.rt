@@ -106,7 +106,7 @@ fn is_name(line: &str) -> bool {
 }
 
 /// Takes the lines of the run with this name, and prints the result.
-fn tell_run<S: Sorter, R: Runtime + AllocGlobal>(
+fn print_run<S: Sorter, R: Runtime + AllocGlobal>(
     rt: &R,
     core: &mut Core<S>,
     list: &str,
@@ -127,13 +127,13 @@ fn tell_run<S: Sorter, R: Runtime + AllocGlobal>(
 }
 
 /// Takes the lines of a run with a new core.
-fn tell_new_run<S: Sorter, R: Runtime + AllocGlobal>(
+fn print_new_run<S: Sorter, R: Runtime + AllocGlobal>(
     rt: &R,
     list: &str,
     name: &str,
 ) -> io::Result<()> {
     let mut core = Core::<S>::open(rt.alloc(), Limits::full())?;
-    tell_run(rt, &mut core, list, name)
+    print_run(rt, &mut core, list, name)
 }
 
 /// Runs all runs of `ends`.
@@ -141,7 +141,7 @@ pub fn run_all<R: Runtime + AllocGlobal>(rt: &R) -> io::Result<()> {
     let list = fs::read_to_string(rt, "ends")?;
     for line in list.as_str().lines() {
         if is_name(line) {
-            tell_new_run::<TreeSorter, R>(rt, list.as_str(), line)?;
+            print_new_run::<TreeSorter, R>(rt, list.as_str(), line)?;
         }
     }
     Ok(())

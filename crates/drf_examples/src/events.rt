@@ -1,5 +1,5 @@
 //! Takes the events of a day in one call of the core, and prints facts about its rows and its report.
-use crate::streams::tell;
+use crate::streams::print;
 use drf_core::Core;
 use drf_lines::{LineError, read_event, write_reply};
 use drf_rows::{Event, Limits, Reply, Report, Rows};
@@ -55,9 +55,9 @@ fn is_answered<S: Sorter>(
     events: &[Event],
     output: &[u8],
 ) -> bool {
-    let mut told = Vec::new(alloc);
-    let is_done = add_answers(alloc, core, events, &mut told).is_ok();
-    is_done && told.as_slice() == output
+    let mut reported = Vec::new(alloc);
+    let is_done = add_answers(alloc, core, events, &mut reported).is_ok();
+    is_done && reported.as_slice() == output
 }
 
 /// Returns whether the replies to these lines, each of which must be an event, are these bytes.
@@ -75,7 +75,7 @@ fn is_exact<S: Sorter, R: Files + AllocGlobal>(rt: &R, core: &mut Core<S>) -> io
 }
 
 /// Prints the number of rows of each kind, the clock, and the number of accepted events.
-fn tell_rows(rt: &impl Print, rows: &Rows) -> io::Result<()> {
+fn print_rows(rt: &impl Print, rows: &Rows) -> io::Result<()> {
     let (agents, frameworks) = (rows.agents.len(), rows.frameworks.len());
     let (offers, tasks, filters) = (rows.offers.len(), rows.tasks.len(), rows.filters.len());
     let (clock, events) = (rows.clock, rows.events);
@@ -85,38 +85,41 @@ fn tell_rows(rt: &impl Print, rows: &Rows) -> io::Result<()> {
 }
 
 /// Prints the same of a copy of the rows.
-fn tell_copied_rows<S: Sorter, R: Runtime + AllocGlobal>(rt: &R, core: &Core<S>) -> io::Result<()> {
+fn print_copied_rows<S: Sorter, R: Runtime + AllocGlobal>(
+    rt: &R,
+    core: &Core<S>,
+) -> io::Result<()> {
     let rows = core.rows()?.copy()?;
-    tell_rows(rt, &rows)
+    print_rows(rt, &rows)
 }
 
 /// Prints the numbers of nodes of a report and of its copy, and the count of the first node.
-fn tell_report(rt: &impl Print, report: &Report, copy: &Report) -> io::Result<()> {
+fn print_report(rt: &impl Print, report: &Report, copy: &Report) -> io::Result<()> {
     let offers = copy.nodes.as_slice().first().map_or(0, |node| node.count);
     let (nodes, copied) = (report.nodes.len(), copy.nodes.len());
     println!(rt; "report: {nodes} nodes, {copied} in a copy, {offers} offers to the first")
 }
 
 /// Prints the facts about the report and its copy.
-fn tell_copied_report<S: Sorter, R: Runtime + AllocGlobal>(
+fn print_copied_report<S: Sorter, R: Runtime + AllocGlobal>(
     rt: &R,
     core: &Core<S>,
 ) -> io::Result<()> {
     let report = core.report()?;
     let copy = report.copy()?;
-    tell_report(rt, &report, &copy)
+    print_report(rt, &report, &copy)
 }
 
 /// Takes the events of the day, and prints the facts.
-fn tell_all<S: Sorter, R: Runtime + AllocGlobal>(rt: &R, core: &mut Core<S>) -> io::Result<()> {
+fn print_all<S: Sorter, R: Runtime + AllocGlobal>(rt: &R, core: &mut Core<S>) -> io::Result<()> {
     let is_exact = is_exact(rt, core)?;
-    tell(rt, "a day at once", is_exact)?;
-    tell_copied_rows(rt, core)?;
-    tell_copied_report(rt, core)
+    print(rt, "a day at once", is_exact)?;
+    print_copied_rows(rt, core)?;
+    print_copied_report(rt, core)
 }
 
 /// Runs the test.
 pub fn run_all<R: Runtime + AllocGlobal>(rt: &R) -> io::Result<()> {
     let mut core = Core::<PlainSorter>::open(rt.alloc(), Limits::full())?;
-    tell_all(rt, &mut core)
+    print_all(rt, &mut core)
 }

@@ -31,7 +31,7 @@ fn keys_for<S: Sorter>(
 }
 
 /// Takes events, and prints whether they compute the expected number of keys.
-fn tell_keys<S: Sorter, R: Runtime + AllocGlobal>(
+fn print_keys<S: Sorter, R: Runtime + AllocGlobal>(
     rt: &R,
     core: &mut Core<S>,
     events: &[Event],
@@ -50,7 +50,7 @@ fn part_of<'a>(events: &'a [Event], part: &str) -> Option<(&'a [Event], u64, &'a
 }
 
 /// Does so for each part.
-fn tell_parts<S: Sorter, R: Runtime + AllocGlobal>(
+fn print_parts<S: Sorter, R: Runtime + AllocGlobal>(
     rt: &R,
     core: &mut Core<S>,
     events: &[Event],
@@ -61,28 +61,28 @@ fn tell_parts<S: Sorter, R: Runtime + AllocGlobal>(
         let Some((next, keys, later)) = part_of(events, part) else {
             return println!(rt; "{part}: OTHER");
         };
-        tell_keys(rt, core, next, keys)?;
+        print_keys(rt, core, next, keys)?;
         events = later;
     }
     Ok(())
 }
 
 /// Does so with a new core.
-fn tell_events<S: Sorter, R: Runtime + AllocGlobal>(
+fn print_events<S: Sorter, R: Runtime + AllocGlobal>(
     rt: &R,
     events: &[Event],
     parts: &str,
 ) -> io::Result<()> {
     let mut core = Core::<S>::open(rt.alloc(), Limits::full())?;
-    tell_parts(rt, &mut core, events, parts)
+    print_parts(rt, &mut core, events, parts)
 }
 
 /// Does so for the example of a line of `keys`.
-fn tell_example<S: Sorter, R: Runtime + AllocGlobal>(rt: &R, row: &str) -> io::Result<()> {
+fn print_example<S: Sorter, R: Runtime + AllocGlobal>(rt: &R, row: &str) -> io::Result<()> {
     let (name, parts) = row.split_once(' ').unwrap_or((row, ""));
     let lines = lines_of(rt, name)?;
     match events_of(rt.alloc(), lines.as_str()) {
-        Ok(events) => tell_events::<S, R>(rt, &events, parts),
+        Ok(events) => print_events::<S, R>(rt, &events, parts),
         Err(_) => println!(rt; "{row}: OTHER"),
     }
 }
@@ -92,7 +92,7 @@ pub fn run_all<R: Runtime + AllocGlobal>(rt: &R) -> io::Result<()> {
     let list = fs::read_to_string(rt, "keys")?;
     for row in list.as_str().lines() {
         println!(rt; "{row}")?;
-        tell_example::<TreeSorter, R>(rt, row)?;
+        print_example::<TreeSorter, R>(rt, row)?;
     }
     Ok(())
 }

@@ -3,7 +3,7 @@
 //! about a text that is not a state and, after `|`, the text itself, with a space for each line feed.
 use crate::commands::{Done, done_from};
 use crate::rows::bytes;
-use crate::streams::{NO_BOUNDS, first_lines, tell};
+use crate::streams::{NO_BOUNDS, first_lines, print};
 use std::alloc::{AllocError, Global};
 use std::rt::{Files, Runtime};
 use std::sync::Wait;
@@ -39,9 +39,9 @@ fn run_from<R: Files + Threads + Wait + Sync + AllocGlobal>(
 }
 
 /// Splits a text after this number of lines.
-fn cut_behind(text: &[u8], lines: usize) -> (&[u8], &[u8]) {
-    let front = first_lines(text, lines);
-    text.split_at_checked(front.len()).unwrap_or((text, &[]))
+fn split_after(text: &[u8], lines: usize) -> (&[u8], &[u8]) {
+    let prefix = first_lines(text, lines);
+    text.split_at_checked(prefix.len()).unwrap_or((text, &[]))
 }
 
 /// The lines of an example, the replies to them, and the state after them.
@@ -58,9 +58,9 @@ fn is_resumed<R: Files + Threads + Wait + Sync + AllocGlobal>(
     example: Example<'_>,
     lines: usize,
 ) -> bool {
-    let (front, rest) = cut_behind(example.input, lines);
-    let (_, wanted) = cut_behind(example.output, lines);
-    let state = save(rt, front).written;
+    let (prefix, rest) = split_after(example.input, lines);
+    let (_, wanted) = split_after(example.output, lines);
+    let state = save(rt, prefix).written;
     let resumed = run_from(rt, &state, rest);
     let saved = save_from(rt, &state, rest);
     resumed.status == 0
@@ -95,18 +95,18 @@ fn text_of(alloc: Global, line: &str) -> Result<Vec<u8>, AllocError> {
 }
 
 /// Returns whether a text is refused with this message, and nothing is written.
-fn is_told<R: Files + Threads + Wait + Sync + AllocGlobal>(
+fn is_reported<R: Files + Threads + Wait + Sync + AllocGlobal>(
     rt: &R,
     state: &[u8],
     fault: &str,
 ) -> io::Result<bool> {
     let done = run_from(rt, state, &[]);
     let line = format!(in rt.alloc(); "drf: STATE {fault}\n")?;
-    Ok(done.status == 3 && done.written.is_empty() && done.told.as_slice() == line.as_bytes())
+    Ok(done.status == 3 && done.written.is_empty() && done.reported.as_slice() == line.as_bytes())
 }
 
 /// Returns whether this holds for a line of `state_faults`.
-fn is_row_told<R: Files + Threads + Wait + Sync + AllocGlobal>(
+fn is_row_reported<R: Files + Threads + Wait + Sync + AllocGlobal>(
     rt: &R,
     row: &str,
 ) -> io::Result<bool> {
@@ -114,7 +114,7 @@ fn is_row_told<R: Files + Threads + Wait + Sync + AllocGlobal>(
         return Ok(false);
     };
     let state = text_of(rt.alloc(), line)?;
-    is_told(rt, &state, fault)
+    is_reported(rt, &state, fault)
 }
 
 /// Returns whether a state is refused if the byte at this place is changed.
@@ -148,19 +148,19 @@ fn is_refused_everywhere<R: Files + Threads + Wait + Sync + AllocGlobal>(
 }
 
 /// Tests the state with each of its bytes changed.
-fn tell_damage<R: Runtime + Threads + Wait + Sync + AllocGlobal>(rt: &R) -> io::Result<()> {
+fn print_damage<R: Runtime + Threads + Wait + Sync + AllocGlobal>(rt: &R) -> io::Result<()> {
     let mut state = bytes(rt, DAMAGED, "state")?;
     let is_exact = is_refused_everywhere(rt, state.as_mut_slice());
-    tell(rt, "a state with another byte", is_exact)
+    print(rt, "a state with another byte", is_exact)
 }
 
 /// Tests each line of `state_faults`.
-fn tell_faults<R: Runtime + Threads + Wait + Sync + AllocGlobal>(rt: &R) -> io::Result<()> {
+fn print_faults<R: Runtime + Threads + Wait + Sync + AllocGlobal>(rt: &R) -> io::Result<()> {
     let list = fs::read_to_string(rt, "state_faults")?;
     let (mut faults, mut others) = (0u64, 0u64);
     for row in list.as_str().lines() {
         faults = faults.saturating_add(1);
-        if !is_row_told(rt, row)? {
+        if !is_row_reported(rt, row)? {
             println!(rt; "{row}: OTHER")?;
             others = others.saturating_add(1);
         }
@@ -169,7 +169,7 @@ fn tell_faults<R: Runtime + Threads + Wait + Sync + AllocGlobal>(rt: &R) -> io::
 }
 
 /// Tests each example of `resumes`.
-fn tell_cuts<R: Runtime + Threads + Wait + Sync + AllocGlobal>(rt: &R) -> io::Result<()> {
+fn print_cuts<R: Runtime + Threads + Wait + Sync + AllocGlobal>(rt: &R) -> io::Result<()> {
     let list = fs::read_to_string(rt, "resumes")?;
     let (mut examples, mut others) = (0u64, 0u64);
     for name in list.as_str().lines() {
@@ -184,7 +184,7 @@ fn tell_cuts<R: Runtime + Threads + Wait + Sync + AllocGlobal>(rt: &R) -> io::Re
 
 /// Runs the three tests.
 pub fn run_all<R: Runtime + Threads + Wait + Sync + AllocGlobal>(rt: &R) -> io::Result<()> {
-    tell_cuts(rt)?;
-    tell_faults(rt)?;
-    tell_damage(rt)
+    print_cuts(rt)?;
+    print_faults(rt)?;
+    print_damage(rt)
 }

@@ -1,6 +1,6 @@
 //! The worked examples. `rows` names each, followed by `echo`, or by a capacity that is not the full one and its number: `agents`, `clients`,
 //! `filters`, `limits`, `scalar_names` or `events`. The replies to the lines of `NAME.in` must be those of `NAME.out`.
-use crate::streams::tell;
+use crate::streams::print;
 use drf_core::Core;
 use drf_journal::{Device, run};
 use drf_rows::Limits;
@@ -9,7 +9,7 @@ use std::rt::{Files, Runtime};
 use std::{fs, io};
 
 /// Returns the bytes of an example's file.
-pub fn bytes<R: Files + AllocGlobal>(rt: &R, name: &str, ending: &str) -> io::Result<Vec<u8>> {
+pub fn bytes<R: Files + AllocGlobal>(rt: &R, name: &str, release: &str) -> io::Result<Vec<u8>> {
     let path = format!(in rt.alloc(); "{name}.{ending}")?;
     fs::read(rt, path.as_str())
 }
@@ -57,8 +57,8 @@ fn is_answered(alloc: Global, settings: Settings, input: &[u8], output: &[u8]) -
     let mut reader = Device::new(input);
     let mut writer = Device::new(Vec::new(alloc));
     let is_done = run(alloc, core, &mut reader, &mut writer, echo).is_ok();
-    let told = writer.into_inner();
-    is_done && told.as_slice() == output
+    let reported = writer.into_inner();
+    is_done && reported.as_slice() == output
 }
 
 /// Returns whether the example of a line of `rows` has the expected replies.
@@ -77,7 +77,7 @@ pub fn run_all<R: Runtime + AllocGlobal>(rt: &R) -> io::Result<()> {
     let mut others = 0u64;
     for row in list.as_str().lines() {
         let is_exact = is_exact(rt, row)?;
-        tell(rt, row, is_exact)?;
+        print(rt, row, is_exact)?;
         if !is_exact {
             others = others.saturating_add(1);
         }

@@ -237,30 +237,30 @@ fn answers_at_once(alloc: Global, input: &[u8]) -> bool {
 }
 
 /// Prints whether something is as expected.
-pub fn tell(rt: &impl Print, what: &str, is_exact: bool) -> io::Result<()> {
+pub fn print(rt: &impl Print, what: &str, is_exact: bool) -> io::Result<()> {
     let verdict = if is_exact { "exact" } else { "OTHER" };
     println!(rt; "{what}: {verdict}")
 }
 
 /// Runs all tests on an example.
-fn tell_all<R: Runtime + AllocGlobal>(rt: &R, input: &[u8], output: &[u8]) -> io::Result<()> {
+fn print_all<R: Runtime + AllocGlobal>(rt: &R, input: &[u8], output: &[u8]) -> io::Result<()> {
     let alloc = rt.alloc();
-    tell(
+    print(
         rt,
         "pieces of some bytes",
         pieces_are_exact(alloc, input, output),
     )?;
-    tell(
+    print(
         rt,
         "reads that fail",
         failing_reads_are_exact(alloc, input, output),
     )?;
-    tell(
+    print(
         rt,
         "writes that fail",
         failing_writes_are_exact(alloc, input, output),
     )?;
-    tell(
+    print(
         rt,
         "answers before the next read",
         answers_at_once(alloc, input),
@@ -270,5 +270,5 @@ fn tell_all<R: Runtime + AllocGlobal>(rt: &R, input: &[u8], output: &[u8]) -> io
 /// Runs the tests.
 pub fn run_all<R: Runtime + AllocGlobal>(rt: &R) -> io::Result<()> {
     let (input, output) = (bytes(rt, EXAMPLE, "in")?, bytes(rt, EXAMPLE, "out")?);
-    tell_all(rt, &input, &output)
+    print_all(rt, &input, &output)
 }

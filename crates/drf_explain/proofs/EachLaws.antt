@@ -15,7 +15,7 @@ use Rattle.drf_bundle.proofs.laws.SumLaws.{amount-quantities_of}
 use Rattle.drf_bundle.proofs.laws.PartLaws.{where-some}
 use Rattle.drf_bundle.specs.declared.resource.Resource.{Resource}
 use Rattle.drf_rows.specs.Client.{Client, path_of}
-use Rattle.drf_rows.specs.Cycle.{free_of, grant, is_allocatable, tried, all_tried, turn_order, turn, turns, at_moment}
+use Rattle.drf_rows.specs.Cycle.{free_of, grant, is_allocatable, tried, all_tried, turn_order, turn, turns, at_timestamp}
 use Rattle.drf_row_laws.proofs.CycleLaws.{all_tried_none, little_entitlement}
 use Rattle.drf_rows.specs.Filters.{holds_back, is_in_force, in_force}
 use Rattle.drf_rows.specs.Held.{standing_of}
@@ -23,38 +23,38 @@ use Rattle.drf_rows.specs.Offers.{is_empty}
 use Rattle.drf_rows.specs.declared.rows.AgentRow.{AgentRow}
 use Rattle.drf_rows.specs.declared.rows.FilterRow.{FilterRow}
 use Rattle.drf_rows.specs.declared.rows.Rows.{Rows}
-use Rattle.drf_explain.specs.Explained.{outcome, told_of_all, told_of_agent, told_of_agents, after_agent, suppressed_of, explained}
-use Rattle.drf_explain.specs.Each.{told_here, told_of_each, each_on_active, each_on, each_on_all, each_by_agent, untouched_on_active, untouched_on, turn_on, turns_on_all, turns_by_agent}
+use Rattle.drf_explain.specs.Explained.{outcome, reported_of_all, reported_of_agent, reported_of_agents, after_agent, suppressed_of, explained}
+use Rattle.drf_explain.specs.Each.{reported_here, reported_of_each, each_on_active, each_on, each_on_all, each_by_agent, untouched_on_active, untouched_on, turn_on, turns_on_all, turns_by_agent}
 use Rattle.drf_explain.specs.ExplainedLaws.{Granted, grants_in}
 use Rattle.drf_explain.proofs.ExplainedLaws.{HoldTheSame, with_filters, grants_are_offers, tried-none, outcome-filters, tried-filters, kept-tried, still_the_same, after-filters, kept-agent, filter_weaker, in_force_before}
 use Rattle.drf_explain.specs.declared.finding.Finding.{Finding}
 use Rattle.drf_explain.specs.declared.finding.Finding.TheVariants.{Suppressed, Inactive, NothingFree, Tried, Left}
 use Rattle.drf_explain.specs.declared.finding.Outcome.TheVariants.{Grant, HeldBack, OverLimit, BelowThreshold, NothingLeft, ReservedForOthers}
-use Rattle.drf_explain.specs.EachLaws.{tried_in, IsOpen, EachIsToldOnce, EachIsToldAtItsMoment, TurnsAreTold, EachIsUntouched, UntouchedIsTold, is_late, is_told_late, counted, IsCutTo, ExplainedIsCut, EachGrantIsAnOffer, LiveRowsAreTold, LiveTurnsAreTold, whole}
+use Rattle.drf_explain.specs.EachLaws.{tried_in, IsOpen, EachIsReportedOnce, EachIsReportedAtItsTimestamp, TurnsAreReported, EachIsUntouched, UntouchedIsReported, is_late, is_reported_late, counted, IsCutTo, ExplainedIsCut, EachGrantIsAnOffer, LiveRowsAreReported, LiveTurnsAreReported, whole}
 
 -- ---- which clients are listed
 
-tried-each : (rows : Rows) (agent : AgentRow) (clients : List Client) → flat_map tried_in (told_of_each rows agent clients) ≡ map path_of clients
+tried-each : (rows : Rows) (agent : AgentRow) (clients : List Client) → flat_map tried_in (reported_of_each rows agent clients) ≡ map path_of clients
 tried-each rows agent [] = refl
 tried-each rows agent (client ∷ clients) = ap (λ ps. path_of client ∷ ps) (tried-each (tried rows agent client) agent clients)
 
 -- the findings about an open agent are those about the clients of the turn
-pub each_on-open : (rows : Rows) (agent : AgentRow) → IsOpen rows agent → each_on rows agent ≡ told_of_each rows agent (turn_order rows)
+pub each_on-open : (rows : Rows) (agent : AgentRow) → IsOpen rows agent → each_on rows agent ≡ reported_of_each rows agent (turn_order rows)
 each_on-open rows agent opened =
     (λ i. if opened.active i then each_on_active rows agent else Inactive agent.name ∷ [])
-    ∙ (λ i. if opened.some i then NothingFree agent.name ∷ [] else told_of_each rows agent (turn_order rows))
+    ∙ (λ i. if opened.some i then NothingFree agent.name ∷ [] else reported_of_each rows agent (turn_order rows))
 
-pub each_is_told_once : EachIsToldOnce
-each_is_told_once rows agent opened = ap (flat_map tried_in) (each_on-open rows agent opened) ∙ tried-each rows agent (turn_order rows)
+pub each_is_reported_once : EachIsReportedOnce
+each_is_reported_once rows agent opened = ap (flat_map tried_in) (each_on-open rows agent opened) ∙ tried-each rows agent (turn_order rows)
 
 each-append : (rows : Rows) (agent : AgentRow) (earlier later : List Client)
-    → told_of_each rows agent (earlier ++ later) ≡ told_of_each rows agent earlier ++ told_of_each (all_tried rows agent earlier) agent later
+    → reported_of_each rows agent (earlier ++ later) ≡ reported_of_each rows agent earlier ++ reported_of_each (all_tried rows agent earlier) agent later
 each-append rows agent [] later = refl
 each-append rows agent (client ∷ earlier) later =
     ap (λ fs. Tried agent.name (path_of client) (outcome rows agent client) ∷ fs) (each-append (tried rows agent client) agent earlier later)
 
 each-at : (rows : Rows) (agent : AgentRow) (earlier later : List Client) (client : Client)
-    → slice_get (told_of_each rows agent (earlier ++ client ∷ later)) (length earlier)
+    → slice_get (reported_of_each rows agent (earlier ++ client ∷ later)) (length earlier)
     ≡ Some (Tried agent.name (path_of client) (outcome (all_tried rows agent earlier) agent client))
 each-at rows agent [] later client = refl
 each-at rows agent (first ∷ earlier) later client = each-at (tried rows agent first) agent earlier later client
@@ -71,27 +71,27 @@ each_on_all-at rows [] after agent = refl
 each_on_all-at rows (first ∷ before) after agent =
     each_on_all-at (after_agent rows first) before after agent ∙ ap (λ (r : Rows). Some (each_on r agent)) (after-first rows before first first.active)
 
-pub each_is_told_at_its_moment : EachIsToldAtItsMoment
+pub each_is_reported_at_its_timestamp : EachIsReportedAtItsTimestamp
 unfolding each_by_agent
-each_is_told_at_its_moment rows at before after agent agents =
-    let start : Rows = turns (at_moment rows at) (filter (λ a. a.active) before) in record {
+each_is_reported_at_its_timestamp rows at before after agent agents =
+    let start : Rows = turns (at_timestamp rows at) (filter (λ a. a.active) before) in record {
       turn =
-          ap (λ as'. slice_get (each_on_all (at_moment rows at) as') (length before)) agents
-          ∙ each_on_all-at (at_moment rows at) before after agent;
+          ap (λ as'. slice_get (each_on_all (at_timestamp rows at) as') (length before)) agents
+          ∙ each_on_all-at (at_timestamp rows at) before after agent;
       client = λ opened earlier later client order.
-          ap (λ fs. slice_get fs (length earlier)) (each_on-open start agent opened ∙ ap (told_of_each start agent) order)
+          ap (λ fs. slice_get fs (length earlier)) (each_on-open start agent opened ∙ ap (reported_of_each start agent) order)
           ∙ each-at start agent earlier later client;
     }
 
 -- ---- outcomes at the beginning of a turn
 
-turns-told : (rows : Rows) (agents : List AgentRow) → map (λ turn. turn.0) (turns_on_all rows agents) ≡ each_on_all rows agents
-turns-told rows [] = refl
-turns-told rows (agent ∷ agents) = ap (λ told. each_on rows agent ∷ told) (turns-told (after_agent rows agent) agents)
+turns-reported : (rows : Rows) (agents : List AgentRow) → map (λ turn. turn.0) (turns_on_all rows agents) ≡ each_on_all rows agents
+turns-reported rows [] = refl
+turns-reported rows (agent ∷ agents) = ap (λ reported. each_on rows agent ∷ reported) (turns-reported (after_agent rows agent) agents)
 
-pub turns_are_told : TurnsAreTold
+pub turns_are_reported : TurnsAreReported
 unfolding each_by_agent turns_by_agent
-turns_are_told rows at = turns-told (at_moment rows at) rows.agents
+turns_are_reported rows at = turns-reported (at_timestamp rows at) rows.agents
 
 turns_on_all-at : (rows : Rows) (before after : List AgentRow) (agent : AgentRow)
     → slice_get (turns_on_all rows (before ++ agent ∷ after)) (length before) ≡ Some (turn_on (turns rows (filter (λ a. a.active) before)) agent)
@@ -102,7 +102,7 @@ turns_on_all-at rows (first ∷ before) after agent =
 untouched_on-shut : (rows : Rows) (agent : AgentRow) → (agent.active && not (is_empty (free_of rows agent))) ≡ false → untouched_on rows agent ≡ []
 untouched_on-shut rows agent = by agent.active (is_empty (free_of rows agent))
   where
-    by : (active none : Bool) → (active && not none) ≡ false → cond active (cond none [] (map (told_here rows agent) (turn_order rows))) [] ≡ []
+    by : (active none : Bool) → (active && not none) ≡ false → cond active (cond none [] (map (reported_here rows agent) (turn_order rows))) [] ≡ []
     by true true shut = refl
     by true false shut = absurd cc
     by false none shut = refl
@@ -110,29 +110,29 @@ untouched_on-shut rows agent = by agent.active (is_empty (free_of rows agent))
 pub each_is_untouched : EachIsUntouched
 unfolding turns_by_agent
 each_is_untouched rows at before after agent agents =
-    let start : Rows = turns (at_moment rows at) (filter (λ a. a.active) before) in record {
+    let start : Rows = turns (at_timestamp rows at) (filter (λ a. a.active) before) in record {
       turn =
-          ap (λ as'. slice_get (turns_on_all (at_moment rows at) as') (length before)) agents
-          ∙ turns_on_all-at (at_moment rows at) before after agent;
+          ap (λ as'. slice_get (turns_on_all (at_timestamp rows at) as') (length before)) agents
+          ∙ turns_on_all-at (at_timestamp rows at) before after agent;
       clients = λ opened.
           (λ i. if opened.active i then untouched_on_active start agent else [])
-          ∙ (λ i. if opened.some i then [] else map (told_here start agent) (turn_order start));
+          ∙ (λ i. if opened.some i then [] else map (reported_here start agent) (turn_order start));
       nobody = untouched_on-shut start agent;
     }
 
-none_tried : (rows : Rows) (agent : AgentRow) (earlier : List Client) → flat_map grants_in (told_of_each rows agent earlier) ≡ []
+none_tried : (rows : Rows) (agent : AgentRow) (earlier : List Client) → flat_map grants_in (reported_of_each rows agent earlier) ≡ []
     → all_tried rows agent earlier ≡ rows
 none_tried rows agent [] none = refl
 none_tried rows agent (client ∷ earlier) none =
-    let parts = append_nothing (grants_in (told_here rows agent client)) (flat_map grants_in (told_of_each (tried rows agent client) agent earlier)) none in
+    let parts = append_nothing (grants_in (reported_here rows agent client)) (flat_map grants_in (reported_of_each (tried rows agent client) agent earlier)) none in
     none_tried (tried rows agent client) agent earlier parts.1 ∙ tried-none rows agent client parts.0
   where
     append_nothing : (xs ys : List Granted) → xs ++ ys ≡ [] → (xs ≡ []) × (ys ≡ [])
     append_nothing [] ys none = (refl, none)
     append_nothing (x ∷ xs) ys none = absurd cc
 
-pub untouched_is_told : UntouchedIsTold
-untouched_is_told rows agent earlier client none = ap (λ (r : Rows). told_here r agent client) (none_tried rows agent earlier none)
+pub untouched_is_reported : UntouchedIsReported
+untouched_is_reported rows agent earlier client none = ap (λ (r : Rows). reported_here r agent client) (none_tried rows agent earlier none)
 
 -- ---- where too little is left
 
@@ -163,18 +163,18 @@ late-outcome rows agent client little =
     (rw (little_part client.role (free_of rows agent) little) (late_shortage (is_empty (free_of rows agent)) (is_empty (part_for client.role (free_of rows agent)))))
 
 each_is_late : (rows : Rows) (agent : AgentRow) (clients : List Client) → is_allocatable (free_of rows agent) ≡ false
-    → list_all is_told_late (told_of_each rows agent clients) ≡ true
+    → list_all is_reported_late (reported_of_each rows agent clients) ≡ true
 each_is_late rows agent [] little = refl
 each_is_late rows agent (client ∷ clients) little =
     let same : tried rows agent client ≡ rows = all_tried_none rows agent (client ∷ []) little in
-    (λ i. late-outcome rows agent client little i && list_all is_told_late (told_of_each (same i) agent clients))
+    (λ i. late-outcome rows agent client little i && list_all is_reported_late (reported_of_each (same i) agent clients))
     ∙ each_is_late rows agent clients little
 
-length-each : (rows : Rows) (agent : AgentRow) (clients : List Client) → length (told_of_each rows agent clients) ≡ length clients
+length-each : (rows : Rows) (agent : AgentRow) (clients : List Client) → length (reported_of_each rows agent clients) ≡ length clients
 length-each rows agent [] = refl
 length-each rows agent (client ∷ clients) = ap suc (length-each (tried rows agent client) agent clients)
 
-cut-clients : (rows : Rows) (agent : AgentRow) (clients : List Client) → IsCutTo (told_of_each rows agent clients) (told_of_all rows agent clients)
+cut-clients : (rows : Rows) (agent : AgentRow) (clients : List Client) → IsCutTo (reported_of_each rows agent clients) (reported_of_all rows agent clients)
 cut-clients rows agent [] =
     record { before = []; behind = []; agent = agent.name; left = []; longer = refl; shorter = refl; little = λ some. absurd (some refl); late = refl }
 cut-clients rows agent (client ∷ clients) = elim (cases_Bool (is_allocatable (free_of rows agent))) [
@@ -193,7 +193,7 @@ cut-clients rows agent (client ∷ clients) = elim (cases_Bool (is_allocatable (
       }
   | inr little ↦ record {
     before = [];
-    behind = told_of_each rows agent (client ∷ clients);
+    behind = reported_of_each rows agent (client ∷ clients);
     agent = agent.name;
     left = free_of rows agent;
     longer = refl;
@@ -203,12 +203,12 @@ cut-clients rows agent (client ∷ clients) = elim (cases_Bool (is_allocatable (
   }
 ]
 
-cut-agent : (rows : Rows) (agent : AgentRow) → IsCutTo (each_on rows agent) (told_of_agent rows agent)
+cut-agent : (rows : Rows) (agent : AgentRow) → IsCutTo (each_on rows agent) (reported_of_agent rows agent)
 cut-agent rows agent = by agent.active (is_empty (free_of rows agent))
   where
     by : (active none : Bool) → IsCutTo
-        (cond active (cond none (NothingFree agent.name ∷ []) (told_of_each rows agent (turn_order rows))) (Inactive agent.name ∷ []))
-        (cond active (cond none (NothingFree agent.name ∷ []) (told_of_all rows agent (turn_order rows))) (Inactive agent.name ∷ []))
+        (cond active (cond none (NothingFree agent.name ∷ []) (reported_of_each rows agent (turn_order rows))) (Inactive agent.name ∷ []))
+        (cond active (cond none (NothingFree agent.name ∷ []) (reported_of_all rows agent (turn_order rows))) (Inactive agent.name ∷ []))
     by true true = whole (NothingFree agent.name ∷ [])
     by true false = cut-clients rows agent (turn_order rows)
     by false none = whole (Inactive agent.name ∷ [])
@@ -216,11 +216,11 @@ cut-agent rows agent = by agent.active (is_empty (free_of rows agent))
 -- the shorter explanation, a list for each agent
 abbrev shorter_on_all : Rows → List AgentRow → List (List Finding)
 shorter_on_all rows [] = []
-shorter_on_all rows (agent ∷ agents) = told_of_agent rows agent ∷ shorter_on_all (after_agent rows agent) agents
+shorter_on_all rows (agent ∷ agents) = reported_of_agent rows agent ∷ shorter_on_all (after_agent rows agent) agents
 
-shorter-joined : (rows : Rows) (agents : List AgentRow) → told_of_agents rows agents ≡ flat_map (λ told. told) (shorter_on_all rows agents)
+shorter-joined : (rows : Rows) (agents : List AgentRow) → reported_of_agents rows agents ≡ flat_map (λ reported. reported) (shorter_on_all rows agents)
 shorter-joined rows [] = refl
-shorter-joined rows (agent ∷ agents) = ap (λ fs. told_of_agent rows agent ++ fs) (shorter-joined (after_agent rows agent) agents)
+shorter-joined rows (agent ∷ agents) = ap (λ fs. reported_of_agent rows agent ++ fs) (shorter-joined (after_agent rows agent) agents)
 
 cut-agents : (rows : Rows) (agents : List AgentRow) → AllZip IsCutTo (each_on_all rows agents) (shorter_on_all rows agents)
 cut-agents rows [] = tt
@@ -229,15 +229,15 @@ cut-agents rows (agent ∷ agents) = (cut-agent rows agent, cut-agents (after_ag
 pub explained_is_cut : ExplainedIsCut
 unfolding explained each_by_agent
 explained_is_cut rows at = record {
-  shorter = shorter_on_all (at_moment rows at) rows.agents;
-  whole = ap (λ fs. suppressed_of rows ++ fs) (shorter-joined (at_moment rows at) rows.agents);
-  cut = cut-agents (at_moment rows at) rows.agents;
+  shorter = shorter_on_all (at_timestamp rows at) rows.agents;
+  whole = ap (λ fs. suppressed_of rows ++ fs) (shorter-joined (at_timestamp rows at) rows.agents);
+  cut = cut-agents (at_timestamp rows at) rows.agents;
 }
 
 -- ---- grants
 
 -- no client is granted anything where too little is left
-no_grant_late : (findings : List Finding) → list_all is_told_late findings ≡ true → flat_map grants_in findings ≡ []
+no_grant_late : (findings : List Finding) → list_all is_reported_late findings ≡ true → flat_map grants_in findings ≡ []
 no_grant_late [] late = refl
 no_grant_late (Tried agent client (Grant bundle) ∷ findings) late = cc
 no_grant_late (Tried agent client (HeldBack until) ∷ findings) late = no_grant_late findings (absurd cc)
@@ -263,33 +263,33 @@ cut-grants longer shorter cut =
     ∙ ap (flat_map grants_in) (sym cut.shorter)
 
 all-grants : (longer shorter : List (List Finding)) → AllZip IsCutTo longer shorter
-    → flat_map grants_in (flat_map (λ told. told) longer) ≡ flat_map grants_in (flat_map (λ told. told) shorter)
+    → flat_map grants_in (flat_map (λ reported. reported) longer) ≡ flat_map grants_in (flat_map (λ reported. reported) shorter)
 all-grants [] [] cut = refl
-all-grants [] (told ∷ shorter) cut = absurd cut
-all-grants (told ∷ longer) [] cut = absurd cut
+all-grants [] (reported ∷ shorter) cut = absurd cut
+all-grants (reported ∷ longer) [] cut = absurd cut
 all-grants (more ∷ longer) (less ∷ shorter) cut =
-    flat_map-append grants_in more (flat_map (λ told. told) longer)
+    flat_map-append grants_in more (flat_map (λ reported. reported) longer)
     ∙ (λ i. cut-grants more less cut.0 i ++ all-grants longer shorter cut.1 i)
-    ∙ sym (flat_map-append grants_in less (flat_map (λ told. told) shorter))
+    ∙ sym (flat_map-append grants_in less (flat_map (λ reported. reported) shorter))
 
 pub each_grant_is_an_offer : EachGrantIsAnOffer
 each_grant_is_an_offer rows at =
     let cut = explained_is_cut rows at in
-    flat_map-append grants_in (suppressed_of rows) (flat_map (λ told. told) (each_by_agent rows at))
+    flat_map-append grants_in (suppressed_of rows) (flat_map (λ reported. reported) (each_by_agent rows at))
     ∙ ap (λ gs. flat_map grants_in (suppressed_of rows) ++ gs) (all-grants (each_by_agent rows at) cut.shorter cut.cut)
-    ∙ sym (flat_map-append grants_in (suppressed_of rows) (flat_map (λ told. told) cut.shorter))
+    ∙ sym (flat_map-append grants_in (suppressed_of rows) (flat_map (λ reported. reported) cut.shorter))
     ∙ ap (flat_map grants_in) (sym cut.whole)
     ∙ grants_are_offers rows at
 
 -- ---- expired filters
 
 each-filters : (rows : Rows) (fs : List FilterRow) (agent : AgentRow) (clients : List Client) → HoldTheSame fs rows.filters rows.clock
-    → told_of_each (with_filters rows fs) agent clients ≡ told_of_each rows agent clients
+    → reported_of_each (with_filters rows fs) agent clients ≡ reported_of_each rows agent clients
 each-filters rows fs agent [] same = refl
 each-filters rows fs agent (client ∷ clients) same =
     let after : Rows = tried rows agent client in
-    let others : told_of_each (tried (with_filters rows fs) agent client) agent clients ≡ told_of_each after agent clients =
-    ap (λ (r : Rows). told_of_each r agent clients) (tried-filters rows fs same agent client)
+    let others : reported_of_each (tried (with_filters rows fs) agent client) agent clients ≡ reported_of_each after agent clients =
+    ap (λ (r : Rows). reported_of_each r agent clients) (tried-filters rows fs same agent client)
     ∙ each-filters after fs agent clients (still_the_same rows after fs (kept-tried rows agent client (grant rows agent client)) same) in
     λ i. Tried agent.name (path_of client) (outcome-filters rows fs same agent client i) ∷ others i
 
@@ -317,10 +317,10 @@ live_filters rows at = λ client agent bundle.
     filter_weaker (holds_back (max rows.clock at) client agent bundle) (is_in_force rows.clock)
     (in_force_before rows.clock (max rows.clock at) client agent bundle late) rows.filters
 
-pub live_rows_are_told : LiveRowsAreTold
+pub live_rows_are_reported : LiveRowsAreReported
 unfolding each_by_agent
-live_rows_are_told rows at =
-    each_on_all-filters (at_moment rows at) (in_force rows.clock rows.filters) rows.agents (live_filters rows at)
+live_rows_are_reported rows at =
+    each_on_all-filters (at_timestamp rows at) (in_force rows.clock rows.filters) rows.agents (live_filters rows at)
 
 untouched_on-filters : (rows : Rows) (fs : List FilterRow) (agent : AgentRow) → HoldTheSame fs rows.filters rows.clock
     → untouched_on (with_filters rows fs) agent ≡ untouched_on rows agent
@@ -339,7 +339,7 @@ turns_on_all-filters rows fs (agent ∷ agents) same =
     ∙ turns_on_all-filters after fs agents (still_the_same rows after fs (kept-agent rows agent agent.active) same) in
     λ i. (each_on-filters rows fs agent same i, untouched_on-filters rows fs agent same i) ∷ others i
 
-pub live_turns_are_told : LiveTurnsAreTold
+pub live_turns_are_reported : LiveTurnsAreReported
 unfolding turns_by_agent
-live_turns_are_told rows at =
-    turns_on_all-filters (at_moment rows at) (in_force rows.clock rows.filters) rows.agents (live_filters rows at)
+live_turns_are_reported rows at =
+    turns_on_all-filters (at_timestamp rows at) (in_force rows.clock rows.filters) rows.agents (live_filters rows at)

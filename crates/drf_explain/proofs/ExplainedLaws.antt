@@ -11,7 +11,7 @@ use Rattle.drf_role.specs.Path.{Path}
 use Rattle.drf_bundle.specs.Bundle.{covers, part_for}
 use Rattle.drf_bundle.specs.declared.resource.Resource.{Resource}
 use Rattle.drf_rows.specs.Client.{Client, path_of}
-use Rattle.drf_rows.specs.Cycle.{free_of, is_allocatable, grant, new_offer, with_offer, tried, all_tried, turn_order, turn, turns, at_moment, cycle}
+use Rattle.drf_rows.specs.Cycle.{free_of, is_allocatable, grant, new_offer, with_offer, tried, all_tried, turn_order, turn, turns, at_timestamp, cycle}
 use Rattle.drf_row_laws.proofs.CycleLaws.{all_tried_none}
 use Rattle.drf_rows.specs.Filters.{is_in_force, in_force, is_of_client, is_on_agent, holds_back, is_held_back}
 use Rattle.drf_rows.specs.Held.{standing_of}
@@ -24,7 +24,7 @@ use Rattle.drf_rows.specs.declared.rows.FilterRow.{FilterRow}
 use Rattle.drf_rows.specs.declared.rows.FrameworkRow.{FrameworkRow}
 use Rattle.drf_rows.specs.declared.rows.OfferRow.{OfferRow}
 use Rattle.drf_rows.specs.declared.rows.Rows.{Rows}
-use Rattle.drf_explain.specs.Explained.{held_until, limiting_role, shortage, outcome, told_of_all, told_of_active, told_of_agent, after_agent, told_of_agents, told_if_suppressed, suppressed_in, suppressed_of, explained}
+use Rattle.drf_explain.specs.Explained.{held_until, limiting_role, shortage, outcome, reported_of_all, reported_of_active, reported_of_agent, after_agent, reported_of_agents, reported_if_suppressed, suppressed_in, suppressed_of, explained}
 use Rattle.drf_explain.specs.declared.finding.Finding.{Finding}
 use Rattle.drf_explain.specs.declared.finding.Finding.TheVariants.{Inactive, NothingFree, Tried, Left}
 use Rattle.drf_explain.specs.declared.finding.Outcome.{Outcome}
@@ -67,17 +67,17 @@ flat_map-append f (x ∷ xs) ys = ap (λ zs. f x ++ zs) (flat_map-append f xs ys
 record Makes (before after : Rows) (findings : List Finding) : Type 0 where
   made : List OfferRow
   offers : after.offers ≡ before.offers ++ made
-  told : flat_map grants_in findings ≡ map offered made
+  reported : flat_map grants_in findings ≡ map offered made
 
 makes-nothing : (rows : Rows) (findings : List Finding) → flat_map grants_in findings ≡ [] → Makes rows rows findings
-makes-nothing rows findings none = record { made = []; offers = sym (append-nil rows.offers); told = none }
+makes-nothing rows findings none = record { made = []; offers = sym (append-nil rows.offers); reported = none }
 
 makes-both : (before mid after : Rows) (first second : List Finding) → Makes before mid first → Makes mid after second
     → Makes before after (first ++ second)
 makes-both before mid after first second a b = record {
   made = a.made ++ b.made;
   offers = b.offers ∙ ap (λ (os : List OfferRow). os ++ b.made) a.offers ∙ append_assoc before.offers a.made b.made;
-  told = flat_map-append grants_in first second ∙ (λ i. a.told i ++ b.told i) ∙ sym (map-append offered a.made b.made);
+  reported = flat_map-append grants_in first second ∙ (λ i. a.reported i ++ b.reported i) ∙ sym (map-append offered a.made b.made);
 }
 
 -- a shortage is not a grant
@@ -103,7 +103,7 @@ module _ (rows : Rows) (agent : AgentRow) (client : Client) where
   unfolding with_offer
   makes-by bundle false held until short same none = makes-nothing rows _ none
   makes-by bundle true held None short same none =
-      rw same (record { made = offer_of bundle ∷ []; offers = refl; told = refl })
+      rw same (record { made = offer_of bundle ∷ []; offers = refl; reported = refl })
   makes-by bundle true held (Some until) short same none =
       rw same (makes-nothing rows (Tried agent.name (path_of client) (HeldBack until) ∷ []) refl)
 
@@ -134,7 +134,7 @@ module _ (rows : Rows) (agent : AgentRow) (client : Client) where
       (held_back-until rows.filters rows.clock client agent.name bundle)
 
 -- clients are tried one after another
-makes-all : (rows : Rows) (agent : AgentRow) (clients : List Client) → Makes rows (all_tried rows agent clients) (told_of_all rows agent clients)
+makes-all : (rows : Rows) (agent : AgentRow) (clients : List Client) → Makes rows (all_tried rows agent clients) (reported_of_all rows agent clients)
 makes-all rows agent [] = makes-nothing rows [] refl
 makes-all rows agent (client ∷ clients) = elim (cases_Bool (is_allocatable (free_of rows agent))) [
   | inl enough ↦ rw enough
@@ -150,7 +150,7 @@ pub nothing_free : (free : List Resource) → is_empty free ≡ true → is_allo
 nothing_free [] none = refl
 nothing_free (r ∷ rs) none = cc
 
-makes-active : (rows : Rows) (agent : AgentRow) → Makes rows (turn rows agent) (told_of_active rows agent)
+makes-active : (rows : Rows) (agent : AgentRow) → Makes rows (turn rows agent) (reported_of_active rows agent)
 unfolding turn
 makes-active rows agent = elim (cases_Bool (is_empty (free_of rows agent))) [
   | inl none ↦ rw none
@@ -159,19 +159,19 @@ makes-active rows agent = elim (cases_Bool (is_empty (free_of rows agent))) [
   | inr some ↦ rw some (makes-all rows agent (turn_order rows))
 ]
 
-makes-agents : (rows : Rows) (agents : List AgentRow) → Makes rows (turns rows (filter (λ a. a.active) agents)) (told_of_agents rows agents)
+makes-agents : (rows : Rows) (agents : List AgentRow) → Makes rows (turns rows (filter (λ a. a.active) agents)) (reported_of_agents rows agents)
 makes-agents rows [] = makes-nothing rows [] refl
 makes-agents rows (agent ∷ agents) = by agent.active (makes-agents (turn rows agent) agents) (makes-agents rows agents)
   where
-    by : (active : Bool) → Makes (turn rows agent) (turns (turn rows agent) (filter (λ a. a.active) agents)) (told_of_agents (turn rows agent) agents)
-        → Makes rows (turns rows (filter (λ a. a.active) agents)) (told_of_agents rows agents)
+    by : (active : Bool) → Makes (turn rows agent) (turns (turn rows agent) (filter (λ a. a.active) agents)) (reported_of_agents (turn rows agent) agents)
+        → Makes rows (turns rows (filter (λ a. a.active) agents)) (reported_of_agents rows agents)
         → Makes rows (turns rows (cond active (agent ∷ filter (λ a. a.active) agents) (filter (λ a. a.active) agents)))
-        (cond active (told_of_active rows agent) (Inactive agent.name ∷ []) ++ told_of_agents (cond active (turn rows agent) rows) agents)
-    by true later skipped = makes-both rows (turn rows agent) _ (told_of_active rows agent) _ (makes-active rows agent) later
+        (cond active (reported_of_active rows agent) (Inactive agent.name ∷ []) ++ reported_of_agents (cond active (turn rows agent) rows) agents)
+    by true later skipped = makes-both rows (turn rows agent) _ (reported_of_active rows agent) _ (makes-active rows agent) later
     by false later skipped = makes-both rows rows _ (Inactive agent.name ∷ []) _ (makes-nothing rows _ refl) skipped
 
 -- a suppressed client is granted nothing
-no_suppressed : (f : FrameworkRow) (cs : List ClientRow) → flat_map grants_in (flat_map (told_if_suppressed f) cs) ≡ []
+no_suppressed : (f : FrameworkRow) (cs : List ClientRow) → flat_map grants_in (flat_map (reported_if_suppressed f) cs) ≡ []
 no_suppressed f [] = refl
 no_suppressed f (c ∷ cs) = elim (cases_Bool c.suppressed) [
   | inl here ↦ rw here (no_suppressed f cs)
@@ -187,11 +187,11 @@ none_suppressed (f ∷ fs) =
 pub grants_are_offers : GrantsAreOffers
 unfolding explained cycle
 grants_are_offers rows at =
-    let start : Rows = at_moment rows at in
+    let start : Rows = at_timestamp rows at in
     let makes = makes-agents start rows.agents in
-    flat_map-append grants_in (suppressed_of rows) (told_of_agents start rows.agents)
-    ∙ ap (λ gs. gs ++ flat_map grants_in (told_of_agents start rows.agents)) (none_suppressed rows.frameworks)
-    ∙ makes.told
+    flat_map-append grants_in (suppressed_of rows) (reported_of_agents start rows.agents)
+    ∙ ap (λ gs. gs ++ flat_map grants_in (reported_of_agents start rows.agents)) (none_suppressed rows.frameworks)
+    ∙ makes.reported
     ∙ ap (map offered) (sym (ap (drop (length rows.offers)) makes.offers ∙ drop-append_seam rows.offers makes.made))
 
 -- ---- expired filters
@@ -256,24 +256,24 @@ all_tried-filters rows fs agent (client ∷ clients) same =
     ap (λ (r : Rows). all_tried r agent clients) (tried-filters rows fs same agent client)
     ∙ all_tried-filters after fs agent clients (still_the_same rows after fs (kept-tried rows agent client (grant rows agent client)) same)
 
-told_of_all-filters : (rows : Rows) (fs : List FilterRow) (agent : AgentRow) (clients : List Client) → HoldTheSame fs rows.filters rows.clock
-    → told_of_all (with_filters rows fs) agent clients ≡ told_of_all rows agent clients
+reported_of_all-filters : (rows : Rows) (fs : List FilterRow) (agent : AgentRow) (clients : List Client) → HoldTheSame fs rows.filters rows.clock
+    → reported_of_all (with_filters rows fs) agent clients ≡ reported_of_all rows agent clients
 unfolding free_of
-told_of_all-filters rows fs agent [] same = refl
-told_of_all-filters rows fs agent (client ∷ clients) same =
+reported_of_all-filters rows fs agent [] same = refl
+reported_of_all-filters rows fs agent (client ∷ clients) same =
     let after : Rows = tried rows agent client in
     let first = outcome-filters rows fs same agent client in
-    let others : told_of_all (tried (with_filters rows fs) agent client) agent clients ≡ told_of_all after agent clients =
-    ap (λ (r : Rows). told_of_all r agent clients) (tried-filters rows fs same agent client)
-    ∙ told_of_all-filters after fs agent clients (still_the_same rows after fs (kept-tried rows agent client (grant rows agent client)) same) in
+    let others : reported_of_all (tried (with_filters rows fs) agent client) agent clients ≡ reported_of_all after agent clients =
+    ap (λ (r : Rows). reported_of_all r agent clients) (tried-filters rows fs same agent client)
+    ∙ reported_of_all-filters after fs agent clients (still_the_same rows after fs (kept-tried rows agent client (grant rows agent client)) same) in
     λ i. if is_allocatable (free_of rows agent) then Tried agent.name (path_of client) (first i) ∷ others i
     else Left agent.name (free_of rows agent) (suc (length clients)) ∷ []
 
-told_of_agent-filters : (rows : Rows) (fs : List FilterRow) (agent : AgentRow) → HoldTheSame fs rows.filters rows.clock
-    → told_of_agent (with_filters rows fs) agent ≡ told_of_agent rows agent
+reported_of_agent-filters : (rows : Rows) (fs : List FilterRow) (agent : AgentRow) → HoldTheSame fs rows.filters rows.clock
+    → reported_of_agent (with_filters rows fs) agent ≡ reported_of_agent rows agent
 unfolding free_of standing_of
-told_of_agent-filters rows fs agent same =
-    let all = told_of_all-filters rows fs agent (turn_order rows) same in
+reported_of_agent-filters rows fs agent same =
+    let all = reported_of_all-filters rows fs agent (turn_order rows) same in
     λ i. if agent.active then (if is_empty (free_of rows agent) then NothingFree agent.name ∷ [] else all i) else Inactive agent.name ∷ []
 
 pub after-filters : (rows : Rows) (fs : List FilterRow) (agent : AgentRow) (active : Bool) → HoldTheSame fs rows.filters rows.clock
@@ -287,15 +287,15 @@ pub kept-agent : (rows : Rows) (agent : AgentRow) (active : Bool)
 kept-agent rows agent true = kept-turns rows (agent ∷ [])
 kept-agent rows agent false = (refl, refl)
 
-told_of_agents-filters : (rows : Rows) (fs : List FilterRow) (agents : List AgentRow) → HoldTheSame fs rows.filters rows.clock
-    → told_of_agents (with_filters rows fs) agents ≡ told_of_agents rows agents
-told_of_agents-filters rows fs [] same = refl
-told_of_agents-filters rows fs (agent ∷ agents) same =
+reported_of_agents-filters : (rows : Rows) (fs : List FilterRow) (agents : List AgentRow) → HoldTheSame fs rows.filters rows.clock
+    → reported_of_agents (with_filters rows fs) agents ≡ reported_of_agents rows agents
+reported_of_agents-filters rows fs [] same = refl
+reported_of_agents-filters rows fs (agent ∷ agents) same =
     let after : Rows = after_agent rows agent in
-    let others : told_of_agents (after_agent (with_filters rows fs) agent) agents ≡ told_of_agents after agents =
-    ap (λ (r : Rows). told_of_agents r agents) (after-filters rows fs agent agent.active same)
-    ∙ told_of_agents-filters after fs agents (still_the_same rows after fs (kept-agent rows agent agent.active) same) in
-    λ i. told_of_agent-filters rows fs agent same i ++ others i
+    let others : reported_of_agents (after_agent (with_filters rows fs) agent) agents ≡ reported_of_agents after agents =
+    ap (λ (r : Rows). reported_of_agents r agents) (after-filters rows fs agent agent.active same)
+    ∙ reported_of_agents-filters after fs agents (still_the_same rows after fs (kept-agent rows agent agent.active) same) in
+    λ i. reported_of_agent-filters rows fs agent same i ++ others i
 
 -- a filter that covers a bundle at a timestamp is in force at an earlier one
 pub in_force_before : (now later : ℕ) (client : Client) (agent : Text) (bundle : List Resource) → now ≤ later → (f : FilterRow)
@@ -309,6 +309,6 @@ unfolding explained
 live_rows_are_explained rows at =
     let late : rows.clock ≤ max rows.clock at = omega arith in
     ap (λ fs. suppressed_of rows ++ fs)
-    (told_of_agents-filters (at_moment rows at) (in_force rows.clock rows.filters) rows.agents
+    (reported_of_agents-filters (at_timestamp rows at) (in_force rows.clock rows.filters) rows.agents
     (λ client agent bundle. filter_weaker (holds_back (max rows.clock at) client agent bundle) (is_in_force rows.clock)
     (in_force_before rows.clock (max rows.clock at) client agent bundle late) rows.filters))

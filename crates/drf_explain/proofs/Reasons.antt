@@ -20,7 +20,7 @@ use Rattle.drf_bundle.specs.declared.resource.Resource.{Resource}
 use Rattle.drf_bundle.specs.declared.value.Value.{Value}
 use Rattle.drf_bundle.specs.declared.value.Value.TheVariants.{Scalar, Ranges, Items}
 use Rattle.drf_rows.specs.Client.{Client, path_of}
-use Rattle.drf_rows.specs.Cycle.{free_of, is_allocatable, grant, tried, turn_order, at_moment}
+use Rattle.drf_rows.specs.Cycle.{free_of, is_allocatable, grant, tried, turn_order, at_timestamp}
 use Rattle.drf_rows.specs.Filters.{is_in_force, is_of_client, is_on_agent, holds_back, is_held_back}
 use Rattle.drf_row_laws.proofs.CycleLaws.{little_entitlement}
 use Rattle.drf_row_laws.proofs.EntitlementLaws.{some_room, limited-binds, named-puts}
@@ -34,7 +34,7 @@ use Rattle.drf_rows.specs.declared.rows.FilterRow.{FilterRow}
 use Rattle.drf_rows.specs.declared.rows.FrameworkRow.{FrameworkRow}
 use Rattle.drf_rows.specs.declared.rows.LimitRow.{LimitRow}
 use Rattle.drf_rows.specs.declared.rows.Rows.{Rows}
-use Rattle.drf_explain.specs.Explained.{held_until, limiting_role, outcome, tighter, tightest, after_agent, explained, suppressed_in, suppressed_of, told_if_suppressed, told_of_agent, told_of_agents, told_of_all}
+use Rattle.drf_explain.specs.Explained.{held_until, limiting_role, outcome, tighter, tightest, after_agent, explained, suppressed_in, suppressed_of, reported_if_suppressed, reported_of_agent, reported_of_agents, reported_of_all}
 use Rattle.drf_explain.proofs.EachLaws.{little_part}
 use Rattle.drf_explain.proofs.ExplainedLaws.{held_back-until, nothing_free}
 use Rattle.drf_explain.specs.ReasonLaws.{usable, entitled, usable_amount, IsHeldUntil, IsCutBelow, IsOverLimit, IsTooLittle, IsForOthers, IsReserved, IsOtherwise, NothingLeftIsNotExplained}
@@ -45,8 +45,8 @@ use Rattle.drf_explain.proofs.Found.{same_values}
 
 -- ---- the outcome of a client, case by case
 
-abbrev told_by : Bool → Option ℕ → List Resource → Bool → Bool → Bool → Path → Outcome
-told_by worth until bundle some gone none limited =
+abbrev reported_by : Bool → Option ℕ → List Resource → Bool → Bool → Bool → Path → Outcome
+reported_by worth until bundle some gone none limited =
     if worth then option_map_or HeldBack until (Grant bundle)
     else if some then OverLimit limited
     else if gone then NothingLeft
@@ -54,7 +54,7 @@ told_by worth until bundle some gone none limited =
     else BelowThreshold
 
 granted_by : (worth : Bool) (until : Option ℕ) (bundle : List Resource) (some gone none : Bool) (limited : Path) (b : List Resource)
-    → (told_by worth until bundle some gone none limited ≡ Grant b) ↔ ((if worth && not (is_some until) then Some bundle else None) ≡ Some b)
+    → (reported_by worth until bundle some gone none limited ≡ Grant b) ↔ ((if worth && not (is_some until) then Some bundle else None) ≡ Some b)
 granted_by true None bundle some gone none limited b = (λ is. cc, λ is. cc)
 granted_by true (Some u) bundle some gone none limited b = (λ is. cc, λ is. cc)
 granted_by false until bundle true gone none limited b = (λ is. cc, λ is. cc)
@@ -63,7 +63,7 @@ granted_by false until bundle false false true limited b = (λ is. cc, λ is. cc
 granted_by false until bundle false false false limited b = (λ is. cc, λ is. cc)
 
 held_by : (worth : Bool) (until : Option ℕ) (bundle : List Resource) (some gone none : Bool) (limited : Path) (t : ℕ)
-    → told_by worth until bundle some gone none limited ≡ HeldBack t → (worth ≡ true) × (until ≡ Some t)
+    → reported_by worth until bundle some gone none limited ≡ HeldBack t → (worth ≡ true) × (until ≡ Some t)
 held_by true None bundle some gone none limited t is = cc
 held_by true (Some u) bundle some gone none limited t is = (refl, cc)
 held_by false until bundle true gone none limited t is = cc
@@ -72,7 +72,7 @@ held_by false until bundle false false true limited t is = cc
 held_by false until bundle false false false limited t is = cc
 
 limited_by : (worth : Bool) (until : Option ℕ) (bundle : List Resource) (some gone none : Bool) (limited role : Path)
-    → told_by worth until bundle some gone none limited ≡ OverLimit role → (worth ≡ false) × (some ≡ true) × (limited ≡ role)
+    → reported_by worth until bundle some gone none limited ≡ OverLimit role → (worth ≡ false) × (some ≡ true) × (limited ≡ role)
 limited_by true None bundle some gone none limited role is = cc
 limited_by true (Some u) bundle some gone none limited role is = cc
 limited_by false until bundle true gone none limited role is = (refl, refl, cc)
@@ -81,7 +81,7 @@ limited_by false until bundle false false true limited role is = cc
 limited_by false until bundle false false false limited role is = cc
 
 little_by : (worth : Bool) (until : Option ℕ) (bundle : List Resource) (some gone none : Bool) (limited : Path)
-    → told_by worth until bundle some gone none limited ≡ BelowThreshold → (some ≡ false) × (none ≡ false)
+    → reported_by worth until bundle some gone none limited ≡ BelowThreshold → (some ≡ false) × (none ≡ false)
 little_by true None bundle some gone none limited is = cc
 little_by true (Some u) bundle some gone none limited is = cc
 little_by false until bundle true gone none limited is = cc
@@ -90,7 +90,7 @@ little_by false until bundle false false true limited is = cc
 little_by false until bundle false false false limited is = (refl, refl)
 
 reserved_by : (worth : Bool) (until : Option ℕ) (bundle : List Resource) (some gone none : Bool) (limited : Path)
-    → told_by worth until bundle some gone none limited ≡ ReservedForOthers → (gone ≡ false) × (none ≡ true)
+    → reported_by worth until bundle some gone none limited ≡ ReservedForOthers → (gone ≡ false) × (none ≡ true)
 reserved_by true None bundle some gone none limited is = cc
 reserved_by true (Some u) bundle some gone none limited is = cc
 reserved_by false until bundle true gone none limited is = cc
@@ -99,7 +99,7 @@ reserved_by false until bundle false false true limited is = (refl, refl)
 reserved_by false until bundle false false false limited is = cc
 
 gone_by : (worth : Bool) (until : Option ℕ) (bundle : List Resource) (some gone none : Bool) (limited : Path)
-    → told_by worth until bundle some gone none limited ≡ NothingLeft → gone ≡ true
+    → reported_by worth until bundle some gone none limited ≡ NothingLeft → gone ≡ true
 gone_by true None bundle some gone none limited is = cc
 gone_by true (Some u) bundle some gone none limited is = cc
 gone_by false until bundle true gone none limited is = cc
@@ -431,7 +431,7 @@ module _ (rows : Rows) (agent : AgentRow) (client : Client) where
   is_against f = is_of_client client f && (is_on_agent agent.name f && covers f.bundle may)
 
   grant-at : (at : ℕ) (held : Bool) → is_allocatable may ≡ true → is_held_back rows.filters (max rows.clock at) client agent.name may ≡ held
-      → grant (at_moment rows at) agent client ≡ cond (not held) (Some may) None
+      → grant (at_timestamp rows at) agent client ≡ cond (not held) (Some may) None
   unfolding free_of
   grant-at at held worth is = λ i. if worth i && not (is i) then Some may else None
 
@@ -542,32 +542,32 @@ module _ (rows : Rows) (agent : AgentRow) (client : Client) where
 tried-otherwise : (rows : Rows) (agent : AgentRow) (client : Client) → is_allocatable (free_of rows agent) ≡ true
     → IsOtherwise (Tried agent.name (path_of client) (outcome rows agent client))
 tried-otherwise rows agent client worth = λ name path is.
-    let told : outcome rows agent client ≡ NothingLeft = cc in
-    false≢true (sym (nothing_free (free_of rows agent) ((nothing_left rows agent client).0 told)) ∙ worth)
+    let reported : outcome rows agent client ≡ NothingLeft = cc in
+    false≢true (sym (nothing_free (free_of rows agent) ((nothing_left rows agent client).0 reported)) ∙ worth)
 
-all-otherwise : (rows : Rows) (agent : AgentRow) (clients : List Client) → AllByRecursion IsOtherwise (told_of_all rows agent clients)
+all-otherwise : (rows : Rows) (agent : AgentRow) (clients : List Client) → AllByRecursion IsOtherwise (reported_of_all rows agent clients)
 all-otherwise rows agent [] = tt
 all-otherwise rows agent (client ∷ clients) = elim (cases_Bool (is_allocatable (free_of rows agent))) [
   | inl worth ↦ rw worth (tried-otherwise rows agent client worth, all-otherwise (tried rows agent client) agent clients)
   | inr little ↦ rw little (λ name path is. cc, tt)
 ]
 
-agent-otherwise : (rows : Rows) (agent : AgentRow) → AllByRecursion IsOtherwise (told_of_agent rows agent)
+agent-otherwise : (rows : Rows) (agent : AgentRow) → AllByRecursion IsOtherwise (reported_of_agent rows agent)
 agent-otherwise rows agent = by agent.active (is_empty (free_of rows agent))
   where
     by : (active none : Bool) → AllByRecursion IsOtherwise
-        (cond active (cond none (NothingFree agent.name ∷ []) (told_of_all rows agent (turn_order rows))) (Inactive agent.name ∷ []))
+        (cond active (cond none (NothingFree agent.name ∷ []) (reported_of_all rows agent (turn_order rows))) (Inactive agent.name ∷ []))
     by true true = (λ name path is. cc, tt)
     by true false = all-otherwise rows agent (turn_order rows)
     by false none = (λ name path is. cc, tt)
 
-agents-otherwise : (rows : Rows) (agents : List AgentRow) → AllByRecursion IsOtherwise (told_of_agents rows agents)
+agents-otherwise : (rows : Rows) (agents : List AgentRow) → AllByRecursion IsOtherwise (reported_of_agents rows agents)
 agents-otherwise rows [] = tt
 agents-otherwise rows (agent ∷ agents) =
-    each_append IsOtherwise (told_of_agent rows agent) (told_of_agents (after_agent rows agent) agents) (agent-otherwise rows agent)
+    each_append IsOtherwise (reported_of_agent rows agent) (reported_of_agents (after_agent rows agent) agents) (agent-otherwise rows agent)
     (agents-otherwise (after_agent rows agent) agents)
 
-clients-otherwise : (f : FrameworkRow) (cs : List ClientRow) → AllByRecursion IsOtherwise (flat_map (told_if_suppressed f) cs)
+clients-otherwise : (f : FrameworkRow) (cs : List ClientRow) → AllByRecursion IsOtherwise (flat_map (reported_if_suppressed f) cs)
 clients-otherwise f [] = tt
 clients-otherwise f (c ∷ cs) = elim (cases_Bool c.suppressed) [
   | inl here ↦ rw here (λ name path is. cc, clients-otherwise f cs)
@@ -582,5 +582,5 @@ suppressed-otherwise (f ∷ fs) =
 pub nothing_left_is_not_explained : NothingLeftIsNotExplained
 unfolding explained
 nothing_left_is_not_explained rows at =
-    each_append IsOtherwise (suppressed_of rows) (told_of_agents (at_moment rows at) rows.agents) (suppressed-otherwise rows.frameworks)
-    (agents-otherwise (at_moment rows at) rows.agents)
+    each_append IsOtherwise (suppressed_of rows) (reported_of_agents (at_timestamp rows at) rows.agents) (suppressed-otherwise rows.frameworks)
+    (agents-otherwise (at_timestamp rows at) rows.agents)

@@ -51,11 +51,11 @@ module _ (clock : ℕ) (client : Client) (agent : Text) (bundle : List Resource)
   held_there filters = filter_weaker (holds_back clock client agent bundle) (is_on_agent agent) there filters
 
 -- the filters on an agent decide like all filters
-pub gates_of : (rows : Rows) (agent : AgentRow) (gates : Gates) → gates.agent.now ≡ agent.name → gates.moment ≡ rows.clock
+pub gates_of : (rows : Rows) (agent : AgentRow) (gates : Gates) → gates.agent.now ≡ agent.name → gates.timestamp ≡ rows.clock
     → gates.filters.items ≡ filter (is_on_agent gates.agent.now) rows.filters → gates.limits.now ≡ rows.limits → AreGatesOf rows agent gates
-gates_of rows agent gates name moment filters limits = record {
+gates_of rows agent gates name timestamp filters limits = record {
   name = name;
-  moment = moment;
+  timestamp = timestamp;
   filters = λ client bundle.
       ap (filter (holds_back rows.clock client agent.name bundle)) (filters ∙ (λ i. filter (is_on_agent (name i)) rows.filters))
       ∙ held_there rows.clock client agent.name bundle rows.filters;
@@ -73,10 +73,10 @@ client_at-path path client joined =
 
 module _ (rows : Rows) (agent : AgentRow) (client : Client) (gates : Gates) (path : Path) (are : AreGatesOf rows agent gates)
     (joined : path ≡ path_of client) (free part bundle : List Resource) where
-  pub held_as_found : held_until gates.filters.items gates.moment (client_at path) gates.agent.now bundle
+  pub held_as_found : held_until gates.filters.items gates.timestamp (client_at path) gates.agent.now bundle
       ≡ held_until rows.filters rows.clock client agent.name bundle
   held_as_found =
-      (λ i. held_until gates.filters.items (are.moment i) (client_at-path path client joined i) (are.name i) bundle)
+      (λ i. held_until gates.filters.items (are.timestamp i) (client_at-path path client joined i) (are.name i) bundle)
       ∙ ap (λ (fs : List FilterRow). reduce max (map (λ f. f.until) fs)) (are.filters client bundle)
 
   pub outcome-short : (why : Outcome) → is_allocatable bundle ≡ false
@@ -89,7 +89,7 @@ module _ (rows : Rows) (agent : AgentRow) (client : Client) (gates : Gates) (pat
       (shortage rows.limits (consumption rows) client.role free part)) little)
 
   pub outcome-worth : (found : Option ℕ) → is_allocatable bundle ≡ true
-      → found ≡ held_until gates.filters.items gates.moment (client_at path) gates.agent.now bundle
+      → found ≡ held_until gates.filters.items gates.timestamp (client_at path) gates.agent.now bundle
       → option_map_or HeldBack found (Grant bundle) ≡ outcome_by rows agent client free part bundle
   outcome-worth found worth is =
       ap (λ (o : Option ℕ). option_map_or HeldBack o (Grant bundle)) (is ∙ held_as_found)

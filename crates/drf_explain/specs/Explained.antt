@@ -8,7 +8,7 @@ use Rattle.drf_bundle.specs.Bundle.{part_for, quantities_of}
 use Rattle.drf_bundle.specs.Quantities.{amount_of}
 use Rattle.drf_bundle.specs.declared.resource.Resource.{Resource}
 use Rattle.drf_rows.specs.Client.{Client, path_of}
-use Rattle.drf_rows.specs.Cycle.{free_of, is_allocatable, tried, turn_order, turn, at_moment}
+use Rattle.drf_rows.specs.Cycle.{free_of, is_allocatable, tried, turn_order, turn, at_timestamp}
 use Rattle.drf_rows.specs.Filters.{holds_back}
 use Rattle.drf_rows.specs.Held.{client_of}
 use Rattle.drf_rows.specs.Offers.{is_empty}
@@ -69,42 +69,42 @@ outcome rows agent client =
 -- ---- the turn of an agent
 
 -- the findings about clients that are tried one after another, until too little is free for an offer
-abbrev pub told_of_all : Rows → AgentRow → List Client → List Finding
-told_of_all rows agent [] = []
-told_of_all rows agent (client ∷ clients) =
+abbrev pub reported_of_all : Rows → AgentRow → List Client → List Finding
+reported_of_all rows agent [] = []
+reported_of_all rows agent (client ∷ clients) =
     if is_allocatable (free_of rows agent)
-    then Tried agent.name (path_of client) (outcome rows agent client) ∷ told_of_all (tried rows agent client) agent clients
+    then Tried agent.name (path_of client) (outcome rows agent client) ∷ reported_of_all (tried rows agent client) agent clients
     else Left agent.name (free_of rows agent) (suc (length clients)) ∷ []
 
 -- the findings about an active agent
-abbrev pub told_of_active : Rows → AgentRow → List Finding
-told_of_active rows agent =
-    if is_empty (free_of rows agent) then NothingFree agent.name ∷ [] else told_of_all rows agent (turn_order rows)
+abbrev pub reported_of_active : Rows → AgentRow → List Finding
+reported_of_active rows agent =
+    if is_empty (free_of rows agent) then NothingFree agent.name ∷ [] else reported_of_all rows agent (turn_order rows)
 
-abbrev pub told_of_agent : Rows → AgentRow → List Finding
-told_of_agent rows agent = if agent.active then told_of_active rows agent else Inactive agent.name ∷ []
+abbrev pub reported_of_agent : Rows → AgentRow → List Finding
+reported_of_agent rows agent = if agent.active then reported_of_active rows agent else Inactive agent.name ∷ []
 
 -- the rows after an agent's turn, which it has only if it is active
 abbrev pub after_agent : Rows → AgentRow → Rows
 after_agent rows agent = if agent.active then turn rows agent else rows
 
 -- the findings about agents whose turns come one after another
-abbrev pub told_of_agents : Rows → List AgentRow → List Finding
-told_of_agents rows [] = []
-told_of_agents rows (agent ∷ agents) = told_of_agent rows agent ++ told_of_agents (after_agent rows agent) agents
+abbrev pub reported_of_agents : Rows → List AgentRow → List Finding
+reported_of_agents rows [] = []
+reported_of_agents rows (agent ∷ agents) = reported_of_agent rows agent ++ reported_of_agents (after_agent rows agent) agents
 
 -- ---- the cycle
 
 -- the suppressed clients, in the order of the frameworks
-abbrev pub told_if_suppressed : FrameworkRow → ClientRow → List Finding
-told_if_suppressed f c = if c.suppressed then Suppressed (path_of (client_of f c)) ∷ [] else []
+abbrev pub reported_if_suppressed : FrameworkRow → ClientRow → List Finding
+reported_if_suppressed f c = if c.suppressed then Suppressed (path_of (client_of f c)) ∷ [] else []
 
 abbrev pub suppressed_in : FrameworkRow → List Finding
-suppressed_in f = flat_map (told_if_suppressed f) f.clients
+suppressed_in f = flat_map (reported_if_suppressed f) f.clients
 
 abbrev pub suppressed_of : Rows → List Finding
 suppressed_of rows = flat_map suppressed_in rows.frameworks
 
 -- the explanation of the cycle at a timestamp
 unfoldable pub explained : Rows → ℕ → List Finding
-explained rows at = suppressed_of rows ++ told_of_agents (at_moment rows at) rows.agents
+explained rows at = suppressed_of rows ++ reported_of_agents (at_timestamp rows at) rows.agents

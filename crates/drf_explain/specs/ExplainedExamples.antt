@@ -46,8 +46,8 @@ abbrev f2 : Path
 f2 = path_of (record { role = ops_db; framework = codes "f2" })
 
 -- the findings about all agents except `n6`, given the outcome of `f1` on `n1`
-abbrev told_before : Outcome → List Finding
-told_before on_n1 =
+abbrev reported_before : Outcome → List Finding
+reported_before on_n1 =
     Suppressed (path_of (record { role = codes "web" ∷ []; framework = codes "f3" }))
     ∷ Tried (codes "n1") f2 (OverLimit (codes "ops" ∷ []))
     ∷ Tried (codes "n1") f1 on_n1
@@ -60,10 +60,10 @@ told_before on_n1 =
     ∷ []
 
 -- the explanation
-abbrev pub nothing_told : Outcome → List Finding
-nothing_told on_n1 = told_before on_n1 ++ Left (codes "n6") (cpus 5 ∷ []) 2 ∷ []
+abbrev pub nothing_reported : Outcome → List Finding
+nothing_reported on_n1 = reported_before on_n1 ++ Left (codes "n6") (cpus 5 ∷ []) 2 ∷ []
 
 -- the complete explanation
 abbrev pub nobody_left_out : Outcome → List Finding
 nobody_left_out on_n1 =
-    told_before on_n1 ++ Tried (codes "n6") f2 BelowThreshold ∷ Tried (codes "n6") f1 BelowThreshold ∷ []
+    reported_before on_n1 ++ Tried (codes "n6") f2 BelowThreshold ∷ Tried (codes "n6") f1 BelowThreshold ∷ []

@@ -17,7 +17,7 @@ IsQuotaOf rows quota = MatchOption quota (rows.limits ≡ []) (IsAllowanceOf row
 -- the timestamp and the limits are those of the rows, and the filters cover the same bundles on the agent
 pub record AreGatesOf (rows : Rows) (agent : AgentRow) (gates : Gates) : Type 0 where
   pub name : gates.agent.now ≡ agent.name
-  pub moment : gates.moment ≡ rows.clock
+  pub timestamp : gates.timestamp ≡ rows.clock
   pub filters : (client : Client) (bundle : List Resource)
       → filter (holds_back rows.clock client agent.name bundle) gates.filters.items ≡ filter (holds_back rows.clock client agent.name bundle) rows.filters
   pub limits : gates.limits.now ≡ rows.limits

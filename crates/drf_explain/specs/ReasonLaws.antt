@@ -7,7 +7,7 @@ use Rattle.drf_bundle.specs.Bundle.{is_default, part_for, quantities_of}
 use Rattle.drf_bundle.specs.Quantities.{amount_of}
 use Rattle.drf_bundle.specs.declared.resource.Resource.{Resource}
 use Rattle.drf_rows.specs.Client.{Client}
-use Rattle.drf_rows.specs.Cycle.{free_of, is_allocatable, grant, at_moment}
+use Rattle.drf_rows.specs.Cycle.{free_of, is_allocatable, grant, at_timestamp}
 use Rattle.drf_rows.specs.Filters.{holds_back}
 use Rattle.drf_rows.specs.Offers.{is_empty}
 use Rattle.drf_rows.specs.Quota.{binds, consumption, entitlement, headroom_at, is_within, room_under}
@@ -53,8 +53,8 @@ pub record IsHeldUntil (rows : Rows) (agent : AgentRow) (client : Client) (until
   pub ends : row.until ≡ until
   pub last : (other : ℕ) (f : FilterRow) → slice_get rows.filters other ≡ Some f
       → IsTrue (holds_back rows.clock client agent.name (entitled rows agent client) f) → f.until ≤ until
-  pub before : (at : ℕ) → at < until → grant (at_moment rows at) agent client ≡ None
-  pub after : (at : ℕ) → until ≤ at → grant (at_moment rows at) agent client ≡ Some (entitled rows agent client)
+  pub before : (at : ℕ) → at < until → grant (at_timestamp rows at) agent client ≡ None
+  pub after : (at : ℕ) → until ≤ at → grant (at_timestamp rows at) agent client ≡ Some (entitled rows agent client)
 
 abbrev pub HeldBackIsHeldUntil : Type 0
 HeldBackIsHeldUntil =

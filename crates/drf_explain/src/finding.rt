@@ -51,9 +51,9 @@ pub enum Finding {
 
 /// The findings of an agent's turn.
 #[derive(Drop)]
-pub struct TurnTold {
+pub struct TurnReported {
     /// The outcome of each client when it is tried, or a finding about the agent.
-    pub told: Vec<Finding>,
+    pub reported: Vec<Finding>,
     /// The outcome of each client if it were tried first; empty if no client is tried.
     pub untouched: Vec<Finding>,
 }

@@ -24,7 +24,7 @@ use std::alloc::{AllocError, Global};
 #[derive(Drop)]
 pub struct Gates<'a> {
     agent: &'a Name,
-    moment: u64,
+    timestamp: u64,
     filters: Vec<FilterRow>,
     limits: &'a [LimitRow],
 }
@@ -161,14 +161,14 @@ fn covers(whole: &Bundle, part: &Bundle) -> bool
 /// Returns whether a filter of the client on the agent is in force at the timestamp and covers the bundle.
 fn holds_back(
     filter: &FilterRow,
-    moment: u64,
+    timestamp: u64,
     client: &ClientPath,
     agent: &Name,
     bundle: &Bundle,
 ) -> bool
-    ensures { result ≡ holds_back moment (client_at client.now) agent.now bundle.now filter.now }
+    ensures { result ≡ holds_back timestamp (client_at client.now) agent.now bundle.now filter.now }
 {
-    moment < filter.until
+    timestamp < filter.until
         && (filter.role == *client.role() && filter.framework == *client.framework())
         && filter.agent == *agent
         && covers(&filter.bundle, bundle)
@@ -187,15 +187,15 @@ fn greater(known: Option<u64>, number: u64) -> u64
 /// Returns the latest end of filters that cover the bundle, given that of the filters before and one more filter.
 fn held_with(
     filter: &FilterRow,
-    moment: u64,
+    timestamp: u64,
     client: &ClientPath,
     agent: &Name,
     bundle: &Bundle,
     until: Option<u64>,
 ) -> Option<u64>
-    ensures { result ≡ reduced (holds_back moment (client_at client.now) agent.now bundle.now) (λ f. f.until) max until filter.now }
+    ensures { result ≡ reduced (holds_back timestamp (client_at client.now) agent.now bundle.now) (λ f. f.until) max until filter.now }
 {
-    if !holds_back(filter, moment, client, agent, bundle) {
+    if !holds_back(filter, timestamp, client, agent, bundle) {
         return until;
     }
     Some(greater(until, filter.until))
@@ -204,16 +204,16 @@ fn held_with(
 /// Returns the latest end of the filters that cover the bundle for the client on the agent. Returns `None` if none does.
 fn held_until(
     filters: &[FilterRow],
-    moment: u64,
+    timestamp: u64,
     client: &ClientPath,
     agent: &Name,
     bundle: &Bundle,
 ) -> Option<u64>
-    ensures { result ≡ held_until filters.now moment (client_at client.now) agent.now bundle.now }
+    ensures { result ≡ held_until filters.now timestamp (client_at client.now) agent.now bundle.now }
 {
     let mut until = None;
     for filter in filters {
-        until = held_with(filter, moment, client, agent, bundle, until);
+        until = held_with(filter, timestamp, client, agent, bundle, until);
     }
     until
 }
@@ -243,7 +243,7 @@ impl<'a> Gates<'a> {
         let filters = filters_on(alloc, rows.filters.as_slice(), agent)?;
         Ok(Gates {
             agent,
-            moment: rows.clock,
+            timestamp: rows.clock,
             filters,
             limits: rows.limits.as_slice(),
         })
@@ -265,7 +265,7 @@ impl<'a> Gates<'a> {
         if !is_worth_an_offer(&bundle) {
             return shortage(quota, self.limits, client.role(), free, part);
         }
-        match held_until(&self.filters, self.moment, client, self.agent, &bundle) {
+        match held_until(&self.filters, self.timestamp, client, self.agent, &bundle) {
             Some(until) => Ok(Outcome::HeldBack { until }),
             None => Ok(Outcome::Grant(bundle)),
         }

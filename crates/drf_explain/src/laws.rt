@@ -5,9 +5,9 @@
 ghost use Rattle.std.specs.Prelude.{◌≡◌, ◌∷◌, []};
 ghost use Rattle.drf_worked.specs.Examples.{cpus, mem};
 ghost use Rattle.drf_explain.specs.Explained.{explained};
-ghost use Rattle.drf_explain.specs.Each.{each_told};
-ghost use Rattle.drf_explain.specs.EachLaws.{EachGrantIsAnOffer, EachIsToldAtItsMoment, EachIsToldOnce, EachIsUntouched, ExplainedIsCut, LiveRowsAreTold, LiveTurnsAreTold, TurnsAreTold, UntouchedIsTold};
-ghost use Rattle.drf_explain.specs.ExplainedExamples.{nobody_left_out, nothing_rows, nothing_told};
+ghost use Rattle.drf_explain.specs.Each.{each_reported};
+ghost use Rattle.drf_explain.specs.EachLaws.{EachGrantIsAnOffer, EachIsReportedAtItsTimestamp, EachIsReportedOnce, EachIsUntouched, ExplainedIsCut, LiveRowsAreReported, LiveTurnsAreReported, TurnsAreReported, UntouchedIsReported};
+ghost use Rattle.drf_explain.specs.ExplainedExamples.{nobody_left_out, nothing_rows, nothing_reported};
 ghost use Rattle.drf_explain.specs.ExplainedLaws.{GrantsAreOffers, LiveRowsAreExplained};
 ghost use Rattle.drf_explain.specs.ReasonLaws.{BelowThresholdIsTooLittle, GrantIsGranted, HeldBackIsHeldUntil, NothingLeftIsNotExplained, NothingLeftIsNothing, OverLimitIsOverLimit, ReservedIsForOthers};
 ghost use Rattle.drf_explain.specs.declared.finding.Outcome.TheVariants.{Grant, HeldBack};
@@ -24,22 +24,22 @@ pub fn explained_law()
 /// outcome at that point of the cycle. Its grants are the cycle's offers. The shorter explanation is this one, cut off on each agent where
 /// too little is left for an offer; there, the remaining clients would have `BelowThreshold`, `NothingLeft` or `ReservedForOthers`. Expired
 /// filters change no line.
-pub fn each_is_told_law()
-    ensures once { EachIsToldOnce }
-    ensures moment { EachIsToldAtItsMoment }
+pub fn each_is_reported_law()
+    ensures once { EachIsReportedOnce }
+    ensures timestamp { EachIsReportedAtItsTimestamp }
     ensures grants { EachGrantIsAnOffer }
     ensures cut { ExplainedIsCut }
-    ensures live { LiveRowsAreTold }
+    ensures live { LiveRowsAreReported }
 {}
 
 /// Proves that `turns_by_agent` has, besides the findings of each agent, the outcome of each client of the turn if it were tried first, after the
 /// turns of the agents before. The two outcomes are the same if no client before it is granted anything on the agent. Expired filters change
 /// nothing.
 pub fn each_is_untouched_law()
-    ensures told { TurnsAreTold }
+    ensures reported { TurnsAreReported }
     ensures untouched { EachIsUntouched }
-    ensures same { UntouchedIsTold }
-    ensures live { LiveTurnsAreTold }
+    ensures same { UntouchedIsReported }
+    ensures live { LiveTurnsAreReported }
 {}
 
 /// Proves what each outcome means. A grant is what the cycle grants. A bundle that is held back is granted from its timestamp on, and not before.
@@ -57,7 +57,7 @@ pub fn reasons_law()
 
 /// Proves the explanations of a cluster in which each reason occurs once: before and after a filter has expired, and for each client.
 pub fn explained_example()
-    ensures before { explained nothing_rows 4999 ≡ nothing_told (HeldBack 5000) }
-    ensures after { explained nothing_rows 5000 ≡ nothing_told (Grant (cpus 4000 ∷ mem 1024000 ∷ [])) }
-    ensures each { each_told nothing_rows 4999 ≡ nobody_left_out (HeldBack 5000) }
+    ensures before { explained nothing_rows 4999 ≡ nothing_reported (HeldBack 5000) }
+    ensures after { explained nothing_rows 5000 ≡ nothing_reported (Grant (cpus 4000 ∷ mem 1024000 ∷ [])) }
+    ensures each { each_reported nothing_rows 4999 ≡ nobody_left_out (HeldBack 5000) }
 {}

@@ -149,8 +149,8 @@ pub fn write_explained_line(
     ensures ok { OnOk result (text.new.items ≡ text.old.items ++ finding_text finding.now) }
     ensures err { OnErr result (text.new.items ≡ text.old.items) }
 {
-    let told = line_text(alloc, finding)?;
-    text.extend_from_slice(&told)
+    let reported = line_text(alloc, finding)?;
+    text.extend_from_slice(&reported)
 }
 
 /// Returns the lines of all findings.

@@ -1,6 +1,6 @@
 //! The suppressed clients.
 ghost use Rattle.std.specs.Prelude.{◌≡◌, ◌++◌, IfOk, OnOk};
-ghost use Rattle.drf_explain.specs.Explained.{told_if_suppressed, suppressed_in, suppressed_of};
+ghost use Rattle.drf_explain.specs.Explained.{reported_if_suppressed, suppressed_in, suppressed_of};
 
 use crate::finding::Finding;
 use drf_role::ClientPath;
@@ -14,7 +14,7 @@ fn add_suppressed(
     client: &ClientRow,
     findings: &mut Vec<Finding>,
 ) -> Result<(), AllocError>
-    ensures { OnOk result (findings.new.items ≡ findings.old.items ++ told_if_suppressed framework.now client.now) }
+    ensures { OnOk result (findings.new.items ≡ findings.old.items ++ reported_if_suppressed framework.now client.now) }
 {
     if client.suppressed {
         let client = ClientPath::new(alloc, &client.role, &framework.name)?;

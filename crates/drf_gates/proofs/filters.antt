@@ -1,4 +1,4 @@
 -- What is held back from whom.
 pub mod Chains
-pub mod Gaps
+pub mod FreeSlots
 pub mod Held

@@ -6,7 +6,7 @@ pub mod Resources
 pub mod Total
 pub mod Carry
 pub mod Room
-pub mod Front
+pub mod Prefix
 pub mod Leave
 pub mod Least
 pub mod Something

@@ -1,5 +1,5 @@
 -- Quota limits of roles, and what roles consume.
-pub mod Front
-pub mod FrontLaws
+pub mod Prefix
+pub mod PrefixLaws
 pub mod Allowance
 pub mod Totals

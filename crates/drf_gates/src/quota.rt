@@ -7,13 +7,13 @@ ghost use Rattle.drf_role.specs.Path.{Path};
 ghost use Rattle.drf_bundle.specs.Quantities.{known_amount};
 ghost use Rattle.drf_rows.specs.Quota.{binds, headroom_under, headrooms, stays_within, admits_under, consumption, headroom_at, headroom, admits};
 ghost use Rattle.drf_rows.specs.declared.rows.Rows.{Rows};
-ghost use Rattle.drf_gates.specs.quota.Front.{IsFirstShort, front_leaves, front_passes, least_at, limits_at};
+ghost use Rattle.drf_gates.specs.quota.Prefix.{IsFirstShort, prefix_leaves, prefix_passes, least_at, limits_at};
 ghost use Rattle.drf_gates.specs.quota.Allowance.{IsAllowanceOf, lessened, limit_row, lesser, used_at};
 
 mod consumed;
 pub(crate) mod consumption;
-mod fronts;
 pub(crate) mod limits;
+mod prefixes;
 pub(crate) mod totals;
 mod usage;
 
@@ -84,16 +84,16 @@ impl<'a> Quota<'a> {
     {
         self.limits.recall();
         let mut least = None;
-        let fronts = role.len() + 1;
-        for len in 1..fronts {
-            least = self.front_room(role, len, label, least);
+        let prefixes = role.len() + 1;
+        for len in 1..prefixes {
+            least = self.prefix_room(role, len, label, least);
         }
         least
     }
 
     /// Returns the lesser of `known` and of what the limit of the role's first `len` parts leaves of a scalar. Returns `known` if there is
     /// no such limit.
-    fn front_room(&self, role: &Role, len: usize, label: &str, known: Option<u64>) -> Option<u64>
+    fn prefix_room(&self, role: &Role, len: usize, label: &str, known: Option<u64>) -> Option<u64>
         requires { len ≤ length role.now }
         ensures { result ≡ least_at known (used_at self.now.used) (limits_at (take len role.now) self.now.limits) label.now }
     {
@@ -116,20 +116,20 @@ impl<'a> Quota<'a> {
     /// Returns the number of parts of the first role, from the top of the tree down to this one, whose limit leaves less than `least` of a
     /// scalar, in thousandths. Returns `None` if there is none. The headroom of every role that begins with these parts is less than
     /// `least`, too.
-    pub fn short_front(&self, role: &Role, label: &str, least: u64) -> Option<usize>
+    pub fn short_prefix(&self, role: &Role, label: &str, least: u64) -> Option<usize>
         ensures within { IfSome result (λ len. len ≤ length role.now) }
         ensures first { IfSome result (IsFirstShort (used_at self.now.used) role.now label.now least self.now.limits) }
         ensures none { result ≡ None → (len : ℕ) → len ≤ length role.now
-            → front_leaves (used_at self.now.used) role.now label.now least len self.now.limits ≡ true }
+            → prefix_leaves (used_at self.now.used) role.now label.now least len self.now.limits ≡ true }
         ensures short { IfSome result (λ len. (rows : Rows) (other : Path) → IsAllowanceOf rows self.now → take len other ≡ take len role.now
             → option_map_or (nat_le least) (headroom_at rows other label.now) true ≡ false) }
         ensures enough { result ≡ None → (rows : Rows) → IsAllowanceOf rows self.now
             → option_map_or (nat_le least) (headroom_at rows role.now label.now) true ≡ true }
     {
         self.limits.recall();
-        let fronts = role.len() + 1;
-        for len in 1..fronts {
-            if !self.front_leaves(role, len, label, least) {
+        let prefixes = role.len() + 1;
+        for len in 1..prefixes {
+            if !self.prefix_leaves(role, len, label, least) {
                 return Some(len);
             }
         }
@@ -137,9 +137,9 @@ impl<'a> Quota<'a> {
     }
 
     /// Returns whether the limit of the role's first `len` parts, if there is one, leaves at least `least` of a scalar.
-    fn front_leaves(&self, role: &Role, len: usize, label: &str, least: u64) -> bool
+    fn prefix_leaves(&self, role: &Role, len: usize, label: &str, least: u64) -> bool
         requires { len ≤ length role.now }
-        ensures { result ≡ front_leaves (used_at self.now.used) role.now label.now least len self.now.limits }
+        ensures { result ≡ prefix_leaves (used_at self.now.used) role.now label.now least len self.now.limits }
     {
         let Some((place, limited, limit)) = self.limits.above(role, len) else {
             return true;
@@ -173,7 +173,7 @@ impl<'a> Quota<'a> {
     }
 
     /// Lowers `room` to what the limit of the role's first `len` parts leaves of each scalar, if there is such a limit.
-    fn add_front(&self, role: &Role, len: usize, room: &mut Quantities) -> Result<(), AllocError>
+    fn add_prefix(&self, role: &Role, len: usize, room: &mut Quantities) -> Result<(), AllocError>
         requires { len ≤ length role.now }
         ensures { OnOk result ((label : Text) → known_amount room.new label
             ≡ least_at (known_amount room.old label) (used_at self.now.used) (limits_at (take len role.now) self.now.limits) label) }
@@ -192,9 +192,9 @@ impl<'a> Quota<'a> {
     {
         self.limits.recall();
         let mut room = Quantities::empty(*self.limits.entries().allocator());
-        let fronts = role.len() + 1;
-        for len in 1..fronts {
-            self.add_front(role, len, &mut room)?;
+        let prefixes = role.len() + 1;
+        for len in 1..prefixes {
+            self.add_prefix(role, len, &mut room)?;
         }
         room.recall();
         Ok(room)
@@ -211,9 +211,9 @@ impl<'a> Quota<'a> {
     }
 
     /// Returns whether `more` of a scalar fits under the limit of the role's first `len` parts, if there is one.
-    fn front_admits(&self, role: &Role, len: usize, more: &Entry) -> bool
+    fn prefix_admits(&self, role: &Role, len: usize, more: &Entry) -> bool
         requires { len ≤ length role.now }
-        ensures { result ≡ front_passes (stays_within (used_at self.now.used) more.now) role.now more.now.label len self.now.limits }
+        ensures { result ≡ prefix_passes (stays_within (used_at self.now.used) more.now) role.now more.now.label len self.now.limits }
     {
         let Some((place, limited, limit)) = self.limits.above(role, len) else {
             return true;
@@ -230,9 +230,9 @@ impl<'a> Quota<'a> {
             ≡ list_all (stays_within (used_at self.now.used) more.now) (filter (binds role.now more.now.label) self.now.limits) }
     {
         self.limits.recall();
-        let fronts = role.len() + 1;
-        for len in 1..fronts {
-            if !self.front_admits(role, len, more) {
+        let prefixes = role.len() + 1;
+        for len in 1..prefixes {
+            if !self.prefix_admits(role, len, more) {
                 return false;
             }
         }

@@ -1,2 +1,2 @@
-pub mod GapLaws
+pub mod FreeSlotLaws
 pub mod SlotLaws

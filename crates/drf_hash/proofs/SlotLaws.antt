@@ -64,12 +64,12 @@ module _ {X : Type 0} where
       → s ≡ Some x
   read_is slots i s x below read there = read ∙ get_or_default slots i s None below ∙ there
 
-  pub length-gap : (slots : List (Option X)) (i : ℕ) (x : X) → get_or slots i None ≡ Some x → length (filled (set slots i None)) + 1 ≡ length (filled slots)
-  length-gap [] i x at = cc
-  length-gap (None ∷ slots) zero x at = cc
-  length-gap (Some y ∷ slots) zero x at = omega arith
-  length-gap (None ∷ slots) (suc i) x at = length-gap slots i x at
-  length-gap (Some y ∷ slots) (suc i) x at = omega (arith, length-gap slots i x at)
+  pub length-free_slot : (slots : List (Option X)) (i : ℕ) (x : X) → get_or slots i None ≡ Some x → length (filled (set slots i None)) + 1 ≡ length (filled slots)
+  length-free_slot [] i x at = cc
+  length-free_slot (None ∷ slots) zero x at = cc
+  length-free_slot (Some y ∷ slots) zero x at = omega arith
+  length-free_slot (None ∷ slots) (suc i) x at = length-free_slot slots i x at
+  length-free_slot (Some y ∷ slots) (suc i) x at = omega (arith, length-free_slot slots i x at)
 
   length-set : (slots : List (Option X)) (i : ℕ) (x y : X) → get_or slots i None ≡ Some x → length (filled (set slots i (Some y))) ≡ length (filled slots)
   length-set [] i x y at = cc
@@ -310,15 +310,15 @@ module _ {K X : Type 0} (same : K → K → Bool) (decides : (a b : K) → Decid
   others_left k [] all = refl
   others_left k (x ∷ xs) all = rw (swap (key x) k ∙ all.0) (ap (λ (ys : List X). x ∷ ys) (others_left k xs all.1))
 
-  pub filled-gap : (k : K) (slots : List (Option X)) (i : ℕ) → IsDistinct same (map key (filled slots)) → slot_of same key k slots ≡ Some i
+  pub filled-free_slot : (k : K) (slots : List (Option X)) (i : ℕ) → IsDistinct same (map key (filled slots)) → slot_of same key k slots ≡ Some i
       → filled (set slots i None) ≡ filter (λ x. not (same (key x) k)) (filled slots)
-  filled-gap k [] i apart is = absurd cc
-  filled-gap k (None ∷ slots) zero apart is = absurd (next-first (slot_of same key k slots) is)
-  filled-gap k (None ∷ slots) (suc i) apart is = filled-gap k slots i apart (next-some (slot_of same key k slots) i is)
-  filled-gap k (Some x ∷ slots) i apart is = elim (cases_Bool (same k (key x))) [
+  filled-free_slot k [] i apart is = absurd cc
+  filled-free_slot k (None ∷ slots) zero apart is = absurd (next-first (slot_of same key k slots) is)
+  filled-free_slot k (None ∷ slots) (suc i) apart is = filled-free_slot k slots i apart (next-some (slot_of same key k slots) i is)
+  filled-free_slot k (Some x ∷ slots) i apart is = elim (cases_Bool (same k (key x))) [
     | inl hit ↦ here i (sym (taken (same k (key x)) (Some zero) (option_map (λ j. suc j) (slot_of same key k slots)) hit) ∙ is) hit
     | inr miss ↦
-        there (λ j at. filled-gap k slots j (IsDistinct-tail same (key x) (map key (filled slots)) apart) at) i
+        there (λ j at. filled-free_slot k slots j (IsDistinct-tail same (key x) (map key (filled slots)) apart) at) i
         (sym (passed (same k (key x)) (Some zero) (option_map (λ j. suc j) (slot_of same key k slots)) miss) ∙ is) miss
   ]
     where
@@ -346,17 +346,17 @@ module _ {K X : Type 0} (same : K → K → Bool) (decides : (a b : K) → Decid
       passed (same k (key x)) (Some zero) (option_map (λ j. suc j) (slot_of same key k slots)) none.0
       ∙ ap (option_map (λ j. suc j)) (slot_of-none k slots none.1)
 
-  slot_of-gap : (l k : K) (slots : List (Option X)) (i : ℕ) → IsDistinct same (map key (filled slots)) → slot_of same key k slots ≡ Some i
+  slot_of-free_slot : (l k : K) (slots : List (Option X)) (i : ℕ) → IsDistinct same (map key (filled slots)) → slot_of same key k slots ≡ Some i
       → slot_of same key l (set slots i None) ≡ cond (same k l) None (slot_of same key l slots)
-  slot_of-gap l k [] i apart is = absurd cc
-  slot_of-gap l k (None ∷ slots) zero apart is = absurd (next-first (slot_of same key k slots) is)
-  slot_of-gap l k (None ∷ slots) (suc i) apart is =
-      ap (option_map (λ j. suc j)) (slot_of-gap l k slots i apart (next-some (slot_of same key k slots) i is))
+  slot_of-free_slot l k [] i apart is = absurd cc
+  slot_of-free_slot l k (None ∷ slots) zero apart is = absurd (next-first (slot_of same key k slots) is)
+  slot_of-free_slot l k (None ∷ slots) (suc i) apart is =
+      ap (option_map (λ j. suc j)) (slot_of-free_slot l k slots i apart (next-some (slot_of same key k slots) i is))
       ∙ next-cond (same k l) None (slot_of same key l slots)
-  slot_of-gap l k (Some x ∷ slots) i apart is = elim (cases_Bool (same k (key x))) [
+  slot_of-free_slot l k (Some x ∷ slots) i apart is = elim (cases_Bool (same k (key x))) [
     | inl hit ↦ here i (sym (taken (same k (key x)) (Some zero) (option_map (λ j. suc j) (slot_of same key k slots)) hit) ∙ is) hit
     | inr miss ↦
-        there (λ j at. slot_of-gap l k slots j (IsDistinct-tail same (key x) (map key (filled slots)) apart) at) i
+        there (λ j at. slot_of-free_slot l k slots j (IsDistinct-tail same (key x) (map key (filled slots)) apart) at) i
         (sym (passed (same k (key x)) (Some zero) (option_map (λ j. suc j) (slot_of same key k slots)) miss) ∙ is) miss
   ]
     where
@@ -392,38 +392,38 @@ module _ {K X : Type 0} (same : K → K → Bool) (decides : (a b : K) → Decid
             ∙ next-cond (same k l) None (slot_of same key l slots))
       ]
 
-  each-gap : (P : K → Type 0) (slots : List (Option X)) (i : ℕ) → AllByRecursion P (map key (filled slots))
+  each-free_slot : (P : K → Type 0) (slots : List (Option X)) (i : ℕ) → AllByRecursion P (map key (filled slots))
       → AllByRecursion P (map key (filled (set slots i None)))
-  each-gap P [] i all = tt
-  each-gap P (None ∷ slots) zero all = all
-  each-gap P (Some x ∷ slots) zero all = all.1
-  each-gap P (None ∷ slots) (suc i) all = each-gap P slots i all
-  each-gap P (Some x ∷ slots) (suc i) all = (all.0, each-gap P slots i all.1)
+  each-free_slot P [] i all = tt
+  each-free_slot P (None ∷ slots) zero all = all
+  each-free_slot P (Some x ∷ slots) zero all = all.1
+  each-free_slot P (None ∷ slots) (suc i) all = each-free_slot P slots i all
+  each-free_slot P (Some x ∷ slots) (suc i) all = (all.0, each-free_slot P slots i all.1)
 
-  apart-gap : (slots : List (Option X)) (i : ℕ) → IsDistinct same (map key (filled slots)) → IsDistinct same (map key (filled (set slots i None)))
-  apart-gap [] i apart = apart
-  apart-gap (None ∷ slots) zero apart = apart
-  apart-gap (Some x ∷ slots) zero apart = IsDistinct-tail same (key x) (map key (filled slots)) apart
-  apart-gap (None ∷ slots) (suc i) apart = apart-gap slots i apart
-  apart-gap (Some x ∷ slots) (suc i) apart =
+  apart-free_slot : (slots : List (Option X)) (i : ℕ) → IsDistinct same (map key (filled slots)) → IsDistinct same (map key (filled (set slots i None)))
+  apart-free_slot [] i apart = apart
+  apart-free_slot (None ∷ slots) zero apart = apart
+  apart-free_slot (Some x ∷ slots) zero apart = IsDistinct-tail same (key x) (map key (filled slots)) apart
+  apart-free_slot (None ∷ slots) (suc i) apart = apart-free_slot slots i apart
+  apart-free_slot (Some x ∷ slots) (suc i) apart =
       IsDistinct-cons same (key x) (map key (filled (set slots i None)))
-      (each-gap (λ l. same (key x) l ≡ false) slots i (IsDistinct-head same (key x) (map key (filled slots)) apart))
-      (apart-gap slots i (IsDistinct-tail same (key x) (map key (filled slots)) apart))
+      (each-free_slot (λ l. same (key x) l ≡ false) slots i (IsDistinct-head same (key x) (map key (filled slots)) apart))
+      (apart-free_slot slots i (IsDistinct-tail same (key x) (map key (filled slots)) apart))
 
   pub live_one : (slots : List (Option X)) (places : List (K × ℕ)) (live i : ℕ) (x : X) → IsRegistry same key slots places live
       → get_or slots i None ≡ Some x → 1 ≤ live
-  live_one slots places live i x is at = omega (arith, length-gap slots i x at, is.live)
+  live_one slots places live i x is at = omega (arith, length-free_slot slots i x at, is.live)
 
-  pub registry-gap : (slots : List (Option X)) (places after : List (K × ℕ)) (live less : ℕ) (k : K) (i : ℕ)
+  pub registry-free_slot : (slots : List (Option X)) (places after : List (K × ℕ)) (live less : ℕ) (k : K) (i : ℕ)
       → IsRegistry same key slots places live → slot_of same key k slots ≡ Some i → less + 1 ≡ live
       → ((l : K) → lookup (same l) after ≡ cond (same k l) None (lookup (same l) places))
       → IsRegistry same key (set slots i None) after less
-  registry-gap slots places after live less k i is at fewer found = record {
-    found = λ l. found l ∙ ap (λ (o : Option ℕ). cond (same k l) None o) (is.found l) ∙ sym (slot_of-gap l k slots i is.apart at);
-    apart = apart-gap slots i is.apart;
+  registry-free_slot slots places after live less k i is at fewer found = record {
+    found = λ l. found l ∙ ap (λ (o : Option ℕ). cond (same k l) None o) (is.found l) ∙ sym (slot_of-free_slot l k slots i is.apart at);
+    apart = apart-free_slot slots i is.apart;
     live =
         let here = slot_found k slots i at in
-        let many = length-gap slots i here.entry here.there in
+        let many = length-free_slot slots i here.entry here.there in
         let before = is.live in
         omega (arith, many, before, fewer);
   }

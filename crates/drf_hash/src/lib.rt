@@ -1,10 +1,10 @@
 //! Hash tables whose keys are names that untrusted users choose, and lists with free slots.
 #![tactic(auto)]
 
-mod gaps;
+mod free_slots;
 mod key;
 mod name_hasher;
 
-pub use gaps::close_gaps;
+pub use free_slots::close_free_slots;
 pub use key::{ByName, ByRole, HashKey};
 pub use name_hasher::NameHasher;

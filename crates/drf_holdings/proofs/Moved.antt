@@ -3,7 +3,7 @@ use Rattle.std.specs.Prelude.{◌≡◌, ℕ, ◌+◌, List, [], ◌∷◌, ◌+
 use Rattle.std.proofs.Common.{sym, ap, subst, ◌∙◌, append_assoc, length-append, arith}
 use Rattle.std.proofs.lemmas.List.{reverse-append, reverse-reverse, length-reverse, append-nil, append_cancel_left}
 use Rattle.drf_holdings.specs.Rising.{IsRising}
-use Rattle.drf_holdings.proofs.RisingLists.{rising_front}
+use Rattle.drf_holdings.proofs.RisingLists.{rising_prefix}
 
 module _ {X : Type 0} where
   -- one thing is moved
@@ -17,7 +17,7 @@ module _ {X : Type 0} where
   pub rising_next : (number : X → ℕ) (rows others left whole : List X) (x : X) → others ≡ left ++ x ∷ []
       → rows ++ reverse others ≡ whole → IsRising (map number whole) → IsRising (map number (rows ++ x ∷ []))
   rising_next number rows others left whole x split all rising =
-      rising_front number (rows ++ x ∷ []) (reverse left)
+      rising_prefix number (rows ++ x ∷ []) (reverse left)
       (subst (λ (xs : List X). IsRising (map number xs)) (sym all ∙ whole_next rows others left x split) rising)
 
   -- the number of things in both lists stays the same

@@ -5,7 +5,7 @@ use Rattle.std.proofs.Common.{refl, sym, ap, ◌∙◌, inl, inr}
 use Rattle.std.proofs.lemmas.Bool.{cases_Bool, eq-eqb, false≢true}
 use Rattle.std.proofs.lemmas.List.{map-append}
 use Rattle.std.proofs.lemmas.List.Elements.{filter-append}
-use Rattle.drf_row_laws.proofs.EndingLaws.{filter-out}
+use Rattle.drf_row_laws.proofs.ReleaseLaws.{filter-out}
 use Rattle.drf_bundle.proofs.ListLaws.{filter-swap, filter_only, each_append}
 use Rattle.drf_holdings.specs.Listed.{IsListed}
 use Rattle.drf_holdings.specs.Rising.{AreOthers}

@@ -8,7 +8,7 @@ use Rattle.std.proofs.lemmas.Bool.{eq-eqb, ne_eqb, or_parts, cases_lt}
 use Rattle.std.proofs.lemmas.List.{map-id, get_or_default}
 use Rattle.std.proofs.lemmas.List.Sorted.{searched}
 use Rattle.std.proofs.lemmas.Option.{slice_get_read}
-use Rattle.drf_row_laws.proofs.EndingLaws.{filter-none, split_at}
+use Rattle.drf_row_laws.proofs.ReleaseLaws.{filter-none, split_at}
 use Rattle.drf_bundle.proofs.ListLaws.{filter_only}
 use Rattle.drf_holdings.specs.Rising.{IsRising, AreOthers}
 
@@ -95,13 +95,13 @@ module _ {X : Type 0} (number : X → ℕ) where
       by true above more = (above, more)
       by false above more = more
 
-  above_front : (m : ℕ) (xs ys : List X) → AllByRecursion (λ k. m < k) (map number (xs ++ ys)) → AllByRecursion (λ k. m < k) (map number xs)
-  above_front m [] ys above = tt
-  above_front m (x ∷ xs) ys above = (above.0, above_front m xs ys above.1)
+  above_prefix : (m : ℕ) (xs ys : List X) → AllByRecursion (λ k. m < k) (map number (xs ++ ys)) → AllByRecursion (λ k. m < k) (map number xs)
+  above_prefix m [] ys above = tt
+  above_prefix m (x ∷ xs) ys above = (above.0, above_prefix m xs ys above.1)
 
-  pub rising_front : (xs ys : List X) → IsRising (map number (xs ++ ys)) → IsRising (map number xs)
-  rising_front [] ys rising = tt
-  rising_front (x ∷ xs) ys rising = (above_front (number x) xs ys rising.0, rising_front xs ys rising.1)
+  pub rising_prefix : (xs ys : List X) → IsRising (map number (xs ++ ys)) → IsRising (map number xs)
+  rising_prefix [] ys rising = tt
+  rising_prefix (x ∷ xs) ys rising = (above_prefix (number x) xs ys rising.0, rising_prefix xs ys rising.1)
 
   pub others_from : (n : ℕ) (xs : List X) → list_any (λ x. number x == n) xs ≡ false → AreOthers number n xs
   others_from n [] none = tt

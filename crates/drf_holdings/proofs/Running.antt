@@ -6,10 +6,10 @@ use Rattle.std.proofs.lemmas.Bool.{or_parts, cases_Bool, and_from, false≢true}
 use Rattle.std.proofs.lemmas.List.{length-map, map-append}
 use Rattle.drf_role.specs.Text.{Text, same_text}
 use Rattle.drf_role.specs.TextLaws.{same_itself}
-use Rattle.drf_row_laws.proofs.EndingLaws.{each-out}
-use Rattle.drf_rows.specs.Endings.{is_task}
+use Rattle.drf_row_laws.proofs.ReleaseLaws.{each-out}
+use Rattle.drf_rows.specs.Releases.{is_task}
 use Rattle.drf_rows.specs.Offers.{AreNew}
-use Rattle.drf_rows.specs.Holdings.{Holding, of_task}
+use Rattle.drf_rows.specs.Holdings.{Holding, holding_of_task}
 use Rattle.drf_rows.specs.declared.rows.TaskRow.{TaskRow}
 use Rattle.drf_holdings.specs.Listed.{task_serial, task_row, task_of, task_named, TaskKey, AreTasksListed, AreTasksKept}
 use Rattle.drf_holdings.specs.declared.tasks.Task.{Task}
@@ -20,9 +20,9 @@ use Rattle.drf_holdings.proofs.Named.{few_at}
 use Rattle.drf_holdings.proofs.RisingLists.{rising_out, rising_in, below_in}
 use Rattle.drf_holdings.proofs.Removed.{taken_by, rows_none, rows_taken, any_rows}
 
-pub row_holdings : (tasks : List Task) → map (λ t. of_task t.row) tasks ≡ map of_task (map task_row tasks)
+pub row_holdings : (tasks : List Task) → map (λ t. holding_of_task t.row) tasks ≡ map holding_of_task (map task_row tasks)
 row_holdings [] = refl
-row_holdings (t ∷ tasks) = ap (λ (hs : List Holding). of_task t.row ∷ hs) (row_holdings tasks)
+row_holdings (t ∷ tasks) = ap (λ (hs : List Holding). holding_of_task t.row ∷ hs) (row_holdings tasks)
 
 -- a framework without a task of any name has no task
 pub named_none : (framework : Text) (tasks : List Task) → ((name : Text) → list_any (task_named (framework, name)) tasks ≡ false)

@@ -5,13 +5,13 @@ use Rattle.std.proofs.Common.{refl, sym, ap, subst, ◌∙◌, zero, suc, arith,
 use Rattle.std.proofs.lemmas.Bool.{eq-eqb, lt-ltb, le-ltb}
 use Rattle.std.proofs.lemmas.List.{take-append-drop, append-nil}
 use Rattle.std.proofs.lemmas.List.Elements.{filter-append, filter_map-append}
-use Rattle.drf_row_laws.proofs.EndingLaws.{split_at}
+use Rattle.drf_row_laws.proofs.ReleaseLaws.{split_at}
 use Rattle.drf_bundle.proofs.ListLaws.{each_append}
 use Rattle.drf_holdings.specs.ByNumber.{slot_number, things_in, AreUnder, IsByNumber, KeepsOrder}
 use Rattle.drf_holdings.specs.Rising.{IsRising, AreOthers}
 use Rattle.drf_holdings.specs.Taking.{IsTaken, HasNone}
 use Rattle.drf_holdings.specs.declared.by_number.Slot.{Slot}
-use Rattle.drf_holdings.proofs.RisingLists.{above_last, rising_front, rising_some, rising_in, others_at}
+use Rattle.drf_holdings.proofs.RisingLists.{above_last, rising_prefix, rising_some, rising_in, others_at}
 
 module _ {X : Type 0} where
   pub things-append : (xs ys : List (Slot X)) → things_in (xs ++ ys) ≡ things_in xs ++ things_in ys
@@ -55,18 +55,18 @@ module _ {X : Type 0} where
 
   -- ---- the first slots
 
-  under_front : (number : X → ℕ) (xs ys : List (Slot X)) → AreUnder number (xs ++ ys) → AreUnder number xs
-  under_front number [] ys under = tt
-  under_front number (s ∷ xs) ys under = (under.0, under_front number xs ys under.1)
+  under_prefix : (number : X → ℕ) (xs ys : List (Slot X)) → AreUnder number (xs ++ ys) → AreUnder number xs
+  under_prefix number [] ys under = tt
+  under_prefix number (s ∷ xs) ys under = (under.0, under_prefix number xs ys under.1)
 
   under_behind : (number : X → ℕ) (xs ys : List (Slot X)) → AreUnder number (xs ++ ys) → AreUnder number ys
   under_behind number [] ys under = under
   under_behind number (s ∷ xs) ys under = under_behind number xs ys under.1
 
-  pub order_front : (old xs ys : List (Slot X)) → old ≡ xs ++ ys → KeepsOrder old xs
-  order_front old xs ys whole = (
-    λ number under. under_front number xs ys (subst (AreUnder number) whole under),
-    λ rising. rising_front slot_number xs ys (subst (λ (ss : List (Slot X)). IsRising (map slot_number ss)) whole rising),
+  pub order_prefix : (old xs ys : List (Slot X)) → old ≡ xs ++ ys → KeepsOrder old xs
+  order_prefix old xs ys whole = (
+    λ number under. under_prefix number xs ys (subst (AreUnder number) whole under),
+    λ rising. rising_prefix slot_number xs ys (subst (λ (ss : List (Slot X)). IsRising (map slot_number ss)) whole rising),
   )
 
   pub order_on : (a b c : List (Slot X)) → KeepsOrder a b → KeepsOrder b c → KeepsOrder a c
@@ -93,9 +93,9 @@ module _ {X : Type 0} where
     set_numbers (t ∷ slots) (suc i) s at same = ap (λ (ns : List ℕ). t.number ∷ ns) (set_numbers slots i s at same)
 
     set_under : (number : X → ℕ) (slots : List (Slot X)) (i : ℕ) → w.thing ≡ None → AreUnder number slots → AreUnder number (set slots i w)
-    set_under number [] i gap under = tt
-    set_under number (t ∷ slots) zero gap under = (rw gap tt, under.1)
-    set_under number (t ∷ slots) (suc i) gap under = (under.0, set_under number slots i gap under.1)
+    set_under number [] i free_slot under = tt
+    set_under number (t ∷ slots) zero free_slot under = (rw free_slot tt, under.1)
+    set_under number (t ∷ slots) (suc i) free_slot under = (under.0, set_under number slots i free_slot under.1)
 
   pub set_same : (slots : List (Slot X)) (i : ℕ) (s w : Slot X) → slice_get slots i ≡ Some s → w ≡ s → set slots i w ≡ slots
   set_same [] i s w at same = refl
@@ -151,7 +151,7 @@ module _ {X : Type 0} where
           (others_at slot_number slots place s rising at)
 
       before_others : AreOthers number n (things_in (take place slots))
-      before_others = others_things n (take place slots) (under_front number (take place slots) (s ∷ drop (suc place) slots) under_split) others.0
+      before_others = others_things n (take place slots) (under_prefix number (take place slots) (s ∷ drop (suc place) slots) under_split) others.0
 
       after_under : AreUnder number (s ∷ drop (suc place) slots)
       after_under = under_behind number (take place slots) (s ∷ drop (suc place) slots) under_split
@@ -177,8 +177,8 @@ module _ {X : Type 0} where
           by (Some x) is = rw (eq-eqb (number x) n (has_number x is)) refl
 
       -- if the slot with a number is free, no thing has the number
-      pub gap_at : s.thing ≡ None → HasNone (λ x. number x == n) (things_in slots) (things_in slots)
-      gap_at is = record {
+      pub free_slot_at : s.thing ≡ None → HasNone (λ x. number x == n) (things_in slots) (things_in slots)
+      free_slot_at is = record {
         none =
             ap (list_any (λ x. number x == n))
             (things_split ∙ ap (λ (o : Option X). things_in (take place slots) ++ cons_option o (things_in (drop (suc place) slots))) is)
@@ -187,12 +187,12 @@ module _ {X : Type 0} where
         same = refl;
       }
 
-      module _ (w : Slot X) (x : X) (is : s.thing ≡ Some x) (same : w.number ≡ s.number) (gap : w.thing ≡ None) where
+      module _ (w : Slot X) (x : X) (is : s.thing ≡ Some x) (same : w.number ≡ s.number) (free_slot : w.thing ≡ None) where
         things_left : things_in (set slots place w) ≡ things_in (take place slots) ++ things_in (drop (suc place) slots)
         things_left =
             ap (λ (ss : List (Slot X)). things_in ss) (set_split w slots place s at)
             ∙ things-append (take place slots) (w ∷ drop (suc place) slots)
-            ∙ ap (λ (o : Option X). things_in (take place slots) ++ cons_option o (things_in (drop (suc place) slots))) gap
+            ∙ ap (λ (o : Option X). things_in (take place slots) ++ cons_option o (things_in (drop (suc place) slots))) free_slot
 
         things_whole : things_in slots ≡ things_in (take place slots) ++ x ∷ things_in (drop (suc place) slots)
         things_whole = things_split ∙ ap (λ (o : Option X). things_in (take place slots) ++ cons_option o (things_in (drop (suc place) slots))) is
@@ -209,7 +209,7 @@ module _ {X : Type 0} where
 
         pub kept_at : (count : ℕ) → count + 1 ≡ length (things_in slots) → IsByNumber number (set slots place w) count
         kept_at count counted = record {
-          under = set_under w number slots place gap under;
+          under = set_under w number slots place free_slot under;
           rising = subst IsRising (sym (set_numbers w slots place s at same)) rising;
           counted =
               let one = ap length things_whole in
@@ -254,8 +254,8 @@ module _ {X : Type 0} where
       things_cut = ap (λ (ss : List (Slot X)). things_in ss) cut ∙ things-append (take place slots) (drop place slots)
 
       -- the slots from the last number on are free
-      pub gaps_behind : things_in (take place slots) ≡ things_in slots
-      gaps_behind =
+      pub free_slots_behind : things_in (take place slots) ≡ things_in slots
+      free_slots_behind =
           let below = subst (λ (xs : List X). AllByRecursion (λ y. number y < number x) xs) things_cut (below_last (things_in slots) x rising) in
           let none =
           none_above (number x) (drop place slots) (under_behind number (take place slots) (drop place slots) (subst (AreUnder number) cut under)) above
@@ -313,6 +313,6 @@ module _ {X : Type 0} where
         ∙ ap (filter (λ x. not (nat_lt (number x) n))) (things-append (take place slots) (drop place slots))
         ∙ filter-append (λ x. not (nat_lt (number x) n)) (things_in (take place slots)) (things_in (drop place slots))
         ∙ ap (λ (xs : List X). xs ++ filter (λ x. not (nat_lt (number x) n)) (things_in (drop place slots)))
-        (gone_below n (take place slots) (under_front number (take place slots) (drop place slots) both) below)
+        (gone_below n (take place slots) (under_prefix number (take place slots) (drop place slots) both) below)
         ∙ kept_above n (drop place slots) (under_behind number (take place slots) (drop place slots) both) above
         )

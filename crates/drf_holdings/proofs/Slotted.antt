@@ -8,7 +8,7 @@ use Rattle.drf_holdings.specs.ByNumber.{things_in, IsByNumber, IsPlaceOf, KeepsO
 use Rattle.drf_holdings.specs.Rising.{IsRising}
 use Rattle.drf_holdings.specs.Taking.{IsTaken, HasNone}
 use Rattle.drf_holdings.specs.declared.by_number.Slot.{Slot}
-use Rattle.drf_holdings.proofs.Slots.{set_same, found_at, gap_at, taken_at, kept_at, kept_order, order_front, order_on, things_last, gaps_behind, things_more, kept_more}
+use Rattle.drf_holdings.proofs.Slots.{set_same, found_at, free_slot_at, taken_at, kept_at, kept_order, order_prefix, order_on, things_last, free_slots_behind, things_more, kept_more}
 
 -- one thing fewer
 pub one_out : {X : Type 0} (test : X → Bool) (old new : List X) (x : X) → IsTaken test old new x → length new + 1 ≡ length old
@@ -29,7 +29,7 @@ module _ {X : Type 0} (number : X → ℕ) (n : ℕ) (slots : List (Slot X)) (pl
       found_at number n slots place here.slot here.at here.its kept.under kept.rising ∙ ap (λ (s : Slot X). s.thing) (sym read_is)
 
   -- the slot is emptied
-  module _ (w : Slot X) (gap : w ≡ record { number = r.number; thing = None }) where
+  module _ (w : Slot X) (free_slot : w ≡ record { number = r.number; thing = None }) where
     module _ (none : None ≡ r.thing) where
       none_is : here.slot.thing ≡ None
       none_is = ap (λ (s : Slot X). s.thing) (sym read_is) ∙ sym none
@@ -38,24 +38,24 @@ module _ {X : Type 0} (number : X → ℕ) (n : ℕ) (slots : List (Slot X)) (pl
       pub same_here : set slots place w ≡ slots
       same_here =
           set_same slots place here.slot w here.at
-          (gap ∙ (λ i. record { number = (read_is i).number; thing = sym none_is i }))
+          (free_slot ∙ (λ i. record { number = (read_is i).number; thing = sym none_is i }))
 
       pub none_here : HasNone (λ x. number x == n) (things_in slots) (things_in (set slots place w))
       none_here =
           subst (λ (ss : List (Slot X)). HasNone (λ x. number x == n) (things_in slots) (things_in ss)) (sym same_here)
-          (gap_at number n slots place here.slot here.at here.its kept.under kept.rising none_is)
+          (free_slot_at number n slots place here.slot here.at here.its kept.under kept.rising none_is)
 
     module _ (x : X) (some : Some x ≡ r.thing) where
       some_is : here.slot.thing ≡ Some x
       some_is = ap (λ (s : Slot X). s.thing) (sym read_is) ∙ sym some
 
       same_number : w.number ≡ here.slot.number
-      same_number = ap (λ (s : Slot X). s.number) gap ∙ ap (λ (s : Slot X). s.number) read_is
+      same_number = ap (λ (s : Slot X). s.number) free_slot ∙ ap (λ (s : Slot X). s.number) read_is
 
       -- the thing in the slot is removed
       pub taken_here : IsTaken (λ y. number y == n) (things_in slots) (things_in (set slots place w)) x
       taken_here =
-          taken_at number n slots place here.slot here.at here.its kept.under kept.rising w x some_is same_number (ap (λ (s : Slot X). s.thing) gap)
+          taken_at number n slots place here.slot here.at here.its kept.under kept.rising w x some_is same_number (ap (λ (s : Slot X). s.thing) free_slot)
 
       pub some_here : 1 ≤ count
       some_here = omega (arith, kept.counted, one_out (λ y. number y == n) (things_in slots) (things_in (set slots place w)) x taken_here)
@@ -63,7 +63,7 @@ module _ {X : Type 0} (number : X → ℕ) (n : ℕ) (slots : List (Slot X)) (pl
       pub kept_here : IsByNumber number (set slots place w) (count - 1)
       kept_here =
           let there = some_here in
-          kept_at number n slots place here.slot here.at here.its kept.under kept.rising w x some_is same_number (ap (λ (s : Slot X). s.thing) gap)
+          kept_at number n slots place here.slot here.at here.its kept.under kept.rising w x some_is same_number (ap (λ (s : Slot X). s.thing) free_slot)
           (count - 1) (omega (arith, there, kept.counted))
 
 module _ {X : Type 0} (number : X → ℕ) (old new : List (Slot X)) (count : ℕ) (order : KeepsOrder old new) (kept : IsByNumber number old count) where
@@ -93,13 +93,13 @@ module _ {X : Type 0} (number : X → ℕ) (slots : List (Slot X)) (place count 
     (below : AllByRecursion (λ s. s.number < n) (take place slots)) (above : AllByRecursion (λ s. n ≤ s.number) (drop place slots)) where
   pub things_cut : things_in (take place slots) ≡ things_in slots
   things_cut =
-      gaps_behind number slots place x kept.under rising
+      free_slots_behind number slots place x kept.under rising
       (subst (λ (m : ℕ). AllByRecursion (λ (s : Slot X). m ≤ s.number) (drop place slots)) its above)
 
   pub kept_cut : IsByNumber number (take place slots) count
   kept_cut =
       kept_same number slots (take place slots) count
-      (order_front slots (take place slots) (drop place slots) (sym (take-append-drop place slots))) kept things_cut
+      (order_prefix slots (take place slots) (drop place slots) (sym (take-append-drop place slots))) kept things_cut
 
   pub things_put : things_in (take place slots ++ record { number = n; thing = Some x } ∷ []) ≡ things_in slots ++ x ∷ []
   things_put =
@@ -112,11 +112,11 @@ module _ {X : Type 0} (number : X → ℕ) (slots : List (Slot X)) (place count 
 module _ {X : Type 0} (first old new : List (Slot X)) (s : Slot X) (split : old ≡ new ++ s ∷ [])
     (same : things_in old ≡ things_in first) (order : KeepsOrder first old) where
   pub order_off : KeepsOrder first new
-  order_off = order_on first old new order (order_front old new (s ∷ []) split)
+  order_off = order_on first old new order (order_prefix old new (s ∷ []) split)
 
-  pub gap_off : None ≡ s.thing → things_in new ≡ things_in first
-  gap_off gap =
-      sym (append-nil (things_in new)) ∙ ap (λ (o : Option X). things_in new ++ cons_option o []) gap ∙ sym (things_last old new s split) ∙ same
+  pub free_slot_off : None ≡ s.thing → things_in new ≡ things_in first
+  free_slot_off free_slot =
+      sym (append-nil (things_in new)) ∙ ap (λ (o : Option X). things_in new ++ cons_option o []) free_slot ∙ sym (things_last old new s split) ∙ same
 
   pub thing_off : (x : X) → Some x ≡ s.thing → things_in first ≡ things_in new ++ x ∷ []
   thing_off x thing = sym same ∙ things_last old new s split ∙ ap (λ (o : Option X). things_in new ++ cons_option o []) (sym thing)

@@ -4,7 +4,7 @@ use Rattle.std.proofs.Common.{refl, sym, subst, ◌∙◌, inl, inr}
 use Rattle.std.proofs.lemmas.Bool.{and_parts, cases_Bool}
 use Rattle.drf_role.specs.Text.{Text, same_text}
 use Rattle.drf_role.specs.TextLaws.{same_from_test}
-use Rattle.drf_rows.specs.Endings.{is_task}
+use Rattle.drf_rows.specs.Releases.{is_task}
 use Rattle.drf_holdings.specs.Listed.{TaskKey, numbers_in, serials_in, task_serial, task_on, task_named, AreTasksListed, AreTasksKept}
 use Rattle.drf_holdings.specs.Rising.{IsRising}
 use Rattle.drf_holdings.specs.declared.index.Index.{Index}

@@ -1,8 +1,8 @@
 -- The value of `Holdings` as contracts see it, and what it means that a holding was removed or replaced by tasks.
 use Rattle.std.specs.Prelude.{◌≡◌, ℕ, ◌==◌, ◌⊎◌, List, ◌++◌, map, find, Option, Some, None, refl}
 use Rattle.std.specs.Coded.{Coded, code_by, coded×, coded_list}
-use Rattle.drf_rows.specs.Endings.{Ending, ends_offer, ends_task}
-use Rattle.drf_rows.specs.Holdings.{Holding, of_offer, of_task}
+use Rattle.drf_rows.specs.Releases.{Release, ends_offer, ends_task}
+use Rattle.drf_rows.specs.Holdings.{Holding, holding_of_offer, holding_of_task}
 use Rattle.drf_rows.specs.Offers.{task_of}
 use Rattle.drf_rows.specs.Tasks.{Start}
 use Rattle.drf_rows.specs.contracts.rows.OfferRow as offer_row
@@ -24,35 +24,35 @@ offers_and_tasks_code = code_by (List OfferRow × List TaskRow) (coded× (coded_
 
 -- all holdings
 abbrev pub holdings_in : OffersAndTasks → List Holding
-holdings_in h = map of_offer h.offers ++ map of_task h.tasks
+holdings_in h = map holding_of_offer h.offers ++ map holding_of_task h.tasks
 
 -- a removed offer or task as a holding
 abbrev pub holding_of : Taken → Holding
 holding_of t = record { agent = t.agent; client = record { role = t.role; framework = t.framework }; bundle = t.bundle }
 
 -- the holding is an offer that the ending selects, and was removed
-pub record IsOfferOut (ending : Ending) (old new : OffersAndTasks) (h : Holding) : Type 0 where
+pub record IsOfferOut (release : Release) (old new : OffersAndTasks) (h : Holding) : Type 0 where
   pub offer : OfferRow
-  pub taken : IsTaken (ends_offer ending) old.offers new.offers offer
+  pub taken : IsTaken (ends_offer release) old.offers new.offers offer
   pub same : new.tasks ≡ old.tasks
-  pub told : h ≡ of_offer offer
+  pub reported : h ≡ holding_of_offer offer
 
 -- the holding is a task that the ending selects, and was removed
-pub record IsTaskOut (ending : Ending) (old new : OffersAndTasks) (h : Holding) : Type 0 where
+pub record IsTaskOut (release : Release) (old new : OffersAndTasks) (h : Holding) : Type 0 where
   pub task : TaskRow
-  pub taken : IsTaken (ends_task ending) old.tasks new.tasks task
+  pub taken : IsTaken (ends_task release) old.tasks new.tasks task
   pub same : new.offers ≡ old.offers
-  pub told : h ≡ of_task task
+  pub reported : h ≡ holding_of_task task
 
 -- the ending selects no offer and no task
-pub record IsNothingOut (ending : Ending) (old new : OffersAndTasks) : Type 0 where
-  pub offers : HasNone (ends_offer ending) old.offers new.offers
-  pub tasks : HasNone (ends_task ending) old.tasks new.tasks
+pub record IsNothingOut (release : Release) (old new : OffersAndTasks) : Type 0 where
+  pub offers : HasNone (ends_offer release) old.offers new.offers
+  pub tasks : HasNone (ends_task release) old.tasks new.tasks
 
 -- one holding that the ending selects was removed, or there is none
-abbrev pub HasTaken : Ending → OffersAndTasks → OffersAndTasks → Option Taken → Type 0
-HasTaken ending old new None = IsNothingOut ending old new
-HasTaken ending old new (Some taken) = IsOfferOut ending old new (holding_of taken) ⊎ IsTaskOut ending old new (holding_of taken)
+abbrev pub HasTaken : Release → OffersAndTasks → OffersAndTasks → Option Taken → Type 0
+HasTaken release old new None = IsNothingOut release old new
+HasTaken release old new (Some taken) = IsOfferOut release old new (holding_of taken) ⊎ IsTaskOut release old new (holding_of taken)
 
 -- the offer with this number was removed, and tasks with parts of it were appended
 pub record HasStarted (number : ℕ) (starts : List Start) (old new : OffersAndTasks) (offer : OfferRow) : Type 0 where

@@ -37,7 +37,7 @@ impl<T> Slot<T> {
     /// Removes the thing from the slot, and returns it.
     fn empty(&mut self) -> Option<T>
         ensures thing { result ≡ self.old.thing }
-        ensures gap { self.new ≡ record { number = self.old.number; thing = None } }
+        ensures free_slot { self.new ≡ record { number = self.old.number; thing = None } }
     {
         self.thing.take()
     }

@@ -2,11 +2,11 @@
 ghost use Rattle.std.specs.Prelude.{◌≡◌, ◌==◌, [], ◌∷◌, ◌++◌, Some, true, false, length, map, find, filter, not, nat_lt, IfOk, OnOk, OnErr, MatchOption, option_copied};
 ghost use Rattle.std.specs.List.{list_any};
 ghost use Rattle.drf_bundle.specs.Taken.{rest_of_all};
-ghost use Rattle.drf_rows.specs.Endings.{ends_offer, ends_task, is_task};
+ghost use Rattle.drf_rows.specs.Releases.{ends_offer, ends_task, is_task};
 ghost use Rattle.drf_rows.specs.Holdings.{parts_on};
 ghost use Rattle.drf_rows.specs.Offers.{task_of, AreNew};
 ghost use Rattle.drf_rows.specs.declared.rows.OfferRow.{OfferRow};
-ghost use Rattle.drf_rows.specs.Ended.{ending_of};
+ghost use Rattle.drf_rows.specs.Ended.{release_of};
 ghost use Rattle.drf_holdings.specs.Listed.{offer_number, task_row};
 ghost use Rattle.drf_holdings.specs.Rising.{IsRising};
 ghost use Rattle.drf_holdings.specs.Stored.{HasTaken, HasStarted, holdings_in};
@@ -18,7 +18,7 @@ use crate::tasks::{Task, TaskTable};
 use drf_bundle::Bundle;
 use drf_hash::HashKey;
 use drf_role::{Name, Role};
-use drf_rows::{Ending, OfferRow, Table, TaskList, TaskRow};
+use drf_rows::{OfferRow, Release, Table, TaskList, TaskRow};
 use std::alloc::{AllocError, Global};
 use std::marker::Model;
 
@@ -32,32 +32,32 @@ pub struct Taken {
 }
 
 /// Removes an offer that the ending selects, and returns it. Returns `None` if there is none.
-fn take_offer(offers: &mut OfferTable, ending: Ending) -> Option<OfferRow>
+fn take_offer(offers: &mut OfferTable, release: Release) -> Option<OfferRow>
     ensures { MatchOption result
-        (HasNone (ends_offer (ending_of ending.entry)) offers.old offers.new)
-        (IsTaken (ends_offer (ending_of ending.entry)) offers.old offers.new) }
+        (HasNone (ends_offer (release_of release.entry)) offers.old offers.new)
+        (IsTaken (ends_offer (release_of release.entry)) offers.old offers.new) }
 {
-    match ending {
-        Ending::Offer(number) => offers.take(number),
-        Ending::Task { .. } => None,
-        Ending::OffersOn(agent) => offers.take_on(agent),
-        Ending::AllOn(agent) => offers.take_on(agent),
-        Ending::AllOf(framework) => offers.take_of(framework),
+    match release {
+        Release::Offer(number) => offers.take(number),
+        Release::Task { .. } => None,
+        Release::OffersOn(agent) => offers.take_on(agent),
+        Release::AllOn(agent) => offers.take_on(agent),
+        Release::AllOf(framework) => offers.take_of(framework),
     }
 }
 
 /// Removes a task that the ending selects, and returns it. Returns `None` if there is none.
-fn take_task(tasks: &mut TaskTable, ending: Ending) -> Option<TaskRow>
+fn take_task(tasks: &mut TaskTable, release: Release) -> Option<TaskRow>
     ensures { MatchOption result
-        (HasNone (ends_task (ending_of ending.entry)) tasks.old tasks.new)
-        (IsTaken (ends_task (ending_of ending.entry)) tasks.old tasks.new) }
+        (HasNone (ends_task (release_of release.entry)) tasks.old tasks.new)
+        (IsTaken (ends_task (release_of release.entry)) tasks.old tasks.new) }
 {
-    match ending {
-        Ending::Offer(_) => None,
-        Ending::Task { framework, name } => tasks.take_named(framework, name),
-        Ending::OffersOn(_) => None,
-        Ending::AllOn(agent) => tasks.take_on(agent),
-        Ending::AllOf(framework) => tasks.take_of(framework),
+    match release {
+        Release::Offer(_) => None,
+        Release::Task { framework, name } => tasks.take_named(framework, name),
+        Release::OffersOn(_) => None,
+        Release::AllOn(agent) => tasks.take_on(agent),
+        Release::AllOf(framework) => tasks.take_of(framework),
     }
 }
 
@@ -189,10 +189,10 @@ impl Holdings {
     }
 
     /// Removes an offer or a task that the ending selects, and returns it. Returns `None` if there is none. It never allocates.
-    pub fn take(&mut self, ending: Ending) -> Option<Taken>
-        ensures { HasTaken (ending_of ending.entry) self.old self.new result }
+    pub fn take(&mut self, release: Release) -> Option<Taken>
+        ensures { HasTaken (release_of release.entry) self.old self.new result }
     {
-        if let Some(offer) = take_offer(&mut self.offers, ending) {
+        if let Some(offer) = take_offer(&mut self.offers, release) {
             return Some(Taken {
                 agent: offer.agent,
                 role: offer.role,
@@ -200,7 +200,7 @@ impl Holdings {
                 bundle: offer.bundle,
             });
         }
-        let task = take_task(&mut self.tasks, ending)?;
+        let task = take_task(&mut self.tasks, release)?;
         Some(Taken {
             agent: task.agent,
             role: task.role,

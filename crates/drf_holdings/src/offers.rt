@@ -1,7 +1,7 @@
 //! `OfferTable`, the outstanding offers in order of number.
 ghost use Rattle.std.specs.Prelude.{◌≡◌, ◌==◌, ◌+◌, ◌≤◌, List, [], ◌∷◌, ◌++◌, map, find, filter, flat_map, not, nat_lt, take, reverse, length, vec_len, vec_capacity, IfOk, OnOk, OnErr, MatchOption, option_copied};
 ghost use Rattle.drf_bundle.specs.Taken.{rest_of_all};
-ghost use Rattle.drf_rows.specs.Holdings.{of_offer, parts_on};
+ghost use Rattle.drf_rows.specs.Holdings.{holding_of_offer, parts_on};
 ghost use Rattle.drf_rows.specs.declared.rows.OfferRow.{OfferRow};
 ghost use Rattle.drf_holdings.specs.Listed.{offer_number, offer_on, offer_of, bundles_at, AreOffersListed, AreOffersKept};
 ghost use Rattle.drf_holdings.specs.Rising.{IsRising};
@@ -100,7 +100,7 @@ impl Numbered for OfferRow {
 fn move_some(rows: &mut ByNumber<OfferRow>, offers: &mut Vec<OfferRow>) -> Result<(), AllocError>
     requires { IsRising (map offer_number (rows.old ++ reverse offers.old.items)) }
     ensures all { rows.new ++ reverse offers.new.items ≡ rows.old ++ reverse offers.old.items }
-    ensures front { (moved : List OfferRow) × (rows.new ≡ rows.old ++ moved) }
+    ensures prefix { (moved : List OfferRow) × (rows.new ≡ rows.old ++ moved) }
     ensures moved { OnOk result (offers.new.items ≡ []) }
     ensures room { vec_capacity offers.new ≡ vec_capacity offers.old }
 {
@@ -254,7 +254,7 @@ impl OfferTable {
 
     /// Returns a bundle without the resources of the offers on an agent.
     pub(crate) fn left_of(&self, whole: &Bundle, agent: &Name) -> Result<Bundle, AllocError>
-        ensures { IfOk result (λ left. left ≡ rest_of_all whole.now (parts_on agent.now (map of_offer self.now))) }
+        ensures { IfOk result (λ left. left ≡ rest_of_all whole.now (parts_on agent.now (map holding_of_offer self.now))) }
     {
         let whole = whole.copy()?;
         match self.index.agents.list(agent) {

@@ -3,9 +3,9 @@ ghost use Rattle.std.specs.Prelude.{◌≡◌, ◌==◌, ◌+◌, ◌^◌, ℕ, 
 ghost use Rattle.std.specs.List.{list_any};
 ghost use Rattle.drf_bundle.specs.Taken.{rest_of_all};
 ghost use Rattle.drf_role.specs.Text.{same_text};
-ghost use Rattle.drf_rows.specs.Holdings.{of_task, parts_on};
+ghost use Rattle.drf_rows.specs.Holdings.{holding_of_task, parts_on};
 ghost use Rattle.drf_rows.specs.Offers.{AreNew};
-ghost use Rattle.drf_rows.specs.Endings.{is_task};
+ghost use Rattle.drf_rows.specs.Releases.{is_task};
 ghost use Rattle.drf_holdings.specs.Listed.{task_serial, task_row, serials_in, bundles_at, AreTasksListed, AreTasksKept};
 ghost use Rattle.drf_holdings.specs.Rising.{IsRising};
 ghost use Rattle.drf_holdings.specs.Taking.{IsTaken, HasNone};
@@ -267,7 +267,7 @@ impl TaskTable {
 
     /// Returns a bundle without the resources of the tasks on an agent.
     pub(crate) fn left_of(&self, whole: Bundle, agent: &Name) -> Result<Bundle, AllocError>
-        ensures { IfOk result (λ left. left ≡ rest_of_all whole (parts_on agent.now (map of_task self.now))) }
+        ensures { IfOk result (λ left. left ≡ rest_of_all whole (parts_on agent.now (map holding_of_task self.now))) }
     {
         match self.index.agents.list(agent) {
             Some(serials) => less_tasks(whole, &self.tasks, serials),
@@ -290,7 +290,7 @@ impl TaskTable {
 
     /// Removes the last task.
     fn pop(&mut self)
-        ensures front { (count : ℕ) → count < length self.old → take count self.new ≡ take count self.old }
+        ensures prefix { (count : ℕ) → count < length self.old → take count self.new ≡ take count self.old }
         ensures fewer { length self.new ≡ length self.old - 1 }
     {
         if let Some(task) = self.tasks.pop() {

@@ -16,12 +16,12 @@ use Rattle.drf_rows.specs.Step.{live_rows}
 use Rattle.drf_rows.specs.declared.rows.Rows.{Rows}
 use Rattle.drf_journal.specs.declared.fault.RunFault.{RunFault}
 use Rattle.drf_journal.specs.declared.fault.RunFault.TheVariants.{Read, Write, Memory}
-use Rattle.drf_journal.specs.Audited.{rows_after_lines, agents_text, cycle_text, told_of_lines, HasToldOfRows, HasTakenLines}
-use Rattle.drf_journal.specs.Device.{AppendsFrontOf}
+use Rattle.drf_journal.specs.Audited.{rows_after_lines, agents_text, cycle_text, reported_of_lines, HasReportedOfRows, HasTakenLines}
+use Rattle.drf_journal.specs.Device.{AppendsPrefixOf}
 use Rattle.drf_journal.specs.Ended.{HasCause, HasFlushed}
 use Rattle.drf_journal.specs.Lines.{lines_of}
 use Rattle.drf_journal.specs.State.{State, IsBegun, machine_after_lines, at_end}
-use Rattle.drf_journal.proofs.Devices.{WroteFront, wrote-front}
+use Rattle.drf_journal.proofs.Devices.{WrotePrefix, wrote-prefix}
 use Rattle.drf_journal.proofs.Resumes.{rows-stand}
 use Rattle.drf_journal.proofs.Served.{IsServing, consumed_all, machine_at_end}
 
@@ -35,8 +35,8 @@ flat_map-map f g [] = refl
 flat_map-map f g (x ∷ xs) = ap (λ l. f (g x) ++ l) (flat_map-map f g xs)
 
 -- the lines of the agents together are the text of the audit
-pub agents_told : (rows : Rows) (lines : List AuditLine) → lines ≡ map (line_of rows) rows.agents → flat_map audit_text lines ≡ agents_text rows
-agents_told rows lines told = ap (flat_map audit_text) told ∙ flat_map-map audit_text (line_of rows) rows.agents
+pub agents_reported : (rows : Rows) (lines : List AuditLine) → lines ≡ map (line_of rows) rows.agents → flat_map audit_text lines ≡ agents_text rows
+agents_reported rows lines reported = ap (flat_map audit_text) reported ∙ flat_map-map audit_text (line_of rows) rows.agents
 
 -- the explanation depends only on the current state
 pub cycle-live : (at : ℕ) (rows : Rows) → cycle_text at (live_rows rows) ≡ cycle_text at rows
@@ -46,48 +46,48 @@ module _ (tell : Rows → List ℕ) (live : (rows : Rows) → tell (live_rows ro
   -- the text computed from the final rows is the expected one
   text_due : (old : Machine) (read : List ℕ) (new : Machine) (text : List ℕ)
       → new ≡ machine_after_lines old (lines_of read)
-      → text ≡ tell new.rows → text ≡ told_of_lines tell old (lines_of read)
-  unfolding told_of_lines
-  text_due old read new text is told =
+      → text ≡ tell new.rows → text ≡ reported_of_lines tell old (lines_of read)
+  unfolding reported_of_lines
+  text_due old read new text is reported =
       let rows = rows_after_lines old.limits old.rows (lines_of read) in
       let stands : live_rows new.rows ≡ live_rows rows =
       ap (λ (m : Machine). live_rows m.rows) is ∙ rows-stand old old.rows (lines_of read) refl in
-      told ∙ sym (live new.rows) ∙ ap tell stands ∙ live rows
+      reported ∙ sym (live new.rows) ∙ ap tell stands ∙ live rows
 
   -- the whole text was written, or a prefix of it
-  pub told-ends : (old : Machine) (unread_before unread_after written written_next : Option (List ℕ)) (new : Machine)
+  pub reported-ends : (old : Machine) (unread_before unread_after written written_next : Option (List ℕ)) (new : Machine)
       (text : List ℕ) (r : Result (Unit {0}) RunFault) (failed : Bool)
       → HasTakenLines old unread_before unread_after new (Ok tt)
       → text ≡ tell new.rows → HasCause r false 0 failed
       → OnOk r (Appends written written_next text)
-      → OnErr r (AppendsFrontOf written written_next text)
-      → HasToldOfRows tell old unread_before unread_after written written_next r
-  told-ends old unread_before unread_after written written_next new text (Ok done) failed taken told cause all front = record {
+      → OnErr r (AppendsPrefixOf written written_next text)
+      → HasReportedOfRows tell old unread_before unread_after written written_next r
+  reported-ends old unread_before unread_after written written_next new text (Ok done) failed taken reported cause all prefix = record {
     read = taken.read;
     written = text;
     consumed = taken.consumed;
     appended = all;
-    told = text_due old taken.read new text taken.machine told;
+    reported = text_due old taken.read new text taken.machine reported;
     whole = taken.whole;
     late = λ some. taken.whole;
   }
-  told-ends old unread_before unread_after written written_next new text (Err Read) failed taken told cause all front =
+  reported-ends old unread_before unread_after written written_next new text (Err Read) failed taken reported cause all prefix =
       absurd (⊎_elim (λ e. false≢true e) (λ e. omega arith) cause.0)
-  told-ends old unread_before unread_after written written_next new text (Err Write) failed taken told cause all front = record {
+  reported-ends old unread_before unread_after written written_next new text (Err Write) failed taken reported cause all prefix = record {
     read = taken.read;
-    written = take front.0 text;
+    written = take prefix.0 text;
     consumed = taken.consumed;
-    appended = front.1;
-    told = (front.0, ap (take front.0) (text_due old taken.read new text taken.machine told));
+    appended = prefix.1;
+    reported = (prefix.0, ap (take prefix.0) (text_due old taken.read new text taken.machine reported));
     whole = tt;
     late = λ some. taken.whole;
   }
-  told-ends old unread_before unread_after written written_next new text (Err Memory) failed taken told cause all front = record {
+  reported-ends old unread_before unread_after written written_next new text (Err Memory) failed taken reported cause all prefix = record {
     read = taken.read;
-    written = take front.0 text;
+    written = take prefix.0 text;
     consumed = taken.consumed;
-    appended = front.1;
-    told = (front.0, ap (take front.0) (text_due old taken.read new text taken.machine told));
+    appended = prefix.1;
+    reported = (prefix.0, ap (take prefix.0) (text_due old taken.read new text taken.machine reported));
     whole = tt;
     late = λ some. taken.whole;
   }
@@ -120,40 +120,40 @@ module _ (old : State) (begins : IsBegun old) (unread_first unread unread_next :
 
 -- ---- a text that is written part by part
 
-pub wrote-begins : (written : Option (List ℕ)) (text : List ℕ) → WroteFront written written text text
-wrote-begins written text = record { front = []; whole = refl; appended = Appends-nil written }
+pub wrote-begins : (written : Option (List ℕ)) (text : List ℕ) → WrotePrefix written written text text
+wrote-begins written text = record { prefix = []; whole = refl; appended = Appends-nil written }
 
-wrote-part : (old now next : Option (List ℕ)) (text rest part more : List ℕ) → WroteFront old now text rest → rest ≡ part ++ more
-    → Appends now next part → WroteFront old next text more
+wrote-part : (old now next : Option (List ℕ)) (text rest part more : List ℕ) → WrotePrefix old now text rest → rest ≡ part ++ more
+    → Appends now next part → WrotePrefix old next text more
 wrote-part old now next text rest part more wrote parted appended = record {
-  front = wrote.front ++ part;
-  whole = wrote.whole ∙ ap (λ l. wrote.front ++ l) parted ∙ sym (append_assoc wrote.front part more);
-  appended = Appends-trans old now next wrote.front part wrote.appended appended;
+  prefix = wrote.prefix ++ part;
+  whole = wrote.whole ∙ ap (λ l. wrote.prefix ++ l) parted ∙ sym (append_assoc wrote.prefix part more);
+  appended = Appends-trans old now next wrote.prefix part wrote.appended appended;
 }
 
 module _ {X : Type 0} (f : X → List ℕ) (xs : List X) (i : ℕ) (x : X) (inside : i < length xs) (is : x ≡ get_or xs i x)
-    (old now next : Option (List ℕ)) (text : List ℕ) (wrote : WroteFront old now text (flat_map f (drop i xs))) where
+    (old now next : Option (List ℕ)) (text : List ℕ) (wrote : WrotePrefix old now text (flat_map f (drop i xs))) where
   first : flat_map f (drop i xs) ≡ f x ++ flat_map f (drop (i + 1) xs)
   first = at_drop_more (flat_map f) xs i x inside ∙ ap (λ y. flat_map f (y ∷ drop (i + 1) xs)) (sym is)
 
   -- the text of one more element was written
-  pub wrote-element : Appends now next (f x) → WroteFront old next text (flat_map f (drop (i + 1) xs))
+  pub wrote-element : Appends now next (f x) → WrotePrefix old next text (flat_map f (drop (i + 1) xs))
   wrote-element appended = wrote-part old now next text _ (f x) _ wrote first appended
 
   -- a prefix of it was written
-  pub wrote-element-front : AppendsFrontOf now next (f x) → AppendsFrontOf old next text
-  wrote-element-front appended =
+  pub wrote-element-prefix : AppendsPrefixOf now next (f x) → AppendsPrefixOf old next text
+  wrote-element-prefix appended =
       let count = appended.0 in
       let parted : flat_map f (drop i xs) ≡ take count (f x) ++ (drop count (f x) ++ flat_map f (drop (i + 1) xs)) =
       first ∙ ap (λ l. l ++ flat_map f (drop (i + 1) xs)) (sym (take-append-drop count (f x)))
       ∙ append_assoc (take count (f x)) (drop count (f x)) _ in
-      wrote-front old next text _ (wrote-part old now next text _ (take count (f x)) _ wrote parted appended.1)
+      wrote-prefix old next text _ (wrote-part old now next text _ (take count (f x)) _ wrote parted appended.1)
 
 pub wrote-all : {X : Type 0} (f : X → List ℕ) (xs : List X) (i : ℕ) (old now : Option (List ℕ)) (text : List ℕ) → length xs ≤ i
-    → WroteFront old now text (flat_map f (drop i xs)) → Appends old now text
+    → WrotePrefix old now text (flat_map f (drop i xs)) → Appends old now text
 wrote-all f xs i old now text past wrote =
-    let all : wrote.front ≡ text =
-    sym (append-nil wrote.front) ∙ ap (λ l. wrote.front ++ flat_map f l) (sym (drop_all i xs past)) ∙ sym wrote.whole in
+    let all : wrote.prefix ≡ text =
+    sym (append-nil wrote.prefix) ∙ ap (λ l. wrote.prefix ++ flat_map f l) (sym (drop_all i xs past)) ∙ sym wrote.whole in
     subst (Appends old now) all wrote.appended
 
 -- ---- the cause of an error
@@ -166,41 +166,41 @@ cause-written {T} (Err e) failed same fault = subst (λ (e : RunFault). HasCause
 -- ---- the result
 
 -- nothing is written if not all lines were taken
-pub told-unread : (tell : Rows → List ℕ) (unread_before unread_after written : Option (List ℕ)) (fault : RunFault) (reads : ℕ)
+pub reported-unread : (tell : Rows → List ℕ) (unread_before unread_after written : Option (List ℕ)) (fault : RunFault) (reads : ℕ)
     (reader_failed : Bool) (old new : Machine) → HasCause {T = Unit {0}} (Err fault) reader_failed reads false
     → HasTakenLines old unread_before unread_after new (Err fault)
-    → HasToldOfRows tell old unread_before unread_after written written (Err fault)
-told-unread tell unread_before unread_after written Read reads reader_failed old new cause taken = record {
+    → HasReportedOfRows tell old unread_before unread_after written written (Err fault)
+reported-unread tell unread_before unread_after written Read reads reader_failed old new cause taken = record {
   read = taken.read;
   written = [];
   consumed = taken.consumed;
   appended = Appends-nil written;
-  told = refl;
+  reported = refl;
   whole = tt;
   late = λ some. absurd (omega arith);
 }
-told-unread tell unread_before unread_after written Write reads reader_failed old new cause taken =
+reported-unread tell unread_before unread_after written Write reads reader_failed old new cause taken =
     let bad : false ≡ true = cause.1 in absurd (false≢true bad)
-told-unread tell unread_before unread_after written Memory reads reader_failed old new cause taken = record {
+reported-unread tell unread_before unread_after written Memory reads reader_failed old new cause taken = record {
   read = taken.read;
   written = [];
   consumed = taken.consumed;
   appended = Appends-nil written;
-  told = (0, refl);
+  reported = (0, refl);
   whole = tt;
   late = λ some. absurd (omega arith);
 }
 
 -- nothing is written if memory ran out before the text was complete
-pub told-forgotten : (tell : Rows → List ℕ) (unread_before unread_after written : Option (List ℕ)) (old new : Machine)
+pub reported-forgotten : (tell : Rows → List ℕ) (unread_before unread_after written : Option (List ℕ)) (old new : Machine)
     → HasTakenLines old unread_before unread_after new (Ok tt)
-    → HasToldOfRows tell old unread_before unread_after written written (Err Memory)
-told-forgotten tell unread_before unread_after written old new taken = record {
+    → HasReportedOfRows tell old unread_before unread_after written written (Err Memory)
+reported-forgotten tell unread_before unread_after written old new taken = record {
   read = taken.read;
   written = [];
   consumed = taken.consumed;
   appended = Appends-nil written;
-  told = (0, refl);
+  reported = (0, refl);
   whole = tt;
   late = λ some. absurd (omega arith);
 }

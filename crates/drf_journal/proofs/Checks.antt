@@ -25,8 +25,8 @@ use Rattle.drf_journal.proofs.Pairs.{ended, event-more, reply-more, reply-wrong,
 
 -- ---- how the bytes extend the lines
 
-within-append : (front more : List ℕ) → IsWithinLine front → IsWithinLine more → IsWithinLine (front ++ more)
-within-append front more a b = All-append (λ b. is_line_feed b ≡ false) front more a b
+within-append : (prefix more : List ℕ) → IsWithinLine prefix → IsWithinLine more → IsWithinLine (prefix ++ more)
+within-append prefix more a b = All-append (λ b. is_line_feed b ≡ false) prefix more a b
 
 module _ (read end : List ℕ) (within : IsWithinLine end) where
   joined : IsWithinLine (open_line_of read ++ end)
@@ -124,9 +124,9 @@ module _ (old : Check) (end : List ℕ) where
       → text ≡ reply_line_after old.machine.limits old.machine.rows (meaning_of (old.line ++ end))
       → record { machine = machine; line = line; due = due; events = old.events + 1 } ≡ after_event_line old end
   unfolding after_event_line
-  event-line-is machine line text due taken cleared told is =
+  event-line-is machine line text due taken cleared reported is =
       let due_is : due ≡ record { text = reply_line_after old.machine.limits old.machine.rows (meaning_of (old.line ++ end)); come = 0 } =
-      told ∙ ap (λ (t : List ℕ). record { text = t; come = 0 }) is in
+      reported ∙ ap (λ (t : List ℕ). record { text = t; come = 0 }) is in
       λ i. record { machine = taken i; line = cleared i; due = due_is i; events = old.events + 1 }
 
   pub event-line-counted : (after_event_line old end).events ≡ old.events + 1
@@ -334,24 +334,24 @@ checked-nothing check = record {
     true_is_false : true ≡ false → ⊥
     true_is_false e = cc
 
-pub checked-then : (front next : List ℕ) (old now new : Check) (right : Bool) → HasChecked front old now true
-    → HasChecked next now new right → HasChecked (front ++ next) old new right
-checked-then front next old now new right first second = record {
+pub checked-then : (prefix next : List ℕ) (old now new : Check) (right : Bool) → HasChecked prefix old now true
+    → HasChecked next now new right → HasChecked (prefix ++ next) old new right
+checked-then prefix next old now new right first second = record {
   goes_on = λ yes start read at.
-      subst (λ (l : List ℕ). IsCheckedTo start l new) (append_assoc read front next)
-      (second.goes_on yes start (read ++ front) (first.goes_on refl start read at));
+      subst (λ (l : List ℕ). IsCheckedTo start l new) (append_assoc read prefix next)
+      (second.goes_on yes start (read ++ prefix) (first.goes_on refl start read at));
   wrong = λ no start read more at.
-      subst (λ (l : List ℕ). IsVerdict start (l ++ more) (Bad (2 * new.events))) (append_assoc read front next)
-      (second.wrong no start (read ++ front) more (first.goes_on refl start read at));
+      subst (λ (l : List ℕ). IsVerdict start (l ++ more) (Bad (2 * new.events))) (append_assoc read prefix next)
+      (second.wrong no start (read ++ prefix) more (first.goes_on refl start read at));
 }
 
-pub checked-stop : (front rest : List ℕ) (old now : Check) → HasChecked front old now false
-    → HasChecked (front ++ rest) old now false
-checked-stop front rest old now first = record {
+pub checked-stop : (prefix rest : List ℕ) (old now : Check) → HasChecked prefix old now false
+    → HasChecked (prefix ++ rest) old now false
+checked-stop prefix rest old now first = record {
   goes_on = λ no. absurd (false_is_true no);
   wrong = λ _ start read more at.
       subst (λ (l : List ℕ). IsVerdict start l (Bad (2 * now.events)))
-      (sym (ap (λ l. l ++ more) (sym (append_assoc read front rest)) ∙ append_assoc (read ++ front) rest more))
+      (sym (ap (λ l. l ++ more) (sym (append_assoc read prefix rest)) ∙ append_assoc (read ++ prefix) rest more))
       (first.wrong refl start read (rest ++ more) at);
 }
   where
@@ -359,42 +359,42 @@ checked-stop front rest old now first = record {
     false_is_true e = cc
 
 -- the check has processed a prefix of a chunk, and the rest remains
-pub record CheckedFront (old now : Check) (piece rest : List ℕ) : Type 0 where
-  pub front : List ℕ
-  pub whole : piece ≡ front ++ rest
-  pub checked : HasChecked front old now true
+pub record CheckedPrefix (old now : Check) (piece rest : List ℕ) : Type 0 where
+  pub prefix : List ℕ
+  pub whole : piece ≡ prefix ++ rest
+  pub checked : HasChecked prefix old now true
 
-pub front-begins : (old : Check) (piece : List ℕ) → CheckedFront old old piece piece
-front-begins old piece = record { front = []; whole = refl; checked = checked-nothing old }
+pub prefix-begins : (old : Check) (piece : List ℕ) → CheckedPrefix old old piece piece
+prefix-begins old piece = record { prefix = []; whole = refl; checked = checked-nothing old }
 
-module _ (old now new : Check) (piece rest : List ℕ) (at : ℕ) (front : CheckedFront old now piece rest)
+module _ (old now new : Check) (piece rest : List ℕ) (at : ℕ) (prefix : CheckedPrefix old now piece rest)
     (inside : at < length rest) (feed : get_or rest at 0 ≡ 10) where
   abbrev line : List ℕ
   line = take at rest ++ 10 ∷ []
 
-  longer_front : piece ≡ (front.front ++ line) ++ drop (at + 1) rest
-  longer_front =
-      front.whole ∙ ap (λ l. front.front ++ l) (cut_at rest at inside feed)
-      ∙ sym (append_assoc front.front line (drop (at + 1) rest))
+  longer_prefix : piece ≡ (prefix.prefix ++ line) ++ drop (at + 1) rest
+  longer_prefix =
+      prefix.whole ∙ ap (λ l. prefix.prefix ++ l) (cut_at rest at inside feed)
+      ∙ sym (append_assoc prefix.prefix line (drop (at + 1) rest))
 
-  pub front-line : HasChecked line now new true → CheckedFront old new piece (drop (at + 1) rest)
-  front-line checked = record {
-    front = front.front ++ line;
-    whole = longer_front;
-    checked = checked-then front.front line old now new true front.checked checked;
+  pub prefix-line : HasChecked line now new true → CheckedPrefix old new piece (drop (at + 1) rest)
+  prefix-line checked = record {
+    prefix = prefix.prefix ++ line;
+    whole = longer_prefix;
+    checked = checked-then prefix.prefix line old now new true prefix.checked checked;
   }
 
-  pub front-wrong : HasChecked line now new false → HasChecked piece old new false
-  front-wrong checked =
-      subst (λ (l : List ℕ). HasChecked l old new false) (sym longer_front)
-      (checked-stop (front.front ++ line) (drop (at + 1) rest) old new
-      (checked-then front.front line old now new false front.checked checked))
+  pub prefix-wrong : HasChecked line now new false → HasChecked piece old new false
+  prefix-wrong checked =
+      subst (λ (l : List ℕ). HasChecked l old new false) (sym longer_prefix)
+      (checked-stop (prefix.prefix ++ line) (drop (at + 1) rest) old new
+      (checked-then prefix.prefix line old now new false prefix.checked checked))
 
-pub front-rest : (old now new : Check) (piece rest : List ℕ) (right : Bool) → CheckedFront old now piece rest
+pub prefix-rest : (old now new : Check) (piece rest : List ℕ) (right : Bool) → CheckedPrefix old now piece rest
     → HasChecked rest now new right → HasChecked piece old new right
-front-rest old now new piece rest right front checked =
-    subst (λ (l : List ℕ). HasChecked l old new right) (sym front.whole)
-    (checked-then front.front rest old now new right front.checked checked)
+prefix-rest old now new piece rest right prefix checked =
+    subst (λ (l : List ℕ). HasChecked l old new right) (sym prefix.whole)
+    (checked-then prefix.prefix rest old now new right prefix.checked checked)
 
 -- ---- the end of the journal
 

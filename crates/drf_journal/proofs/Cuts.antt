@@ -8,47 +8,47 @@ use Rattle.std.proofs.lemmas.List.Elements.{All-nil, All-cons, All-head, All-tai
 use Rattle.std.proofs.lemmas.List.Splits.{slice_split_at, slice_split_none, length-slice_split}
 use Rattle.drf_journal.specs.Lines.{is_line_feed, all_but_last, last_part, ended_lines_of, open_line_of, lines_of, IsWithinLine}
 
-first_ended : (front : List ℕ) (parts : List (List ℕ)) → 0 < length parts
-    → all_but_last (front ∷ parts) ≡ front ∷ all_but_last parts
-first_ended front [] some = absurd (omega arith)
-first_ended front (part ∷ parts) some = refl
+first_ended : (prefix : List ℕ) (parts : List (List ℕ)) → 0 < length parts
+    → all_but_last (prefix ∷ parts) ≡ prefix ∷ all_but_last parts
+first_ended prefix [] some = absurd (omega arith)
+first_ended prefix (part ∷ parts) some = refl
 
-first_passed : (front : List ℕ) (parts : List (List ℕ)) → 0 < length parts → last_part (front ∷ parts) ≡ last_part parts
-first_passed front [] some = absurd (omega arith)
-first_passed front (part ∷ parts) some = refl
+first_passed : (prefix : List ℕ) (parts : List (List ℕ)) → 0 < length parts → last_part (prefix ∷ parts) ≡ last_part parts
+first_passed prefix [] some = absurd (omega arith)
+first_passed prefix (part ∷ parts) some = refl
 
-module _ (front : List ℕ) (b : ℕ) (rest : List ℕ) (within : IsWithinLine front) (feed : is_line_feed b ≡ true) where
-  pub ended-feed : ended_lines_of (front ++ b ∷ rest) ≡ front ∷ ended_lines_of rest
+module _ (prefix : List ℕ) (b : ℕ) (rest : List ℕ) (within : IsWithinLine prefix) (feed : is_line_feed b ≡ true) where
+  pub ended-feed : ended_lines_of (prefix ++ b ∷ rest) ≡ prefix ∷ ended_lines_of rest
   unfolding ended_lines_of
   ended-feed =
-      ap all_but_last (slice_split_at is_line_feed front b rest within feed)
-      ∙ first_ended front (slice_split is_line_feed rest) (omega (arith, length-slice_split is_line_feed rest))
+      ap all_but_last (slice_split_at is_line_feed prefix b rest within feed)
+      ∙ first_ended prefix (slice_split is_line_feed rest) (omega (arith, length-slice_split is_line_feed rest))
 
-  pub open-feed : open_line_of (front ++ b ∷ rest) ≡ open_line_of rest
+  pub open-feed : open_line_of (prefix ++ b ∷ rest) ≡ open_line_of rest
   unfolding open_line_of
   open-feed =
-      ap last_part (slice_split_at is_line_feed front b rest within feed)
-      ∙ first_passed front (slice_split is_line_feed rest) (omega (arith, length-slice_split is_line_feed rest))
+      ap last_part (slice_split_at is_line_feed prefix b rest within feed)
+      ∙ first_passed prefix (slice_split is_line_feed rest) (omega (arith, length-slice_split is_line_feed rest))
 
-pub ended-within : (front : List ℕ) → IsWithinLine front → ended_lines_of front ≡ []
+pub ended-within : (prefix : List ℕ) → IsWithinLine prefix → ended_lines_of prefix ≡ []
 unfolding ended_lines_of
-ended-within front within = ap all_but_last (slice_split_none is_line_feed front within)
+ended-within prefix within = ap all_but_last (slice_split_none is_line_feed prefix within)
 
-pub open-within : (front : List ℕ) → IsWithinLine front → open_line_of front ≡ front
+pub open-within : (prefix : List ℕ) → IsWithinLine prefix → open_line_of prefix ≡ prefix
 unfolding open_line_of
-open-within front within = ap last_part (slice_split_none is_line_feed front within)
+open-within prefix within = ap last_part (slice_split_none is_line_feed prefix within)
 
 pub within-nil : IsWithinLine []
 within-nil = All-nil (λ b. is_line_feed b ≡ false)
 
-pub within-push : (front : List ℕ) (b : ℕ) → IsWithinLine front → is_line_feed b ≡ false
-    → IsWithinLine (front ++ b ∷ [])
-within-push front b within other =
-    All-append (λ b. is_line_feed b ≡ false) front (b ∷ []) within
+pub within-push : (prefix : List ℕ) (b : ℕ) → IsWithinLine prefix → is_line_feed b ≡ false
+    → IsWithinLine (prefix ++ b ∷ [])
+within-push prefix b within other =
+    All-append (λ b. is_line_feed b ≡ false) prefix (b ∷ []) within
     (All-cons (λ b. is_line_feed b ≡ false) b [] other within-nil)
 
-pub within-append : (front more : List ℕ) → IsWithinLine front → IsWithinLine more → IsWithinLine (front ++ more)
-within-append front more within also = All-append (λ b. is_line_feed b ≡ false) front more within also
+pub within-append : (prefix more : List ℕ) → IsWithinLine prefix → IsWithinLine more → IsWithinLine (prefix ++ more)
+within-append prefix more within also = All-append (λ b. is_line_feed b ≡ false) prefix more within also
 
 pub within-head : (b : ℕ) (bytes : List ℕ) → IsWithinLine (b ∷ bytes) → is_line_feed b ≡ false
 within-head b bytes within = All-head (λ b. is_line_feed b ≡ false) b bytes within
@@ -67,61 +67,61 @@ cut_at rest at inside feed =
 -- ---- the lines of a prefix of an input come first among its lines
 
 -- the lines of the prefix are followed by those of its open line with the rest
-pub record GoesOn (front more : List ℕ) (whole : List ℕ) : Type 0 where
-  pub lines : ended_lines_of whole ≡ ended_lines_of front ++ ended_lines_of (open_line_of front ++ more)
-  pub line : open_line_of whole ≡ open_line_of (open_line_of front ++ more)
-  pub within : IsWithinLine (open_line_of front)
+pub record GoesOn (prefix more : List ℕ) (whole : List ℕ) : Type 0 where
+  pub lines : ended_lines_of whole ≡ ended_lines_of prefix ++ ended_lines_of (open_line_of prefix ++ more)
+  pub line : open_line_of whole ≡ open_line_of (open_line_of prefix ++ more)
+  pub within : IsWithinLine (open_line_of prefix)
 
-goes_on_within : (line front more : List ℕ) → front ≡ line → IsWithinLine line → GoesOn front more (line ++ more)
-goes_on_within line front more same within =
-    let ended : ended_lines_of front ≡ [] = ap ended_lines_of same ∙ ended-within line within in
-    let next : open_line_of front ≡ line = ap open_line_of same ∙ open-within line within in
+goes_on_within : (line prefix more : List ℕ) → prefix ≡ line → IsWithinLine line → GoesOn prefix more (line ++ more)
+goes_on_within line prefix more same within =
+    let ended : ended_lines_of prefix ≡ [] = ap ended_lines_of same ∙ ended-within line within in
+    let next : open_line_of prefix ≡ line = ap open_line_of same ∙ open-within line within in
     record {
       lines = λ i. sym ended i ++ ended_lines_of (sym next i ++ more);
       line = ap (λ (l : List ℕ). open_line_of (l ++ more)) (sym next);
       within = subst IsWithinLine (sym next) within;
     }
 
-goes_on_from : (line front more : List ℕ) → IsWithinLine line → GoesOn (line ++ front) more (line ++ (front ++ more))
+goes_on_from : (line prefix more : List ℕ) → IsWithinLine line → GoesOn (line ++ prefix) more (line ++ (prefix ++ more))
 goes_on_from line [] more within = goes_on_within line (line ++ []) more (append-nil line) within
-goes_on_from line (b ∷ front) more within =
-    by_test (is_line_feed b) refl (goes_on_from [] front more within-nil)
-    (λ other. goes_on_from (line ++ b ∷ []) front more (within-push line b within other))
+goes_on_from line (b ∷ prefix) more within =
+    by_test (is_line_feed b) refl (goes_on_from [] prefix more within-nil)
+    (λ other. goes_on_from (line ++ b ∷ []) prefix more (within-push line b within other))
   where
-    by_test : (t : Bool) → is_line_feed b ≡ t → GoesOn front more (front ++ more)
-        → (is_line_feed b ≡ false → GoesOn ((line ++ b ∷ []) ++ front) more ((line ++ b ∷ []) ++ (front ++ more)))
-        → GoesOn (line ++ b ∷ front) more (line ++ (b ∷ front ++ more))
+    by_test : (t : Bool) → is_line_feed b ≡ t → GoesOn prefix more (prefix ++ more)
+        → (is_line_feed b ≡ false → GoesOn ((line ++ b ∷ []) ++ prefix) more ((line ++ b ∷ []) ++ (prefix ++ more)))
+        → GoesOn (line ++ b ∷ prefix) more (line ++ (b ∷ prefix ++ more))
     by_test true feed rest same =
-        let next : open_line_of (line ++ b ∷ front) ≡ open_line_of front = open-feed line b front within feed in
+        let next : open_line_of (line ++ b ∷ prefix) ≡ open_line_of prefix = open-feed line b prefix within feed in
         record {
           lines =
-              ended-feed line b (front ++ more) within feed ∙ ap (λ ls. line ∷ ls) rest.lines
-              ∙ (λ i. sym (ended-feed line b front within feed) i ++ ended_lines_of (sym next i ++ more));
-          line = open-feed line b (front ++ more) within feed ∙ rest.line
+              ended-feed line b (prefix ++ more) within feed ∙ ap (λ ls. line ∷ ls) rest.lines
+              ∙ (λ i. sym (ended-feed line b prefix within feed) i ++ ended_lines_of (sym next i ++ more));
+          line = open-feed line b (prefix ++ more) within feed ∙ rest.line
               ∙ ap (λ (l : List ℕ). open_line_of (l ++ more)) (sym next);
           within = subst IsWithinLine (sym next) rest.within;
         }
     by_test false other rest same =
         let next = same other in
-        let front_is : (line ++ b ∷ []) ++ front ≡ line ++ b ∷ front = append_assoc line (b ∷ []) front in
-        let whole_is : (line ++ b ∷ []) ++ (front ++ more) ≡ line ++ (b ∷ front ++ more) =
-        append_assoc line (b ∷ []) (front ++ more) in
-        subst (λ (l : List ℕ). GoesOn l more (line ++ (b ∷ front ++ more))) front_is
-        (subst (GoesOn ((line ++ b ∷ []) ++ front) more) whole_is next)
+        let prefix_is : (line ++ b ∷ []) ++ prefix ≡ line ++ b ∷ prefix = append_assoc line (b ∷ []) prefix in
+        let whole_is : (line ++ b ∷ []) ++ (prefix ++ more) ≡ line ++ (b ∷ prefix ++ more) =
+        append_assoc line (b ∷ []) (prefix ++ more) in
+        subst (λ (l : List ℕ). GoesOn l more (line ++ (b ∷ prefix ++ more))) prefix_is
+        (subst (GoesOn ((line ++ b ∷ []) ++ prefix) more) whole_is next)
 
-pub goes_on : (front more : List ℕ) → GoesOn front more (front ++ more)
-goes_on front more = goes_on_from [] front more within-nil
+pub goes_on : (prefix more : List ℕ) → GoesOn prefix more (prefix ++ more)
+goes_on prefix more = goes_on_from [] prefix more within-nil
 
 -- ---- all lines
 
-pub lines-goes_on : (front more : List ℕ)
-    → lines_of (front ++ more) ≡ ended_lines_of front ++ lines_of (open_line_of front ++ more)
+pub lines-goes_on : (prefix more : List ℕ)
+    → lines_of (prefix ++ more) ≡ ended_lines_of prefix ++ lines_of (open_line_of prefix ++ more)
 unfolding lines_of
-lines-goes_on front more =
-    let on = goes_on front more in
+lines-goes_on prefix more =
+    let on = goes_on prefix more in
     let last : List ℕ → List (List ℕ) = λ line. if length line == 0 then [] else line ∷ [] in
     (λ i. on.lines i ++ last (on.line i))
-    ∙ append_assoc (ended_lines_of front) (ended_lines_of (open_line_of front ++ more)) (last (open_line_of (open_line_of front ++ more)))
+    ∙ append_assoc (ended_lines_of prefix) (ended_lines_of (open_line_of prefix ++ more)) (last (open_line_of (open_line_of prefix ++ more)))
 
 pub lines-feed : (line rest : List ℕ) → IsWithinLine line → lines_of (line ++ 10 ∷ rest) ≡ line ∷ lines_of rest
 unfolding lines_of

@@ -27,8 +27,8 @@ use Rattle.drf_journal.proofs.Resumes.{lines-in-two}
 -- a line that is a reply is not an event
 answer_is_no_event : (limits : LimitNumbers) (rows : Rows) (meaning : Result Event LineFault) (line : List ℕ)
     → reply_line_after limits rows meaning ≡ line ++ 10 ∷ [] → is_err (meaning_of line) ≡ true
-answer_is_no_event limits rows (Ok event) line told = replies_no_events (reply_to limits rows event) line told
-answer_is_no_event limits rows (Err fault) line told = faults_no_events fault line told
+answer_is_no_event limits rows (Ok event) line reported = replies_no_events (reply_to limits rows event) line reported
+answer_is_no_event limits rows (Err fault) line reported = faults_no_events fault line reported
 
 -- such a line changes no rows
 no_event_changes : (limits : LimitNumbers) (rows : Rows) (meaning : Result Event LineFault) → is_err meaning ≡ true
@@ -57,17 +57,17 @@ replies-passed machine journal events verdict = passed_over machine.limits machi
 
 -- ---- lines in two parts
 
-replies-append : (limits : LimitNumbers) (rows : Rows) (front more : List (List ℕ))
-    → replies_from limits rows (front ++ more) ≡ replies_from limits rows front ++ replies_from limits (rows_after_lines limits rows front) more
+replies-append : (limits : LimitNumbers) (rows : Rows) (prefix more : List (List ℕ))
+    → replies_from limits rows (prefix ++ more) ≡ replies_from limits rows prefix ++ replies_from limits (rows_after_lines limits rows prefix) more
 replies-append limits rows [] more = refl
-replies-append limits rows (line ∷ front) more =
-    ap (λ l. reply_line_after limits rows (meaning_of line) ∷ l) (replies-append limits (rows_after_line limits rows (meaning_of line)) front more)
+replies-append limits rows (line ∷ prefix) more =
+    ap (λ l. reply_line_after limits rows (meaning_of line) ∷ l) (replies-append limits (rows_after_line limits rows (meaning_of line)) prefix more)
 
 -- equal texts whose prefixes have the same length have the same prefixes
-fronts_same : {A : Type 0} (a b c d : List A) → length a ≡ length c → a ++ b ≡ c ++ d → (a ≡ c) × (b ≡ d)
-fronts_same a b c d long same =
-    let front : a ≡ c = sym (take-append_seam a b) ∙ (λ i. take (long i) (same i)) ∙ take-append_seam c d in
-    (front, append_cancel_left c b d (ap (λ l. l ++ b) (sym front) ∙ same))
+prefixes_same : {A : Type 0} (a b c d : List A) → length a ≡ length c → a ++ b ≡ c ++ d → (a ≡ c) × (b ≡ d)
+prefixes_same a b c d long same =
+    let prefix : a ≡ c = sym (take-append_seam a b) ∙ (λ i. take (long i) (same i)) ∙ take-append_seam c d in
+    (prefix, append_cancel_left c b d (ap (λ l. l ++ b) (sym prefix) ∙ same))
 
 module _ (machine : Machine) (a b : List ℕ) (pairs : ℕ) (whole : AreWholePairs pairs a) where
   abbrev after_first : Machine
@@ -106,7 +106,7 @@ module _ (machine : Machine) (a b : List ℕ) (pairs : ℕ) (whole : AreWholePai
       let long : length (replies_due machine (lines_of a)) ≡ length (replies_there (lines_of a)) =
       length_due machine (lines_of a) ∙ whole.events ∙ sym whole.replies ∙ sym (length_there machine (lines_of a)) in
       let both =
-      fronts_same (replies_due machine (lines_of a)) (replies_due after_first (lines_of b)) (replies_there (lines_of a))
+      prefixes_same (replies_due machine (lines_of a)) (replies_due after_first (lines_of b)) (replies_there (lines_of a))
       (replies_there (lines_of b)) long (sym due-in-two ∙ right.0 ∙ there-in-two) in
       let number = number-in-two in
       ((both.0, sym whole.events), (both.1, (let all = right.1 in omega arith)))

@@ -8,13 +8,13 @@ use Rattle.drf_lines.specs.declared.fault.LineFault.TheVariants.{LineTooLong}
 use Rattle.drf_journal.specs.Output.{kept_of, reply_line_after}
 use Rattle.drf_journal.specs.State.{answer_to}
 
-front_is_enough : (n : ℕ) (xs ys : List ℕ) → take n (take n xs ++ ys) ≡ take n (xs ++ ys)
-front_is_enough zero xs ys = refl
-front_is_enough (suc n) [] ys = refl
-front_is_enough (suc n) (x ∷ xs) ys = ap (λ l. x ∷ l) (front_is_enough n xs ys)
+prefix_is_enough : (n : ℕ) (xs ys : List ℕ) → take n (take n xs ++ ys) ≡ take n (xs ++ ys)
+prefix_is_enough zero xs ys = refl
+prefix_is_enough (suc n) [] ys = refl
+prefix_is_enough (suc n) (x ∷ xs) ys = ap (λ l. x ∷ l) (prefix_is_enough n xs ys)
 
 pub kept-append : (line more : List ℕ) → kept_of (kept_of line ++ more) ≡ kept_of (line ++ more)
-kept-append line more = front_is_enough (longest_line + 1) line more
+kept-append line more = prefix_is_enough (longest_line + 1) line more
 
 pub kept-kept : (line : List ℕ) → kept_of (kept_of line) ≡ kept_of line
 kept-kept line = take-take (longest_line + 1) (longest_line + 1) line (omega arith)

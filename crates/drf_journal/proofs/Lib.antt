@@ -2,7 +2,7 @@
 pub mod Cuts
 pub mod Kept
 pub mod Pieces
-pub mod Fronts
+pub mod Prefixes
 pub mod Waits
 pub mod Devices
 pub mod Texts

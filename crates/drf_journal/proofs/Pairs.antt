@@ -96,48 +96,48 @@ replies_from-lines machine (line ∷ lines) = by_meaning (meaning_of line) (λ m
         ∙ rest (machine_after machine (Ok event)))
     by_meaning (Err fault) rest = ap (λ l. fault_line fault ∷ l) (rest machine)
 
-replies_by-append : (machine : Machine) (front more : List (List ℕ))
-    → replies_by machine (front ++ more) ≡ replies_by machine front ++ replies_by (machine_after_lines machine front) more
+replies_by-append : (machine : Machine) (prefix more : List (List ℕ))
+    → replies_by machine (prefix ++ more) ≡ replies_by machine prefix ++ replies_by (machine_after_lines machine prefix) more
 replies_by-append machine [] more = refl
-replies_by-append machine (line ∷ front) more =
+replies_by-append machine (line ∷ prefix) more =
     ap (λ l. reply_line_after machine.limits machine.rows (meaning_of line) ∷ l)
-    (replies_by-append (machine_after machine (meaning_of line)) front more)
+    (replies_by-append (machine_after machine (meaning_of line)) prefix more)
 
 length-replies_by : (machine : Machine) (lines : List (List ℕ)) → length (replies_by machine lines) ≡ length lines
 length-replies_by machine [] = refl
 length-replies_by machine (line ∷ lines) =
     let rest = length-replies_by (machine_after machine (meaning_of line)) lines in omega arith
 
-machine-append : (machine : Machine) (front : List (List ℕ)) (line : List ℕ)
-    → machine_after_lines machine (front ++ line ∷ []) ≡ machine_after (machine_after_lines machine front) (meaning_of line)
+machine-append : (machine : Machine) (prefix : List (List ℕ)) (line : List ℕ)
+    → machine_after_lines machine (prefix ++ line ∷ []) ≡ machine_after (machine_after_lines machine prefix) (meaning_of line)
 machine-append machine [] line = refl
-machine-append machine (first ∷ front) line = machine-append (machine_after machine (meaning_of first)) front line
+machine-append machine (first ∷ prefix) line = machine-append (machine_after machine (meaning_of first)) prefix line
 
 -- ---- the first difference of two lists
 
-get_seam : (front : List (List ℕ)) (x : List ℕ) (xs : List (List ℕ)) → slice_get (front ++ x ∷ xs) (length front) ≡ Some x
+get_seam : (prefix : List (List ℕ)) (x : List ℕ) (xs : List (List ℕ)) → slice_get (prefix ++ x ∷ xs) (length prefix) ≡ Some x
 get_seam [] x xs = refl
-get_seam (y ∷ front) x xs = get_seam front x xs
+get_seam (y ∷ prefix) x xs = get_seam prefix x xs
 
-get_end : (front : List (List ℕ)) → slice_get front (length front) ≡ None
+get_end : (prefix : List (List ℕ)) → slice_get prefix (length prefix) ≡ None
 get_end [] = refl
-get_end (y ∷ front) = get_end front
+get_end (y ∷ prefix) = get_end prefix
 
-pub differs-at : (front : List (List ℕ)) (x y : List ℕ) (xs ys : List (List ℕ)) → ¬ (x ≡ y)
-    → IsFirstDifference (front ++ x ∷ xs) (front ++ y ∷ ys) (length front)
-differs-at front x y xs ys other = record {
-  before = take-append_seam front (x ∷ xs) ∙ sym (take-append_seam front (y ∷ ys));
-  there = λ e. other (some_same (sym (get_seam front x xs) ∙ e ∙ get_seam front y ys));
+pub differs-at : (prefix : List (List ℕ)) (x y : List ℕ) (xs ys : List (List ℕ)) → ¬ (x ≡ y)
+    → IsFirstDifference (prefix ++ x ∷ xs) (prefix ++ y ∷ ys) (length prefix)
+differs-at prefix x y xs ys other = record {
+  before = take-append_seam prefix (x ∷ xs) ∙ sym (take-append_seam prefix (y ∷ ys));
+  there = λ e. other (some_same (sym (get_seam prefix x xs) ∙ e ∙ get_seam prefix y ys));
 }
   where
     some_same : Some x ≡ Some y → x ≡ y
     some_same e = cc
 
-pub differs-end : (front : List (List ℕ)) (x : List ℕ) (xs : List (List ℕ))
-    → IsFirstDifference (front ++ x ∷ xs) front (length front)
-differs-end front x xs = record {
-  before = take-append_seam front (x ∷ xs) ∙ sym (ap (take (length front)) (sym (append-nil front)) ∙ take-append_seam front []);
-  there = λ e. some_none (sym (get_seam front x xs) ∙ e ∙ get_end front);
+pub differs-end : (prefix : List (List ℕ)) (x : List ℕ) (xs : List (List ℕ))
+    → IsFirstDifference (prefix ++ x ∷ xs) prefix (length prefix)
+differs-end prefix x xs = record {
+  before = take-append_seam prefix (x ∷ xs) ∙ sym (ap (take (length prefix)) (sym (append-nil prefix)) ∙ take-append_seam prefix []);
+  there = λ e. some_none (sym (get_seam prefix x xs) ∙ e ∙ get_end prefix);
 }
   where
     some_none : Some x ≡ None → ⊥

@@ -26,10 +26,10 @@ after_lines s lines next = record {
   lines = s.lines + length lines;
 }
 
-pub piece-append : (s : State) (front more : List ℕ)
-    → after_piece s (front ++ more) ≡ after_piece (after_piece s front) more
+pub piece-append : (s : State) (prefix more : List ℕ)
+    → after_piece s (prefix ++ more) ≡ after_piece (after_piece s prefix) more
 unfolding after_piece
-piece-append s front more = fold-append after_byte s front more
+piece-append s prefix more = fold-append after_byte s prefix more
 
 piece-feed : (s : State) (b : ℕ) (bytes : List ℕ) → is_line_feed b ≡ true
     → after_piece s (b ∷ bytes) ≡ after_piece (after_line s) bytes

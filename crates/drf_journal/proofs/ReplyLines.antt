@@ -119,13 +119,13 @@ abbrev IsOfWord : List ℕ → Type 0
 IsOfWord [] = ⊤
 IsOfWord (x ∷ xs) = (class x ≡ other) × IsOfWord xs
 
-abbrev IsTold : Token → Type 0
-IsTold (number text) = IsOfWord text
-IsTold t = is_e_key t ≡ false
+abbrev IsReported : Token → Type 0
+IsReported (number text) = IsOfWord text
+IsReported t = is_e_key t ≡ false
 
-abbrev AreTold : List Token → Type 0
-AreTold [] = ⊤
-AreTold (t ∷ ts) = IsTold t × AreTold ts
+abbrev AreReported : List Token → Type 0
+AreReported [] = ⊤
+AreReported (t ∷ ts) = IsReported t × AreReported ts
 
 -- after a value there is no byte of a word, and no colon
 value_ends : (ts : List Token) → (ends_word (print_from true ts) ≡ true) × (begins_colon (lex between (print_from true ts)) ≡ false)
@@ -189,43 +189,43 @@ quoted_lexed text rest =
     ap (λ l. lex between (34 ∷ l)) (append_assoc (escape text) (34 ∷ []) rest)
     ∙ (λ i. token (string_token (content-escape text rest i)) ∷ lex-escape text rest i)
 
-token_lexed : (t : Token) (rest : List ℕ) → IsTold t → (ends t ≡ true → ends_word rest ≡ true)
+token_lexed : (t : Token) (rest : List ℕ) → IsReported t → (ends t ≡ true → ends_word rest ≡ true)
     → (ends t ≡ true → begins_colon (lex between rest) ≡ false)
     → HaveNoETexts (lex between rest) → HaveNoETexts (lex between (token_text t ++ rest))
 unfolding lex
-token_lexed begin_object rest told word_ends no_colon none = (refl, none)
-token_lexed end_object rest told word_ends no_colon none = (refl, none)
-token_lexed begin_array rest told word_ends no_colon none = (refl, none)
-token_lexed end_array rest told word_ends no_colon none = (refl, none)
-token_lexed (key text) rest told word_ends no_colon none =
+token_lexed begin_object rest reported word_ends no_colon none = (refl, none)
+token_lexed end_object rest reported word_ends no_colon none = (refl, none)
+token_lexed begin_array rest reported word_ends no_colon none = (refl, none)
+token_lexed end_array rest reported word_ends no_colon none = (refl, none)
+token_lexed (key text) rest reported word_ends no_colon none =
     subst HaveNoETexts (sym (ap (lex between) (append_assoc (quoted text) (58 ∷ []) rest) ∙ quoted_lexed text (58 ∷ rest)))
-    (ap (λ b. b && true) told, none)
-token_lexed (string text) rest told word_ends no_colon none =
+    (ap (λ b. b && true) reported, none)
+token_lexed (string text) rest reported word_ends no_colon none =
     subst HaveNoETexts (sym (quoted_lexed text rest))
     (ap (λ b. begins_with_e text && b) (no_colon refl) ∙ and_false (begins_with_e text), none)
-token_lexed (number text) rest told word_ends no_colon none = word_lexed text rest told (word_ends refl) none
-token_lexed (boolean true) rest told word_ends no_colon none =
+token_lexed (number text) rest reported word_ends no_colon none = word_lexed text rest reported (word_ends refl) none
+token_lexed (boolean true) rest reported word_ends no_colon none =
     word_lexed (116 ∷ 114 ∷ 117 ∷ 101 ∷ []) rest (refl, (refl, (refl, (refl, tt)))) (word_ends refl) none
-token_lexed (boolean false) rest told word_ends no_colon none =
+token_lexed (boolean false) rest reported word_ends no_colon none =
     word_lexed (102 ∷ 97 ∷ 108 ∷ 115 ∷ 101 ∷ []) rest (refl, (refl, (refl, (refl, (refl, tt))))) (word_ends refl) none
-token_lexed null rest told word_ends no_colon none =
+token_lexed null rest reported word_ends no_colon none =
     word_lexed (110 ∷ 117 ∷ 108 ∷ 108 ∷ []) rest (refl, (refl, (refl, (refl, tt)))) (word_ends refl) none
-token_lexed bad rest told word_ends no_colon none = none
+token_lexed bad rest reported word_ends no_colon none = none
 
 separated : (b : Bool) (rest : List ℕ) → HaveNoETexts (lex between rest) → HaveNoETexts (lex between (cond b (44 ∷ []) [] ++ rest))
 unfolding lex
 separated true rest none = none
 separated false rest none = none
 
-printed_lexed : (after : Bool) (ts : List Token) → AreTold ts → HaveNoETexts (lex between (print_from after ts))
+printed_lexed : (after : Bool) (ts : List Token) → AreReported ts → HaveNoETexts (lex between (print_from after ts))
 unfolding lex print_from
-printed_lexed after [] told = tt
-printed_lexed after (t ∷ ts) told =
+printed_lexed after [] reported = tt
+printed_lexed after (t ∷ ts) reported =
     let rest = print_from (ends t) ts in
     separated (after && begins t) _
-    (token_lexed t rest told.0 (λ e. ap (λ b. ends_word (print_from b ts)) e ∙ (value_ends ts).0)
+    (token_lexed t rest reported.0 (λ e. ap (λ b. ends_word (print_from b ts)) e ∙ (value_ends ts).0)
     (λ e. ap (λ b. begins_colon (lex between (print_from b ts))) e ∙ (value_ends ts).1)
-    (printed_lexed (ends t) ts told.1))
+    (printed_lexed (ends t) ts reported.1))
 
 -- ---- reading the printed form
 
@@ -278,11 +278,11 @@ text_read text none = by_value (json.value max_depth (tokens text)) refl
         json_read j (subst HaveNoEKeys (value-json_tokens_back max_depth (tokens text) [] j is ∙ append-nil (json_tokens j)) none)
     by_value (Some (j, t ∷ ts)) is = tt
 
-value_read : (value : Data) → AreTold (json_tokens (outline value)) → HasNoEvent (read (compact_text value))
-value_read value told =
+value_read : (value : Data) → AreReported (json_tokens (outline value)) → HasNoEvent (read (compact_text value))
+value_read value reported =
     text_read (compact_text value)
     (subst (λ (text : List ℕ). HaveNoEKeys (tokens text)) (print-outline value)
-    (punctuated fresh (lex between (print (json_tokens (outline value)))) (printed_lexed false (json_tokens (outline value)) told)))
+    (punctuated fresh (lex between (print (json_tokens (outline value)))) (printed_lexed false (json_tokens (outline value)) reported)))
 
 -- a text in which no event is read means no event
 means_none : (line : List ℕ) → HasNoEvent (read line) → is_err (meaning_of line) ≡ true
@@ -296,10 +296,10 @@ means_none line none = by_tests (nat_lt longest_line (length line)) (is_utf8 lin
     by_tests false true None none = refl
     by_tests false true (Some value) none = rw none refl
 
-pub value_is_no_event : (value : Data) (line : List ℕ) → AreTold (json_tokens (outline value))
+pub value_is_no_event : (value : Data) (line : List ℕ) → AreReported (json_tokens (outline value))
     → compact_text value ++ 10 ∷ [] ≡ line ++ 10 ∷ [] → is_err (meaning_of line) ≡ true
-value_is_no_event value line told same =
-    means_none line (subst (λ (text : List ℕ). HasNoEvent (read text)) (append_cancel_right _ _ (10 ∷ []) same) (value_read value told))
+value_is_no_event value line reported same =
+    means_none line (subst (λ (text : List ℕ). HasNoEvent (read text)) (append_cancel_right _ _ (10 ∷ []) same) (value_read value reported))
 
 -- ---- the values of replies
 
@@ -332,56 +332,56 @@ decimal_of_word : (n : ℕ) → IsOfWord (decimal n)
 unfolding digits
 decimal_of_word n = digits_of_word 64 n [] tt
 
-told-append : (ts us : List Token) → AreTold ts → AreTold us → AreTold (ts ++ us)
-told-append [] us first second = second
-told-append (t ∷ ts) us first second = (first.0, told-append ts us first.1 second)
+reported-append : (ts us : List Token) → AreReported ts → AreReported us → AreReported (ts ++ us)
+reported-append [] us first second = second
+reported-append (t ∷ ts) us first second = (first.0, reported-append ts us first.1 second)
 
-offer_told : (offer : OfferLine) → AreTold (json_tokens (outline (offer_value offer)))
-offer_told offer =
+offer_reported : (offer : OfferLine) → AreReported (json_tokens (outline (offer_value offer)))
+offer_reported offer =
     (refl, (refl, (refl, (refl, (refl, (refl, (decimal_of_word offer.number, (refl, (refl, (refl, (refl, (refl, tt))))))))))))
 
-offers_told : (offers : List OfferLine) → AreTold (items_tokens (items_outline (items_of (map offer_value offers))))
-offers_told [] = (refl, tt)
-offers_told (offer ∷ offers) =
-    told-append (json_tokens (outline (offer_value offer))) (items_tokens (items_outline (items_of (map offer_value offers))))
-    (offer_told offer) (offers_told offers)
+offers_reported : (offers : List OfferLine) → AreReported (items_tokens (items_outline (items_of (map offer_value offers))))
+offers_reported [] = (refl, tt)
+offers_reported (offer ∷ offers) =
+    reported-append (json_tokens (outline (offer_value offer))) (items_tokens (items_outline (items_of (map offer_value offers))))
+    (offer_reported offer) (offers_reported offers)
 
-node_told : (node : NodeLine) → AreTold (json_tokens (outline (node_value node)))
-node_told node =
+node_reported : (node : NodeLine) → AreReported (json_tokens (outline (node_value node)))
+node_reported node =
     (refl, (refl, (decimal_of_word node.count, (refl, (refl, (refl, (refl, (refl, (refl, (refl, (refl, (refl, tt))))))))))))
 
-nodes_told : (nodes : List NodeLine) → AreTold (items_tokens (items_outline (items_of (map node_value nodes))))
-nodes_told [] = (refl, tt)
-nodes_told (node ∷ nodes) =
-    told-append (json_tokens (outline (node_value node))) (items_tokens (items_outline (items_of (map node_value nodes))))
-    (node_told node) (nodes_told nodes)
+nodes_reported : (nodes : List NodeLine) → AreReported (items_tokens (items_outline (items_of (map node_value nodes))))
+nodes_reported [] = (refl, tt)
+nodes_reported (node ∷ nodes) =
+    reported-append (json_tokens (outline (node_value node))) (items_tokens (items_outline (items_of (map node_value nodes))))
+    (node_reported node) (nodes_reported nodes)
 
-refused_told : (name : List ℕ) (reason : ℕ) → AreTold (json_tokens (outline (refused_value name reason)))
-refused_told name reason = (refl, (refl, (refl, (refl, (decimal_of_word reason, (refl, tt))))))
+refused_reported : (name : List ℕ) (reason : ℕ) → AreReported (json_tokens (outline (refused_value name reason)))
+refused_reported name reason = (refl, (refl, (refl, (refl, (decimal_of_word reason, (refl, tt))))))
 
-reply_told : (reply : Reply) → AreTold (json_tokens (outline (reply_value reply)))
-reply_told Done = (refl, (refl, (refl, (refl, tt))))
-reply_told (Offers offers) =
-    (refl, (refl, (refl, told-append (items_tokens (items_outline (items_of (map offer_value offers)))) _ (offers_told offers) (refl, tt))))
-reply_told (Report report) =
+reply_reported : (reply : Reply) → AreReported (json_tokens (outline (reply_value reply)))
+reply_reported Done = (refl, (refl, (refl, (refl, tt))))
+reply_reported (Offers offers) =
+    (refl, (refl, (refl, reported-append (items_tokens (items_outline (items_of (map offer_value offers)))) _ (offers_reported offers) (refl, tt))))
+reply_reported (Report report) =
     let total = key (codes "total") ∷ string (amounts_text report.total) ∷ end_object ∷ [] in (
       refl,
       (
         refl,
         (
           refl,
-          told-append (items_tokens (items_outline (items_of (map node_value report.nodes)))) total (nodes_told report.nodes)
+          reported-append (items_tokens (items_outline (items_of (map node_value report.nodes)))) total (nodes_reported report.nodes)
               (refl, (refl, (refl, tt))),
         ),
       ),
     )
-reply_told (Refused refusal) = refused_told (refusal_name refusal) (refusal_number refusal)
+reply_reported (Refused refusal) = refused_reported (refusal_name refusal) (refusal_number refusal)
 
 pub replies_no_events : RepliesAreNoEvents
 unfolding reply_line
-replies_no_events reply line same = value_is_no_event (reply_value reply) line (reply_told reply) same
+replies_no_events reply line same = value_is_no_event (reply_value reply) line (reply_reported reply) same
 
 pub faults_no_events : FaultsAreNoEvents
 unfolding fault_line
 faults_no_events fault line same =
-    value_is_no_event (refused_value (fault_name fault) (fault_number fault)) line (refused_told (fault_name fault) (fault_number fault)) same
+    value_is_no_event (refused_value (fault_name fault) (fault_number fault)) line (refused_reported (fault_name fault) (fault_number fault)) same

@@ -8,7 +8,7 @@ use Rattle.drf_rows.specs.Step.{live_rows, rows_after}
 use Rattle.drf_row_laws.proofs.LiveLaws.{rows_after-same_live, live_rows-twice}
 use Rattle.drf_rows.specs.declared.event.Event.{Event}
 use Rattle.drf_rows.specs.declared.rows.Rows.{Rows}
-use Rattle.drf_journal.specs.Audited.{rows_after_lines, told_of_lines}
+use Rattle.drf_journal.specs.Audited.{rows_after_lines, reported_of_lines}
 use Rattle.drf_journal.specs.JournalLaws.{LinesInTwo, OutputInTwo, AllocatorInTwo, StepsLeaveLiveRows}
 use Rattle.drf_journal.specs.Lines.{open_line_of, lines_of}
 use Rattle.drf_journal.specs.Output.{echo_of, reply_line_after, rows_after_line, output_from, output_of}
@@ -69,28 +69,28 @@ rows-same_live limits a b lines same =
 
 -- ---- lines in two parts
 
-pub rows-append : (limits : LimitNumbers) (rows : Rows) (front more : List (List ℕ))
-    → rows_after_lines limits rows (front ++ more) ≡ rows_after_lines limits (rows_after_lines limits rows front) more
+pub rows-append : (limits : LimitNumbers) (rows : Rows) (prefix more : List (List ℕ))
+    → rows_after_lines limits rows (prefix ++ more) ≡ rows_after_lines limits (rows_after_lines limits rows prefix) more
 rows-append limits rows [] more = refl
-rows-append limits rows (line ∷ front) more = rows-append limits (rows_after_line limits rows (meaning_of line)) front more
+rows-append limits rows (line ∷ prefix) more = rows-append limits (rows_after_line limits rows (meaning_of line)) prefix more
 
-output-append : (limits : LimitNumbers) (echo : Bool) (rows : Rows) (front more : List (List ℕ))
-    → output_from limits echo rows (front ++ more)
-    ≡ output_from limits echo rows front ++ output_from limits echo (rows_after_lines limits rows front) more
+output-append : (limits : LimitNumbers) (echo : Bool) (rows : Rows) (prefix more : List (List ℕ))
+    → output_from limits echo rows (prefix ++ more)
+    ≡ output_from limits echo rows prefix ++ output_from limits echo (rows_after_lines limits rows prefix) more
 output-append limits echo rows [] more = refl
-output-append limits echo rows (line ∷ front) more =
-    let told = reply_line_after limits rows (meaning_of line) in
+output-append limits echo rows (line ∷ prefix) more =
+    let reported = reply_line_after limits rows (meaning_of line) in
     let next = rows_after_line limits rows (meaning_of line) in
-    ap (λ l. echo_of echo line ++ (told ++ l)) (output-append limits echo next front more)
-    ∙ sym (append_assoc (echo_of echo line) (told ++ output_from limits echo next front) _
-    ∙ ap (λ l. echo_of echo line ++ l) (append_assoc told (output_from limits echo next front) _))
+    ap (λ l. echo_of echo line ++ (reported ++ l)) (output-append limits echo next prefix more)
+    ∙ sym (append_assoc (echo_of echo line) (reported ++ output_from limits echo next prefix) _
+    ∙ ap (λ l. echo_of echo line ++ l) (append_assoc reported (output_from limits echo next prefix) _))
 
 -- ---- an input that is cut after a line
 
 nothing_open : (bytes : List ℕ) → IsCutBehindLine bytes → open_line_of bytes ≡ []
 nothing_open bytes cut =
     ⊎_elim (λ (none : bytes ≡ []). ap open_line_of none ∙ open-within [] within-nil)
-    (λ (some : (front : List ℕ) × (bytes ≡ front ++ 10 ∷ [])).
+    (λ (some : (prefix : List ℕ) × (bytes ≡ prefix ++ 10 ∷ [])).
     let on = goes_on some.0 (10 ∷ []) in
     ap open_line_of some.1 ∙ on.line ∙ open-feed (open_line_of some.0) 10 [] on.within refl ∙ open-within [] within-nil)
     cut
@@ -125,8 +125,8 @@ allocator-in-two machine a b cut =
     ap (λ (rows : Rows). record { limits = machine.limits; rows = rows }) (rows-in-two machine a b cut)
 
 -- a text that depends only on the current state
-pub told-in-two : (tell : Rows → List ℕ) → ((rows : Rows) → tell (live_rows rows) ≡ tell rows)
+pub reported-in-two : (tell : Rows → List ℕ) → ((rows : Rows) → tell (live_rows rows) ≡ tell rows)
     → (machine : Machine) (a b : List ℕ) → IsCutBehindLine a
-    → told_of_lines tell machine (lines_of (a ++ b)) ≡ told_of_lines tell (resumed machine (lines_of a)) (lines_of b)
-unfolding told_of_lines
-told-in-two tell live machine a b cut = sym (live _) ∙ ap tell (rows-in-two machine a b cut) ∙ live _
+    → reported_of_lines tell machine (lines_of (a ++ b)) ≡ reported_of_lines tell (resumed machine (lines_of a)) (lines_of b)
+unfolding reported_of_lines
+reported-in-two tell live machine a b cut = sym (live _) ∙ ap tell (rows-in-two machine a b cut) ∙ live _

@@ -10,15 +10,15 @@ use Rattle.drf_core.specs.Machine.{Machine}
 use Rattle.drf_lines.specs.Meaning.{meaning_of}
 use Rattle.drf_journal.specs.declared.fault.RunFault.{RunFault}
 use Rattle.drf_journal.specs.declared.fault.RunFault.TheVariants.{Read, Write, Memory}
-use Rattle.drf_journal.specs.Device.{AppendsFrontOf}
+use Rattle.drf_journal.specs.Device.{AppendsPrefixOf}
 use Rattle.drf_journal.specs.Lines.{ended_lines_of, open_line_of, lines_of}
 use Rattle.drf_journal.specs.Output.{output_of}
-use Rattle.drf_journal.specs.State.{State, IsBegun, machine_after, machine_after_lines, after_line, after_piece, at_end, AnswersFrontOf}
+use Rattle.drf_journal.specs.State.{State, IsBegun, machine_after, machine_after_lines, after_line, after_piece, at_end, AnswersPrefixOf}
 use Rattle.drf_journal.specs.Ended.{HaveEnded, HasTaken, HasServed, HasStopped, HasCause, HasFlushed}
 use Rattle.drf_journal.proofs.Cuts.{within-nil, ended-within, goes_on}
 use Rattle.drf_journal.proofs.Kept.{answer-kept, meaning-kept}
 use Rattle.drf_journal.proofs.Pieces.{answers_from, after_lines, after_piece-lines, piece-nil, end-none, end-line, end-sent, end-counted, end-machine}
-use Rattle.drf_journal.proofs.Parts.{front_of, told-before, told-more}
+use Rattle.drf_journal.proofs.Parts.{prefix_of, reported-before, reported-more}
 use Rattle.drf_journal.proofs.Texts.{text-lines, text-append, answers-append}
 
 -- ---- the end of the input, given the lines that had ended and the open line
@@ -76,32 +76,32 @@ at_end_all s lines (b ∷ next) =
 
 -- ---- a prefix of an input
 
-module _ (front more read : List ℕ) (whole : read ≡ front ++ more) where
+module _ (prefix more read : List ℕ) (whole : read ≡ prefix ++ more) where
   others : List (List ℕ)
-  others = ended_lines_of (open_line_of front ++ more)
+  others = ended_lines_of (open_line_of prefix ++ more)
 
-  parted : ended_lines_of read ≡ ended_lines_of front ++ others
+  parted : ended_lines_of read ≡ ended_lines_of prefix ++ others
   unfolding others
-  parted = ap ended_lines_of whole ∙ (goes_on front more).lines
+  parted = ap ended_lines_of whole ∙ (goes_on prefix more).lines
 
-  parted_all : (last : List (List ℕ)) × (lines_of read ≡ ended_lines_of front ++ last)
+  parted_all : (last : List (List ℕ)) × (lines_of read ≡ ended_lines_of prefix ++ last)
   unfolding lines_of
   parted_all =
       let last = if length (open_line_of read) == 0 then [] else open_line_of read ∷ [] in
-      (others ++ last, ap (λ l. l ++ last) parted ∙ append_assoc (ended_lines_of front) others last)
+      (others ++ last, ap (λ l. l ++ last) parted ∙ append_assoc (ended_lines_of prefix) others last)
 
   -- the lines of the prefix come first
-  ended_first : take (length (ended_lines_of front)) (ended_lines_of read) ≡ ended_lines_of front
-  ended_first = ap (take (length (ended_lines_of front))) parted ∙ take-append_seam (ended_lines_of front) others
+  ended_first : take (length (ended_lines_of prefix)) (ended_lines_of read) ≡ ended_lines_of prefix
+  ended_first = ap (take (length (ended_lines_of prefix))) parted ∙ take-append_seam (ended_lines_of prefix) others
 
-  lines_first : take (length (ended_lines_of front)) (lines_of read) ≡ ended_lines_of front
-  lines_first = ap (take (length (ended_lines_of front))) parted_all.1
-      ∙ take-append_seam (ended_lines_of front) parted_all.0
+  lines_first : take (length (ended_lines_of prefix)) (lines_of read) ≡ ended_lines_of prefix
+  lines_first = ap (take (length (ended_lines_of prefix))) parted_all.1
+      ∙ take-append_seam (ended_lines_of prefix) parted_all.0
 
-  ended_few : length (ended_lines_of front) ≤ length (ended_lines_of read)
+  ended_few : length (ended_lines_of prefix) ≤ length (ended_lines_of read)
   ended_few =
       let all = ap length parted in
-      let sum = length-append (ended_lines_of front) others in
+      let sum = length-append (ended_lines_of prefix) others in
       omega arith
 
 -- the bytes before the last 65,536 were read before the last chunk
@@ -111,19 +111,19 @@ early_count before piece short =
     take-append-le _ before piece (let sum = length-append before piece in omega arith)
 
 -- one line more than those of the prefix: the last line, if there is one
-take_past : {A : Type 0} (front : List A) (last : Bool) (x : A)
-    → take (length front + 1) (front ++ (if last then [] else x ∷ [])) ≡ front ++ (if last then [] else x ∷ [])
-take_past front true x = let sum = length-append front [] in take_all _ _ (omega arith)
-take_past front false x = let sum = length-append front (x ∷ []) in take_all _ _ (omega arith)
+take_past : {A : Type 0} (prefix : List A) (last : Bool) (x : A)
+    → take (length prefix + 1) (prefix ++ (if last then [] else x ∷ [])) ≡ prefix ++ (if last then [] else x ∷ [])
+take_past prefix true x = let sum = length-append prefix [] in take_all _ _ (omega arith)
+take_past prefix false x = let sum = length-append prefix (x ∷ []) in take_all _ _ (omega arith)
 
 -- the state of reader, writer and run before the next read
 pub record IsServing (old : State) (unread_first unread written_first written : Option (List ℕ)) (session : State)
     : Type 0 where
   pub read : List ℕ
-  pub told : List ℕ
+  pub reported : List ℕ
   pub consumed : Consumes unread_first unread read
-  pub appended : Appends written_first written told
-  pub state : record session { unsent = told ++ session.unsent } ≡ after_piece old read
+  pub appended : Appends written_first written reported
+  pub state : record session { unsent = reported ++ session.unsent } ≡ after_piece old read
   pub sent : session.unsent ≡ []
 
 module _ (old : State) (begins : IsBegun old) where
@@ -139,12 +139,12 @@ module _ (old : State) (begins : IsBegun old) where
       ∙ sym (text-lines old.machine old.echo lines)
 
   -- the text begins with that for the lines of a prefix
-  text_rest : (front more read : List ℕ) → read ≡ front ++ more
-      → (rest : List ℕ) × (text (ended_lines_of read) ≡ text (ended_lines_of front) ++ rest)
-  text_rest front more read whole = (
-    answers_from old.echo (machine_after_lines old.machine (ended_lines_of front)) (others front more read whole),
-    ap text (parted front more read whole)
-        ∙ text-append old.machine old.echo (ended_lines_of front) (others front more read whole),
+  text_rest : (prefix more read : List ℕ) → read ≡ prefix ++ more
+      → (rest : List ℕ) × (text (ended_lines_of read) ≡ text (ended_lines_of prefix) ++ rest)
+  text_rest prefix more read whole = (
+    answers_from old.echo (machine_after_lines old.machine (ended_lines_of prefix)) (others prefix more read whole),
+    ap text (parted prefix more read whole)
+        ∙ text-append old.machine old.echo (ended_lines_of prefix) (others prefix more read whole),
   )
 
   number_from : (number : ℕ) → old.lines + number ≡ number
@@ -184,7 +184,7 @@ module _ (old : State) (begins : IsBegun old) where
   pub serving-begins : (unread written : Option (List ℕ)) → IsServing old unread unread written written old
   serving-begins unread written = record {
     read = [];
-    told = [];
+    reported = [];
     consumed = Consumes-nil unread;
     appended = Appends-nil written;
     state = sym (piece-nil old);
@@ -193,9 +193,9 @@ module _ (old : State) (begins : IsBegun old) where
 
   module _ (unread_first unread unread_next written_first written written_next : Option (List ℕ)) (session : State)
       (serving : IsServing old unread_first unread written_first written session) where
-    told_so_far : serving.told ≡ text (ended_lines_of serving.read)
-    told_so_far =
-        sym (append-nil serving.told) ∙ ap (λ l. serving.told ++ l) (sym serving.sent)
+    reported_so_far : serving.reported ≡ text (ended_lines_of serving.read)
+    reported_so_far =
+        sym (append-nil serving.reported) ∙ ap (λ l. serving.reported ++ l) (sym serving.sent)
         ∙ ap (λ (s : State). s.unsent) serving.state ∙ text_ended serving.read
 
     number_so_far : session.lines ≡ length (ended_lines_of serving.read)
@@ -209,18 +209,18 @@ module _ (old : State) (begins : IsBegun old) where
 
     -- the written text begins with the text for the lines of a prefix of the bytes read
     prompt_so_far : (count : ℕ) (more : List ℕ)
-        → StartsWith (serving.told ++ more) (text (ended_lines_of (take count serving.read)))
+        → StartsWith (serving.reported ++ more) (text (ended_lines_of (take count serving.read)))
     prompt_so_far count more =
         let first = text (ended_lines_of (take count serving.read)) in
         let rest = text_rest (take count serving.read) (drop count serving.read) serving.read
         (sym (take-append-drop count serving.read)) in
-        ap (take (length first)) (ap (λ l. l ++ more) (told_so_far ∙ rest.1) ∙ append_assoc first rest.0 more)
+        ap (take (length first)) (ap (λ l. l ++ more) (reported_so_far ∙ rest.1) ∙ append_assoc first rest.0 more)
         ∙ take-append_seam first (rest.0 ++ more)
 
-    prompt_untold : (count : ℕ) → StartsWith serving.told (text (ended_lines_of (take count serving.read)))
+    prompt_untold : (count : ℕ) → StartsWith serving.reported (text (ended_lines_of (take count serving.read)))
     prompt_untold count = subst
         (λ written. StartsWith written (text (ended_lines_of (take count serving.read))))
-        (append-nil serving.told) (prompt_so_far count [])
+        (append-nil serving.reported) (prompt_so_far count [])
 
     taken_so_far : (next : State) (unread_after : Option (List ℕ)) → next.machine ≡ session.machine
         → HasTaken old.machine next.machine (length (ended_lines_of serving.read)) serving.read unread_after
@@ -235,9 +235,9 @@ module _ (old : State) (begins : IsBegun old) where
 
     -- the run after more of its input
     state_next : (piece : List ℕ) → record
-        (after_piece session piece) { unsent = serving.told ++ (after_piece session piece).unsent }
+        (after_piece session piece) { unsent = serving.reported ++ (after_piece session piece).unsent }
         ≡ after_piece old (serving.read ++ piece)
-    state_next piece = told-before old session serving.told serving.read piece serving.state
+    state_next piece = reported-before old session serving.reported serving.read piece serving.state
 
     pub serving-takes : (piece : List ℕ) (next : State) → Consumes unread unread_next piece
         → Appends written written_next (after_piece session piece).unsent
@@ -245,10 +245,10 @@ module _ (old : State) (begins : IsBegun old) where
         → IsServing old unread_first unread_next written_first written_next next
     serving-takes piece next consumed appended is = record {
       read = serving.read ++ piece;
-      told = serving.told ++ (after_piece session piece).unsent;
+      reported = serving.reported ++ (after_piece session piece).unsent;
       consumed = Consumes-trans _ _ _ _ _ serving.consumed consumed;
       appended = Appends-trans _ _ _ _ _ serving.appended appended;
-      state = told-more old session next serving.told serving.read piece serving.state is;
+      state = reported-more old session next serving.reported serving.read piece serving.state is;
       sent = ap (λ (s : State). s.unsent) is;
     }
 
@@ -257,11 +257,11 @@ module _ (old : State) (begins : IsBegun old) where
     run-unread kept = record {
       run = record {
         read = serving.read;
-        written = serving.told;
+        written = serving.reported;
         consumed = Consumes-kept _ _ _ _ serving.consumed kept;
         appended = serving.appended;
         lines = length (ended_lines_of serving.read);
-        answered = record { output = told_so_far; all_ended = refl };
+        answered = record { output = reported_so_far; all_ended = refl };
         ended = all_ended unread_next;
         prompt = prompt_untold _;
       };
@@ -276,16 +276,16 @@ module _ (old : State) (begins : IsBegun old) where
       consumed_all = subst (Consumes unread_first unread_next) (append-nil serving.read)
           (Consumes-trans _ _ _ _ _ serving.consumed consumed)
 
-      told_at_end : serving.told ++ (at_end session).unsent ≡ text (lines_of serving.read)
-      told_at_end = end-sent session serving.told ∙ ap (λ (s : State). (at_end s).unsent) serving.state
+      reported_at_end : serving.reported ++ (at_end session).unsent ≡ text (lines_of serving.read)
+      reported_at_end = end-sent session serving.reported ∙ ap (λ (s : State). (at_end s).unsent) serving.state
           ∙ text_whole serving.read
 
       number_at_end : (at_end session).lines ≡ length (lines_of serving.read)
-      number_at_end = end-counted session serving.told ∙ ap (λ (s : State). (at_end s).lines) serving.state
+      number_at_end = end-counted session serving.reported ∙ ap (λ (s : State). (at_end s).lines) serving.state
           ∙ number_whole serving.read
 
       pub machine_at_end : (at_end session).machine ≡ machine_after_lines old.machine (lines_of serving.read)
-      machine_at_end = end-machine session serving.told ∙ ap (λ (s : State). (at_end s).machine) serving.state
+      machine_at_end = end-machine session serving.reported ∙ ap (λ (s : State). (at_end s).machine) serving.state
           ∙ machine_whole serving.read
 
       taken_at_end : (next : State) → IsAtEnd unread_next → next.machine ≡ (at_end session).machine
@@ -315,12 +315,12 @@ module _ (old : State) (begins : IsBegun old) where
       run-forgotten next end counted machine = record {
         run = record {
           read = serving.read;
-          written = serving.told;
+          written = serving.reported;
           consumed = consumed_all;
           appended = serving.appended;
           lines = length (ended_lines_of serving.read);
           answered = record {
-            output = told_so_far ∙ ap text (sym (ended_first serving.read [] serving.read whole_so_far));
+            output = reported_so_far ∙ ap text (sym (ended_first serving.read [] serving.read whole_so_far));
             had_ended = omega arith;
           };
           ended = all_ended unread_next;
@@ -331,16 +331,16 @@ module _ (old : State) (begins : IsBegun old) where
       }
 
       pub run-unwritten : (next : State) → IsAtEnd unread_next → next ≡ at_end session
-          → AppendsFrontOf written written_next (at_end session).unsent
+          → AppendsPrefixOf written written_next (at_end session).unsent
           → HasServed old unread_first unread_next written_first written_next next (Err Write)
       run-unwritten next end is sent =
           let all : take (length (lines_of serving.read)) (lines_of serving.read) ≡ lines_of serving.read =
           take_all _ _ (omega arith) in
-          let start = front_of serving.told (at_end session).unsent sent.0 _ (told_at_end ∙ ap text (sym all)) in
+          let start = prefix_of serving.reported (at_end session).unsent sent.0 _ (reported_at_end ∙ ap text (sym all)) in
           record {
             run = record {
               read = serving.read;
-              written = serving.told ++ take sent.0 (at_end session).unsent;
+              written = serving.reported ++ take sent.0 (at_end session).unsent;
               consumed = consumed_all;
               appended = Appends-trans _ _ _ _ _ serving.appended sent.1;
               lines = length (lines_of serving.read);
@@ -355,16 +355,16 @@ module _ (old : State) (begins : IsBegun old) where
       pub run-ends : (next : State) (lines : ℕ) → IsAtEnd unread_next → next ≡ record (at_end session) { unsent = [] }
           → Appends written written_next (at_end session).unsent → lines ≡ next.lines
           → HasServed old unread_first unread_next written_first written_next next (Ok lines)
-      run-ends next lines end is sent told =
+      run-ends next lines end is sent reported =
           let counted : next.lines ≡ length (lines_of serving.read) = ap (λ (s : State). s.lines) is ∙ number_at_end in
           record {
             run = record {
               read = serving.read;
-              written = serving.told ++ (at_end session).unsent;
+              written = serving.reported ++ (at_end session).unsent;
               consumed = consumed_all;
               appended = Appends-trans _ _ _ _ _ serving.appended sent;
               lines = length (lines_of serving.read);
-              answered = record { output = told_at_end; all_lines = refl; told = told ∙ counted };
+              answered = record { output = reported_at_end; all_lines = refl; reported = reported ∙ counted };
               ended = inr end;
               prompt = prompt_so_far _ _;
             };
@@ -376,43 +376,43 @@ module _ (old : State) (begins : IsBegun old) where
 
     module _ (piece : List ℕ) (next : State) (text_now : List ℕ) (short : length piece ≤ 65536)
         (consumed : Consumes unread unread_next piece)
-        (answers : AnswersFrontOf session piece (record next { unsent = text_now })) where
+        (answers : AnswersPrefixOf session piece (record next { unsent = text_now })) where
       abbrev read_now : List ℕ
       read_now = serving.read ++ piece
 
       -- the answered part of the input, and the part that the allocator has taken
-      abbrev front : ℕ → List ℕ
-      front count = serving.read ++ take count piece
+      abbrev prefix : ℕ → List ℕ
+      prefix count = serving.read ++ take count piece
 
-      whole : (count : ℕ) → read_now ≡ front count ++ drop count piece
+      whole : (count : ℕ) → read_now ≡ prefix count ++ drop count piece
       whole count = sym (append_assoc serving.read (take count piece) (drop count piece)
           ∙ ap (λ l. serving.read ++ l) (take-append-drop count piece))
 
-      number_at : (count : ℕ) → (after_piece session (take count piece)).lines ≡ length (ended_lines_of (front count))
-      number_at count = ap (λ (s : State). s.lines) (state_next (take count piece)) ∙ number_ended (front count)
+      number_at : (count : ℕ) → (after_piece session (take count piece)).lines ≡ length (ended_lines_of (prefix count))
+      number_at count = ap (λ (s : State). s.lines) (state_next (take count piece)) ∙ number_ended (prefix count)
 
-      few : (count : ℕ) → length (ended_lines_of (front count)) ≤ length (ended_lines_of read_now)
-      few count = ended_few (front count) (drop count piece) read_now (whole count)
+      few : (count : ℕ) → length (ended_lines_of (prefix count)) ≤ length (ended_lines_of read_now)
+      few count = ended_few (prefix count) (drop count piece) read_now (whole count)
 
-      told_now : serving.told ++ text_now ≡ text (ended_lines_of (front answers.answered_bytes))
-      told_now =
-          ap (λ l. serving.told ++ l) answers.unsent
+      reported_now : serving.reported ++ text_now ≡ text (ended_lines_of (prefix answers.answered_bytes))
+      reported_now =
+          ap (λ l. serving.reported ++ l) answers.unsent
           ∙ ap (λ (s : State). s.unsent) (state_next (take answers.answered_bytes piece))
-          ∙ text_ended (front answers.answered_bytes)
+          ∙ text_ended (prefix answers.answered_bytes)
 
       prompt_now : (more : List ℕ)
-          → StartsWith (serving.told ++ more) (text (ended_lines_of (take (length read_now - 65536) read_now)))
-      prompt_now more = subst (λ front. StartsWith (serving.told ++ more) (text (ended_lines_of front)))
+          → StartsWith (serving.reported ++ more) (text (ended_lines_of (take (length read_now - 65536) read_now)))
+      prompt_now more = subst (λ prefix. StartsWith (serving.reported ++ more) (text (ended_lines_of prefix)))
           (sym (early_count serving.read piece short)) (prompt_so_far _ more)
 
-      taken_now : HasTaken old.machine next.machine (length (ended_lines_of (front answers.answered_bytes))) read_now unread_next
+      taken_now : HasTaken old.machine next.machine (length (ended_lines_of (prefix answers.answered_bytes))) read_now unread_next
       taken_now = record {
-        taken = length (ended_lines_of (front answers.taken_bytes));
+        taken = length (ended_lines_of (prefix answers.taken_bytes));
         machine =
             answers.machine ∙ ap (λ (s : State). s.machine) (state_next (take answers.taken_bytes piece))
-            ∙ machine_ended (front answers.taken_bytes)
+            ∙ machine_ended (prefix answers.taken_bytes)
             ∙ ap (machine_after_lines old.machine)
-            (sym (lines_first (front answers.taken_bytes) (drop answers.taken_bytes piece) read_now (whole answers.taken_bytes)));
+            (sym (lines_first (prefix answers.taken_bytes) (drop answers.taken_bytes piece) read_now (whole answers.taken_bytes)));
         ahead =
             let taken = number_at answers.taken_bytes in
             let answered = number_at answers.answered_bytes in
@@ -426,13 +426,13 @@ module _ (old : State) (begins : IsBegun old) where
       run-forgets sent = record {
         run = record {
           read = read_now;
-          written = serving.told ++ text_now;
+          written = serving.reported ++ text_now;
           consumed = Consumes-trans _ _ _ _ _ serving.consumed consumed;
           appended = Appends-trans _ _ _ _ _ serving.appended sent;
-          lines = length (ended_lines_of (front answers.answered_bytes));
+          lines = length (ended_lines_of (prefix answers.answered_bytes));
           answered = record {
-            output = told_now
-                ∙ ap text (sym (ended_first (front answers.answered_bytes) (drop answers.answered_bytes piece) read_now
+            output = reported_now
+                ∙ ap text (sym (ended_first (prefix answers.answered_bytes) (drop answers.answered_bytes piece) read_now
                 (whole answers.answered_bytes)));
             had_ended = few answers.answered_bytes;
           };
@@ -443,19 +443,19 @@ module _ (old : State) (begins : IsBegun old) where
         taken = taken_now;
       }
 
-      run-fails : AppendsFrontOf written written_next text_now
+      run-fails : AppendsPrefixOf written written_next text_now
           → HasServed old unread_first unread_next written_first written_next next (Err Write)
       run-fails sent =
-          let start = front_of serving.told text_now sent.0 _
-          (told_now ∙ ap text (sym (lines_first (front answers.answered_bytes) (drop answers.answered_bytes piece) read_now
+          let start = prefix_of serving.reported text_now sent.0 _
+          (reported_now ∙ ap text (sym (lines_first (prefix answers.answered_bytes) (drop answers.answered_bytes piece) read_now
           (whole answers.answered_bytes)))) in
           record {
             run = record {
               read = read_now;
-              written = serving.told ++ take sent.0 text_now;
+              written = serving.reported ++ take sent.0 text_now;
               consumed = Consumes-trans _ _ _ _ _ serving.consumed consumed;
               appended = Appends-trans _ _ _ _ _ serving.appended sent.1;
-              lines = length (ended_lines_of (front answers.answered_bytes));
+              lines = length (ended_lines_of (prefix answers.answered_bytes));
               answered = record { count = start.0; output = start.1 };
               ended = inl (few answers.answered_bytes);
               prompt = prompt_now _;
@@ -496,7 +496,7 @@ pub run-stops : (old : State) (begins : IsBegun old)
 unfolding HasStopped
 run-stops old begins _ _ _ _ _ _ session serving Read piece next short consumed stopped = absurd stopped
 run-stops old begins _ _ _ _ _ _ session serving Write piece next short consumed stopped =
-    run-fails old begins _ _ _ _ _ _ session serving piece next stopped.text short consumed stopped.answers stopped.front_sent
+    run-fails old begins _ _ _ _ _ _ session serving piece next stopped.text short consumed stopped.answers stopped.prefix_sent
 run-stops old begins _ _ _ _ _ _ session serving Memory piece next short consumed stopped =
     run-forgets old begins _ _ _ _ _ _ session serving piece next stopped.text short consumed stopped.answers stopped.sent
 

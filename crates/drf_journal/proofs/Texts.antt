@@ -56,16 +56,16 @@ pub text-lines : (machine : Machine) (echo : Bool) (lines : List (List ℕ)) →
 unfolding output_of
 text-lines machine echo lines = output_from-lines echo machine lines
 
-pub answers-append : (echo : Bool) (machine : Machine) (front more : List (List ℕ))
-    → answers_from echo machine (front ++ more) ≡ answers_from echo machine front ++ answers_from echo (machine_after_lines machine front) more
+pub answers-append : (echo : Bool) (machine : Machine) (prefix more : List (List ℕ))
+    → answers_from echo machine (prefix ++ more) ≡ answers_from echo machine prefix ++ answers_from echo (machine_after_lines machine prefix) more
 answers-append echo machine [] more = refl
-answers-append echo machine (line ∷ front) more =
-    ap (λ l. answer_to echo machine line ++ l) (answers-append echo (machine_after machine (meaning_of line)) front more)
+answers-append echo machine (line ∷ prefix) more =
+    ap (λ l. answer_to echo machine line ++ l) (answers-append echo (machine_after machine (meaning_of line)) prefix more)
     ∙ sym (append_assoc (answer_to echo machine line) _ _)
 
 -- the text begins with that for the first lines
-pub text-append : (machine : Machine) (echo : Bool) (front more : List (List ℕ))
-    → output_of machine echo (front ++ more) ≡ output_of machine echo front ++ answers_from echo (machine_after_lines machine front) more
-text-append machine echo front more =
-    text-lines machine echo (front ++ more) ∙ answers-append echo machine front more
-    ∙ ap (λ l. l ++ answers_from echo (machine_after_lines machine front) more) (sym (text-lines machine echo front))
+pub text-append : (machine : Machine) (echo : Bool) (prefix more : List (List ℕ))
+    → output_of machine echo (prefix ++ more) ≡ output_of machine echo prefix ++ answers_from echo (machine_after_lines machine prefix) more
+text-append machine echo prefix more =
+    text-lines machine echo (prefix ++ more) ∙ answers-append echo machine prefix more
+    ∙ ap (λ l. l ++ answers_from echo (machine_after_lines machine prefix) more) (sym (text-lines machine echo prefix))

@@ -6,7 +6,7 @@ use Rattle.std.proofs.lemmas.List.{take-take, length-append}
 use Rattle.std.proofs.lemmas.List.Elements.{All-take}
 use Rattle.drf_journal.specs.Lines.{is_line_feed, IsWithinLine}
 use Rattle.drf_journal.specs.State.{State, after_piece, WaitsBelow}
-use Rattle.drf_journal.proofs.Fronts.{TookFront, front-count}
+use Rattle.drf_journal.proofs.Prefixes.{TookPrefix, prefix-count}
 use Rattle.drf_journal.proofs.Pieces.{piece-append, piece-nil, piece-within}
 
 pub waits-begins : (most : ℕ) (old : State) (piece : List ℕ) → length old.unsent < most → WaitsBelow most old piece 1
@@ -20,7 +20,7 @@ within-unsent : (s : State) (bytes : List ℕ) → IsWithinLine bytes → (after
 within-unsent s [] within = ap (λ (t : State). t.unsent) (piece-nil s)
 within-unsent s (b ∷ bytes) within = ap (λ (t : State). t.unsent) (piece-within s b bytes within)
 
-module _ (most : ℕ) (old now : State) (piece rest : List ℕ) (took : TookFront old now piece rest) where
+module _ (most : ℕ) (old now : State) (piece rest : List ℕ) (took : TookPrefix old now piece rest) where
   -- the number of bytes that were taken
   abbrev taken : ℕ
   taken = length piece - length rest
@@ -29,16 +29,16 @@ module _ (most : ℕ) (old now : State) (piece rest : List ℕ) (took : TookFron
   text_in_line : (at : ℕ) → IsWithinLine (take at rest)
       → (after_piece old (take (taken + at) piece)).unsent ≡ (after_piece old (take taken piece)).unsent
   text_in_line at within =
-      let counted : taken ≡ length took.front =
-      let all = ap length took.whole in let sum = length-append took.front rest in omega arith in
-      let front : take (taken + at) piece ≡ took.front ++ take at rest =
-      ap (λ (n : ℕ). take (n + at) piece) counted ∙ ap (take (length took.front + at)) took.whole
-      ∙ take-append-add took.front rest at in
+      let counted : taken ≡ length took.prefix =
+      let all = ap length took.whole in let sum = length-append took.prefix rest in omega arith in
+      let prefix : take (taken + at) piece ≡ took.prefix ++ take at rest =
+      ap (λ (n : ℕ). take (n + at) piece) counted ∙ ap (take (length took.prefix + at)) took.whole
+      ∙ take-append-add took.prefix rest at in
       let state : after_piece old (take (taken + at) piece) ≡ after_piece now (take at rest) =
-      ap (after_piece old) front ∙ piece-append old took.front (take at rest)
+      ap (after_piece old) prefix ∙ piece-append old took.prefix (take at rest)
       ∙ ap (λ (t : State). after_piece t (take at rest)) (sym took.state) in
       ap (λ (t : State). t.unsent) state ∙ within-unsent now (take at rest) within
-      ∙ ap (λ (t : State). t.unsent) (front-count old now piece rest took)
+      ∙ ap (λ (t : State). t.unsent) (prefix-count old now piece rest took)
 
   -- bytes within a line can follow
   pub waits-within : (count : ℕ) → IsWithinLine (take count rest)
@@ -63,5 +63,5 @@ module _ (most : ℕ) (old now : State) (piece rest : List ℕ) (took : TookFron
       (λ (last : taken ≤ k).
       let place : taken ≡ k = omega arith in
       subst (λ (n : ℕ). length (after_piece old (take n piece)).unsent < most) place
-      (subst (λ (t : State). length t.unsent < most) (front-count old now piece rest took) below))
+      (subst (λ (t : State). length t.unsent < most) (prefix-count old now piece rest took) below))
       (cases_lt k taken)

@@ -25,25 +25,25 @@ rows_after_lines limits rows (line ∷ lines) =
 -- ---- a text computed from the rows after an input
 
 -- the text for the lines of an input from this allocator, where `tell` computes it from rows
-unfoldable pub told_of_lines : (Rows → List ℕ) → Machine → List (List ℕ) → List ℕ
-told_of_lines tell machine lines = tell (rows_after_lines machine.limits machine.rows lines)
+unfoldable pub reported_of_lines : (Rows → List ℕ) → Machine → List (List ℕ) → List ℕ
+reported_of_lines tell machine lines = tell (rows_after_lines machine.limits machine.rows lines)
 
 -- The bytes written for the bytes read: the whole text at `Ok`, and otherwise a prefix of it.
-abbrev pub IsToldOfRows : (Rows → List ℕ) → Machine → Result (Unit {0}) RunFault → List ℕ → List ℕ → Type 0
-IsToldOfRows tell machine (Ok done) read written = written ≡ told_of_lines tell machine (lines_of read)
-IsToldOfRows tell machine (Err Read) read written = written ≡ []
-IsToldOfRows tell machine (Err Write) read written = (count : ℕ) × (written ≡ take count (told_of_lines tell machine (lines_of read)))
-IsToldOfRows tell machine (Err Memory) read written = (count : ℕ) × (written ≡ take count (told_of_lines tell machine (lines_of read)))
+abbrev pub IsReportedOfRows : (Rows → List ℕ) → Machine → Result (Unit {0}) RunFault → List ℕ → List ℕ → Type 0
+IsReportedOfRows tell machine (Ok done) read written = written ≡ reported_of_lines tell machine (lines_of read)
+IsReportedOfRows tell machine (Err Read) read written = written ≡ []
+IsReportedOfRows tell machine (Err Write) read written = (count : ℕ) × (written ≡ take count (reported_of_lines tell machine (lines_of read)))
+IsReportedOfRows tell machine (Err Memory) read written = (count : ℕ) × (written ≡ take count (reported_of_lines tell machine (lines_of read)))
 
 -- bytes were read and written, and nothing was written before the end of the input was reached
-pub record HasToldOfRows (tell : Rows → List ℕ) (machine : Machine)
+pub record HasReportedOfRows (tell : Rows → List ℕ) (machine : Machine)
     (unread_before unread_after written_before written_after : Option (List ℕ))
     (result : Result (Unit {0}) RunFault) : Type 0 where
   pub read : List ℕ
   pub written : List ℕ
   pub consumed : Consumes unread_before unread_after read
   pub appended : Appends written_before written_after written
-  pub told : IsToldOfRows tell machine result read written
+  pub reported : IsReportedOfRows tell machine result read written
   pub whole : OnOk result (IsAtEnd unread_after)
   pub late : 0 < length written → IsAtEnd unread_after
 
@@ -60,12 +60,12 @@ cycle_text at rows = explained_text (explained rows at)
 -- an audit read bytes from a reader and wrote bytes to a writer
 abbrev pub HasAudited : Machine → (unread_before unread_after written_before written_after : Option (List ℕ))
     → Result (Unit {0}) RunFault → Type 0
-HasAudited = HasToldOfRows agents_text
+HasAudited = HasReportedOfRows agents_text
 
 -- an explanation of the cycle at the timestamp `at` did so
 abbrev pub HasExplained : ℕ → Machine → (unread_before unread_after written_before written_after : Option (List ℕ))
     → Result (Unit {0}) RunFault → Type 0
-HasExplained at = HasToldOfRows (cycle_text at)
+HasExplained at = HasReportedOfRows (cycle_text at)
 
 -- the allocator has taken all lines of a reader
 pub record HasTakenLines (old : Machine) (unread_before unread_after : Option (List ℕ)) (new : Machine)

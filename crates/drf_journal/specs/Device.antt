@@ -8,8 +8,8 @@ moved_nothing (Ok count) = count == 0
 moved_nothing (Err error) = true
 
 -- known bytes grew by a prefix of these bytes
-abbrev pub AppendsFrontOf : Option (List ℕ) → Option (List ℕ) → List ℕ → Type 0
-AppendsFrontOf old new bytes = (count : ℕ) × Appends old new (take count bytes)
+abbrev pub AppendsPrefixOf : Option (List ℕ) → Option (List ℕ) → List ℕ → Type 0
+AppendsPrefixOf old new bytes = (count : ℕ) × Appends old new (take count bytes)
 
 -- a device that has not been called yet
 abbrev pub IsNew : ℕ → Bool → Type 0

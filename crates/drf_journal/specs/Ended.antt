@@ -5,16 +5,16 @@ use Rattle.std.specs.Io.KnownBytes.{Appends, Consumes, IsAtEnd}
 use Rattle.drf_core.specs.Machine.{Machine}
 use Rattle.drf_journal.specs.declared.fault.RunFault.{RunFault}
 use Rattle.drf_journal.specs.declared.fault.RunFault.TheVariants.{Read, Write, Memory}
-use Rattle.drf_journal.specs.Device.{AppendsFrontOf}
+use Rattle.drf_journal.specs.Device.{AppendsPrefixOf}
 use Rattle.drf_journal.specs.Lines.{lines_of, ended_lines_of}
 use Rattle.drf_journal.specs.Output.{output_of}
-use Rattle.drf_journal.specs.State.{State, machine_after_lines, AnswersFrontOf}
+use Rattle.drf_journal.specs.State.{State, machine_after_lines, AnswersPrefixOf}
 
 -- at `Ok`: all lines were answered, and their number is returned
 pub record AnsweredAll (machine : Machine) (echo : Bool) (lines answered : ℕ) (read written : List ℕ) : Type 0 where
   pub output : written ≡ output_of machine echo (lines_of read)
   pub all_lines : answered ≡ length (lines_of read)
-  pub told : lines ≡ answered
+  pub reported : lines ≡ answered
 
 -- after a failed read: all lines that had ended were answered
 pub record AnsweredEnded (machine : Machine) (echo : Bool) (answered : ℕ) (read written : List ℕ) : Type 0 where
@@ -22,7 +22,7 @@ pub record AnsweredEnded (machine : Machine) (echo : Bool) (answered : ℕ) (rea
   pub all_ended : answered ≡ length (ended_lines_of read)
 
 -- after a failed write: a prefix of the text for the answered lines was written
-pub record WroteFront (machine : Machine) (echo : Bool) (answered : ℕ) (read written : List ℕ) : Type 0 where
+pub record WrotePrefix (machine : Machine) (echo : Bool) (answered : ℕ) (read written : List ℕ) : Type 0 where
   pub count : ℕ
   pub output : written ≡ take count (output_of machine echo (take answered (lines_of read)))
 
@@ -35,7 +35,7 @@ pub record AnsweredFirst (machine : Machine) (echo : Bool) (answered : ℕ) (rea
 abbrev pub IsAnswered : Machine → Bool → Result ℕ RunFault → ℕ → List ℕ → List ℕ → Type 0
 IsAnswered machine echo (Ok lines) answered read written = AnsweredAll machine echo lines answered read written
 IsAnswered machine echo (Err Read) answered read written = AnsweredEnded machine echo answered read written
-IsAnswered machine echo (Err Write) answered read written = WroteFront machine echo answered read written
+IsAnswered machine echo (Err Write) answered read written = WrotePrefix machine echo answered read written
 IsAnswered machine echo (Err Memory) answered read written = AnsweredFirst machine echo answered read written
 
 -- this number of lines had ended, each by a line feed or the last by the end of the input
@@ -59,13 +59,13 @@ pub record HasAnswered (machine : Machine) (echo : Bool)
 -- after a failed write: `text` is the text for all answered lines of the chunk, and a prefix of it was written
 pub record StoppedWriting (old : State) (piece : List ℕ) (new : State) (written_before written_after : Option (List ℕ)) : Type 0 where
   pub text : List ℕ
-  pub answers : AnswersFrontOf old piece (record new { unsent = text })
-  pub front_sent : AppendsFrontOf written_before written_after text
+  pub answers : AnswersPrefixOf old piece (record new { unsent = text })
+  pub prefix_sent : AppendsPrefixOf written_before written_after text
 
 -- out of memory: the text for all answered lines of the chunk was written
 pub record RanOutOfMemory (old : State) (piece : List ℕ) (new : State) (written_before written_after : Option (List ℕ)) : Type 0 where
   pub text : List ℕ
-  pub answers : AnswersFrontOf old piece (record new { unsent = text })
+  pub answers : AnswersPrefixOf old piece (record new { unsent = text })
   pub nothing_unsent : new.unsent ≡ []
   pub sent : Appends written_before written_after text
 
@@ -92,7 +92,7 @@ pub record HasServed (old : State)
 
 -- everything that was written has been flushed, unless the writer failed
 abbrev pub HasFlushed : {T : Type 0} → Result T RunFault → Bool → Type 0
-HasFlushed (Ok told) flushed = flushed ≡ true
+HasFlushed (Ok reported) flushed = flushed ≡ true
 HasFlushed (Err Read) flushed = flushed ≡ true
 HasFlushed (Err Write) flushed = ⊤
 HasFlushed (Err Memory) flushed = flushed ≡ true
@@ -100,7 +100,7 @@ HasFlushed (Err Memory) flushed = flushed ≡ true
 -- `Read` is returned only if the reader failed or was called 2^40 times, and `Write` only if the writer failed;
 -- otherwise neither failed
 abbrev pub HasCause : {T : Type 0} → Result T RunFault → Bool → ℕ → Bool → Type 0
-HasCause (Ok told) reader_failed reads writer_failed = (reader_failed ≡ false) × (writer_failed ≡ false)
+HasCause (Ok reported) reader_failed reads writer_failed = (reader_failed ≡ false) × (writer_failed ≡ false)
 HasCause (Err Read) reader_failed reads writer_failed =
     ((reader_failed ≡ true) ⊎ (reads ≡ 2 ^ 40)) × (writer_failed ≡ false)
 HasCause (Err Write) reader_failed reads writer_failed = (reader_failed ≡ false) × (writer_failed ≡ true)

@@ -8,7 +8,7 @@ use Rattle.drf_rows.specs.Step.{live_rows}
 use Rattle.drf_rows.specs.declared.reply.Reply.{Reply}
 use Rattle.drf_journal.specs.declared.journal.Verdict.{Verdict}
 use Rattle.drf_journal.specs.declared.journal.Verdict.TheVariants.{Good}
-use Rattle.drf_journal.specs.Audited.{rows_after_lines, agents_text, cycle_text, told_of_lines}
+use Rattle.drf_journal.specs.Audited.{rows_after_lines, agents_text, cycle_text, reported_of_lines}
 use Rattle.drf_journal.specs.Journal.{event_lines, reply_lines, IsVerdict}
 use Rattle.drf_journal.specs.Lines.{ended_lines_of, open_line_of, lines_of, IsWithinLine}
 use Rattle.drf_journal.specs.Output.{kept_of, output_of}
@@ -65,15 +65,15 @@ AllocatorInTwo =
 abbrev pub AuditInTwo : Type 0
 AuditInTwo =
     (machine : Machine) (a b : List ℕ) → IsCutBehindLine a
-    → told_of_lines agents_text machine (lines_of (a ++ b))
-    ≡ told_of_lines agents_text (resumed machine (lines_of a)) (lines_of b)
+    → reported_of_lines agents_text machine (lines_of (a ++ b))
+    ≡ reported_of_lines agents_text (resumed machine (lines_of a)) (lines_of b)
 
 -- the same for an explanation of the cycle at the timestamp `at`
 abbrev pub ExplanationInTwo : Type 0
 ExplanationInTwo =
     (machine : Machine) (at : ℕ) (a b : List ℕ) → IsCutBehindLine a
-    → told_of_lines (cycle_text at) machine (lines_of (a ++ b))
-    ≡ told_of_lines (cycle_text at) (resumed machine (lines_of a)) (lines_of b)
+    → reported_of_lines (cycle_text at) machine (lines_of (a ++ b))
+    ≡ reported_of_lines (cycle_text at) (resumed machine (lines_of a)) (lines_of b)
 
 -- an allocator that removes expired filters line by line reaches the same state
 abbrev pub StepsLeaveLiveRows : Type 0

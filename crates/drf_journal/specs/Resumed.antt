@@ -14,7 +14,7 @@ resumed machine lines =
 
 -- bytes that are cut after a line: there are none, or the last is a line feed
 abbrev pub IsCutBehindLine : List ℕ → Type 0
-IsCutBehindLine bytes = (bytes ≡ []) ⊎ ((front : List ℕ) × (bytes ≡ front ++ 10 ∷ []))
+IsCutBehindLine bytes = (bytes ≡ []) ⊎ ((prefix : List ℕ) × (bytes ≡ prefix ++ 10 ∷ []))
 
 -- all lines of a reader were taken, and the allocator after them was returned
 pub record HasAdvanced (old : Machine) (unread_before unread_after : Option (List ℕ)) (result : Result Engine RunFault) : Type 0 where

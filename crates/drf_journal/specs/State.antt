@@ -77,7 +77,7 @@ abbrev pub WaitsBelow : ℕ → State → List ℕ → ℕ → Type 0
 WaitsBelow most old piece count = (k : ℕ) → k < count → length (after_piece old (take k piece)).unsent < most
 
 -- the lines of a chunk up to some byte were answered, and the allocator has taken these lines or one more
-pub record AnswersFrontOf (old : State) (piece : List ℕ) (new : State) : Type 0 where
+pub record AnswersPrefixOf (old : State) (piece : List ℕ) (new : State) : Type 0 where
   pub answered_bytes : ℕ
   pub unsent : new.unsent ≡ (after_piece old (take answered_bytes piece)).unsent
   pub lines : new.lines ≡ (after_piece old (take answered_bytes piece)).lines

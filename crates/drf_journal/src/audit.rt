@@ -5,7 +5,7 @@ ghost use Rattle.std.specs.Io.KnownBytes.{Appends};
 ghost use Rattle.drf_audit.specs.AuditText.{audit_text};
 ghost use Rattle.drf_core.specs.Machine.{live};
 ghost use Rattle.drf_journal.specs.Audited.{HasAudited, HasTakenLines};
-ghost use Rattle.drf_journal.specs.Device.{AppendsFrontOf, IsNew};
+ghost use Rattle.drf_journal.specs.Device.{AppendsPrefixOf, IsNew};
 ghost use Rattle.drf_journal.specs.Ended.{HasCause, HasFlushed};
 ghost use Rattle.drf_journal.specs.State.{IsBegun, after_piece};
 
@@ -21,7 +21,7 @@ use std::io::{Read, Write};
 use std::thread::Threads;
 
 /// Takes the events of the lines that end in the next chunk of the input. Their replies are discarded.
-fn take_piece<S: Sorter>(session: &mut Session<S>, piece: &[u8]) -> Result<(), AllocError>
+fn take_chunk<S: Sorter>(session: &mut Session<S>, piece: &[u8]) -> Result<(), AllocError>
     requires few { session.old.lines + length piece.now < 2 ^ 64 }
     requires sent { session.old.unsent ≡ [] }
     ensures { OnOk result (session.new ≡ record (after_piece session.old piece.now) { unsent = [] }) }
@@ -57,7 +57,7 @@ pub(crate) fn take_lines<S: Sorter, R: Read>(
             session.close()?;
             return Ok(());
         }
-        take_piece(session, &chunk[..count])?;
+        take_chunk(session, &chunk[..count])?;
     }
     Err(RunFault::Read)
 }
@@ -69,7 +69,7 @@ fn write_line<W: Write>(
     writer: &mut Device<W>,
 ) -> Result<(), RunFault>
     ensures ok { OnOk result (Appends (W.contents writer.old.inner) (W.contents writer.new.inner) (audit_text line.now)) }
-    ensures err { OnErr result (AppendsFrontOf (W.contents writer.old.inner) (W.contents writer.new.inner) (audit_text line.now)) }
+    ensures err { OnErr result (AppendsPrefixOf (W.contents writer.old.inner) (W.contents writer.new.inner) (audit_text line.now)) }
     ensures cause { writer.old.failed ≡ false → HasCause result false 0 writer.new.failed }
     ensures flushed { writer.old.flushed ≡ true → HasFlushed result writer.new.flushed }
 {
@@ -85,7 +85,7 @@ fn write_lines<W: Write>(
     writer: &mut Device<W>,
 ) -> Result<(), RunFault>
     ensures ok { OnOk result (Appends (W.contents writer.old.inner) (W.contents writer.new.inner) (flat_map audit_text lines.now)) }
-    ensures err { OnErr result (AppendsFrontOf (W.contents writer.old.inner) (W.contents writer.new.inner) (flat_map audit_text lines.now)) }
+    ensures err { OnErr result (AppendsPrefixOf (W.contents writer.old.inner) (W.contents writer.new.inner) (flat_map audit_text lines.now)) }
     ensures cause { writer.old.failed ≡ false → HasCause result false 0 writer.new.failed }
     ensures flushed { writer.old.flushed ≡ true → HasFlushed result writer.new.flushed }
 {

@@ -5,7 +5,7 @@ ghost use Rattle.drf_journal.specs.Lines.{IsWithinLine};
 ghost use Rattle.drf_journal.specs.Checking.{after_event_line, IsCheckedTo, HasChecked};
 ghost use Rattle.drf_journal.specs.Journal.{IsVerdict};
 
-use crate::answer::answer_end;
+use crate::answer::reply_to_parted_line;
 use crate::due::Due;
 use crate::journal::Verdict;
 use crate::open_line::{OpenLine, line_feed_in};
@@ -75,7 +75,7 @@ impl<S: Sorter> Checker<S> {
         ensures { OnOk result (self.new ≡ after_event_line self.old end.now) }
     {
         let mut text = Vec::with_capacity(alloc, SHORT_LINE)?;
-        answer_end(
+        reply_to_parted_line(
             &mut self.reader,
             &mut self.core,
             false,

@@ -2,7 +2,7 @@
 ghost use Rattle.std.specs.Prelude.{◌≡◌, ◌+◌, ◌-◌, ◌^◌, ◌||◌, true, false, min, is_err, is_ok, OnOk, OnErr, IfErr};
 ghost use Rattle.std.specs.Io.{ReadsAtMost, WritesAtMost};
 ghost use Rattle.std.specs.Io.KnownBytes.{Appends, Keeps, ReadConsumes, WriteAppends};
-ghost use Rattle.drf_journal.specs.Device.{moved_nothing, AppendsFrontOf};
+ghost use Rattle.drf_journal.specs.Device.{moved_nothing, AppendsPrefixOf};
 
 use crate::fault::RunFault;
 use std::io;
@@ -69,10 +69,10 @@ impl<T: Read> Device<T> {
         ensures failed { self.new.failed ≡ self.old.failed || is_err result }
         ensures flushed { self.new.flushed ≡ self.old.flushed }
     {
-        let told = self.inner.read(buf);
+        let reported = self.inner.read(buf);
         self.calls = self.calls.saturating_add(1);
-        self.failed = self.failed || told.is_err();
-        told
+        self.failed = self.failed || reported.is_err();
+        reported
     }
 }
 
@@ -86,10 +86,10 @@ impl<T: Write> Device<T> {
         ensures flushed { self.new.flushed ≡ false }
     {
         self.flushed = false;
-        let told = self.inner.write(bytes);
+        let reported = self.inner.write(bytes);
         self.calls = self.calls.saturating_add(1);
-        self.failed = self.failed || !matches!(told, Ok(1..));
-        told
+        self.failed = self.failed || !matches!(reported, Ok(1..));
+        reported
     }
 
     /// Flushes what was written.
@@ -99,11 +99,11 @@ impl<T: Write> Device<T> {
         ensures failed { self.new.failed ≡ self.old.failed || is_err result }
         ensures flushed { self.new.flushed ≡ self.old.flushed || is_ok result }
     {
-        let told = self.inner.flush();
-        self.flushed = self.flushed || told.is_ok();
+        let reported = self.inner.flush();
+        self.flushed = self.flushed || reported.is_ok();
         self.calls = self.calls.saturating_add(1);
-        self.failed = self.failed || told.is_err();
-        told
+        self.failed = self.failed || reported.is_err();
+        reported
     }
 }
 
@@ -111,7 +111,7 @@ impl<T: Write> Device<T> {
 /// was written.
 pub fn write_whole<W: Write>(writer: &mut Device<W>, bytes: &[u8]) -> Result<(), RunFault>
     ensures ok { OnOk result (Appends (W.contents writer.old.inner) (W.contents writer.new.inner) bytes.now) }
-    ensures err { OnErr result (AppendsFrontOf (W.contents writer.old.inner) (W.contents writer.new.inner) bytes.now) }
+    ensures err { OnErr result (AppendsPrefixOf (W.contents writer.old.inner) (W.contents writer.new.inner) bytes.now) }
     ensures fault { IfErr result (λ fault. fault ≡ RunFault.Write) }
     ensures failed { writer.old.failed ≡ false → writer.new.failed ≡ is_err result }
     ensures flushed { OnOk result (writer.new.flushed ≡ true) }

@@ -27,7 +27,7 @@ pub(crate) const MAX_READS: u64 = 1_099_511_627_776;
 /// Answers the lines that end in the next chunk of the input, until all are answered or at least 64 KiB of text waits
 /// to be written. Returns how many bytes were taken. If memory runs out, the earlier answers are written too.
 #[tactic(auto, using(crate::proofs::Parts::stopped_write, crate::proofs::Parts::stopped_memory))]
-fn answer_part<S: Sorter, W: Write>(
+fn reply_to_part<S: Sorter, W: Write>(
     session: &mut Session<S>,
     piece: &[u8],
     writer: &mut Device<W>,
@@ -49,7 +49,7 @@ fn answer_part<S: Sorter, W: Write>(
 }
 
 /// Answers the lines that end in the next chunk of the input, part by part.
-fn answer_piece<S: Sorter, W: Write>(
+fn reply_to_chunk<S: Sorter, W: Write>(
     session: &mut Session<S>,
     piece: &[u8],
     writer: &mut Device<W>,
@@ -65,7 +65,7 @@ fn answer_piece<S: Sorter, W: Write>(
 {
     let mut rest = piece;
     while !rest.is_empty() {
-        let count = answer_part(session, rest, writer)?;
+        let count = reply_to_part(session, rest, writer)?;
         rest = &rest[count..];
     }
     Ok(())
@@ -102,7 +102,7 @@ pub fn serve<S: Sorter, R: Read, W: Write>(
             session.send(writer)?;
             return Ok(session.lines());
         }
-        answer_piece(session, &chunk[..count], writer)?;
+        reply_to_chunk(session, &chunk[..count], writer)?;
     }
     Err(RunFault::Read)
 }

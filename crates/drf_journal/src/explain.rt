@@ -1,7 +1,7 @@
 //! Explains the next cycle after the events of a stream of lines.
 ghost use Rattle.std.specs.Prelude.{◌≡◌, ◌≤◌, ◌^◌, true};
 ghost use Rattle.drf_core.specs.Machine.{live};
-ghost use Rattle.drf_rows.specs.declared.limits.TheConstants.{LATEST_MOMENT};
+ghost use Rattle.drf_rows.specs.declared.limits.TheConstants.{LATEST_TIMESTAMP};
 ghost use Rattle.drf_journal.specs.Audited.{HasExplained};
 ghost use Rattle.drf_journal.specs.Device.{IsNew};
 ghost use Rattle.drf_journal.specs.Ended.{HasCause, HasFlushed};
@@ -28,7 +28,7 @@ fn serve_explain<S: Sorter, R: Read, W: Write>(
     writer: &mut Device<W>,
 ) -> Result<(), RunFault>
     requires session { IsBegun session.old }
-    requires early { at ≤ LATEST_MOMENT }
+    requires early { at ≤ LATEST_TIMESTAMP }
     requires reader { IsNew reader.old.calls reader.old.failed }
     requires writer { IsNew writer.old.calls writer.old.failed }
     ensures explained { HasExplained at session.old.machine (R.remaining reader.old.inner) (R.remaining reader.new.inner)
@@ -51,7 +51,7 @@ pub fn run_explain<R: Read, W: Write>(
     reader: &mut Device<R>,
     writer: &mut Device<W>,
 ) -> Result<(), RunFault>
-    requires early { at ≤ LATEST_MOMENT }
+    requires early { at ≤ LATEST_TIMESTAMP }
     requires reader { IsNew reader.old.calls reader.old.failed }
     requires writer { IsNew writer.old.calls writer.old.failed }
     ensures explained { HasExplained at (live core) (R.remaining reader.old.inner) (R.remaining reader.new.inner)

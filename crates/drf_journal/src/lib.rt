@@ -16,7 +16,7 @@ mod open_line;
 mod resume;
 mod session;
 
-pub use answer::answer_end;
+pub use answer::reply_to_parted_line;
 pub use audit::run_audit;
 pub use device::{Device, write_whole};
 pub use engine::{ProgramSorter, run, serve};

@@ -11,7 +11,7 @@ use std::marker::Model;
 const KEPT: usize = 65_537;
 
 /// Returns the bytes of a line that are kept.
-pub(crate) fn kept_front(line: &[u8]) -> &[u8]
+pub(crate) fn kept_prefix(line: &[u8]) -> &[u8]
     ensures { result.now ≡ kept_of line.now }
 {
     &line[..line.len().min(KEPT)]

@@ -5,12 +5,12 @@ ghost use Rattle.drf_audit.specs.Audit.{line_of};
 ghost use Rattle.drf_core.specs.Machine.{live};
 ghost use Rattle.drf_explain.specs.Explained.{explained};
 ghost use Rattle.drf_explain.specs.ExplainedText.{explained_text};
-ghost use Rattle.drf_rows.specs.declared.limits.TheConstants.{LATEST_MOMENT};
+ghost use Rattle.drf_rows.specs.declared.limits.TheConstants.{LATEST_TIMESTAMP};
 ghost use Rattle.drf_journal.specs.Lines.{IsWithinLine};
-ghost use Rattle.drf_journal.specs.Device.{AppendsFrontOf};
-ghost use Rattle.drf_journal.specs.State.{begun, after_piece, at_end, HasTakenAtMost, WaitsBelow, AnswersFrontOf};
+ghost use Rattle.drf_journal.specs.Device.{AppendsPrefixOf};
+ghost use Rattle.drf_journal.specs.State.{begun, after_piece, at_end, HasTakenAtMost, WaitsBelow, AnswersPrefixOf};
 
-use crate::answer::answer_end;
+use crate::answer::reply_to_parted_line;
 use crate::device::{Device, write_whole};
 use crate::fault::RunFault;
 use crate::open_line::{OpenLine, line_feed_in};
@@ -116,7 +116,7 @@ impl<S: Sorter> Session<S> {
         ensures err { OnErr result ((self.new.unsent ≡ self.old.unsent) × (self.new.lines ≡ self.old.lines)) }
         ensures taken { HasTakenAtMost self.old.machine (self.old.pending ++ end.now) self.new.machine }
     {
-        answer_end(
+        reply_to_parted_line(
             &mut self.reader,
             &mut self.core,
             self.echo,
@@ -136,7 +136,7 @@ impl<S: Sorter> Session<S> {
         ensures part { IfOk result (λ count. (count ≤ length piece.now) × (0 < length piece.now → 0 < count)) }
         ensures ok { IfOk result (λ count. self.new ≡ after_piece self.old (take count piece.now)) }
         ensures bound { length self.old.unsent < 65536 → IfOk result (WaitsBelow 65536 self.old piece.now) }
-        ensures answers { AnswersFrontOf self.old piece.now self.new }
+        ensures answers { AnswersPrefixOf self.old piece.now self.new }
     {
         let mut rest = piece;
         while let Some(at) = line_feed_in(rest) {
@@ -187,7 +187,7 @@ impl<S: Sorter> Session<S> {
 
     /// Returns the lines that explain a cycle at the timestamp `at`, in milliseconds.
     pub(crate) fn explain(&self, alloc: Global, at: u64) -> Result<Vec<u8>, AllocError>
-        requires { at ≤ LATEST_MOMENT }
+        requires { at ≤ LATEST_TIMESTAMP }
         ensures { IfOk result (λ text. text.items ≡ explained_text (explained self.now.machine.rows at)) }
     {
         let findings = self.core.explain(at)?;
@@ -199,7 +199,7 @@ impl<S: Sorter> Session<S> {
         ensures ok { OnOk result (self.new ≡ record self.old { unsent = [] }) }
         ensures kept { OnErr result (self.new ≡ self.old) }
         ensures sent { OnOk result (Appends (W.contents writer.old.inner) (W.contents writer.new.inner) self.old.unsent) }
-        ensures err { OnErr result (AppendsFrontOf (W.contents writer.old.inner) (W.contents writer.new.inner) self.old.unsent) }
+        ensures err { OnErr result (AppendsPrefixOf (W.contents writer.old.inner) (W.contents writer.new.inner) self.old.unsent) }
         ensures fault { IfErr result (λ fault. fault ≡ RunFault.Write) }
         ensures failed { writer.old.failed ≡ false → writer.new.failed ≡ is_err result }
         ensures flushed { writer.old.flushed ≡ true → OnOk result (writer.new.flushed ≡ true) }

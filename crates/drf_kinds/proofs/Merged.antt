@@ -47,15 +47,15 @@ touching a b n x from touches ordered =
     ]
 
 -- the first interval and the others
-abbrev pub front_of : List Interval → Interval
-front_of is = get_or is 0 (record { first = 0; last = 0 })
+abbrev pub prefix_of : List Interval → Interval
+prefix_of is = get_or is 0 (record { first = 0; last = 0 })
 
 abbrev pub rest_of : List Interval → List Interval
 rest_of is = take (length is - 1) (drop 1 is)
 
-pub front_rest : (is : List Interval) → length is ≢ 0 → is ≡ front_of is ∷ rest_of is
-front_rest [] some = absurd (some refl)
-front_rest (i ∷ is) some = ap (λ js. i ∷ js) (sym (take_all (length (i ∷ is) - 1) is (omega arith)))
+pub prefix_rest : (is : List Interval) → length is ≢ 0 → is ≡ prefix_of is ∷ rest_of is
+prefix_rest [] some = absurd (some refl)
+prefix_rest (i ∷ is) some = ap (λ js. i ∷ js) (sym (take_all (length (i ∷ is) - 1) is (omega arith)))
 
 -- what is true of the intervals after the first
 pub sorted_rest : (first : Interval) (rest : List Interval) → IsNonDecreasingBy (λ j. j.first) (first ∷ rest) → IsNonDecreasingBy (λ j. j.first) rest

@@ -15,10 +15,10 @@ use Rattle.drf_bundle.specs.Bundle.{Key, IsBundle, key_of}
 use Rattle.drf_bundle.proofs.laws.TakenLaws.{units-rest_of_all}
 use Rattle.drf_bundle.specs.declared.resource.Resource.{Resource}
 use Rattle.drf_rows.specs.LimitNumbers.{LimitNumbers}
-use Rattle.drf_rows.specs.Holdings.{Holding, of_offer, of_task, holdings_of}
-use Rattle.drf_rows.specs.Cycle.{at_moment}
+use Rattle.drf_rows.specs.Holdings.{Holding, holding_of_offer, holding_of_task, holdings_of}
+use Rattle.drf_rows.specs.Cycle.{at_timestamp}
 use Rattle.drf_rows.specs.Consistent.{IsConsistent}
-use Rattle.drf_row_laws.proofs.EndingLaws.{sum_by-out, started_by, accepted_in, between, offer_out, tasks_last, offer_held}
+use Rattle.drf_row_laws.proofs.ReleaseLaws.{sum_by-out, started_by, accepted_in, between, offer_out, tasks_last, offer_held}
 use Rattle.drf_bundle.proofs.ListLaws.{sum_by_each_le}
 use Rattle.drf_rows.specs.Offers.{offer_at, left_of_offer, task_of, offer_accepted}
 use Rattle.drf_rows.specs.Quota.{unreserved_in, reserves, reserved_in, consumption_where, is_within}
@@ -104,7 +104,7 @@ module _ (test : Path → Bool) (label : Text) where
       → sum_by consumed_in (started_by o starts) ≡ cond (test o.role) (used (uses starts)) 0
   consumed-started o [] = nothing (test o.role)
   consumed-started o (s ∷ starts) =
-      sum_by-cons consumed_in (of_task (task_of o s)) (started_by o starts)
+      sum_by-cons consumed_in (holding_of_task (task_of o s)) (started_by o starts)
       ∙ ap (λ (n : ℕ). cond (test o.role) (unreserved_in label s.1) 0 + n) (consumed-started o starts)
       ∙ both (test o.role) (unreserved_in label s.1) (used (uses starts))
       ∙ ap (λ (n : ℕ). cond (test o.role) n 0) (sym (sum_by-cons (λ part. unreserved_in label part) s.1 (uses starts)))
@@ -126,7 +126,7 @@ module _ (test : Path → Bool) (label : Text) where
       let rest = units-rest_of_all o.bundle (uses starts) (label, []) Thousandths is each in
       omega (
         arith,
-        ap (sum_by consumed_in) less.has ∙ sum_by-out consumed_in less.before less.after (of_offer o),
+        ap (sum_by consumed_in) less.has ∙ sum_by-out consumed_in less.before less.after (holding_of_offer o),
         ap (sum_by consumed_in) less.lacks,
         ap (sum_by consumed_in) (tasks_last rows number o starts [] consistent found) ∙ sum_by-append consumed_in left (started_by o starts),
         consumed-started o starts,
@@ -147,7 +147,7 @@ rest_is_consumed_no_longer limits rows a o test label consistent each found acce
     consumption-accepted test label rows a.offer o a.tasks consistent found each (covered-accept limits rows a o found accepted)
     ∙ ap (λ (n : ℕ). n + cond (test o.role) (unreserved_in label (left_of_offer o a.tasks)) 0)
     (sym (ap (λ (f : Option OfferRow).
-    consumption_where test (option_map_or (λ o. offer_accepted (at_moment rows a.at) o a.tasks a.refuse_ms) f rows) label) found))
+    consumption_where test (option_map_or (λ o. offer_accepted (at_timestamp rows a.at) o a.tasks a.refuse_ms) f rows) label) found))
 
 -- ---- no more is consumed than the total
 

@@ -16,12 +16,12 @@ use Rattle.drf_bundle.specs.Bundle.{Key, IsBundle, units, join}
 use Rattle.drf_bundle.specs.laws.BundleLaws.{known_by_units}
 use Rattle.drf_bundle.proofs.laws.UnitProofs.{join_by_units}
 use Rattle.drf_rows.specs.Filters.{is_of_client, is_on_agent}
-use Rattle.drf_rows.specs.Holdings.{Holding, of_offer, of_task, holdings_of, AreBundles}
+use Rattle.drf_rows.specs.Holdings.{Holding, holding_of_offer, holding_of_task, holdings_of, AreBundles}
 use Rattle.drf_row_laws.proofs.HoldingsLaws.{units_on, units_on-append, units_on-cons}
-use Rattle.drf_rows.specs.Cycle.{free_of, new_offer, with_offer, at_moment}
+use Rattle.drf_rows.specs.Cycle.{free_of, new_offer, with_offer, at_timestamp}
 use Rattle.drf_row_laws.proofs.CycleLaws.{bundle-free_of, units-free_of}
-use Rattle.drf_rows.specs.Endings.{is_task}
-use Rattle.drf_row_laws.proofs.EndingLaws.{is_task-swap, find-place}
+use Rattle.drf_rows.specs.Releases.{is_task}
+use Rattle.drf_row_laws.proofs.ReleaseLaws.{is_task-swap, find-place}
 use Rattle.drf_rows.specs.Offers.{task_of, offer_at, left_of_offer, filtered_until, filter_of, filters_rest, filters_with, offer_accepted, offer_declined}
 use Rattle.drf_rows.specs.Tasks.{Start}
 use Rattle.drf_rows.specs.Consistent.{are_distinct_tasks, IsAgent, IsCovered, IsConsistent}
@@ -60,7 +60,7 @@ declined_at_once rows agent client bundle at consistent =
     let offers : filter (λ p. not (is_next p)) (rows.offers ++ o ∷ []) ≡ rows.offers
     = filter_only is_next rows.offers [] o none itself tt ∙ append-nil rows.offers in
     let tasks : filter (λ t. true) rows.tasks ≡ rows.tasks = filter_each (λ t. true) rows.tasks (each_true rows.tasks) in
-    ap (λ (f : Option OfferRow). option_map_or (λ o. offer_declined (at_moment offered at) o 0) f offered) found
+    ap (λ (f : Option OfferRow). option_map_or (λ o. offer_declined (at_timestamp offered at) o 0) f offered) found
     ∙ (λ i. record rows {
       frameworks = offered.frameworks;
       offers = offers i;
@@ -76,17 +76,17 @@ IsAtMostOneMore : OfferRow → List FilterRow → List FilterRow → Type 0
 IsAtMostOneMore o old new =
     (new ≡ old ++ drop (length old) new)
     × (length (drop (length old) new) ≤ 1)
-    × (list_all (λ f. is_of_client (of_offer o).client f && is_on_agent o.agent f) (drop (length old) new) ≡ true)
+    × (list_all (λ f. is_of_client (holding_of_offer o).client f && is_on_agent o.agent f) (drop (length old) new) ≡ true)
 
 more_filters : (o : OfferRow) (old added : List FilterRow) → length added ≤ 1
-    → list_all (λ f. is_of_client (of_offer o).client f && is_on_agent o.agent f) added ≡ true
+    → list_all (λ f. is_of_client (holding_of_offer o).client f && is_on_agent o.agent f) added ≡ true
     → IsAtMostOneMore o old (old ++ added)
 unfolding IsAtMostOneMore
 more_filters o old added few own =
     let seam = drop-append_seam old added in (
       ap (λ (fs : List FilterRow). old ++ fs) (sym seam),
       subst (λ (fs : List FilterRow). length fs ≤ 1) (sym seam) few,
-      ap (list_all (λ f. is_of_client (of_offer o).client f && is_on_agent o.agent f)) seam ∙ own,
+      ap (list_all (λ f. is_of_client (holding_of_offer o).client f && is_on_agent o.agent f)) seam ∙ own,
     )
 
 filters_then : (rows : Rows) (o : OfferRow) (bundle : List Resource) (refuse_ms : ℕ) (refused : Bool)
@@ -101,7 +101,7 @@ pub accepted_starts_tasks : AcceptedStartsTasks
 unfolding effect IsAtMostOneMore
 accepted_starts_tasks rows a o found =
     subst (LeavesItsTasks rows a o)
-    (sym (ap (λ (f : Option OfferRow). option_map_or (λ o. offer_accepted (at_moment rows a.at) o a.tasks a.refuse_ms) f rows) found)) (record {
+    (sym (ap (λ (f : Option OfferRow). option_map_or (λ o. offer_accepted (at_timestamp rows a.at) o a.tasks a.refuse_ms) f rows) found)) (record {
       nothing_else = λ i. record rows {
         offers = filter (λ p. not (p.number == same i)) rows.offers;
         tasks = rows.tasks ++ map (task_of o) a.tasks;
@@ -118,8 +118,8 @@ accepted_starts_tasks rows a o found =
     same : o.number ≡ a.offer
     same = eqb-true o.number a.offer (find-place (λ (p : OfferRow). p.number == a.offer) rows.offers o found).1
 
-    added : IsAtMostOneMore o rows.filters (filters_with (at_moment rows a.at) (filters_rest o starts a.refuse_ms) o (left_of_offer o starts) a.refuse_ms)
-    added = filters_then (at_moment rows a.at) o (left_of_offer o starts) a.refuse_ms (filters_rest o starts a.refuse_ms)
+    added : IsAtMostOneMore o rows.filters (filters_with (at_timestamp rows a.at) (filters_rest o starts a.refuse_ms) o (left_of_offer o starts) a.refuse_ms)
+    added = filters_then (at_timestamp rows a.at) o (left_of_offer o starts) a.refuse_ms (filters_rest o starts a.refuse_ms)
 
 -- ---- filters are removed
 
@@ -173,29 +173,29 @@ module _ (rows : Rows) (before later : List TaskRow) (t : TaskRow) (consistent :
       → units_on agent (holdings_of rows) key p ≡ cond (same_text t.agent agent) (units t.bundle key p) 0 + units_on agent (holdings_of left) key p
   unfolding left
   held_there agent key p =
-      let offers : List Holding = map of_offer rows.offers in
-      let first : List Holding = map of_task before in
-      let last : List Holding = map of_task later in
-      let split : units_on agent (holdings_of rows) key p ≡ units_on agent offers key p + (units_on agent first key p + units_on agent (of_task t ∷ last) key p) =
-      units_on-append agent key p offers (map of_task rows.tasks)
-      ∙ ap (λ (ts : List TaskRow). units_on agent offers key p + units_on agent (map of_task ts) key p) runs
-      ∙ ap (λ (hs : List Holding). units_on agent offers key p + units_on agent hs key p) (map-append of_task before (t ∷ later))
-      ∙ ap (λ (n : ℕ). units_on agent offers key p + n) (units_on-append agent key p first (of_task t ∷ last)) in
+      let offers : List Holding = map holding_of_offer rows.offers in
+      let first : List Holding = map holding_of_task before in
+      let last : List Holding = map holding_of_task later in
+      let split : units_on agent (holdings_of rows) key p ≡ units_on agent offers key p + (units_on agent first key p + units_on agent (holding_of_task t ∷ last) key p) =
+      units_on-append agent key p offers (map holding_of_task rows.tasks)
+      ∙ ap (λ (ts : List TaskRow). units_on agent offers key p + units_on agent (map holding_of_task ts) key p) runs
+      ∙ ap (λ (hs : List Holding). units_on agent offers key p + units_on agent hs key p) (map-append holding_of_task before (t ∷ later))
+      ∙ ap (λ (n : ℕ). units_on agent offers key p + n) (units_on-append agent key p first (holding_of_task t ∷ last)) in
       let rest : units_on agent (holdings_of left) key p ≡ units_on agent offers key p + (units_on agent first key p + units_on agent last key p) =
-      units_on-append agent key p offers (map of_task (before ++ later))
-      ∙ ap (λ (hs : List Holding). units_on agent offers key p + units_on agent hs key p) (map-append of_task before later)
+      units_on-append agent key p offers (map holding_of_task (before ++ later))
+      ∙ ap (λ (hs : List Holding). units_on agent offers key p + units_on agent hs key p) (map-append holding_of_task before later)
       ∙ ap (λ (n : ℕ). units_on agent offers key p + n) (units_on-append agent key p first last) in
-      omega (arith, split, rest, units_on-cons agent key p (of_task t) last)
+      omega (arith, split, rest, units_on-cons agent key p (holding_of_task t) last)
 
   bundles_left : AreBundles (holdings_of left) × IsBundle t.bundle
   unfolding left
   bundles_left =
       let Good : Holding → Type 0 = λ h. IsBundle h.bundle in
-      let all = each_parts Good (map of_offer rows.offers) (map of_task rows.tasks) (bundles-consistent rows consistent) in
-      let tasks = each_parts Good (map of_task before) (map of_task (t ∷ later))
-      (subst (AllByRecursion Good) (ap (map of_task) runs ∙ map-append of_task before (t ∷ later)) all.1) in
-      let others = subst (AllByRecursion Good) (sym (map-append of_task before later)) (each_append Good (map of_task before) (map of_task later) tasks.0 tasks.1.1) in
-      (each_append Good (map of_offer rows.offers) (map of_task (before ++ later)) all.0 others, tasks.1.0)
+      let all = each_parts Good (map holding_of_offer rows.offers) (map holding_of_task rows.tasks) (bundles-consistent rows consistent) in
+      let tasks = each_parts Good (map holding_of_task before) (map holding_of_task (t ∷ later))
+      (subst (AllByRecursion Good) (ap (map holding_of_task) runs ∙ map-append holding_of_task before (t ∷ later)) all.1) in
+      let others = subst (AllByRecursion Good) (sym (map-append holding_of_task before later)) (each_append Good (map holding_of_task before) (map holding_of_task later) tasks.0 tasks.1.1) in
+      (each_append Good (map holding_of_offer rows.offers) (map holding_of_task (before ++ later)) all.0 others, tasks.1.0)
 
   module _ (agent : AgentRow) (place : ℕ) (at : slice_get rows.agents place ≡ Some agent) where
     total : IsBundle agent.total

@@ -9,10 +9,10 @@ use Rattle.drf_role.specs.Text.{Text, same_text}
 use Rattle.drf_role.specs.Path.{Path}
 use Rattle.drf_bundle.specs.Quantities.{amount_of, is_named}
 use Rattle.drf_rows.specs.LimitNumbers.{LimitNumbers}
-use Rattle.drf_rows.specs.Holdings.{Holding, of_offer, of_task, holdings_of}
-use Rattle.drf_rows.specs.Cycle.{at_moment}
+use Rattle.drf_rows.specs.Holdings.{Holding, holding_of_offer, holding_of_task, holdings_of}
+use Rattle.drf_rows.specs.Cycle.{at_timestamp}
 use Rattle.drf_rows.specs.Consistent.{IsConsistent}
-use Rattle.drf_rows.specs.Endings.{Ending, ends_offer, ends_task, without_ended, one_offer, one_task, offers_on, all_on, all_of}
+use Rattle.drf_rows.specs.Releases.{Release, ends_offer, ends_task, without_ended, one_offer, one_task, offers_on, all_on, all_of}
 use Rattle.drf_bundle.proofs.ListLaws.{sum_by-map, sum_by-filter, sum_by_each_le, cond_le}
 use Rattle.drf_rows.specs.Members.{active_at}
 use Rattle.drf_rows.specs.Offers.{offer_at, offer_accepted, offer_declined}
@@ -54,32 +54,32 @@ module _ (test : Path → Bool) (label : Text) where
   consumed_by h = cond (test h.client.role) (unreserved_in label h.bundle) 0
 
   held_le : (offers : List OfferRow) (tasks : List TaskRow) (p : OfferRow → Bool) (q : TaskRow → Bool)
-      → sum_by consumed_by (map of_offer (filter p offers) ++ map of_task (filter q tasks))
-      ≤ sum_by consumed_by (map of_offer offers ++ map of_task tasks)
+      → sum_by consumed_by (map holding_of_offer (filter p offers) ++ map holding_of_task (filter q tasks))
+      ≤ sum_by consumed_by (map holding_of_offer offers ++ map holding_of_task tasks)
   held_le offers tasks p q =
       omega (
         arith,
-        sum_by-append consumed_by (map of_offer (filter p offers)) (map of_task (filter q tasks)),
-        sum_by-append consumed_by (map of_offer offers) (map of_task tasks),
-        sum_by-map consumed_by of_offer (filter p offers),
-        sum_by-map consumed_by of_offer offers,
-        sum_by-map consumed_by of_task (filter q tasks),
-        sum_by-map consumed_by of_task tasks,
-        some_le (λ o. consumed_by (of_offer o)) p offers,
-        some_le (λ t. consumed_by (of_task t)) q tasks,
+        sum_by-append consumed_by (map holding_of_offer (filter p offers)) (map holding_of_task (filter q tasks)),
+        sum_by-append consumed_by (map holding_of_offer offers) (map holding_of_task tasks),
+        sum_by-map consumed_by holding_of_offer (filter p offers),
+        sum_by-map consumed_by holding_of_offer offers,
+        sum_by-map consumed_by holding_of_task (filter q tasks),
+        sum_by-map consumed_by holding_of_task tasks,
+        some_le (λ o. consumed_by (holding_of_offer o)) p offers,
+        some_le (λ t. consumed_by (holding_of_task t)) q tasks,
       )
 
-  ended_le : (rows : Rows) (ending : Ending) → consumption_where test (without_ended rows ending) label ≤ consumption_where test rows label
-  ended_le rows ending =
-      omega (arith, held_le rows.offers rows.tasks (λ o. not (ends_offer ending o)) (λ t. not (ends_task ending t)))
+  ended_le : (rows : Rows) (release : Release) → consumption_where test (without_ended rows release) label ≤ consumption_where test rows label
+  ended_le rows release =
+      omega (arith, held_le rows.offers rows.tasks (λ o. not (ends_offer release o)) (λ t. not (ends_task release t)))
 
-  fewer_agents : (rows : Rows) (ending : Ending) (p : AgentRow → Bool)
-      → held_unreserved test (holdings_of (without_ended rows ending)) label + reserved_for test (filter p rows.agents) label
+  fewer_agents : (rows : Rows) (release : Release) (p : AgentRow → Bool)
+      → held_unreserved test (holdings_of (without_ended rows release)) label + reserved_for test (filter p rows.agents) label
       ≤ consumption_where test rows label
-  fewer_agents rows ending p =
+  fewer_agents rows release p =
       omega (
         arith,
-        held_le rows.offers rows.tasks (λ o. not (ends_offer ending o)) (λ t. not (ends_task ending t)),
+        held_le rows.offers rows.tasks (λ o. not (ends_offer release o)) (λ t. not (ends_task release t)),
         some_le (λ a. reserved_in test label a.total) p rows.agents,
       )
 
@@ -130,18 +130,18 @@ module _ (limits : LimitNumbers) (rows : Rows) (label : Text) (place : ℕ) (l :
   effect_keeps (Accept a) given kind accepted = by (offer_at rows a.offer) refl
     where
       by : (f : Option OfferRow) → offer_at rows a.offer ≡ f
-          → StaysWithin (option_map_or (λ o. offer_accepted (at_moment rows a.at) o a.tasks a.refuse_ms) f rows)
+          → StaysWithin (option_map_or (λ o. offer_accepted (at_timestamp rows a.at) o a.tasks a.refuse_ms) f rows)
       by None found = stays
       by (Some o) found =
           at_most _ _ _
           (omega (
             arith,
             rest_is_consumed_no_longer limits rows a o its label consistent given found accepted,
-            ap (λ (f : Option OfferRow). consumption_where its (option_map_or (λ o. offer_accepted (at_moment rows a.at) o a.tasks a.refuse_ms) f rows) label) found,
+            ap (λ (f : Option OfferRow). consumption_where its (option_map_or (λ o. offer_accepted (at_timestamp rows a.at) o a.tasks a.refuse_ms) f rows) label) found,
           ))
   effect_keeps (Decline d) given kind accepted = by (offer_at rows d.offer)
     where
-      by : (f : Option OfferRow) → StaysWithin (option_map_or (λ o. offer_declined (at_moment rows d.at) o d.refuse_ms) f rows)
+      by : (f : Option OfferRow) → StaysWithin (option_map_or (λ o. offer_declined (at_timestamp rows d.at) o d.refuse_ms) f rows)
       by None = stays
       by (Some o) = at_most _ _ _ (ended_le its label rows (one_offer o.number))
   effect_keeps (Rescind offer) given kind accepted = at_most _ _ _ (ended_le its label rows (one_offer offer))
@@ -151,7 +151,7 @@ module _ (limits : LimitNumbers) (rows : Rows) (label : Text) (place : ℕ) (l :
   effect_keeps (Unreserve agent role resources) given kind accepted =
       at_most _ _ _ (omega (arith, (moved_is_consumed limits rows agent role resources its label consistent given).1 accepted))
   effect_keeps (SetLimit role limit) given kind accepted = cc
-  effect_keeps (Cycle moment) given kind accepted = cycle_keeps_limits rows moment label place l consistent at named
+  effect_keeps (Cycle timestamp) given kind accepted = cycle_keeps_limits rows timestamp label place l consistent at named
   effect_keeps event given kind accepted = stays
 
 -- no other event sets a limit

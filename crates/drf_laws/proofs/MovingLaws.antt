@@ -347,14 +347,14 @@ within_limits_it_is_admitted limits rows agent role resources consistent asked a
 -- if the refusal is not that of the first case, it comes from the other cases
 later_case : (b : Bool) (r q : Refusal) (cases : List (Bool × Refusal)) → (r ≡ q → ⊥) → first_case ((b, r) ∷ cases) ≡ Some q
     → (b ≡ false) × (first_case cases ≡ Some q)
-later_case true r q cases apart told =
+later_case true r q cases apart reported =
     let same : r ≡ q = cc in
     absurd (apart same)
-later_case false r q cases apart told = (refl, told)
+later_case false r q cases apart reported = (refl, reported)
 
 last_case : (b : Bool) (q : Refusal) → first_case ((b, q) ∷ []) ≡ Some q → b ≡ true
-last_case true q told = refl
-last_case false q told = cc
+last_case true q reported = refl
+last_case false q reported = cc
 
 module _ (rows : Rows) (agent : Text) (role : Path) (resources : List Resource) where
   abbrev from_limit : List (Bool × Refusal)
@@ -378,8 +378,8 @@ module _ (rows : Rows) (agent : Text) (role : Path) (resources : List Resource) 
   over_limit : (limits : LimitNumbers) → refusal_of limits rows (Reserve agent role resources) ≡ Some OverLimit
       → (is_full limits rows ≡ false) × IsOverLimit rows agent role resources
   unfolding refusal_of
-  over_limit limits told =
-      let full = later_case (is_full limits rows) HistoryFull OverLimit from_known (λ e. cc) told in
+  over_limit limits reported =
+      let full = later_case (is_full limits rows) HistoryFull OverLimit from_known (λ e. cc) reported in
       let known = later_case (not (has_agent rows agent)) UnknownAgent OverLimit from_role (λ e. cc) full.1 in
       let other = later_case (is_default role) DefaultRole OverLimit from_some (λ e. cc) known.1 in
       let some = later_case (is_empty resources) Empty OverLimit from_unreserved (λ e. cc) other.1 in
@@ -420,9 +420,9 @@ unlimited rows consistent = record {
 
 pub refused_would_pass : RefusedWouldPass
 unfolding effect free_of
-refused_would_pass limits rows agent role resources consistent asked told =
+refused_would_pass limits rows agent role resources consistent asked reported =
     let amounts : List Entry = quantities_of resources in
-    let over = over_limit rows agent role resources limits told in
+    let over = over_limit rows agent role resources limits reported in
     let free_rows : Rows = record rows { limits = [] } in
     let accepted : refusal_of limits free_rows (Reserve agent role resources) ≡ None =
     reserve-decided limits free_rows agent role resources

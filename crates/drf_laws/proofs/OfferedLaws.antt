@@ -11,16 +11,16 @@ use Rattle.drf_bundle.specs.declared.resource.Resource.{Resource}
 use Rattle.drf_rows.specs.LimitNumbers.{LimitNumbers}
 use Rattle.drf_rows.specs.Client.{Client, path_of}
 use Rattle.drf_rows.specs.Share.{Standing, stands_before}
-use Rattle.drf_rows.specs.Holdings.{of_offer}
+use Rattle.drf_rows.specs.Holdings.{holding_of_offer}
 use Rattle.drf_rows.specs.Held.{client_of, active_clients, standing_of}
 use Rattle.drf_rows.specs.Filters.{is_held_back}
-use Rattle.drf_rows.specs.Cycle.{is_allocatable, is_grantable, new_offer, with_offer, first_of, without, serving_order, turns, at_moment, cycle}
+use Rattle.drf_rows.specs.Cycle.{is_allocatable, is_grantable, new_offer, with_offer, first_of, without, serving_order, turns, at_timestamp, cycle}
 use Rattle.drf_row_laws.proofs.CycleLaws.{active_clients-with_offer}
 use Rattle.drf_bundle.proofs.ListLaws.{each_append, each_map, each_filter, each_find, each_true, any_fails}
-use Rattle.drf_rows.specs.Step.{refusal_of, effect, answer, line_told, new_offers, rows_after, rows_after_all, reply_to, replies_to}
+use Rattle.drf_rows.specs.Step.{refusal_of, effect, answer, line_reported, new_offers, rows_after, rows_after_all, reply_to, replies_to}
 use Rattle.drf_row_laws.proofs.FrameLaws.{its_part, Any, turns_keep, only_changed}
 use Rattle.drf_row_laws.proofs.LiveLaws.{kept-turns}
-use Rattle.drf_row_laws.specs.LifeLaws.{is_same_client, SuppressedIsNotOffered, FilteredIsNotOffered, CountUp, lines_told, NumbersAreNew}
+use Rattle.drf_row_laws.specs.LifeLaws.{is_same_client, SuppressedIsNotOffered, FilteredIsNotOffered, CountUp, lines_reported, NumbersAreNew}
 use Rattle.drf_rows.specs.declared.event.Event.{Event}
 use Rattle.drf_rows.specs.declared.event.Event.TheVariants.{Cycle}
 use Rattle.drf_rows.specs.declared.reply.OfferLine.{OfferLine}
@@ -61,7 +61,7 @@ each_served P s (suc n) clients all = by (first_of s clients) refl (each_served 
 
 -- a filter in force covers the offer
 abbrev is_stopped : Rows → OfferRow → Bool
-is_stopped rows o = is_held_back rows.filters rows.clock (of_offer o).client o.agent o.bundle
+is_stopped rows o = is_held_back rows.filters rows.clock (holding_of_offer o).client o.agent o.bundle
 
 -- no filter covers what a client is granted
 not_stopped : (rows : Rows) (agent : AgentRow) (client : Client) (bundle : List Resource) → is_grantable rows agent client bundle ≡ true
@@ -75,7 +75,7 @@ not_stopped rows agent client bundle is =
 record Offered (P : Client → Type 0) (start after : Rows) : Type 0 where
   made : List OfferRow
   offers : after.offers ≡ start.offers ++ made
-  each : AllByRecursion (λ o. P (of_offer o).client) made
+  each : AllByRecursion (λ o. P (holding_of_offer o).client) made
   let_through : AllByRecursion (λ o. is_stopped after o ≡ false) made
   numbers : CountUp start.next_offer (map (λ o. o.number) made) after.next_offer
   active : AllByRecursion P (active_clients after)
@@ -93,7 +93,7 @@ module _ (P : Client → Type 0) (start : Rows) where
       record {
         made = so.made ++ o ∷ [];
         offers = ap (λ (os : List OfferRow). os ++ o ∷ []) so.offers ∙ append_assoc start.offers so.made (o ∷ []);
-        each = each_append (λ o. P (of_offer o).client) so.made (o ∷ []) so.each (right, tt);
+        each = each_append (λ o. P (holding_of_offer o).client) so.made (o ∷ []) so.each (right, tt);
         let_through = each_append (λ o. is_stopped rows o ≡ false) so.made (o ∷ []) so.let_through (free, tt);
         numbers = subst (λ (ns : List ℕ). CountUp start.next_offer ns (rows.next_offer + 1)) (sym (map-append (λ (o : OfferRow). o.number) so.made (o ∷ [])))
             (count_up-append start.next_offer (map (λ o. o.number) so.made) (rows.next_offer ∷ []) rows.next_offer (rows.next_offer + 1) so.numbers (refl, refl));
@@ -112,7 +112,7 @@ module _ (P : Client → Type 0) (rows : Rows) (at : ℕ) (all : AllByRecursion 
   offered : Offered P rows (cycle rows at)
   unfolding cycle
   offered =
-      let so = offered-turns P (at_moment rows at) (filter (λ a. a.active) rows.agents) (offered-none P (at_moment rows at) all) in
+      let so = offered-turns P (at_timestamp rows at) (filter (λ a. a.active) rows.agents) (offered-none P (at_timestamp rows at) all) in
       record {
         made = so.made;
         offers = so.offers;
@@ -162,8 +162,8 @@ pub suppressed_is_not_offered : SuppressedIsNotOffered
 unfolding IsOther
 suppressed_is_not_offered rows client at silent =
     let all = all_others client rows.frameworks silent in
-    ap (list_any (λ o. is_same_client client (of_offer o).client)) (offered_new (IsOther client) rows at all)
-    ∙ any_fails (λ o. is_same_client client (of_offer o).client) (offered (IsOther client) rows at all).made (offered (IsOther client) rows at all).each
+    ap (list_any (λ o. is_same_client client (holding_of_offer o).client)) (offered_new (IsOther client) rows at all)
+    ∙ any_fails (λ o. is_same_client client (holding_of_offer o).client) (offered (IsOther client) rows at all).made (offered (IsOther client) rows at all).each
 
 -- ---- what filters cover
 
@@ -172,38 +172,38 @@ unfolding cycle
 filtered_is_not_offered rows at =
     let all = each_true (active_clients rows) in
     let after : Rows = cycle rows at in
-    let kept = kept-turns (at_moment rows at) (filter (λ a. a.active) rows.agents) in
-    (λ i. list_any (λ o. is_held_back (sym kept.0 i) (sym kept.1 i) (of_offer o).client o.agent o.bundle) (offered_new Any rows at all i))
+    let kept = kept-turns (at_timestamp rows at) (filter (λ a. a.active) rows.agents) in
+    (λ i. list_any (λ o. is_held_back (sym kept.0 i) (sym kept.1 i) (holding_of_offer o).client o.agent o.bundle) (offered_new Any rows at all i))
     ∙ any_fails (is_stopped after) (offered Any rows at all).made (offered Any rows at all).let_through
 
 -- ---- the offer numbers of a run
 
-abbrev AreTold : Rows → Reply → Rows → Type 0
-AreTold rows reply after = CountUp rows.next_offer (map (λ line. line.number) (lines_told reply)) after.next_offer
+abbrev AreReported : Rows → Reply → Rows → Type 0
+AreReported rows reply after = CountUp rows.next_offer (map (λ line. line.number) (lines_reported reply)) after.next_offer
 
-numbers_of_lines : (os : List OfferRow) → map (λ line. line.number) (map line_told os) ≡ map (λ o. o.number) os
+numbers_of_lines : (os : List OfferRow) → map (λ line. line.number) (map line_reported os) ≡ map (λ o. o.number) os
 numbers_of_lines [] = refl
 numbers_of_lines (o ∷ os) = ap (λ (ns : List ℕ). o.number ∷ ns) (numbers_of_lines os)
 
-told_by_cycle : (rows : Rows) (at : ℕ) → AreTold rows (answer rows (cycle rows at) (Cycle at)) (cycle rows at)
-told_by_cycle rows at =
+reported_by_cycle : (rows : Rows) (at : ℕ) → AreReported rows (answer rows (cycle rows at) (Cycle at)) (cycle rows at)
+reported_by_cycle rows at =
     let all = each_true (active_clients rows) in
     subst (λ (ns : List ℕ). CountUp rows.next_offer ns (cycle rows at).next_offer)
-    (sym (ap (λ (os : List OfferRow). map (λ line. line.number) (map line_told os)) (offered_new Any rows at all) ∙ numbers_of_lines (offered Any rows at all).made))
+    (sym (ap (λ (os : List OfferRow). map (λ line. line.number) (map line_reported os)) (offered_new Any rows at all) ∙ numbers_of_lines (offered Any rows at all).made))
     (offered Any rows at all).numbers
 
-told_by_effect : (rows : Rows) (event : Event) → AreTold rows (answer rows (effect rows event) event) (effect rows event)
+reported_by_effect : (rows : Rows) (event : Event) → AreReported rows (answer rows (effect rows event) event) (effect rows event)
 unfolding effect
-told_by_effect rows (Cycle at) = told_by_cycle rows at
-told_by_effect rows event = ap (λ (r : Rows). r.next_offer) (only_changed rows event)
+reported_by_effect rows (Cycle at) = reported_by_cycle rows at
+reported_by_effect rows event = ap (λ (r : Rows). r.next_offer) (only_changed rows event)
 
-told_by_step : (limits : LimitNumbers) (rows : Rows) (event : Event) → AreTold rows (reply_to limits rows event) (rows_after limits rows event)
+reported_by_step : (limits : LimitNumbers) (rows : Rows) (event : Event) → AreReported rows (reply_to limits rows event) (rows_after limits rows event)
 unfolding reply_to rows_after
-told_by_step limits rows event = by (refusal_of limits rows event)
+reported_by_step limits rows event = by (refusal_of limits rows event)
   where
-    by : (refusal : Option Refusal) → AreTold rows (option_map_or Refused refusal (answer rows (effect rows event) event))
+    by : (refusal : Option Refusal) → AreReported rows (option_map_or Refused refusal (answer rows (effect rows event) event))
         (option_map_or (λ refusal. rows) refusal (record (effect rows event) { events = rows.events + 1 }))
-    by None = told_by_effect rows event
+    by None = reported_by_effect rows event
     by (Some refusal) = refl
 
 pub numbers_are_new : NumbersAreNew
@@ -211,9 +211,9 @@ numbers_are_new limits rows [] = refl
 numbers_are_new limits rows (event ∷ events) =
     let number : OfferLine → ℕ = λ line. line.number in
     let after : Rows = rows_after limits rows event in
-    let first : List OfferLine = lines_told (reply_to limits rows event) in
-    let later : List OfferLine = flat_map lines_told (replies_to limits after events) in
+    let first : List OfferLine = lines_reported (reply_to limits rows event) in
+    let later : List OfferLine = flat_map lines_reported (replies_to limits after events) in
     let last : Rows = rows_after_all limits after events in
     subst (λ (ns : List ℕ). CountUp rows.next_offer ns last.next_offer) (sym (map-append number first later))
     (count_up-append rows.next_offer (map number first) (map number later) after.next_offer last.next_offer
-    (told_by_step limits rows event) (numbers_are_new limits after events))
+    (reported_by_step limits rows event) (numbers_are_new limits after events))

@@ -2,7 +2,7 @@
 pub mod Bounds
 pub mod Clients
 pub mod Cycles
-pub mod Endings
+pub mod Releases
 pub mod Events
 pub mod Kept
 pub mod Nodes

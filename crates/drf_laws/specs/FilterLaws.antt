@@ -72,28 +72,28 @@ AcceptedSetsFilter =
 
 -- until that time, the client of the offer is not offered on the agent of the offer what the bundle covers
 abbrev pub is_filtered : OfferRow → List Resource → ℕ → ℕ → Client → Text → List Resource → Bool
-is_filtered o refused until moment client agent bundle =
-    nat_lt moment until
+is_filtered o refused until timestamp client agent bundle =
+    nat_lt timestamp until
     && ((same_path o.role client.role && same_text o.framework client.framework) && (same_text o.agent agent && covers refused bundle))
 
 -- after a decline, filters cover exactly this and what they covered before
 abbrev pub DeclinedIsHeldBack : Type 0
 DeclinedIsHeldBack =
-    (rows : Rows) (d : declining.Decline) (o : OfferRow) (moment : ℕ) (client : Client) (agent : Text) (bundle : List Resource)
+    (rows : Rows) (d : declining.Decline) (o : OfferRow) (timestamp : ℕ) (client : Client) (agent : Text) (bundle : List Resource)
     → offer_at rows d.offer ≡ Some o
-    → max rows.clock d.at ≤ moment
-    → is_held_back (effect rows (Decline d)).filters moment client agent bundle
-    ≡ (is_held_back rows.filters moment client agent bundle
-    || is_filtered o o.bundle (end_of rows d.at d.refuse_ms) moment client agent bundle)
+    → max rows.clock d.at ≤ timestamp
+    → is_held_back (effect rows (Decline d)).filters timestamp client agent bundle
+    ≡ (is_held_back rows.filters timestamp client agent bundle
+    || is_filtered o o.bundle (end_of rows d.at d.refuse_ms) timestamp client agent bundle)
 
 -- after an accept, filters cover exactly what is left of the offer (if anything is) and what they covered before
 abbrev pub LeftIsHeldBack : Type 0
 LeftIsHeldBack =
-    (rows : Rows) (a : accepting.Accept) (o : OfferRow) (left : List Resource) (moment : ℕ) (client : Client) (agent : Text) (bundle : List Resource)
+    (rows : Rows) (a : accepting.Accept) (o : OfferRow) (left : List Resource) (timestamp : ℕ) (client : Client) (agent : Text) (bundle : List Resource)
     → IsConsistent rows
     → IsGivenBundles (Accept a)
     → IsLeft rows a o left
-    → max rows.clock a.at ≤ moment
-    → is_held_back (effect rows (Accept a)).filters moment client agent bundle
-    ≡ (is_held_back rows.filters moment client agent bundle
-    || (not (is_empty left) && is_filtered o left (end_of rows a.at a.refuse_ms) moment client agent bundle))
+    → max rows.clock a.at ≤ timestamp
+    → is_held_back (effect rows (Accept a)).filters timestamp client agent bundle
+    ≡ (is_held_back rows.filters timestamp client agent bundle
+    || (not (is_empty left) && is_filtered o left (end_of rows a.at a.refuse_ms) timestamp client agent bundle))

@@ -7,7 +7,7 @@ use Rattle.drf_rows.specs.Held.{cluster_total}
 use Rattle.drf_rows.specs.LimitNumbers.{LimitNumbers}
 use Rattle.drf_rows.specs.Consistent.{IsConsistent}
 use Rattle.drf_rows.specs.Step.{live_rows}
-use Rattle.drf_rows.specs.declared.limits.TheConstants.{LATEST_MOMENT}
+use Rattle.drf_rows.specs.declared.limits.TheConstants.{LATEST_TIMESTAMP}
 use Rattle.drf_rows.specs.declared.rows.Rows.{Rows}
 use Rattle.drf_laws.specs.Kept.{IsKept}
 
@@ -38,5 +38,5 @@ abbrev pub ClockMayMove : Type 0
 ClockMayMove =
     (rows : Rows) (clock : ℕ)
     → IsConsistent rows
-    → clock ≤ LATEST_MOMENT
+    → clock ≤ LATEST_TIMESTAMP
     → IsConsistent (record rows { clock = clock })

@@ -16,12 +16,12 @@ use Rattle.drf_rows.specs.declared.rows.Rows.{Rows}
 use Rattle.drf_row_laws.specs.Laws.{are_in_order}
 
 -- clients with the same path are equal
-abbrev pub PathsTellClients : Type 0
-PathsTellClients = (c d : Client) → path_of c ≡ path_of d → c ≡ d
+abbrev pub PathsIdentifyClients : Type 0
+PathsIdentifyClients = (c d : Client) → path_of c ≡ path_of d → c ≡ d
 
 -- two lists of nodes in order are equal if they have the same members
-abbrev pub MembersTellNodes : Type 0
-MembersTellNodes =
+abbrev pub MembersIdentifyNodes : Type 0
+MembersIdentifyNodes =
     (ps qs : List Path)
     → are_in_order ps ≡ true
     → are_in_order qs ≡ true

@@ -1,7 +1,7 @@
 //! Theorems about the order of clients, steps, filters, reports, weights and roles. The functions do nothing: their
 //! contracts are proved about the definition alone.
 
-ghost use Rattle.drf_row_laws.specs.Laws.{NoneBeforeItself, AtMostOneBefore, OneServingOrder, TooLittleIsNotGranted, FirstIsGrantedAll, CasesRise, LeastIsTold, RefusedChangesNothing, AcceptedIsCounted, RunsGoOn, LiveRowsReply, LiveRowsGoOn, LiveRowsRun, HeldIsReported, CountIsReported, TotalIsReported, AmountsAreAboveZero, SharesAreLowest, NodesRise, NodesBeginPaths};
+ghost use Rattle.drf_row_laws.specs.Laws.{NoneBeforeItself, AtMostOneBefore, OneServingOrder, TooLittleIsNotGranted, FirstIsGrantedAll, CasesRise, LeastIsReported, RefusedChangesNothing, AcceptedIsCounted, RunsGoOn, LiveRowsReply, LiveRowsGoOn, LiveRowsRun, HeldIsReported, CountIsReported, TotalIsReported, AmountsAreAboveZero, SharesAreLowest, NodesRise, NodesBeginPaths};
 ghost use Rattle.drf_row_laws.specs.LifeLaws.{AcceptedStartsTasks, DeclinedAtOnceIsUndone, FinishedIsGivenBack, FiltersGoWithTheirOwner, OtherFiltersStay, SuppressionIsItsClients, SuppressedIsNotOffered, FilteredIsNotOffered, NumbersAreNew, OtherAgentsStay, OtherFrameworksStay, OtherHoldingsStay, EndedIsGone, RemovedIsGone, ActivityIsItsAgents, CycleOnlyOffers};
 ghost use Rattle.drf_laws.specs.RoleChangeLaws.{ListedRolesAreSet, OtherClientsStayRegistered, SameRolesChangeNothing, TakenAgainIsNew};
 ghost use Rattle.drf_row_laws.specs.WeightLaws.{RoleHasItsWeight, OthersKeepTheirWeight, EachHasOneRow, NoRoleHasTwoRows};
@@ -25,7 +25,7 @@ pub fn turn_law()
 /// by the run of the second.
 pub fn step_law()
     ensures rising { CasesRise }
-    ensures least { LeastIsTold }
+    ensures least { LeastIsReported }
     ensures refused { RefusedChangesNothing }
     ensures accepted { AcceptedIsCounted }
     ensures runs { RunsGoOn }

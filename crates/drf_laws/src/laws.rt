@@ -7,7 +7,7 @@ ghost use Rattle.drf_laws.specs.BoundLaws.{RunsStayWithinLimits};
 ghost use Rattle.drf_laws.specs.EventLaws.{NoCaseHolds, LiveRowsDecide, AcceptsCanStart, EventsKeepConsistent, EventsKeepCounts};
 ghost use Rattle.drf_laws.specs.FilterLaws.{DeclinedSetsFilter, AcceptedSetsFilter, SomeRestIsLeft, DeclinedIsHeldBack, LeftIsHeldBack};
 ghost use Rattle.drf_laws.specs.KeptLaws.{KeptNumbersAreSmall, KeptTotalsAreSmall, FiltersEndEarly, LiveRowsAreConsistent, ClockMayMove};
-ghost use Rattle.drf_laws.specs.KnownLaws.{PathsTellClients, MembersTellNodes, StrangersHoldNothing, HeldIsNotFree};
+ghost use Rattle.drf_laws.specs.KnownLaws.{PathsIdentifyClients, MembersIdentifyNodes, StrangersHoldNothing, HeldIsNotFree};
 ghost use Rattle.drf_laws.specs.RunLaws.{IsGiven, StepsStayConsistent, RunsStayConsistent, AllRowsStayConsistent, RunsFromOpeningAreConsistent, NothingIsGrantedTwice, RunsFromOpeningKeepLimits, ConsistentRunsKeepLimits};
 ghost use Rattle.drf_laws.specs.TurnLaws.{ServedAreRegistered, ServedAreFew, GrantsArePart, CyclesMakeFewOffers, OtherAgentsStayFree};
 
@@ -41,8 +41,8 @@ pub fn turns_law()
 /// client of an unregistered framework holds no scalar, and that a total covers everything held on an agent exactly if
 /// it covers everything that is not free there.
 pub fn known_law()
-    ensures clients { PathsTellClients }
-    ensures nodes { MembersTellNodes }
+    ensures clients { PathsIdentifyClients }
+    ensures nodes { MembersIdentifyNodes }
     ensures strangers { StrangersHoldNothing }
     ensures held { HeldIsNotFree }
 {}

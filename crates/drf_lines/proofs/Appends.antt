@@ -8,11 +8,11 @@ use Rattle.std.proofs.lemmas.Result.{on_ok_weaker}
 use Rattle.serde_json.specs.Data.{Data, array, Members}
 use Rattle.serde_json.specs.View.{items_of}
 use Rattle.serde_json.specs.Written.{compact_text, members_text, comma_if}
-use Rattle.drf_lines.specs.Written.{AppendsMembers, AppendsText, KeepsFront, KeepsUtf8}
+use Rattle.drf_lines.specs.Written.{AppendsMembers, AppendsText, KeepsPrefix, KeepsUtf8}
 use Rattle.drf_lines.proofs.ReplyTexts.{then, added_utf8, left_text, items_begun, item_more, items_ended}
 
-still_begins : (old added front : List ℕ) → StartsWith old front → StartsWith (old ++ added) front
-still_begins old added front begins = grind (arith, common_steps)
+still_begins : (old added prefix : List ℕ) → StartsWith old prefix → StartsWith (old ++ added) prefix
+still_begins old added prefix begins = grind (arith, common_steps)
 
 -- a vector that was extended
 pub appended : {T E : Type 0} (r : Result T E) (old added : List ℕ) {new more : List ℕ} → new ≡ cond (is_ok r) (old ++ more) old → more ≡ added → IsUtf8 added
@@ -21,12 +21,12 @@ appended (Ok done) old added is same right =
     let whole = is ∙ ap (λ (bytes : List ℕ). old ++ bytes) same in
     record {
       ok = whole;
-      front = λ front begins. subst (λ (bytes : List ℕ). StartsWith bytes front) (sym whole) (still_begins old added front begins);
+      prefix = λ prefix begins. subst (λ (bytes : List ℕ). StartsWith bytes prefix) (sym whole) (still_begins old added prefix begins);
       utf8 = added_utf8 old added whole right;
     }
 appended (Err error) old added is same right = record {
   ok = tt;
-  front = λ front begins. subst (λ (bytes : List ℕ). StartsWith bytes front) (sym is) begins;
+  prefix = λ prefix begins. subst (λ (bytes : List ℕ). StartsWith bytes prefix) (sym is) begins;
   utf8 = tt;
 }
 
@@ -34,7 +34,7 @@ appended (Err error) old added is same right = record {
 pub nothing : {T E : Type 0} {done : T} {old : List ℕ} → AppendsText {T = T} {E = E} (Ok done) old old []
 nothing {old = old} = record {
   ok = sym (append-nil old);
-  front = λ front begins. begins;
+  prefix = λ prefix begins. begins;
   utf8 = λ right. right;
 }
 
@@ -44,7 +44,7 @@ module _ {T U E F : Type 0} {done : T} {r : Result U F} {old mid new : List ℕ}
       → AppendsText r old new (first ++ second)
   and_then {first = first} {second = second} a b = record {
     ok = on_ok_weaker r (λ end. then old first second a.ok end) b.ok;
-    front = λ front begins. b.front front (a.front front begins);
+    prefix = λ prefix begins. b.prefix prefix (a.prefix prefix begins);
     utf8 = on_ok_weaker r (λ keeps right. keeps (a.utf8 right)) b.utf8;
   }
 
@@ -53,7 +53,7 @@ module _ {T U E F : Type 0} {done : T} {r : Result U F} {old mid new : List ℕ}
       → AppendsText r mid new (members_text true more) → AppendsText r old new (members_text true (members more))
   and_more more a b = record {
     ok = on_ok_weaker r (λ end. end ∙ a.ok more) b.ok;
-    front = λ front begins. b.front front (a.front front begins);
+    prefix = λ prefix begins. b.prefix prefix (a.prefix prefix begins);
     utf8 = on_ok_weaker r (λ keeps right. keeps (a.utf8 right)) b.utf8;
   }
 
@@ -63,7 +63,7 @@ module _ {T U E F : Type 0} {done : T} {r : Result U F} {old mid new : List ℕ}
       → AppendsText {T = T} {E = E} (Ok done) old mid first → AppendsMembers r mid new others → AppendsMembers r old new members
   and_members {first = first} same a b = record {
     ok = on_ok_weaker r (λ end more. then old first _ a.ok (end more) ∙ ap (λ (text : List ℕ). old ++ text) (same more)) b.ok;
-    front = λ front begins. b.front front (a.front front begins);
+    prefix = λ prefix begins. b.prefix prefix (a.prefix prefix begins);
     utf8 = on_ok_weaker r (λ keeps right. keeps (a.utf8 right)) b.utf8;
   }
 
@@ -79,7 +79,7 @@ module _ {T E : Type 0} {r : Result T E} {old new : List ℕ} where
     ok = on_ok_weaker r
         (λ is more. ap (λ (bytes : List ℕ). bytes ++ members_text true more) is ∙ append_assoc old text (members_text true more) ∙ ap (λ (text : List ℕ). old ++ text) (same more))
         a.ok;
-    front = a.front;
+    prefix = a.prefix;
     utf8 = a.utf8;
   }
 
@@ -88,14 +88,14 @@ module _ {T E : Type 0} {r : Result T E} {old new : List ℕ} where
 -- these items were written, and with the remaining ones the text is complete
 pub record AppendsItems {A : Type 0} (value : A → Data) (all : List A) (i : ℕ) (old now : List ℕ) : Type 0 where
   pub text : now ++ left_text value i (drop i all) ≡ old ++ compact_text (array (items_of (map value all)))
-  pub front : KeepsFront old now
+  pub prefix : KeepsPrefix old now
   pub utf8 : KeepsUtf8 old now
 
 module _ {A : Type 0} {value : A → Data} {all : List A} {old : List ℕ} where
   pub opened : {T E : Type 0} {done : T} {now : List ℕ} → AppendsText {T = T} {E = E} (Ok done) old now (91 ∷ []) → AppendsItems value all 0 old now
   opened {now = now} a = record {
     text = items_begun value all old now a.ok;
-    front = a.front;
+    prefix = a.prefix;
     utf8 = a.utf8;
   }
 
@@ -104,7 +104,7 @@ module _ {A : Type 0} {value : A → Data} {all : List A} {old : List ℕ} where
       → AppendsText {T = U} {E = F} (Ok finished) mid now (compact_text (value x)) → AppendsItems value all (i + 1) old now
   one_more {i = i} {x = x} {before = before} {mid = mid} {now = now} so_far inside is comma item = record {
     text = item_more value all i x _ before mid now inside is so_far.text comma.ok item.ok;
-    front = λ front begins. item.front front (comma.front front (so_far.front front begins));
+    prefix = λ prefix begins. item.prefix prefix (comma.prefix prefix (so_far.prefix prefix begins));
     utf8 = λ right. item.utf8 (comma.utf8 (so_far.utf8 right));
   }
 
@@ -112,6 +112,6 @@ module _ {A : Type 0} {value : A → Data} {all : List A} {old : List ℕ} where
       → AppendsText r before new (93 ∷ []) → AppendsText r old new (compact_text (array (items_of (map value all))))
   closed {r = r} {i = i} {before = before} {new = new} so_far past end = record {
     ok = on_ok_weaker r (λ is. items_ended value all i _ before new past so_far.text is) end.ok;
-    front = λ front begins. end.front front (so_far.front front begins);
+    prefix = λ prefix begins. end.prefix prefix (so_far.prefix prefix begins);
     utf8 = on_ok_weaker r (λ keeps right. keeps (so_far.utf8 right)) end.utf8;
   }

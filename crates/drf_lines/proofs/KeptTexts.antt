@@ -35,7 +35,7 @@ text_written text {new} span node is start end =
       within = omega (arith, end);
       same =
           ap (take (span.end - span.start)) (ap (drop span.start) is ∙ drop-append-le span.start text added (omega (arith, start)))
-          ∙ ap (λ (front : List ℕ). take (span.end - span.start) (front ++ added)) (nothing_left span.start text (omega (arith, start)))
+          ∙ ap (λ (prefix : List ℕ). take (span.end - span.start) (prefix ++ added)) (nothing_left span.start text (omega (arith, start)))
           ∙ take_all (span.end - span.start) added (omega (arith, start, end, long));
     }
   where
@@ -45,10 +45,10 @@ text_written text {new} span node is start end =
     nothing_left (suc n) [] long = refl
     nothing_left (suc n) (b ∷ bytes) long = nothing_left n bytes (omega arith)
 
-get_front : {A : Type 0} (xs : List A) (x : A) (i : ℕ) → i < length xs → slice_get (xs ++ x ∷ []) i ≡ slice_get xs i
-get_front [] x i within = absurd (omega arith)
-get_front (y ∷ xs) x zero within = refl
-get_front (y ∷ xs) x (suc i) within = get_front xs x i (omega arith)
+get_prefix : {A : Type 0} (xs : List A) (x : A) (i : ℕ) → i < length xs → slice_get (xs ++ x ∷ []) i ≡ slice_get xs i
+get_prefix [] x i within = absurd (omega arith)
+get_prefix (y ∷ xs) x zero within = refl
+get_prefix (y ∷ xs) x (suc i) within = get_prefix xs x i (omega arith)
 
 get_end : {A : Type 0} (xs : List A) (x : A) → slice_get (xs ++ x ∷ []) (length xs) ≡ Some x
 get_end [] x = refl
@@ -61,7 +61,7 @@ pub texts_pushed : (text : List ℕ) (spans : List Span) (span : Span) (nodes : 
     → slice_get nodes (length spans) ≡ Some node → AreTexts text spans nodes → IsTextOf text span node → AreTexts text (spans ++ span ∷ []) nodes
 texts_pushed text spans span nodes node here are is i s n at its =
     elim (cases_lt i (length spans)) [
-      | inl before ↦ are i s n (sym (get_front spans span i before) ∙ at) its
+      | inl before ↦ are i s n (sym (get_prefix spans span i before) ∙ at) its
       | inr past ↦
           let last : i ≡ length spans =
           omega (arith, past, slice_get_within (spans ++ span ∷ []) i s at, length-append spans (span ∷ [])) in

@@ -133,11 +133,11 @@ or_swap false true = refl
 or_swap false false = refl
 
 among_more : (names : List (List ℕ)) (k q : List ℕ) → is_among (names ++ k ∷ []) q ≡ (bytes_eq k q || is_among names q)
-among_more names k q = front names ∙ or_swap (is_among names q) (bytes_eq k q)
+among_more names k q = prefix names ∙ or_swap (is_among names q) (bytes_eq k q)
   where
-    front : (names : List (List ℕ)) → is_among (names ++ k ∷ []) q ≡ (is_among names q || (bytes_eq k q || false))
-    front [] = refl
-    front (name ∷ names) = ap (λ b. bytes_eq name q || b) (front names) ∙ sym (or_assoc (bytes_eq name q) (is_among names q) _)
+    prefix : (names : List (List ℕ)) → is_among (names ++ k ∷ []) q ≡ (is_among names q || (bytes_eq k q || false))
+    prefix [] = refl
+    prefix (name ∷ names) = ap (λ b. bytes_eq name q || b) (prefix names) ∙ sym (or_assoc (bytes_eq name q) (is_among names q) _)
 
 known : (names : List (List ℕ)) (k q : List ℕ) (b : Bool) → bytes_eq k q ≡ b → is_among names k ≡ true → is_among names q ≡ (b || is_among names q)
 known names k q true e here = subst (λ x. is_among names x ≡ true) ((bytes_eq-Decides k q).0 e) here

@@ -83,8 +83,8 @@ pub number_of-few : (ds : List ℕ) → AllDigits 10 ds → 0 < length ds → le
 number_of-few ds all some few = let small : digits_value 10 ds < 10 ^ 19 = digits_below ds 19 all few in number_of-digits ds all some (omega (arith, small))
 
 -- the digits before the last of at most 19 are a number below 10^18
-pub front_below : (bytes : List ℕ) (i : ℕ) → i < length bytes → length bytes ≤ 19 → AllDigits 10 (take i bytes) → digits_value 10 (take i bytes) < 10 ^ 18
-front_below bytes i inside few all = digits_below (take i bytes) 18 all (omega (arith, length-take-le i bytes (omega arith)))
+pub prefix_below : (bytes : List ℕ) (i : ℕ) → i < length bytes → length bytes ≤ 19 → AllDigits 10 (take i bytes) → digits_value 10 (take i bytes) < 10 ^ 18
+prefix_below bytes i inside few all = digits_below (take i bytes) 18 all (omega (arith, length-take-le i bytes (omega arith)))
 
 -- a digit has the value of its distance from `0`
 pub digit_is : (byte : ℕ) → is_ascii_digit byte ≡ true → (digit_value byte + 48 ≡ byte) × (digit_value byte < 10)

@@ -50,14 +50,14 @@ said value meant printed texts means =
 
 -- ---- the written form of a name, a role or a bundle is UTF-8 and can be read
 
-abbrev pub IsNameTold : List ℕ → Type 0
-IsNameTold name = (name_in name ≡ Ok name) × IsText name
+abbrev pub IsNameReported : List ℕ → Type 0
+IsNameReported name = (name_in name ≡ Ok name) × IsText name
 
-abbrev pub IsRoleTold : List (List ℕ) → Type 0
-IsRoleTold role = IsRoleRead role × IsText (text_of role)
+abbrev pub IsRoleReported : List (List ℕ) → Type 0
+IsRoleReported role = IsRoleRead role × IsText (text_of role)
 
-abbrev pub IsBundleTold : List Resource → Type 0
-IsBundleTold bundle = (bundle_in (bundle_text bundle) ≡ Ok bundle) × IsText (bundle_text bundle)
+abbrev pub IsBundleReported : List Resource → Type 0
+IsBundleReported bundle = (bundle_in (bundle_text bundle) ≡ Ok bundle) × IsText (bundle_text bundle)
 
 -- ---- the head and the end
 
@@ -84,7 +84,7 @@ end_read rows digest small text =
 
 -- ---- agents
 
-pub agent_read : (a : AgentRow) → IsNameTold a.name → IsBundleTold a.total
+pub agent_read : (a : AgentRow) → IsNameReported a.name → IsBundleReported a.total
     → state_line_meaning (row_line (Agent a)) ≡ Ok (line.Row (Agent a))
 unfolding row_line state_line_in agent_row keys has_members text_at boolean_at
 agent_read a name total =
@@ -96,15 +96,15 @@ agent_read a name total =
 -- ---- frameworks
 
 -- a client as it is in its line
-abbrev client_told : ClientRow → ClientText
-client_told c = (text_of c.role, c.count, c.suppressed)
+abbrev client_reported : ClientRow → ClientText
+client_reported c = (text_of c.role, c.count, c.suppressed)
 
-clients_told : (clients : List ClientRow) → each_in client_text (values_in (items_of (map client_value clients))) ≡ Ok (map client_told clients)
+clients_reported : (clients : List ClientRow) → each_in client_text (values_in (items_of (map client_value clients))) ≡ Ok (map client_reported clients)
 unfolding client_text keys has_members text_at number_at boolean_at
-clients_told [] = refl
-clients_told (c ∷ clients) = rw (clients_told clients) refl
+clients_reported [] = refl
+clients_reported (c ∷ clients) = rw (clients_reported clients) refl
 
-clients_read : (clients : List ClientRow) → All IsClientRead clients → each_in client_in (map client_told clients) ≡ Ok clients
+clients_read : (clients : List ClientRow) → All IsClientRead clients → each_in client_in (map client_reported clients) ≡ Ok clients
 unfolding client_in
 clients_read [] each = refl
 clients_read (c ∷ clients) each =
@@ -131,7 +131,7 @@ clients_have_texts (c ∷ clients) each =
     let is = All-head IsClientRead c clients each in
     (((refl, small_text c.count is.small), ((refl, is.text), ((refl, tt), tt))), clients_have_texts clients (All-tail IsClientRead c clients each))
 
-pub framework_read : (f : FrameworkRow) → All IsClientRead f.clients → IsNameTold f.name
+pub framework_read : (f : FrameworkRow) → All IsClientRead f.clients → IsNameReported f.name
     → state_line_meaning (row_line (Framework f)) ≡ Ok (line.Row (Framework f))
 unfolding row_line state_line_in framework_row keys has_members text_at values_at
 framework_read f each name =
@@ -142,11 +142,11 @@ framework_read f each name =
       same = rw (clients_are_same f.clients each) refl;
     })
     ((refl, clients_have_texts f.clients each), ((refl, name.1), ((refl, known_text (codes "framework") refl), tt)))
-    (rw (clients_told f.clients, name.0, clients_read f.clients each) refl)
+    (rw (clients_reported f.clients, name.0, clients_read f.clients each) refl)
 
 -- ---- weights and limits
 
-pub weight_read : (w : WeightRow) → IsRoleTold w.role
+pub weight_read : (w : WeightRow) → IsRoleReported w.role
     → weight_in (amount_text w.weight) ≡ Ok w.weight → IsText (amount_text w.weight)
     → state_line_meaning (row_line (Weight w)) ≡ Ok (line.Row (Weight w))
 unfolding row_line state_line_in its_weight keys has_members text_at
@@ -156,7 +156,7 @@ weight_read w role weight weight_text =
     ((refl, role.1), ((refl, known_text (codes "weight") refl), ((refl, weight_text), tt)))
     (rw (role.0, weight) refl)
 
-pub limit_read : (l : LimitRow) → IsRoleTold l.role
+pub limit_read : (l : LimitRow) → IsRoleReported l.role
     → quantities_in (quantities_text l.limit) ≡ Ok l.limit → IsText (quantities_text l.limit)
     → state_line_meaning (row_line (Limit l)) ≡ Ok (line.Row (Limit l))
 unfolding row_line state_line_in its_limit keys has_members text_at
@@ -168,7 +168,7 @@ limit_read l role limit limit_text =
 
 -- ---- offers, tasks and filters
 
-pub offer_read : (o : OfferRow) → IsNameTold o.agent → IsNameTold o.framework → IsRoleTold o.role → IsBundleTold o.bundle → o.number < 2 ^ 64
+pub offer_read : (o : OfferRow) → IsNameReported o.agent → IsNameReported o.framework → IsRoleReported o.role → IsBundleReported o.bundle → o.number < 2 ^ 64
     → state_line_meaning (row_line (Offer o)) ≡ Ok (line.Row (Offer o))
 unfolding row_line state_line_in offer_row owner_text owner_in keys has_members text_at number_at
 offer_read o agent framework role bundle small =
@@ -181,7 +181,7 @@ offer_read o agent framework role bundle small =
     ((refl, agent.1), ((refl, framework.1), ((refl, small_text o.number small), ((refl, bundle.1), ((refl, role.1), ((refl, known_text (codes "offer") refl), tt))))))
     (rw (agent.0, framework.0, role.0, bundle.0) refl)
 
-pub task_read : (t : TaskRow) → IsNameTold t.agent → IsNameTold t.framework → IsRoleTold t.role → IsBundleTold t.bundle → IsNameTold t.name
+pub task_read : (t : TaskRow) → IsNameReported t.agent → IsNameReported t.framework → IsRoleReported t.role → IsBundleReported t.bundle → IsNameReported t.name
     → state_line_meaning (row_line (Task t)) ≡ Ok (line.Row (Task t))
 unfolding row_line state_line_in task_row owner_text owner_in keys has_members text_at
 task_read t agent framework role bundle name =
@@ -190,7 +190,7 @@ task_read t agent framework role bundle name =
     ((refl, agent.1), ((refl, framework.1), ((refl, role.1), ((refl, known_text (codes "task") refl), ((refl, name.1), ((refl, bundle.1), tt))))))
     (rw (agent.0, framework.0, role.0, name.0, bundle.0) refl)
 
-pub filter_read : (f : FilterRow) → IsNameTold f.agent → IsNameTold f.framework → IsRoleTold f.role → IsBundleTold f.bundle → f.until < 2 ^ 64
+pub filter_read : (f : FilterRow) → IsNameReported f.agent → IsNameReported f.framework → IsRoleReported f.role → IsBundleReported f.bundle → f.until < 2 ^ 64
     → state_line_meaning (row_line (Filter f)) ≡ Ok (line.Row (Filter f))
 unfolding row_line state_line_in filter_row owner_text owner_in keys has_members text_at number_at
 filter_read f agent framework role bundle small =

@@ -14,8 +14,8 @@ abbrev pub ArePlainFrom : List ℕ → ℕ → ℕ → Type 0
 ArePlainFrom text from to = (k : ℕ) → from ≤ k → k < to → is_plain_byte (get_or text k 0) ≡ true
 
 -- every prefix of the old text is also a prefix of the new one
-abbrev pub KeepsFront : List ℕ → List ℕ → Type 0
-KeepsFront old new = (front : List ℕ) → StartsWith old front → StartsWith new front
+abbrev pub KeepsPrefix : List ℕ → List ℕ → Type 0
+KeepsPrefix old new = (prefix : List ℕ) → StartsWith old prefix → StartsWith new prefix
 
 -- the text is UTF-8, as each `str` is; a separate definition, so that proof search does not unfold it
 unfoldable pub IsText : List ℕ → Type 0
@@ -28,11 +28,11 @@ KeepsUtf8 old new = IsUtf8 old → IsUtf8 new
 -- a text is appended; if memory runs out, the new text still begins with the old one
 pub record AppendsText {T E : Type 0} (result : Result T E) (old new text : List ℕ) : Type 0 where
   pub ok : OnOk result (new ≡ old ++ text)
-  pub front : KeepsFront old new
+  pub prefix : KeepsPrefix old new
   pub utf8 : OnOk result (KeepsUtf8 old new)
 
 -- members of an object are appended, whatever members come after them; otherwise as above
 pub record AppendsMembers {T E : Type 0} (result : Result T E) (old new : List ℕ) (members : Members → Members) : Type 0 where
   pub ok : OnOk result ((more : Members) → new ++ members_text true more ≡ old ++ members_text true (members more))
-  pub front : KeepsFront old new
+  pub prefix : KeepsPrefix old new
   pub utf8 : OnOk result (KeepsUtf8 old new)

@@ -5,7 +5,7 @@ ghost use Rattle.drf_bundle.specs.declared.quantities.Entry.{Entry};
 ghost use Rattle.drf_text.specs.Written.{amount_text, decimals_text, quantity_text};
 ghost use Rattle.drf_lines.specs.Amounts.{left_amounts};
 ghost use Rattle.drf_lines.specs.ReportLine.{amounts_text};
-ghost use Rattle.drf_lines.specs.Written.{AppendsText, KeepsFront, KeepsUtf8};
+ghost use Rattle.drf_lines.specs.Written.{AppendsText, KeepsPrefix, KeepsUtf8};
 
 use crate::member::{put, put_byte};
 use drf_bundle::{Entry, Quantities};
@@ -58,7 +58,7 @@ fn put_entry(line: &mut Vec<u8>, entry: &Entry) -> Result<(), AllocError>
 /// far.
 fn put_next(line: &mut Vec<u8>, entry: &Entry, has_any: bool) -> Result<bool, AllocError>
     ensures ok { IfOk result (λ has_now. (left : List Entry) → line.new.items ++ left_amounts has_now left ≡ line.old.items ++ left_amounts has_any (entry.now ∷ left)) }
-    ensures front { KeepsFront line.old.items line.new.items }
+    ensures prefix { KeepsPrefix line.old.items line.new.items }
     ensures utf8 { OnOk result (KeepsUtf8 line.old.items line.new.items) }
 {
     if entry.amount.thousandths() == 0 {

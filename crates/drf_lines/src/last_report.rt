@@ -5,7 +5,7 @@ ghost use Rattle.serde_json.specs.View.{items_of};
 ghost use Rattle.serde_json.specs.Written.{compact_text};
 ghost use Rattle.drf_lines.specs.LastReport.{AreTexts};
 ghost use Rattle.drf_lines.specs.ReportLine.{node_value};
-ghost use Rattle.drf_lines.specs.Written.{KeepsFront};
+ghost use Rattle.drf_lines.specs.Written.{KeepsPrefix};
 
 use crate::member::{put_byte, put_comma};
 use crate::node::{is_same_node, is_same_path, put_node, put_node_list};
@@ -212,7 +212,7 @@ impl LastReport {
         nodes: &SharedTable<NodeLine>,
     ) -> Result<(), AllocError>
         ensures ok { OnOk result (line.new.items ≡ line.old.items ++ compact_text (array (items_of (map node_value nodes.now)))) }
-        ensures front { KeepsFront line.old.items line.new.items }
+        ensures prefix { KeepsPrefix line.old.items line.new.items }
     {
         if self.keeps && nodes.len() <= MOST_NODES && self.put_and_keep(line, nodes).is_ok() {
             return Ok(());

@@ -12,7 +12,7 @@ ghost use Rattle.drf_lines.specs.LineValue.{line_view, IsRefused};
 ghost use Rattle.drf_lines.specs.Meaning.{value_in, cycle_event, report_event, event_in, meaning_of, longest_line};
 ghost use Rattle.drf_lines.specs.ReplyLine.{reply_line};
 ghost use Rattle.drf_lines.specs.StateMeaning.{state_line_meaning};
-ghost use Rattle.drf_lines.specs.Written.{KeepsFront};
+ghost use Rattle.drf_lines.specs.Written.{KeepsPrefix};
 
 use crate::agents::{read_its_agent, read_its_total};
 use crate::fault::{LineError, LineFault};
@@ -247,7 +247,7 @@ impl LineReader {
     /// the last report is copied.
     pub fn push_reply(&mut self, text: &mut Vec<u8>, reply: &Reply) -> Result<(), AllocError>
         ensures ok { OnOk result (text.new.items ≡ text.old.items ++ reply_line reply.now) }
-        ensures front { KeepsFront text.old.items text.new.items }
+        ensures prefix { KeepsPrefix text.old.items text.new.items }
     {
         push_reply_after(text, &mut self.last, reply)
     }

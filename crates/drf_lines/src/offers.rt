@@ -94,7 +94,7 @@ fn put_refusal(line: &mut Vec<u8>, refuse_ms: u64) -> Result<(), AllocError>
 }
 
 /// Appends the opening brace and the timestamp `at`, in milliseconds.
-fn put_moment(line: &mut Vec<u8>, at: u64) -> Result<(), AllocError>
+fn put_timestamp(line: &mut Vec<u8>, at: u64) -> Result<(), AllocError>
     ensures appends { AppendsText result line.old.items line.new.items (codes "{\"at\":" ++ decimal at) }
     ensures small { at < 2 ^ 64 }
 {
@@ -152,7 +152,7 @@ pub fn put_accept(line: &mut Vec<u8>, accept: &Accept) -> Result<(), AllocError>
         tasks,
     } = accept;
     let mut text = String::new(*line.allocator());
-    put_moment(line, *at)?;
+    put_timestamp(line, *at)?;
     put_name(line, ",\"event\":\"accept\",\"framework\":\"", framework)?;
     put_answered(line, *offer, *refuse_ms)?;
     put_tasks(line, &mut text, tasks.as_slice())
@@ -169,7 +169,7 @@ pub fn put_decline(line: &mut Vec<u8>, decline: &Decline) -> Result<(), AllocErr
         at,
         refuse_ms,
     } = decline;
-    put_moment(line, *at)?;
+    put_timestamp(line, *at)?;
     put_name(line, ",\"event\":\"decline\",\"framework\":\"", framework)?;
     put_answered(line, *offer, *refuse_ms)?;
     put_byte(line, b'}')

@@ -4,7 +4,7 @@ ghost use Rattle.serde_json.specs.Data.{array};
 ghost use Rattle.serde_json.specs.View.{items_of};
 ghost use Rattle.serde_json.specs.Written.{compact_text};
 ghost use Rattle.drf_lines.specs.ReplyLine.{offer_value, offers_value, refused_value, reply_value, reply_line, fault_line};
-ghost use Rattle.drf_lines.specs.Written.{AppendsText, KeepsFront};
+ghost use Rattle.drf_lines.specs.Written.{AppendsText, KeepsPrefix};
 
 use crate::fault::LineFault;
 use crate::last_report::LastReport;
@@ -67,7 +67,7 @@ fn put_done(line: &mut Vec<u8>) -> Result<(), AllocError>
 
 fn put_reply(line: &mut Vec<u8>, last: &mut LastReport, reply: &Reply) -> Result<(), AllocError>
     ensures ok { OnOk result (line.new.items ≡ line.old.items ++ compact_text (reply_value reply.now)) }
-    ensures front { KeepsFront line.old.items line.new.items }
+    ensures prefix { KeepsPrefix line.old.items line.new.items }
 {
     match reply {
         Reply::Done => put_done(line),
@@ -84,7 +84,7 @@ pub fn push_reply_after(
     reply: &Reply,
 ) -> Result<(), AllocError>
     ensures ok { OnOk result (text.new.items ≡ text.old.items ++ reply_line reply.now) }
-    ensures front { KeepsFront text.old.items text.new.items }
+    ensures prefix { KeepsPrefix text.old.items text.new.items }
 {
     put_reply(text, last, reply)?;
     put_byte(text, b'\n')
@@ -94,7 +94,7 @@ pub fn push_reply_after(
 /// of the line may have been appended.
 pub fn push_reply(text: &mut Vec<u8>, reply: &Reply) -> Result<(), AllocError>
     ensures ok { OnOk result (text.new.items ≡ text.old.items ++ reply_line reply.now) }
-    ensures front { KeepsFront text.old.items text.new.items }
+    ensures prefix { KeepsPrefix text.old.items text.new.items }
 {
     let mut last = LastReport::none();
     push_reply_after(text, &mut last, reply)

@@ -2,7 +2,7 @@
 ghost use Rattle.std.specs.Prelude.{◌≡◌, ◌++◌, OnOk};
 ghost use Rattle.serde_json.specs.Written.{compact_text};
 ghost use Rattle.drf_lines.specs.ReportLine.{report_value};
-ghost use Rattle.drf_lines.specs.Written.{KeepsFront};
+ghost use Rattle.drf_lines.specs.Written.{KeepsPrefix};
 
 use crate::amounts::put_amounts;
 use crate::last_report::LastReport;
@@ -17,7 +17,7 @@ pub fn put_report(
     report: &Report,
 ) -> Result<(), AllocError>
     ensures ok { OnOk result (line.new.items ≡ line.old.items ++ compact_text (report_value report.now)) }
-    ensures front { KeepsFront line.old.items line.new.items }
+    ensures prefix { KeepsPrefix line.old.items line.new.items }
 {
     put(line, "{\"nodes\":")?;
     last.put_nodes(line, &report.nodes)?;

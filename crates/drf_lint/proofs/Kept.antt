@@ -6,13 +6,13 @@ use Rattle.drf_lines.specs.Meaning.{longest_line, meaning_of}
 use Rattle.drf_lines.specs.declared.fault.LineFault.TheVariants.{LineTooLong}
 use Rattle.drf_journal.specs.Output.{kept_of}
 
-front_is_enough : (n : ℕ) (xs ys : List ℕ) → take n (take n xs ++ ys) ≡ take n (xs ++ ys)
-front_is_enough zero xs ys = refl
-front_is_enough (suc n) [] ys = refl
-front_is_enough (suc n) (x ∷ xs) ys = ap (λ l. x ∷ l) (front_is_enough n xs ys)
+prefix_is_enough : (n : ℕ) (xs ys : List ℕ) → take n (take n xs ++ ys) ≡ take n (xs ++ ys)
+prefix_is_enough zero xs ys = refl
+prefix_is_enough (suc n) [] ys = refl
+prefix_is_enough (suc n) (x ∷ xs) ys = ap (λ l. x ∷ l) (prefix_is_enough n xs ys)
 
 pub kept-append : (line more : List ℕ) → kept_of (kept_of line ++ more) ≡ kept_of (line ++ more)
-kept-append line more = front_is_enough 65537 line more
+kept-append line more = prefix_is_enough 65537 line more
 
 too_long : (line : List ℕ) → longest_line < length line → meaning_of line ≡ Err LineTooLong
 unfolding meaning_of

@@ -8,7 +8,7 @@ use Rattle.drf_rows.specs.declared.event.Event.{Event}
 use Rattle.drf_lint.specs.declared.diagnosis.Diagnosis.{Diagnosis}
 use Rattle.drf_lint.specs.declared.diagnosis.NoEvent.{NoEvent}
 use Rattle.drf_lint.specs.declared.diagnosis.NoEvent.TheVariants.{Fault, Memory}
-use Rattle.drf_lint.specs.Told.{AreWords, IsColumn, IsTelling}
+use Rattle.drf_lint.specs.Told.{AreWords, IsColumn, IsReporting}
 
 -- what is reported about a line that is not an event
 pub record IsDiagnosis (line : List ℕ) (said : Diagnosis) : Type 0 where
@@ -42,9 +42,9 @@ fault_count [] = 0
 fault_count (line ∷ lines) = faults_of (meaning_of line) + fault_count lines
 
 -- the diagnosis of the line with this number and meaning: nothing if it is an event
-abbrev pub IsToldOf : ℕ → List ℕ → Result Event LineFault → List ℕ → Type 0
-IsToldOf number line (Ok event) text = text ≡ []
-IsToldOf number line (Err fault) text = IsTelling number line fault text
+abbrev pub IsReportedOf : ℕ → List ℕ → Result Event LineFault → List ℕ → Type 0
+IsReportedOf number line (Ok event) text = text ≡ []
+IsReportedOf number line (Err fault) text = IsReporting number line fault text
 
 -- the text is a text with one property, followed by a text with the other
 pub record IsOfTwo (One Other : List ℕ → Type 0) (text : List ℕ) : Type 0 where
@@ -55,12 +55,12 @@ pub record IsOfTwo (One Other : List ℕ → Type 0) (text : List ℕ) : Type 0 
   pub text_is : text ≡ one ++ other
 
 -- the diagnoses of some lines, in order; the first of these lines has this number
-abbrev pub AreTold : ℕ → List (List ℕ) → List ℕ → Type 0
-AreTold number [] text = text ≡ []
-AreTold number (line ∷ lines) text = IsOfTwo (IsToldOf number line (meaning_of line)) (AreTold (number + 1) lines) text
+abbrev pub AreReported : ℕ → List (List ℕ) → List ℕ → Type 0
+AreReported number [] text = text ≡ []
+AreReported number (line ∷ lines) text = IsOfTwo (IsReportedOf number line (meaning_of line)) (AreReported (number + 1) lines) text
 
 -- the complete output for the first lines of an input, and how many of them are not events
-pub record AreJudged (write : Bool) (lines : List (List ℕ)) (written told : List ℕ) (faults : ℕ) : Type 0 where
+pub record AreJudged (write : Bool) (lines : List (List ℕ)) (written reported : List ℕ) (faults : ℕ) : Type 0 where
   pub forms : written ≡ forms_of write lines
-  pub tellings : AreTold 1 lines told
+  pub tellings : AreReported 1 lines reported
   pub count : faults ≡ fault_count lines

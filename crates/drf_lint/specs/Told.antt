@@ -22,15 +22,15 @@ pub record IsColumn (length_of_line column : ℕ) : Type 0 where
   pub last : column ≤ length_of_line + 1
 
 -- the report, such as `line 7 column 42: 33 BadText: ` and the hint
-abbrev pub told_line : ℕ → LineFault → ℕ → List ℕ → List ℕ
-told_line number fault column words =
+abbrev pub reported_line : ℕ → LineFault → ℕ → List ℕ → List ℕ
+reported_line number fault column words =
     (codes "line " ++ decimal number) ++ ((codes " column " ++ decimal column) ++ ((codes ": " ++ decimal (fault_number fault))
     ++ (32 ∷ fault_name fault ++ (codes ": " ++ (words ++ 10 ∷ [])))))
 
 -- the text is a report that the line with this number and these bytes has this error
-pub record IsTelling (number : ℕ) (line : List ℕ) (fault : LineFault) (text : List ℕ) : Type 0 where
+pub record IsReporting (number : ℕ) (line : List ℕ) (fault : LineFault) (text : List ℕ) : Type 0 where
   pub column : ℕ
   pub words : List ℕ
   pub place : IsColumn (length line) column
   pub are_words : AreWords words
-  pub text_is : text ≡ told_line number fault column words
+  pub text_is : text ≡ reported_line number fault column words

@@ -157,8 +157,8 @@ fn stop_in(alloc: Global, text: &str) -> Result<(usize, Stop), AllocError> {
 
 /// Returns the last byte before a position that is not a space, a tab or a carriage return.
 fn byte_before(bytes: &[u8], place: usize) -> Option<u8> {
-    let front = bytes.get(..place)?;
-    front
+    let prefix = bytes.get(..place)?;
+    prefix
         .iter()
         .rev()
         .find(|b| !matches!(**b, b' ' | b'\t' | b'\r'))
@@ -233,7 +233,7 @@ fn is_escape(behind: &[u8]) -> bool {
 }
 
 /// Returns whether a text is allowed after this byte, which is the last one that is not blank.
-fn may_begin_behind(before: Option<u8>) -> bool {
+fn may_follow(before: Option<u8>) -> bool {
     matches!(before, None | Some(b':' | b',' | b'[' | b'{'))
 }
 
@@ -300,7 +300,7 @@ fn hint_at(alloc: Global, piece: &[u8], place: usize, wanted: &str) -> Result<Hi
 fn bad_hint(alloc: Global, bytes: &[u8], place: usize, within: Within) -> Result<Hint, AllocError> {
     let before = byte_before(bytes, place);
     let rest = bytes.get(place..).unwrap_or(&[]);
-    if rest.starts_with(b"\"") && may_begin_behind(before) {
+    if rest.starts_with(b"\"") && may_follow(before) {
         let StringStop { place, length, why } = string_stop(bytes, place);
         let rest = bytes.get(place..).unwrap_or(&[]);
         return hint_at(alloc, rest.get(..length).unwrap_or(rest), place, why);

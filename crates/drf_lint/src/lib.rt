@@ -5,11 +5,11 @@ mod diagnosis;
 mod json_hint;
 mod linter;
 mod place;
+mod reported;
 mod shape_hint;
 mod shapes;
 mod stream;
 mod text_hint;
-mod told;
 mod words;
 
 pub use diagnosis::{Diagnosis, NoEvent, diagnose};

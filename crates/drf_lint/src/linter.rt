@@ -2,14 +2,14 @@
 ghost use Rattle.std.specs.Prelude.{◌≡◌, ◌+◌, ◌<◌, ◌≤◌, ◌^◌, ◌++◌, ◌||◌, [], Ok, length, false, true, if◌then◌else◌, IfOk, IfErr, OnOk, OnErr};
 ghost use Rattle.std.specs.Io.KnownBytes.{Appends};
 ghost use Rattle.drf_journal.specs.declared.fault.RunFault.TheVariants.{Memory};
-ghost use Rattle.drf_journal.specs.Device.{AppendsFrontOf};
+ghost use Rattle.drf_journal.specs.Device.{AppendsPrefixOf};
 ghost use Rattle.drf_journal.specs.Ended.{HasCause, HasFlushed};
 ghost use Rattle.drf_lint.specs.Judged.{form_of};
 ghost use Rattle.drf_lint.specs.Lint.{begun, lint_of, HasClosed, HasEnded, HasJudged, HasStoppedAt, HasStoppedIn, HasTaken, IsStop};
-ghost use Rattle.drf_lint.specs.Told.{told_line};
+ghost use Rattle.drf_lint.specs.Told.{reported_line};
 
 use crate::diagnosis::{Diagnosis, NoEvent, diagnose};
-use crate::told::told_line;
+use crate::reported::reported_line;
 use drf_journal::{Device, OpenLine, RunFault, line_feed_in, line_law, write_whole};
 use drf_lines::{LineReader, write_event};
 use drf_rows::Event;
@@ -24,7 +24,7 @@ fn write_form<W: Write>(
     writer: &mut Device<W>,
 ) -> Result<(), RunFault>
     ensures ok { OnOk result (Appends (W.contents writer.old.inner) (W.contents writer.new.inner) (form_of write (Ok event.now))) }
-    ensures err { OnErr result (AppendsFrontOf (W.contents writer.old.inner) (W.contents writer.new.inner) (form_of write (Ok event.now))) }
+    ensures err { OnErr result (AppendsPrefixOf (W.contents writer.old.inner) (W.contents writer.new.inner) (form_of write (Ok event.now))) }
     ensures stop { IfErr result IsStop }
     ensures memory { IfErr result (λ fault. fault ≡ Memory → Appends (W.contents writer.old.inner) (W.contents writer.new.inner) []) }
     ensures cause { writer.old.failed ≡ false → HasCause result false 0 writer.new.failed }
@@ -39,20 +39,20 @@ fn write_form<W: Write>(
 }
 
 /// Writes the diagnosis of the line with this number.
-fn tell<E: Write>(
+fn report<E: Write>(
     alloc: Global,
     number: u64,
     said: &Diagnosis,
     errors: &mut Device<E>,
 ) -> Result<(), RunFault>
-    ensures ok { OnOk result (Appends (E.contents errors.old.inner) (E.contents errors.new.inner) (told_line number said.now.fault said.now.column said.now.words.items)) }
-    ensures err { OnErr result (AppendsFrontOf (E.contents errors.old.inner) (E.contents errors.new.inner) (told_line number said.now.fault said.now.column said.now.words.items)) }
+    ensures ok { OnOk result (Appends (E.contents errors.old.inner) (E.contents errors.new.inner) (reported_line number said.now.fault said.now.column said.now.words.items)) }
+    ensures err { OnErr result (AppendsPrefixOf (E.contents errors.old.inner) (E.contents errors.new.inner) (reported_line number said.now.fault said.now.column said.now.words.items)) }
     ensures stop { IfErr result IsStop }
     ensures memory { IfErr result (λ fault. fault ≡ Memory → Appends (E.contents errors.old.inner) (E.contents errors.new.inner) []) }
     ensures cause { errors.old.failed ≡ false → HasCause result false 0 errors.new.failed }
     ensures flushed { errors.old.flushed ≡ true → HasFlushed result errors.new.flushed }
 {
-    let text = told_line(alloc, number, said)?;
+    let text = reported_line(alloc, number, said)?;
     write_whole(errors, &text)
 }
 
@@ -73,7 +73,7 @@ fn judge<W: Write, E: Write>(
         (W.contents writer.old.inner) (W.contents writer.new.inner) (E.contents errors.old.inner) (E.contents errors.new.inner)) }
     ensures cause { writer.old.failed ≡ false → errors.old.failed ≡ false → HasCause result false 0 (writer.new.failed || errors.new.failed) }
     ensures flushed { writer.old.flushed ≡ true → HasFlushed result writer.new.flushed }
-    ensures told_flushed { errors.old.flushed ≡ true → HasFlushed result errors.new.flushed }
+    ensures reported_flushed { errors.old.flushed ≡ true → HasFlushed result errors.new.flushed }
 {
     match diagnose(alloc, reader, line) {
         Ok(event) => {
@@ -81,7 +81,7 @@ fn judge<W: Write, E: Write>(
             Ok(true)
         }
         Err(NoEvent::Fault(said)) => {
-            tell(alloc, number, &said, errors)?;
+            report(alloc, number, &said, errors)?;
             Ok(false)
         }
         Err(NoEvent::Memory) => Err(RunFault::Memory),
@@ -94,7 +94,7 @@ pub(crate) struct Linter {
     /// Whether events are written.
     write: bool,
     /// The bytes that are stored of the last line, which has not ended yet.
-    front: OpenLine,
+    prefix: OpenLine,
     /// How many lines have ended.
     lines: u64,
     /// How many of these lines are not events.
@@ -110,7 +110,7 @@ impl Linter {
     {
         Linter {
             write,
-            front: OpenLine::new(alloc),
+            prefix: OpenLine::new(alloc),
             lines: 0,
             faults: 0,
             reader: LineReader::new(alloc),
@@ -136,24 +136,24 @@ impl Linter {
         requires counted { self.old.faults ≤ self.old.lines }
         ensures ok { OnOk result (HasEnded (lint_of self.old) end.now (lint_of self.new)
             (W.contents writer.old.inner) (W.contents writer.new.inner) (E.contents errors.old.inner) (E.contents errors.new.inner)) }
-        ensures err { IfErr result (λ fault. HasStoppedAt fault self.old.write (self.old.lines + 1) (self.old.front ++ end.now)
+        ensures err { IfErr result (λ fault. HasStoppedAt fault self.old.write (self.old.lines + 1) (self.old.prefix ++ end.now)
             (W.contents writer.old.inner) (W.contents writer.new.inner) (E.contents errors.old.inner) (E.contents errors.new.inner)) }
         ensures cause { writer.old.failed ≡ false → errors.old.failed ≡ false → HasCause result false 0 (writer.new.failed || errors.new.failed) }
         ensures flushed { writer.old.flushed ≡ true → HasFlushed result writer.new.flushed }
-        ensures told_flushed { errors.old.flushed ≡ true → HasFlushed result errors.new.flushed }
+        ensures reported_flushed { errors.old.flushed ≡ true → HasFlushed result errors.new.flushed }
     {
-        self.front.keep(end)?;
+        self.prefix.keep(end)?;
         let number = self.lines + 1;
         let is_event = judge(
             alloc,
             &mut self.reader,
             self.write,
             number,
-            self.front.bytes(),
+            self.prefix.bytes(),
             writer,
             errors,
         )?;
-        self.front.clear();
+        self.prefix.clear();
         self.lines = number;
         if !is_event {
             self.faults += 1;
@@ -177,7 +177,7 @@ impl Linter {
             (W.contents writer.old.inner) (W.contents writer.new.inner) (E.contents errors.old.inner) (E.contents errors.new.inner)) }
         ensures cause { writer.old.failed ≡ false → errors.old.failed ≡ false → HasCause result false 0 (writer.new.failed || errors.new.failed) }
         ensures flushed { writer.old.flushed ≡ true → HasFlushed result writer.new.flushed }
-        ensures told_flushed { errors.old.flushed ≡ true → HasFlushed result errors.new.flushed }
+        ensures reported_flushed { errors.old.flushed ≡ true → HasFlushed result errors.new.flushed }
     {
         // The contract of this call says how the lines of an input follow from its chunks.
         line_law();
@@ -186,7 +186,7 @@ impl Linter {
             self.end_line(alloc, &rest[..at], writer, errors)?;
             rest = &rest[at + 1..];
         }
-        self.front.keep(rest)?;
+        self.prefix.keep(rest)?;
         Ok(())
     }
 
@@ -201,13 +201,13 @@ impl Linter {
         requires counted { self.old.faults ≤ self.old.lines }
         ensures ok { OnOk result (HasClosed (lint_of self.old) (lint_of self.new)
             (W.contents writer.old.inner) (W.contents writer.new.inner) (E.contents errors.old.inner) (E.contents errors.new.inner)) }
-        ensures err { IfErr result (λ fault. (0 < length self.old.front) × HasStoppedAt fault self.old.write (self.old.lines + 1) self.old.front
+        ensures err { IfErr result (λ fault. (0 < length self.old.prefix) × HasStoppedAt fault self.old.write (self.old.lines + 1) self.old.prefix
             (W.contents writer.old.inner) (W.contents writer.new.inner) (E.contents errors.old.inner) (E.contents errors.new.inner)) }
         ensures cause { writer.old.failed ≡ false → errors.old.failed ≡ false → HasCause result false 0 (writer.new.failed || errors.new.failed) }
         ensures flushed { writer.old.flushed ≡ true → HasFlushed result writer.new.flushed }
-        ensures told_flushed { errors.old.flushed ≡ true → HasFlushed result errors.new.flushed }
+        ensures reported_flushed { errors.old.flushed ≡ true → HasFlushed result errors.new.flushed }
     {
-        if self.front.is_empty() {
+        if self.prefix.is_empty() {
             return Ok(());
         }
         self.end_line(alloc, &[], writer, errors)

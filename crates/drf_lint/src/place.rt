@@ -100,8 +100,8 @@ pub(crate) fn text_at(line: &str, place: usize, text: &str, byte: usize) -> usiz
         return place;
     };
     match text.as_bytes().get(..byte) {
-        Some(front) => {
-            if behind.starts_with(front) {
+        Some(prefix) => {
+            if behind.starts_with(prefix) {
                 return begin.saturating_add(byte);
             }
             place

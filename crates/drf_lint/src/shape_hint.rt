@@ -377,7 +377,7 @@ fn key_hint(alloc: Global, shaped: &Shaped<'_, '_>, key: &str) -> Result<Option<
 }
 
 /// Returns the length of the longest common prefix.
-fn common_front(a: &[u8], b: &[u8]) -> usize {
+fn common_prefix(a: &[u8], b: &[u8]) -> usize {
     let mut count = 0_usize;
     for (x, y) in a.iter().zip(b.iter()) {
         if x != y {
@@ -407,7 +407,7 @@ fn near_event(word: &str) -> Option<&'static str> {
     let mut most = bytes.len() / 2;
     for event in EVENTS.split(' ') {
         let other = event.as_bytes();
-        let common = common_front(bytes, other).saturating_add(common_back(bytes, other));
+        let common = common_prefix(bytes, other).saturating_add(common_back(bytes, other));
         if common > most && bytes.len() <= 2 * other.len() {
             most = common;
             best = Some(event);

@@ -33,7 +33,7 @@ fn lint<R: Read, W: Write, E: Write>(
         (E.contents errors.old.inner) (E.contents errors.new.inner) result }
     ensures cause { HasCause result reader.new.failed reader.new.calls (writer.new.failed || errors.new.failed) }
     ensures flushed { writer.old.flushed ≡ true → HasFlushed result writer.new.flushed }
-    ensures told_flushed { errors.old.flushed ≡ true → HasFlushed result errors.new.flushed }
+    ensures reported_flushed { errors.old.flushed ≡ true → HasFlushed result errors.new.flushed }
     ensures reads { reader.new.calls ≤ 2 ^ 40 }
 {
     // The contract of this call says how the lines of an input follow from its chunks.
@@ -71,7 +71,7 @@ pub fn run_lint<R: Read, W: Write, E: Write>(
         (E.contents errors.old.inner) (E.contents errors.new.inner) result }
     ensures cause { HasCause result reader.new.failed reader.new.calls (writer.new.failed || errors.new.failed) }
     ensures flushed { writer.old.flushed ≡ true → HasFlushed result writer.new.flushed }
-    ensures told_flushed { errors.old.flushed ≡ true → HasFlushed result errors.new.flushed }
+    ensures reported_flushed { errors.old.flushed ≡ true → HasFlushed result errors.new.flushed }
     ensures reads { reader.new.calls ≤ 2 ^ 40 }
 {
     let mut linter = Linter::begin(alloc, write);

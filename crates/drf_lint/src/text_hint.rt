@@ -175,15 +175,15 @@ fn pieces_wrong(alloc: Global, kind: Kind, text: &str) -> Result<Option<Wrong>, 
     }
     let ends = piece_ends(alloc, bytes)?;
     let piece = first_bad_piece(alloc, kind, bytes, &ends)?;
-    let front = up_to(bytes, &ends, piece);
-    let Some(fault) = fault_in(alloc, kind, front)? else {
+    let prefix = up_to(bytes, &ends, piece);
+    let Some(fault) = fault_in(alloc, kind, prefix)? else {
         return Ok(None);
     };
-    let begin = front
+    let begin = prefix
         .iter()
         .rposition(|b| *b == b';')
         .map_or(0, |at| at.saturating_add(1));
-    let said = front.get(begin..).unwrap_or(&[]);
+    let said = prefix.get(begin..).unwrap_or(&[]);
     let blanks = said.iter().position(|b| !is_blank(*b)).unwrap_or(0);
     let begin = begin.saturating_add(blanks);
     let said = said.get(blanks..).unwrap_or(&[]);
@@ -223,13 +223,13 @@ struct Told<'v, 'a> {
 }
 
 /// Appends where the text is, such as `"tasks" item 2 "use": `.
-fn say_path(words: &mut Vec<u8>, told: &Told<'_, '_>) -> Result<(), AllocError> {
-    quote(words, told.key.as_bytes())?;
-    if let Some(item) = told.item {
+fn say_path(words: &mut Vec<u8>, reported: &Told<'_, '_>) -> Result<(), AllocError> {
+    quote(words, reported.key.as_bytes())?;
+    if let Some(item) = reported.item {
         say(words, " item ")?;
         say_number(words, item.saturating_add(1))?;
     }
-    if let Some(inner) = told.inner {
+    if let Some(inner) = reported.inner {
         say(words, " ")?;
         quote(words, inner.as_bytes())?;
     }
@@ -237,45 +237,45 @@ fn say_path(words: &mut Vec<u8>, told: &Told<'_, '_>) -> Result<(), AllocError> 
 }
 
 /// Returns the position in the line at which the string of the text begins.
-fn place_of(alloc: Global, told: &Told<'_, '_>) -> Result<usize, AllocError> {
-    let mut place = value_at(alloc, told.line, 0, told.key)?;
-    if let Some(item) = told.item {
-        place = item_at(alloc, told.line, place, item)?;
+fn place_of(alloc: Global, reported: &Told<'_, '_>) -> Result<usize, AllocError> {
+    let mut place = value_at(alloc, reported.line, 0, reported.key)?;
+    if let Some(item) = reported.item {
+        place = item_at(alloc, reported.line, place, item)?;
     }
-    if let Some(inner) = told.inner {
-        place = value_at(alloc, told.line, place, inner)?;
+    if let Some(inner) = reported.inner {
+        place = value_at(alloc, reported.line, place, inner)?;
     }
     Ok(place)
 }
 
 /// Returns a hint if a text of the line is not valid.
-fn told_hint(alloc: Global, told: &Told<'_, '_>) -> Result<Option<Hint>, AllocError> {
-    let kind = kind_of(told.inner.unwrap_or(told.key));
-    let Some(wrong) = wrong_in(alloc, kind, told.text)? else {
+fn reported_hint(alloc: Global, reported: &Told<'_, '_>) -> Result<Option<Hint>, AllocError> {
+    let kind = kind_of(reported.inner.unwrap_or(reported.key));
+    let Some(wrong) = wrong_in(alloc, kind, reported.text)? else {
         return Ok(None);
     };
     let mut words = Vec::new(alloc);
-    say_path(&mut words, told)?;
-    let bytes = told.text.as_bytes();
+    say_path(&mut words, reported)?;
+    let bytes = reported.text.as_bytes();
     let end = wrong.begin.saturating_add(wrong.size);
     quote(&mut words, bytes.get(wrong.begin..end).unwrap_or(bytes))?;
     say(&mut words, wrong.why)?;
-    let begin = place_of(alloc, told)?;
-    let place = text_at(told.line, begin, told.text, wrong.at);
+    let begin = place_of(alloc, reported)?;
+    let place = text_at(reported.line, begin, reported.text, wrong.at);
     Ok(Some(Hint { place, words }))
 }
 
 /// Returns a hint if a role of the framework is not valid.
 fn roles_hint(alloc: Global, line: &str, items: &[Value<'_>]) -> Result<Option<Hint>, AllocError> {
     for (i, item) in items.iter().enumerate() {
-        let told = Told {
+        let reported = Told {
             line,
             key: "roles",
             item: Some(i),
             inner: None,
             text: item.as_str().unwrap_or(""),
         };
-        if let Some(hint) = told_hint(alloc, &told)? {
+        if let Some(hint) = reported_hint(alloc, &reported)? {
             return Ok(Some(hint));
         }
     }
@@ -290,14 +290,14 @@ fn task_hint(
     value: &Value<'_>,
 ) -> Result<Option<Hint>, AllocError> {
     for key in TASK_KEYS.split(' ') {
-        let told = Told {
+        let reported = Told {
             line,
             key: "tasks",
             item: Some(item),
             inner: Some(key),
             text: value.get(key).and_then(Value::as_str).unwrap_or(""),
         };
-        if let Some(hint) = told_hint(alloc, &told)? {
+        if let Some(hint) = reported_hint(alloc, &reported)? {
             return Ok(Some(hint));
         }
     }
@@ -323,14 +323,14 @@ fn key_hint<'v>(
 ) -> Result<Option<Hint>, AllocError> {
     match value.get(key) {
         Some(Value::String(text)) => {
-            let told = Told {
+            let reported = Told {
                 line,
                 key,
                 item: None,
                 inner: None,
                 text,
             };
-            told_hint(alloc, &told)
+            reported_hint(alloc, &reported)
         }
         Some(Value::Array(items)) => match kind_of(key) {
             Kind::Roles => roles_hint(alloc, line, items),

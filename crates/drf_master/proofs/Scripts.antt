@@ -25,16 +25,16 @@ use Rattle.drf_master.specs.declared.pass.Receipt.{Receipt}
 
 -- ---- a list that a loop goes through
 
-front-less : {X : Type 0} (front rest : List X) (x : X) → length front < length (front ++ x ∷ rest)
-front-less [] rest x = omega arith
-front-less (y ∷ front) rest x = omega (arith, front-less front rest x)
+prefix-less : {X : Type 0} (prefix rest : List X) (x : X) → length prefix < length (prefix ++ x ∷ rest)
+prefix-less [] rest x = omega arith
+prefix-less (y ∷ prefix) rest x = omega (arith, prefix-less prefix rest x)
 
-pub less-of_split : {X : Type 0} (xs front left rest : List X) (x : X) → xs ≡ front ++ left → left ≡ x ∷ rest → length front < length xs
-less-of_split xs front left rest x whole split =
-    subst (λ (l : List _). length front < length l) (sym (whole ∙ ap (λ (l : List _). front ++ l) split)) (front-less front rest x)
+pub less-of_split : {X : Type 0} (xs prefix left rest : List X) (x : X) → xs ≡ prefix ++ left → left ≡ x ∷ rest → length prefix < length xs
+less-of_split xs prefix left rest x whole split =
+    subst (λ (l : List _). length prefix < length l) (sym (whole ∙ ap (λ (l : List _). prefix ++ l) split)) (prefix-less prefix rest x)
 
-pub whole-next : {X : Type 0} (xs front left rest : List X) (x : X) → xs ≡ front ++ left → left ≡ x ∷ rest → xs ≡ (front ++ x ∷ []) ++ rest
-whole-next xs front left rest x whole split = whole ∙ (ap (λ (l : List _). front ++ l) split ∙ sym (append_assoc front (x ∷ []) rest))
+pub whole-next : {X : Type 0} (xs prefix left rest : List X) (x : X) → xs ≡ prefix ++ left → left ≡ x ∷ rest → xs ≡ (prefix ++ x ∷ []) ++ rest
+whole-next xs prefix left rest x whole split = whole ∙ (ap (λ (l : List _). prefix ++ l) split ∙ sym (append_assoc prefix (x ∷ []) rest))
 
 -- ---- one script
 
@@ -124,7 +124,7 @@ pub cut-at : (asked stops : ℕ → Type 0) (key : ℕ) (old mid new : Held) (sc
 cut-at asked stops key old mid new script es rest ys fault own split so_far same few stop = record {
   made = es;
   left = rest;
-  front = split;
+  prefix = split;
   replies = ys;
   through = through-same asked old mid new es ys so_far same;
   cause = cut-cause asked stops key old mid (length script) es ys fault own so_far few stop;
@@ -135,7 +135,7 @@ pub cut-before : (asked stops : ℕ → Type 0) (old new : Held) (script : List 
 cut-before asked stops old new script same = record {
   made = [];
   left = script;
-  front = refl;
+  prefix = refl;
   replies = [];
   through = through-starts asked old new same;
   cause = tt;
@@ -150,9 +150,9 @@ job-cut asked stops old new script (Close fault) cut = absurd cut.cause
 
 -- ---- jobs
 
-front-all : {X : Type 0} (xs front rest : List X) → xs ≡ front ++ rest → length rest ≡ 0 → front ≡ xs
-front-all xs front [] whole none = sym (whole ∙ append-nil front)
-front-all xs front (y ∷ rest) whole none = absurd (omega (arith, none))
+prefix-all : {X : Type 0} (xs prefix rest : List X) → xs ≡ prefix ++ rest → length rest ≡ 0 → prefix ≡ xs
+prefix-all xs prefix [] whole none = sym (whole ∙ append-nil prefix)
+prefix-all xs prefix (y ∷ rest) whole none = absurd (omega (arith, none))
 
 numbered-push : (n : ℕ) (jobs : List Job) (job : Job) → AreNumbered n jobs → job.worker ≡ n + length jobs → AreNumbered n (jobs ++ job ∷ [])
 numbered-push n [] job are next = (omega (arith, next), tt)
@@ -188,7 +188,7 @@ shared-end passes scripts jobs ps ss is count ended =
     let given = ap (λ (l : List (Vec Event)). length l) is.given
     ∙ (length-append (map (λ (j : Job). j.script) jobs) ss ∙ ap (λ (n : ℕ). n + length ss) (length-map jobs (λ (j : Job). j.script))) in
     let none = none-left (length jobs) (length ps) (length ss) (length passes) (length scripts) own given count ended in
-    (front-all passes (map (λ (j : Job). j.pass) jobs) ps is.own none.0, front-all scripts (map (λ (j : Job). j.script) jobs) ss is.given none.1)
+    (prefix-all passes (map (λ (j : Job). j.pass) jobs) ps is.own none.0, prefix-all scripts (map (λ (j : Job). j.script) jobs) ss is.given none.1)
 
 pub did-jobs : (asked stops : ℕ → ℕ → Type 0) (jobs : List Job) (results : List (Result Done DriveFault)) → length results ≡ length jobs
     → ((i : ℕ) (d : Result Done DriveFault) (e : Job) → i < length jobs → DidJob asked stops (slice_index_or jobs i e) (slice_index_or results i d))

@@ -35,7 +35,7 @@ pub record IsNewPass (given : ℕ) (new : Held) : Type 0 where
   pub receipts : new.receipts ≡ []
 
 -- the list that a call returns is legal, and ends with the entry at its place
-pub record IsTold (limits : LimitNumbers) (start : Rows) (told : List Entry) (place : ℕ) (entry : Entry) : Type 0 where
+pub record IsReported (limits : LimitNumbers) (start : Rows) (told : List Entry) (place : ℕ) (entry : Entry) : Type 0 where
   pub legal : IsLegal limits start told
   pub count : length told ≡ place + 1
   pub before : List Entry

@@ -168,7 +168,7 @@ IsCut stops made calls (Close fault) = ⊥
 pub record IsCutShort (asked stops : ℕ → Type 0) (old : Held) (script : List Event) (new : Held) (fault : DriveFault) : Type 0 where
   pub made : List Event
   pub left : List Event
-  pub front : script ≡ made ++ left
+  pub prefix : script ≡ made ++ left
   pub replies : List Reply
   pub through : IsThrough asked old made replies new
   pub cause : IsCut stops (length made) (length script) fault

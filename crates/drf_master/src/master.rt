@@ -6,7 +6,7 @@ ghost use Rattle.drf_master.specs.Calling.{IsCallFault};
 ghost use Rattle.drf_master.specs.Closing.{AreOf, IsClosed, IsCloseFault};
 ghost use Rattle.drf_master.specs.Journal.{Begins};
 ghost use Rattle.drf_master.specs.Matching.{IsShuffle, receipts_of};
-ghost use Rattle.drf_master.specs.Receipts.{IsNewPass, IsSamePass, IsTold, Keeps};
+ghost use Rattle.drf_master.specs.Receipts.{IsNewPass, IsSamePass, IsReported, Keeps};
 ghost use Rattle.drf_master.specs.declared.matching.CloseFault.TheVariants.{Memory};
 ghost use Rattle.drf_rows.specs.Step.{opening};
 
@@ -183,7 +183,7 @@ impl<K: Naming, R: Wait + Drop> Master<K, R> {
     ) -> Result<Answer<K>, CallFault>
         ensures own { OnOk result (pass.old.key ≡ self.now.key) }
         ensures kept { IfOk result (λ answer. Keeps pass.old pass.new answer.place (entry event answer.reply)) }
-        ensures told { IfOk result (λ answer. IsTold K.slate.limits K.start answer.told answer.place (entry event answer.reply)) }
+        ensures told { IfOk result (λ answer. IsReported K.slate.limits K.start answer.told answer.place (entry event answer.reply)) }
         ensures err { OnErr result (IsSamePass pass.old pass.new) }
         ensures fault { IfErr result (IsCallFault self.now.key pass.old) }
     {
@@ -203,7 +203,7 @@ impl<K: Naming, R: Wait + Drop> Master<K, R> {
     ) -> Result<Answer<K>, CallFault>
         ensures own { OnOk result (pass.old.key ≡ self.now.key) }
         ensures kept { IfOk result (λ answer. Keeps pass.old pass.new answer.place (entry event answer.reply)) }
-        ensures told { IfOk result (λ answer. IsTold K.slate.limits K.start answer.told answer.place (entry event answer.reply)) }
+        ensures told { IfOk result (λ answer. IsReported K.slate.limits K.start answer.told answer.place (entry event answer.reply)) }
         ensures later { IfOk result (λ answer. IsPrefix earlier.now answer.told) }
         ensures err { OnErr result (IsSamePass pass.old pass.new) }
         ensures fault { IfErr result (IsCallFault self.now.key pass.old) }
@@ -228,7 +228,7 @@ impl<K: Naming, R: Wait + Drop> Master<K, R> {
         requires own { pass.old.key ≡ self.now.key }
         requires room { 0 < pass.old.room }
         ensures kept { IfOk result (λ answer. Keeps pass.old pass.new answer.place (entry event answer.reply)) }
-        ensures told { IfOk result (λ answer. IsTold K.slate.limits K.start answer.told answer.place (entry event answer.reply)) }
+        ensures told { IfOk result (λ answer. IsReported K.slate.limits K.start answer.told answer.place (entry event answer.reply)) }
         ensures later { IfOk result (λ answer. IsPrefix earlier.now answer.told) }
         ensures err { OnErr result (IsSamePass pass.old pass.new) }
         ensures fault { IfErr result (IsCallFault self.now.key pass.old) }
@@ -250,7 +250,7 @@ impl<K: Naming, R: Wait + Drop> Master<K, R> {
     ) -> Result<(Answer<K>, Locked<'a, K, R>), CallFault>
         ensures own { OnOk result (pass.old.key ≡ self.now.key) }
         ensures kept { IfOk result (λ r. Keeps pass.old pass.new r.0.place (entry event r.0.reply)) }
-        ensures told { IfOk result (λ r. IsTold K.slate.limits K.start r.0.told r.0.place (entry event r.0.reply)) }
+        ensures told { IfOk result (λ r. IsReported K.slate.limits K.start r.0.told r.0.place (entry event r.0.reply)) }
         ensures err { OnErr result (IsSamePass pass.old pass.new) }
         ensures fault { IfErr result (IsCallFault self.now.key pass.old) }
     {
@@ -289,7 +289,7 @@ impl<K: Naming, R: Wait + Drop> Master<K, R> {
         requires own { pass.old.key ≡ self.now.key }
         requires room { 0 < pass.old.room }
         ensures kept { IfOk result (λ r. Keeps pass.old pass.new r.0.place (entry event r.0.reply)) }
-        ensures told { IfOk result (λ r. IsTold K.slate.limits K.start r.0.told r.0.place (entry event r.0.reply)) }
+        ensures told { IfOk result (λ r. IsReported K.slate.limits K.start r.0.told r.0.place (entry event r.0.reply)) }
         ensures err { OnErr result (IsSamePass pass.old pass.new) }
         ensures fault { IfErr result (IsCallFault self.now.key pass.old) }
     {

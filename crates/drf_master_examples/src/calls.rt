@@ -73,7 +73,7 @@ fn call_side_by_side<K: Naming + Send + Sync, W: Threads + Wait + Sync>(
     rt: &W,
     alloc: Global,
     told: &mut String,
-    front: &[&str],
+    prefix: &[&str],
     back: &[&str],
     master: &Master<K, &W>,
     passes: &mut [Pass],
@@ -83,7 +83,7 @@ fn call_side_by_side<K: Naming + Send + Sync, W: Threads + Wait + Sync>(
     let (first, second) = passes.split_at_mut(half);
     let (read, called) = join(
         rt,
-        || call_and_read_all(rt, alloc, told, master, first, viewers, front),
+        || call_and_read_all(rt, alloc, told, master, first, viewers, prefix),
         || call_all(rt, alloc, master, second, back),
     );
     called?;
@@ -118,21 +118,21 @@ fn choose(row: Row, passes: &mut Vec<Pass>, kept: &mut Vec<Pass>) -> Result<()> 
     Ok(passes.append(&mut rest)?)
 }
 
-/// Makes calls on two threads: the first pass calls the lines `front`, and the viewer reads after each; the second pass calls the lines `back`.
+/// Makes calls on two threads: the first pass calls the lines `prefix`, and the viewer reads after each; the second pass calls the lines `back`.
 /// Leaves in `passes` those that will close the master.
 pub fn use_master<K: Naming + Send + Sync, W: Threads + Wait + Sync>(
     rt: &W,
     alloc: Global,
     told: &mut String,
     row: Row,
-    front: &[&str],
+    prefix: &[&str],
     back: &[&str],
     kept: &mut Vec<Pass>,
     master: &Master<K, &W>,
     passes: &mut Vec<Pass>,
     viewers: &mut [Viewer<K>],
 ) -> Result<()> {
-    call_side_by_side(rt, alloc, told, front, back, master, passes, viewers)?;
+    call_side_by_side(rt, alloc, told, prefix, back, master, passes, viewers)?;
     if row.is_visited {
         append_visit(rt, alloc, told, master)?;
     }

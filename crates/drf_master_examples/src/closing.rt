@@ -60,12 +60,12 @@ fn append_own<W: Threads + Wait + Sync>(
     told: &mut String,
     name: &str,
     row: Row,
-    front: &[&str],
+    prefix: &[&str],
     back: &[&str],
 ) -> Result<()> {
     let mut kept = Vec::new(alloc);
     told.push_str(name)?;
-    run(rt, alloc, told, row, front, back, &mut kept)
+    run(rt, alloc, told, row, prefix, back, &mut kept)
 }
 
 // Closes a master with a pass of another master with the given key, which made one call there.
@@ -76,14 +76,14 @@ fn append_other<W: Threads + Wait + Sync>(
     name: &str,
     row: Row,
     key: u64,
-    front: &[&str],
+    prefix: &[&str],
     back: &[&str],
 ) -> Result<()> {
     let mut kept = Vec::new(alloc);
     keep_passes(rt, alloc, key, &[OTHER_AGENT], &mut kept)?;
     kept.truncate(1);
     told.push_str(name)?;
-    run(rt, alloc, told, row, front, back, &mut kept)
+    run(rt, alloc, told, row, prefix, back, &mut kept)
 }
 
 /// Appends all examples: a master is closed with both passes, with one of them, or with a pass of another master.

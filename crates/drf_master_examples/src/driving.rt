@@ -71,7 +71,7 @@ struct Outcome {
 
 /// What is printed about a drive: the replies, or the places in the journal at which the workers' frameworks were added.
 #[derive(Clone, Copy)]
-enum Telling {
+enum Printing {
     Replies,
     Places,
 }
@@ -127,13 +127,13 @@ fn append_all_replies(alloc: Global, told: &mut String, replies: &[Vec<Reply>]) 
 fn append_driven(
     alloc: Global,
     told: &mut String,
-    telling: Telling,
+    telling: Printing,
     driven: &Result<Outcome, DriveFault>,
 ) -> Result<()> {
     match driven {
         Ok(Outcome { entries, replies }) => match telling {
-            Telling::Replies => append_all_replies(alloc, told, replies),
-            Telling::Places => append_places(alloc, told, entries, replies.len()),
+            Printing::Replies => append_all_replies(alloc, told, replies),
+            Printing::Places => append_places(alloc, told, entries, replies.len()),
         },
         Err(fault) => Ok(write!(told, " {fault:?}")?),
     }
@@ -180,7 +180,7 @@ fn drive_and_append<K: Naming + Send + Sync, W: Threads + Wait + Sync>(
     alloc: Global,
     told: &mut String,
     meeting: &Meeting,
-    telling: Telling,
+    telling: Printing,
     master: Master<K, &W>,
     passes: Vec<Pass>,
     scripts: Vec<Vec<Event>>,
@@ -197,7 +197,7 @@ fn drive_named<K: Naming + Send + Sync, W: Threads + Wait + Sync>(
     alloc: Global,
     told: &mut String,
     meeting: &Meeting,
-    telling: Telling,
+    telling: Printing,
     others: &mut Vec<Pass>,
     scripts: Vec<Vec<Event>>,
     slate: Slate,
@@ -226,7 +226,7 @@ fn drive_scripts<W: Threads + Wait + Sync>(
     alloc: Global,
     told: &mut String,
     meeting: &Meeting,
-    telling: Telling,
+    telling: Printing,
     others: &mut Vec<Pass>,
     scripts: Vec<Vec<Event>>,
 ) -> Result<()> {
@@ -283,7 +283,7 @@ fn append_meeting<W: Threads + Wait + Sync>(
     let mut scripts = Vec::new(alloc);
     add_frameworks(alloc, &mut scripts, count)?;
     let meeting = meeting_of(count as u64, TURNS);
-    drive_scripts(rt, alloc, told, &meeting, Telling::Places, others, scripts)?;
+    drive_scripts(rt, alloc, told, &meeting, Printing::Places, others, scripts)?;
     Ok(told.push('\n')?)
 }
 
@@ -301,7 +301,15 @@ fn append_script<W: Threads + Wait + Sync>(
     let mut scripts = Vec::new(alloc);
     add_script(alloc, &mut scripts, lines)?;
     let meeting = meeting_of(all, 10);
-    drive_scripts(rt, alloc, told, &meeting, Telling::Replies, others, scripts)?;
+    drive_scripts(
+        rt,
+        alloc,
+        told,
+        &meeting,
+        Printing::Replies,
+        others,
+        scripts,
+    )?;
     Ok(told.push('\n')?)
 }
 

@@ -80,7 +80,7 @@ fn use_and_close<K: Naming + Send + Sync, W: Threads + Wait + Sync>(
     alloc: Global,
     told: &mut String,
     row: Row,
-    front: &[&str],
+    prefix: &[&str],
     back: &[&str],
     kept: &mut Vec<Pass>,
     master: Master<K, &W>,
@@ -92,7 +92,7 @@ fn use_and_close<K: Naming + Send + Sync, W: Threads + Wait + Sync>(
         alloc,
         told,
         row,
-        front,
+        prefix,
         back,
         kept,
         &master,
@@ -110,7 +110,7 @@ fn run_named<K: Naming + Send + Sync, W: Threads + Wait + Sync>(
     alloc: Global,
     told: &mut String,
     row: Row,
-    front: &[&str],
+    prefix: &[&str],
     back: &[&str],
     kept: &mut Vec<Pass>,
     slate: Slate,
@@ -128,7 +128,7 @@ fn run_named<K: Naming + Send + Sync, W: Threads + Wait + Sync>(
         slate,
     )?;
     use_and_close(
-        rt, alloc, told, row, front, back, kept, master, passes, viewers,
+        rt, alloc, told, row, prefix, back, kept, master, passes, viewers,
     )
 }
 
@@ -139,11 +139,11 @@ pub fn run<W: Threads + Wait + Sync>(
     alloc: Global,
     told: &mut String,
     row: Row,
-    front: &[&str],
+    prefix: &[&str],
     back: &[&str],
     kept: &mut Vec<Pass>,
 ) -> Result<()> {
     let slate = Slate::open(1, Limits::full())?;
-    run_named::<Brand, W>(rt, alloc, told, row, front, back, kept, slate)?;
+    run_named::<Brand, W>(rt, alloc, told, row, prefix, back, kept, slate)?;
     Ok(told.push('\n')?)
 }

@@ -117,10 +117,10 @@ fn call_side_by_side<K: Naming + Send + Sync, W: Threads + Wait + Sync>(
     passes: &mut [Pass],
 ) -> Result<()> {
     let half = passes.len() / 2;
-    let (front, back) = passes.split_at_mut(half);
+    let (prefix, back) = passes.split_at_mut(half);
     let (one, other) = join(
         rt,
-        || call_once(rt, alloc, master, front, OTHER_AGENT),
+        || call_once(rt, alloc, master, prefix, OTHER_AGENT),
         || call_once(rt, alloc, master, back, FRAMEWORK),
     );
     one?;

@@ -4,13 +4,13 @@ use Rattle.std.specs.List.{AllByRecursion}
 use Rattle.drf_bundle.specs.Bundle.{IsBundle, is_unreserved}
 use Rattle.drf_rows.specs.Client.{Client, path_of}
 use Rattle.drf_rows.specs.Consistent.{IsConsistent}
-use Rattle.drf_rows.specs.Cycle.{free_of, is_allocatable, grant, all_tried, turn_order, turn, at_moment, cycle}
+use Rattle.drf_rows.specs.Cycle.{free_of, is_allocatable, grant, all_tried, turn_order, turn, at_timestamp, cycle}
 use Rattle.drf_rows.specs.Filters.{in_force}
 use Rattle.drf_rows.specs.Held.{active_clients, standing_of}
-use Rattle.drf_rows.specs.Holdings.{of_offer}
+use Rattle.drf_rows.specs.Holdings.{holding_of_offer}
 use Rattle.drf_rows.specs.Share.{stands_before}
 use Rattle.drf_rows.specs.Step.{new_offers}
-use Rattle.drf_rows.specs.declared.limits.TheConstants.{LATEST_MOMENT}
+use Rattle.drf_rows.specs.declared.limits.TheConstants.{LATEST_TIMESTAMP}
 use Rattle.drf_rows.specs.declared.rows.AgentRow.{AgentRow}
 use Rattle.drf_rows.specs.declared.rows.OfferRow.{OfferRow}
 use Rattle.drf_rows.specs.declared.rows.Rows.{Rows}
@@ -32,14 +32,14 @@ NothingIsLeft rows = AllByRecursion (λ agent. AllByRecursion (GetsNothing rows 
 
 -- this is so after every cycle
 abbrev pub CyclesLeaveNothing : Type 0
-CyclesLeaveNothing = (rows : Rows) (at : ℕ) → IsConsistent rows → at ≤ LATEST_MOMENT → NothingIsLeft (cycle rows at)
+CyclesLeaveNothing = (rows : Rows) (at : ℕ) → IsConsistent rows → at ≤ LATEST_TIMESTAMP → NothingIsLeft (cycle rows at)
 
 -- a second cycle changes nothing if no time passes
 abbrev pub SecondCyclesAreIdle : Type 0
 SecondCyclesAreIdle =
     (rows : Rows) (at later : ℕ)
     → IsConsistent rows
-    → at ≤ LATEST_MOMENT
+    → at ≤ LATEST_TIMESTAMP
     → later ≤ max rows.clock at
     → cycle (cycle rows at) later ≡ cycle rows at
 
@@ -48,7 +48,7 @@ abbrev pub NothingIsExplained : Type 0
 NothingIsExplained =
     (rows : Rows) (at later : ℕ)
     → IsConsistent rows
-    → at ≤ LATEST_MOMENT
+    → at ≤ LATEST_TIMESTAMP
     → later ≤ max rows.clock at
     → flat_map grants_in (explained (cycle rows at) later) ≡ []
 
@@ -68,8 +68,8 @@ abbrev pub AllIsHandedOut : Type 0
 AllIsHandedOut =
     (rows : Rows) (at : ℕ) (client : Client)
     → IsConsistent rows
-    → at ≤ LATEST_MOMENT
-    → IsOpen (at_moment rows at)
+    → at ≤ LATEST_TIMESTAMP
+    → IsOpen (at_timestamp rows at)
     → Has (active_clients rows) client
     → AllByRecursion (λ agent. is_allocatable (free_of (cycle rows at) agent) ≡ false) (active_agents rows)
 
@@ -89,10 +89,10 @@ NobodyIsPassed =
 pub record GoesToTheFirst (rows : Rows) (agent : AgentRow) (offer : OfferRow) : Type 0 where
   pub earlier : List Client
   pub later : List Client
-  pub order : turn_order rows ≡ earlier ++ (of_offer offer).client ∷ later
-  pub granted : grant (all_tried rows agent earlier) agent (of_offer offer).client ≡ Some offer.bundle
+  pub order : turn_order rows ≡ earlier ++ (holding_of_offer offer).client ∷ later
+  pub granted : grant (all_tried rows agent earlier) agent (holding_of_offer offer).client ≡ Some offer.bundle
   pub nobody_ahead : AllByRecursion
-      (λ c. stands_before (standing_of rows) (path_of c) (path_of (of_offer offer).client) ≡ true → GetsNothing (all_tried rows agent earlier) agent c)
+      (λ c. stands_before (standing_of rows) (path_of c) (path_of (holding_of_offer offer).client) ≡ true → GetsNothing (all_tried rows agent earlier) agent c)
       (active_clients rows)
 
 -- so each offer of a turn goes to the first client

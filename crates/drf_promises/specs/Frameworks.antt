@@ -5,11 +5,11 @@ use Rattle.std.specs.List.{AllByRecursion, list_any}
 use Rattle.drf_role.specs.Path.{Path, begins_with, client_path, same_path}
 use Rattle.drf_role.specs.Text.{Text}
 use Rattle.drf_rows.specs.Consistent.{IsConsistent}
-use Rattle.drf_rows.specs.Endings.{is_task}
+use Rattle.drf_rows.specs.Releases.{is_task}
 use Rattle.drf_rows.specs.Held.{active_clients, count_of}
 use Rattle.drf_rows.specs.LimitNumbers.{LimitNumbers}
 use Rattle.drf_rows.specs.Step.{refusal_of, effect, rows_after, rows_after_all, replies_to}
-use Rattle.drf_row_laws.specs.LifeLaws.{lines_told}
+use Rattle.drf_row_laws.specs.LifeLaws.{lines_reported}
 use Rattle.drf_rows.specs.declared.event.Event.{Event}
 use Rattle.drf_rows.specs.declared.event.Event.TheVariants.{AddFramework, SetFramework, RemoveFramework, Accept, Decline, Finish, Suppress, Revive}
 use Rattle.drf_rows.specs.declared.reply.OfferLine.{OfferLine}
@@ -131,7 +131,7 @@ to_role line = record line { framework = [] }
 
 -- what a run offers to roles: number, agent, role and bundle of each offer in its replies
 abbrev pub offers_to_roles : LimitNumbers → Rows → List Event → List OfferLine
-offers_to_roles limits rows events = map to_role (flat_map lines_told (replies_to limits rows events))
+offers_to_roles limits rows events = map to_role (flat_map lines_reported (replies_to limits rows events))
 
 -- Two clusters that are alike in this sense stay alike in such runs, and each role is made the same offers in both.
 -- There can be limits, reservations and weights, agents can change in any way, and frameworks can register, while no

@@ -6,7 +6,7 @@ use Rattle.drf_role.specs.Path.{Path, begins_with}
 use Rattle.drf_role.specs.Text.{Text}
 use Rattle.drf_rows.specs.Client.{path_of}
 use Rattle.drf_rows.specs.Consistent.{IsConsistent}
-use Rattle.drf_rows.specs.Cycle.{at_moment, grant, turn}
+use Rattle.drf_rows.specs.Cycle.{at_timestamp, grant, turn}
 use Rattle.drf_rows.specs.Held.{active_clients, count_of}
 use Rattle.drf_rows.specs.LimitNumbers.{LimitNumbers}
 use Rattle.drf_rows.specs.Step.{refusal_of, rows_after, rows_after_all}
@@ -36,7 +36,7 @@ passes_in_turns node rows (agent ∷ agents) = (if is_passed node rows agent the
 -- how many turns of an event, and of a run, pass over the node
 abbrev pub passes_at : LimitNumbers → Path → Rows → Event → ℕ
 passes_at limits node rows (Cycle at) =
-    option_map_or (λ refusal. 0) (refusal_of limits rows (Cycle at)) (passes_in_turns node (at_moment rows at) (active_agents rows))
+    option_map_or (λ refusal. 0) (refusal_of limits rows (Cycle at)) (passes_in_turns node (at_timestamp rows at) (active_agents rows))
 passes_at limits node rows other = 0
 
 abbrev pub passes_in : LimitNumbers → Path → Rows → List Event → ℕ

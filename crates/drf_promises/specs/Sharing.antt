@@ -7,11 +7,11 @@ use Rattle.drf_bundle.specs.Quantities.{amount_of}
 use Rattle.drf_bundle.specs.declared.resource.Resource.{Resource}
 use Rattle.drf_rows.specs.Client.{path_of}
 use Rattle.drf_rows.specs.Consistent.{IsConsistent}
-use Rattle.drf_rows.specs.Cycle.{at_moment, cycle, is_allocatable}
+use Rattle.drf_rows.specs.Cycle.{at_timestamp, cycle, is_allocatable}
 use Rattle.drf_rows.specs.Held.{cluster_total, held_by, standing_of, weight_of}
-use Rattle.drf_rows.specs.Holdings.{of_offer}
+use Rattle.drf_rows.specs.Holdings.{holding_of_offer}
 use Rattle.drf_rows.specs.Share.{Fraction, share_of}
-use Rattle.drf_rows.specs.declared.limits.TheConstants.{LATEST_MOMENT}
+use Rattle.drf_rows.specs.declared.limits.TheConstants.{LATEST_TIMESTAMP}
 use Rattle.drf_rows.specs.declared.rows.Rows.{Rows}
 use Rattle.drf_promises.specs.Apart.{largest_agent, AreClientsOf, AreOneAgentApart, TakesPart}
 use Rattle.drf_promises.specs.Cycles.{IsOpen}
@@ -57,8 +57,8 @@ abbrev pub FairShares : Type 0
 FairShares =
     (rows : Rows) (at : ℕ) (one : Text) (others : List Text) (label : Text)
     → IsConsistent rows
-    → at ≤ LATEST_MOMENT
-    → IsOpen (at_moment rows at)
+    → at ≤ LATEST_TIMESTAMP
+    → IsOpen (at_timestamp rows at)
     → rows.offers ≡ []
     → rows.tasks ≡ []
     → AllByRecursion (λ a. (a.active ≡ true) × (is_allocatable a.total ≡ true)) rows.agents
@@ -72,15 +72,15 @@ FairShares =
 
 -- how many offers the clients of a node have outstanding
 abbrev pub offers_to : Rows → Path → ℕ
-offers_to rows node = length (filter (λ o. begins_with (path_of (of_offer o).client) node) rows.offers)
+offers_to rows node = length (filter (λ o. begins_with (path_of (holding_of_offer o).client) node) rows.offers)
 
 -- so of m equal agents each top-level role gets at least w/W of m - n
 abbrev pub EqualAgentsAreShared : Type 0
 EqualAgentsAreShared =
     (rows : Rows) (at : ℕ) (one : Text) (others : List Text) (total : List Resource)
     → IsConsistent rows
-    → at ≤ LATEST_MOMENT
-    → IsOpen (at_moment rows at)
+    → at ≤ LATEST_TIMESTAMP
+    → IsOpen (at_timestamp rows at)
     → rows.offers ≡ []
     → rows.tasks ≡ []
     → AllByRecursion (λ a. (a.active ≡ true) × (a.total ≡ total)) rows.agents

@@ -6,7 +6,7 @@ use Rattle.drf_rows.specs.Client.{Client, path_of}
 use Rattle.drf_rows.specs.Consistent.{IsConsistent}
 use Rattle.drf_rows.specs.Cycle.{with_offer}
 use Rattle.drf_rows.specs.Held.{standing_of, weight_of}
-use Rattle.drf_rows.specs.Holdings.{of_offer}
+use Rattle.drf_rows.specs.Holdings.{holding_of_offer}
 use Rattle.drf_rows.specs.Share.{Fraction, Standing, weighted_share_of, is_ahead, stands_before}
 use Rattle.drf_rows.specs.Step.{effect}
 use Rattle.drf_rows.specs.declared.event.Event.TheVariants.{SetWeight}
@@ -91,8 +91,8 @@ abbrev pub OfferIsLater : Type 0
 OfferIsLater =
     (rows : Rows) (offer : OfferRow) (first : Client)
     → IsConsistent rows
-    → stands_before (standing_of rows) (path_of first) (path_of (of_offer offer).client) ≡ true
-    → stands_before (standing_of (with_offer rows offer)) (path_of first) (path_of (of_offer offer).client) ≡ true
+    → stands_before (standing_of rows) (path_of first) (path_of (holding_of_offer offer).client) ≡ true
+    → stands_before (standing_of (with_offer rows offer)) (path_of first) (path_of (holding_of_offer offer).client) ≡ true
 
 -- a greater weight of its role moves no client behind another
 abbrev pub WeightIsNotLater : Type 0

@@ -3,13 +3,13 @@ use Rattle.std.specs.Prelude.{◌≡◌, ℕ, ◌+◌, ◌<◌, ◌≤◌, min, 
 use Rattle.std.specs.List.{AllByRecursion, list_any}
 use Rattle.drf_rows.specs.Client.{Client}
 use Rattle.drf_rows.specs.Consistent.{IsConsistent}
-use Rattle.drf_rows.specs.Cycle.{at_moment, free_of, is_allocatable}
+use Rattle.drf_rows.specs.Cycle.{at_timestamp, free_of, is_allocatable}
 use Rattle.drf_rows.specs.Held.{active_clients}
-use Rattle.drf_rows.specs.Holdings.{of_offer}
+use Rattle.drf_rows.specs.Holdings.{holding_of_offer}
 use Rattle.drf_rows.specs.Step.{effect, new_offers}
 use Rattle.drf_row_laws.specs.LifeLaws.{is_same_client}
 use Rattle.drf_rows.specs.declared.event.Event.TheVariants.{Cycle, Decline}
-use Rattle.drf_rows.specs.declared.limits.TheConstants.{LATEST_MOMENT, LONGEST_FILTER}
+use Rattle.drf_rows.specs.declared.limits.TheConstants.{LATEST_TIMESTAMP, LONGEST_FILTER}
 use Rattle.drf_rows.specs.declared.rows.AgentRow.{AgentRow}
 use Rattle.drf_rows.specs.declared.rows.OfferRow.{OfferRow}
 use Rattle.drf_rows.specs.declared.rows.Rows.{Rows}
@@ -33,11 +33,11 @@ round refuse_ms rows at = all_declined at refuse_ms (effect rows (Cycle at)) (ma
 -- the offers that a list of such cycles makes
 abbrev pub made_in : ℕ → Rows → List ℕ → List OfferRow
 made_in refuse_ms rows [] = []
-made_in refuse_ms rows (at ∷ moments) = made_at rows at ++ made_in refuse_ms (round refuse_ms rows at) moments
+made_in refuse_ms rows (at ∷ timestamps) = made_at rows at ++ made_in refuse_ms (round refuse_ms rows at) timestamps
 
 -- one of the offers is made to the client
 abbrev pub IsOffered : List OfferRow → Client → Type 0
-IsOffered offers client = list_any (λ o. is_same_client client (of_offer o).client) offers ≡ true
+IsOffered offers client = list_any (λ o. is_same_client client (holding_of_offer o).client) offers ≡ true
 
 -- One agent is active, its free resources are large enough to be offered, and nothing is reserved, limited or filtered
 -- as the first cycle begins. If every client declines what it is offered, with a filter that lasts for all the cycles,
@@ -45,14 +45,14 @@ IsOffered offers client = list_any (λ o. is_same_client client (of_offer o).cli
 -- shares.
 abbrev pub EverybodyIsOffered : Type 0
 EverybodyIsOffered =
-    (rows : Rows) (agent : AgentRow) (moments : List ℕ) (first last refuse_ms : ℕ)
+    (rows : Rows) (agent : AgentRow) (timestamps : List ℕ) (first last refuse_ms : ℕ)
     → IsConsistent rows
-    → IsOpen (at_moment rows first)
+    → IsOpen (at_timestamp rows first)
     → active_agents rows ≡ agent ∷ []
     → is_allocatable (free_of rows agent) ≡ true
     → rows.clock ≤ last
-    → last ≤ LATEST_MOMENT
-    → AllByRecursion (λ at. (first ≤ at) × (at ≤ last)) moments
+    → last ≤ LATEST_TIMESTAMP
+    → AllByRecursion (λ at. (first ≤ at) × (at ≤ last)) timestamps
     → last < first + min refuse_ms LONGEST_FILTER
-    → length (active_clients rows) ≤ length moments
-    → AllByRecursion (IsOffered (made_in refuse_ms rows moments)) (active_clients rows)
+    → length (active_clients rows) ≤ length timestamps
+    → AllByRecursion (IsOffered (made_in refuse_ms rows timestamps)) (active_clients rows)

@@ -33,7 +33,7 @@ pub fn order_law()
 
 /// Proves that offers and tasks stay as they are until an event that ends them: nothing is taken from a running task,
 /// and no offer is withdrawn in favour of another client.
-pub fn stands_law()
+pub fn offers_stay_law()
     ensures offers { OffersStand }
     ensures tasks { TasksStand }
 {}

@@ -7,15 +7,15 @@ use Rattle.drf_resume.specs.ResumeLaws.{with_last_feed}
 
 -- ---- inputs without an open line
 
-last_of : (b : ℕ) (bytes : List ℕ) → (front : List ℕ) × (last : ℕ) × (b ∷ bytes ≡ front ++ last ∷ [])
+last_of : (b : ℕ) (bytes : List ℕ) → (prefix : List ℕ) × (last : ℕ) × (b ∷ bytes ≡ prefix ++ last ∷ [])
 last_of b [] = ([], b, refl)
 last_of b (c ∷ bytes) = let rest = last_of c bytes in (b ∷ rest.0, rest.1, ap (λ (l : List ℕ). b ∷ l) rest.2)
 
 -- after a byte that is not a line feed, a line is open
-open_behind : (front : List ℕ) (b : ℕ) → is_line_feed b ≡ false → open_line_of (front ++ b ∷ []) ≡ open_line_of front ++ b ∷ []
-open_behind front b other =
-    let on = goes_on front (b ∷ []) in
-    on.line ∙ open-within (open_line_of front ++ b ∷ []) (within-push (open_line_of front) b on.within other)
+open_behind : (prefix : List ℕ) (b : ℕ) → is_line_feed b ≡ false → open_line_of (prefix ++ b ∷ []) ≡ open_line_of prefix ++ b ∷ []
+open_behind prefix b other =
+    let on = goes_on prefix (b ∷ []) in
+    on.line ∙ open-within (open_line_of prefix ++ b ∷ []) (within-push (open_line_of prefix) b on.within other)
 
 cut_where : (bytes : List ℕ) → length (open_line_of bytes) ≡ 0 → IsCutBehindLine bytes
 cut_where [] none = inl refl
@@ -23,17 +23,17 @@ cut_where (b ∷ bytes) none =
     let found = last_of b bytes in
     by found.0 found.1 found.2 (is_line_feed found.1) refl
   where
-    by : (front : List ℕ) (last : ℕ) → b ∷ bytes ≡ front ++ last ∷ [] → (t : Bool) → is_line_feed last ≡ t → IsCutBehindLine (b ∷ bytes)
-    by front last is true feed = inr (front, is ∙ ap (λ (c : ℕ). front ++ c ∷ []) (eqb-true last 10 feed))
-    by front last is false other =
-        let whole = ap length (ap open_line_of is ∙ open_behind front last other) in
-        let sum = length-append (open_line_of front) (last ∷ []) in
+    by : (prefix : List ℕ) (last : ℕ) → b ∷ bytes ≡ prefix ++ last ∷ [] → (t : Bool) → is_line_feed last ≡ t → IsCutBehindLine (b ∷ bytes)
+    by prefix last is true feed = inr (prefix, is ∙ ap (λ (c : ℕ). prefix ++ c ∷ []) (eqb-true last 10 feed))
+    by prefix last is false other =
+        let whole = ap length (ap open_line_of is ∙ open_behind prefix last other) in
+        let sum = length-append (open_line_of prefix) (last ∷ []) in
         absurd (omega arith)
 
 nothing_open : (bytes : List ℕ) → IsCutBehindLine bytes → open_line_of bytes ≡ []
 nothing_open bytes cut =
     ⊎_elim (λ (none : bytes ≡ []). ap open_line_of none ∙ open-within [] within-nil)
-    (λ (some : (front : List ℕ) × (bytes ≡ front ++ 10 ∷ [])).
+    (λ (some : (prefix : List ℕ) × (bytes ≡ prefix ++ 10 ∷ [])).
     let on = goes_on some.0 (10 ∷ []) in
     ap open_line_of some.1 ∙ on.line ∙ open-feed (open_line_of some.0) 10 [] on.within refl ∙ open-within [] within-nil)
     cut

@@ -4,7 +4,7 @@ use Rattle.drf_core.specs.Machine.{Machine}
 use Rattle.drf_saved_laws.specs.SavedLaws.{IsKeptByEpoch, IsNewEpoch}
 use Rattle.drf_state.specs.State.{state_in}
 use Rattle.drf_journal.specs.declared.journal.Verdict.TheVariants.{Good}
-use Rattle.drf_journal.specs.Audited.{agents_text, cycle_text, told_of_lines}
+use Rattle.drf_journal.specs.Audited.{agents_text, cycle_text, reported_of_lines}
 use Rattle.drf_journal.specs.Journal.{event_lines, reply_lines, IsVerdict}
 use Rattle.drf_journal.specs.Lines.{lines_of, open_line_of}
 use Rattle.drf_journal.specs.Output.{output_of}
@@ -55,11 +55,11 @@ ResumedIsTheSame = Resumes (λ machine start first second.
 -- its audits and explanations are the same
 abbrev pub AuditIsTheSame : Type 0
 AuditIsTheSame = Resumes (λ machine start first second.
-    told_of_lines agents_text machine (lines_of (with_last_feed first ++ second)) ≡ told_of_lines agents_text start (lines_of second))
+    reported_of_lines agents_text machine (lines_of (with_last_feed first ++ second)) ≡ reported_of_lines agents_text start (lines_of second))
 
 abbrev pub ExplanationIsTheSame : Type 0
 ExplanationIsTheSame = Resumes (λ machine start first second.
-    (at : ℕ) → told_of_lines (cycle_text at) machine (lines_of (with_last_feed first ++ second)) ≡ told_of_lines (cycle_text at) start (lines_of second))
+    (at : ℕ) → reported_of_lines (cycle_text at) machine (lines_of (with_last_feed first ++ second)) ≡ reported_of_lines (cycle_text at) start (lines_of second))
 
 -- what is saved of it, with an epoch or without, is the same bytes
 abbrev pub SavedIsTheSame : Type 0

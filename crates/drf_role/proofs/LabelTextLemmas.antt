@@ -15,9 +15,9 @@ digits_apart m n (x ∷ xs) (y ∷ ys) hx hy l e =
     let rest = digits_apart (with_digit m x) (with_digit n y) xs ys (All-tail IsByte x xs hx) (All-tail IsByte y ys hy) (omega (arith, l)) e in
     let is_x = All-head IsByte x xs hx in
     let is_y = All-head IsByte y ys hy in
-    let fronts : m ≡ n = omega (arith, rest.0, is_x, is_y) in
+    let prefixes : m ≡ n = omega (arith, rest.0, is_x, is_y) in
     let heads : x ≡ y = omega (arith, rest.0, is_x, is_y) in
-    (fronts, ap (λ b. b ∷ xs) heads ∙ ap (λ bs. y ∷ bs) rest.1)
+    (prefixes, ap (λ b. b ∷ xs) heads ∙ ap (λ bs. y ∷ bs) rest.1)
 
 -- two texts of at most 7 bytes with the same number are equal
 numbers_apart : (xs ys : Text) → length xs ≤ 7 → length ys ≤ 7 → All IsByte xs → All IsByte ys → number_of xs ≡ number_of ys → xs ≡ ys

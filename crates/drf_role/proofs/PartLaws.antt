@@ -61,17 +61,17 @@ text_of-append p (r ∷ rs) q qs =
     ap (λ t. p ++ 47 ∷ t) (text_of-append r rs q qs)
     ∙ sym (append_assoc p (47 ∷ text_of (r ∷ rs)) (47 ∷ text_of (q ∷ qs)))
 
-pub begins_from_text : (text front : List ℕ) → GoesOn text front → BeginsWith (parts_of text) (parts_of front)
-begins_from_text text front h =
+pub begins_from_text : (text prefix : List ℕ) → GoesOn text prefix → BeginsWith (parts_of text) (parts_of prefix)
+begins_from_text text prefix h =
     ⊎_elim
-    (λ e. ([], append-nil (parts_of front) ∙ sym (ap parts_of e)))
-    (λ m. (parts_of m.0, sym (ap parts_of m.1 ∙ parts_of-append front m.0)))
+    (λ e. ([], append-nil (parts_of prefix) ∙ sym (ap parts_of e)))
+    (λ m. (parts_of m.0, sym (ap parts_of m.1 ∙ parts_of-append prefix m.0)))
     h
 
-pub text_from_begins : (text front : List ℕ) → BeginsWith (parts_of text) (parts_of front) → GoesOn text front
-text_from_begins text front h = by (parts_of front) h.0 (first_part front) (text_of-parts_of front) (sym (text_of-parts_of text) ∙ ap text_of (sym h.1))
+pub text_from_begins : (text prefix : List ℕ) → BeginsWith (parts_of text) (parts_of prefix) → GoesOn text prefix
+text_from_begins text prefix h = by (parts_of prefix) h.0 (first_part prefix) (text_of-parts_of prefix) (sym (text_of-parts_of text) ∙ ap text_of (sym h.1))
   where
-    by : (fs rest : List (List ℕ)) → HasFirst fs → text_of fs ≡ front → text ≡ text_of (fs ++ rest) → GoesOn text front
+    by : (fs rest : List (List ℕ)) → HasFirst fs → text_of fs ≡ prefix → text ≡ text_of (fs ++ rest) → GoesOn text prefix
     by fs [] f e t = inl (t ∙ ap text_of (append-nil fs) ∙ e)
     by fs (q ∷ qs) f e t =
         inr (text_of (q ∷ qs), t ∙ ap (λ xs. text_of (xs ++ q ∷ qs)) f.2 ∙ text_of-append f.0 f.1 q qs ∙ ap (λ x. x ++ 47 ∷ text_of (q ∷ qs)) (ap text_of (sym f.2) ∙ e))
@@ -88,9 +88,9 @@ same_parts t u =
     (λ e. sym (text_of-parts_of t) ∙ ap text_of (by_parts.0 e) ∙ text_of-parts_of u, λ e. by_parts.1 (ap parts_of e)) in
     same_from_decides (pointwise eqb t u) (pointwise (pointwise eqb) (parts_of t) (parts_of u)) (bytes_decides t u) parts_decide
 
-pub begins_decided : (r : Bool) (text front : List ℕ) → IsTrue r ↔ GoesOn text front → IsTrue r ↔ BeginsWith (parts_of text) (parts_of front)
-begins_decided r text front h =
-    (λ e. begins_from_text text front (h.0 e), λ b. h.1 (text_from_begins text front b))
+pub begins_decided : (r : Bool) (text prefix : List ℕ) → IsTrue r ↔ GoesOn text prefix → IsTrue r ↔ BeginsWith (parts_of text) (parts_of prefix)
+begins_decided r text prefix h =
+    (λ e. begins_from_text text prefix (h.0 e), λ b. h.1 (text_from_begins text prefix b))
 
 pub parts_no_slash : (bs : List ℕ) → All HasNoSlash (parts_of bs)
 parts_no_slash [] = All-cons HasNoSlash [] [] (All-nil (λ b. eqb b 47 ≡ false)) (All-nil HasNoSlash)

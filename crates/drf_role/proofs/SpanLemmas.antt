@@ -117,8 +117,8 @@ text_to k (p ∷ q ∷ qs) (suc n) d h =
     (omega arith, take_past p 47 (text_of (q ∷ qs)) (end - start) (end - k) (omega arith) ∙ ap (λ t. p ++ 47 ∷ t) rest.1)
 
 -- the parts of the text up to the end of a part
-parts_of-front : (text : List ℕ) (n : ℕ) (d : Span) → n < length (parts_of text) → parts_of (take (get_or (spans_from 0 (parts_of text)) n d).end text) ≡ take (suc n) (parts_of text)
-parts_of-front text n d h =
+parts_of-prefix : (text : List ℕ) (n : ℕ) (d : Span) → n < length (parts_of text) → parts_of (take (get_or (spans_from 0 (parts_of text)) n d).end text) ≡ take (suc n) (parts_of text)
+parts_of-prefix text n d h =
     let end = (get_or (spans_from 0 (parts_of text)) n d).end in
     let f = first_part text in
     let same : end ≡ end - 0 = omega arith in
@@ -130,8 +130,8 @@ parts_of-front text n d h =
     ∙ ap (take (suc n)) (sym f.2)
 
 -- the same for a place that was found
-pub parts_of-front_at : (text : List ℕ) (parts : List (List ℕ)) (n : ℕ) (found : Span) → parts_of text ≡ parts → n < length parts → found ≡ get_or (spans_from 0 parts) n found → parts_of (take found.end text) ≡ take (suc n) parts
-parts_of-front_at text parts n found cut below read =
+pub parts_of-prefix_at : (text : List ℕ) (parts : List (List ℕ)) (n : ℕ) (found : Span) → parts_of text ≡ parts → n < length parts → found ≡ get_or (spans_from 0 parts) n found → parts_of (take found.end text) ≡ take (suc n) parts
+parts_of-prefix_at text parts n found cut below read =
     ap (λ (s : Span). parts_of (take s.end text)) (read ∙ ap (λ ps. get_or (spans_from 0 ps) n found) (sym cut))
-    ∙ parts_of-front text n found (subst (λ ps. n < length ps) (sym cut) below)
+    ∙ parts_of-prefix text n found (subst (λ ps. n < length ps) (sym cut) below)
     ∙ ap (take (suc n)) cut

@@ -10,10 +10,10 @@ parts_of text = slice_split (λ b. b == 47) text
 abbrev pub text_of : List (List ℕ) → List ℕ
 text_of parts = join_with_byte 47 parts
 
--- the parts of `front` are a prefix of the path
+-- the parts of `prefix` are a prefix of the path
 abbrev pub BeginsWith : List (List ℕ) → List (List ℕ) → Type 0
-BeginsWith path front = (rest : List (List ℕ)) × (front ++ rest ≡ path)
+BeginsWith path prefix = (rest : List (List ℕ)) × (prefix ++ rest ≡ path)
 
 -- the text is equal to the other one, or continues it with `/`
 abbrev pub GoesOn : List ℕ → List ℕ → Type 0
-GoesOn text front = (text ≡ front) ⊎ ((more : List ℕ) × (text ≡ front ++ 47 ∷ more))
+GoesOn text prefix = (text ≡ prefix) ⊎ ((more : List ℕ) × (text ≡ prefix ++ 47 ∷ more))

@@ -33,15 +33,15 @@ struct Span {
     end: usize,
 }
 
-/// Returns whether `text` is equal to `front`, or continues it with `/`.
-fn goes_on(text: &[u8], front: &[u8]) -> bool
-    ensures { IsTrue result ↔ GoesOn text.now front.now }
+/// Returns whether `text` is equal to `prefix`, or continues it with `/`.
+fn goes_on(text: &[u8], prefix: &[u8]) -> bool
+    ensures { IsTrue result ↔ GoesOn text.now prefix.now }
 {
     // Most texts differ in this, so nothing else is compared.
-    if text.len() > front.len() && text[front.len()] != b'/' {
+    if text.len() > prefix.len() && text[prefix.len()] != b'/' {
         return false;
     }
-    text.starts_with(front)
+    text.starts_with(prefix)
 }
 
 /// An ASCII text with the places of its parts.
@@ -240,10 +240,10 @@ impl Joined {
     }
 
     /// Returns the prefix of `len` parts. If these are all parts, nothing is allocated.
-    pub fn front(&self, len: usize) -> Result<Joined, AllocError>
+    pub fn prefix(&self, len: usize) -> Result<Joined, AllocError>
         requires some { 1 ≤ len }
         requires within { len ≤ length self.now }
-        ensures { IfOk result (λ front. front ≡ take len self.now) }
+        ensures { IfOk result (λ prefix. prefix ≡ take len self.now) }
     {
         if len == self.len() {
             return self.copy();
@@ -262,11 +262,11 @@ impl Joined {
         })
     }
 
-    /// Returns whether the parts of `front` are a prefix of these.
-    pub fn begins_with(&self, front: &Joined) -> bool
-        ensures { IsTrue result ↔ BeginsWith self.now front.now }
+    /// Returns whether the parts of `prefix` are a prefix of these.
+    pub fn begins_with(&self, prefix: &Joined) -> bool
+        ensures { IsTrue result ↔ BeginsWith self.now prefix.now }
     {
-        goes_on(self.text().as_bytes(), front.text().as_bytes())
+        goes_on(self.text().as_bytes(), prefix.text().as_bytes())
     }
 }
 

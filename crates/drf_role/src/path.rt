@@ -135,16 +135,16 @@ impl ClientPath {
     }
 
     // Returns the prefix of `len` parts. If it lies within the role, the text of the whole path is not built.
-    fn front(&self, len: usize) -> Result<Joined, AllocError>
+    fn prefix(&self, len: usize) -> Result<Joined, AllocError>
         requires some { 1 ≤ len }
         requires within { len ≤ length self.now }
-        ensures parts { IfOk result (λ front. front ≡ take len self.now) }
+        ensures parts { IfOk result (λ prefix. prefix ≡ take len self.now) }
         ensures right { IsClientPath self.now }
     {
         if len <= self.role.len() {
-            return self.role.front(len);
+            return self.role.prefix(len);
         }
-        self.joined()?.front(len)
+        self.joined()?.prefix(len)
     }
 
     /// Returns the node of the first `len` parts.
@@ -154,7 +154,7 @@ impl ClientPath {
         ensures { IfOk result (λ node. node ≡ take len self.now) }
     {
         Ok(NodePath {
-            joined: self.front(len)?,
+            joined: self.prefix(len)?,
         })
     }
 }

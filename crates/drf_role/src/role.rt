@@ -189,12 +189,12 @@ impl Role {
     }
 
     /// Returns the first `len` components, as the parts of a node.
-    pub(crate) fn front(&self, len: usize) -> Result<Joined, AllocError>
+    pub(crate) fn prefix(&self, len: usize) -> Result<Joined, AllocError>
         requires some { 1 ≤ len }
         requires within { len ≤ length self.now }
-        ensures { IfOk result (λ front. front ≡ take len self.now) }
+        ensures { IfOk result (λ prefix. prefix ≡ take len self.now) }
     {
-        self.joined.front(len)
+        self.joined.prefix(len)
     }
 
     /// Returns an equal role.

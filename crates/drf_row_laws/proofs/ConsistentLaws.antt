@@ -22,7 +22,7 @@ use Rattle.drf_bundle.specs.Taken.{units_of_all}
 use Rattle.drf_bundle.proofs.laws.TakenLaws.{joined-rest_of_all, sum-joined, stock-adds_up}
 use Rattle.drf_bundle.specs.declared.resource.Resource.{Resource}
 use Rattle.drf_rows.specs.Client.{Client}
-use Rattle.drf_rows.specs.Holdings.{Holding, of_offer, of_task, holdings_of, held_where, is_on, parts_on, AreBundles}
+use Rattle.drf_rows.specs.Holdings.{Holding, holding_of_offer, holding_of_task, holdings_of, held_where, is_on, parts_on, AreBundles}
 use Rattle.drf_row_laws.proofs.HoldingsLaws.{parts_on-append, each_part, parts_on-with_offer, parts_on-other, each-with_offer}
 use Rattle.drf_rows.specs.Cycle.{free_of, new_offer, with_offer, counted, count_offer}
 use Rattle.drf_rows.specs.Step.{live_rows}
@@ -315,10 +315,10 @@ covered_here : (rows : Rows) (offer : OfferRow) (agent : AgentRow)
     → IsCovered (holdings_of (with_offer rows offer)) agent
 covered_here rows offer agent each here right covered fits = λ key p.
     let of : List Resource → ℕ = λ part. units part key p in
-    let before : List (List Resource) = parts_on agent.name (map of_offer rows.offers) in
-    let after : List (List Resource) = parts_on agent.name (map of_task rows.tasks) in
+    let before : List (List Resource) = parts_on agent.name (map holding_of_offer rows.offers) in
+    let after : List (List Resource) = parts_on agent.name (map holding_of_task rows.tasks) in
     let held : units_of_all (parts_on agent.name (holdings_of rows)) key p ≡ units_of_all before key p + units_of_all after key p
-    = ap (sum_by of) (parts_on-append agent.name (map of_offer rows.offers) (map of_task rows.tasks)) ∙ sum_by-append of before after in
+    = ap (sum_by of) (parts_on-append agent.name (map holding_of_offer rows.offers) (map holding_of_task rows.tasks)) ∙ sum_by-append of before after in
     let more : units_of_all (parts_on agent.name (holdings_of (with_offer rows offer))) key p
     ≡ units_of_all before key p + units_of_all (offer.bundle ∷ after) key p
     = ap (sum_by of) (parts_on-with_offer rows offer agent.name ∙ ap (λ (b : Bool). before ++ cond b (offer.bundle ∷ after) after) here)

@@ -23,7 +23,7 @@ use Rattle.drf_bundle.proofs.laws.TakenLaws.{bundle-rest_of_all, units-rest_of_a
 use Rattle.drf_bundle.specs.declared.quantities.Entry.{Entry}
 use Rattle.drf_bundle.specs.declared.resource.Resource.{Resource}
 use Rattle.drf_rows.specs.Client.{Client}
-use Rattle.drf_rows.specs.Holdings.{of_offer, of_task, holdings_of, parts_on, AreBundles}
+use Rattle.drf_rows.specs.Holdings.{holding_of_offer, holding_of_task, holdings_of, parts_on, AreBundles}
 use Rattle.drf_row_laws.proofs.HoldingsLaws.{parts_on-append, each_part, parts_on-with_offer, parts_on-other, each-with_offer}
 use Rattle.drf_rows.specs.Held.{client_of, clients_of, active_clients}
 use Rattle.drf_rows.specs.Quota.{entitlement, headroom}
@@ -99,13 +99,13 @@ module _ (rows : Rows) (offer : OfferRow) where
   pub clients_of-with_offer : clients_of (with_offer rows offer) ≡ clients_of rows
   unfolding with_offer
   clients_of-with_offer =
-      over_frameworks (of_offer offer).client (λ f. map (client_of f) f.clients) rows.frameworks (count_offer-clients (of_offer offer).client)
+      over_frameworks (holding_of_offer offer).client (λ f. map (client_of f) f.clients) rows.frameworks (count_offer-clients (holding_of_offer offer).client)
 
   pub active_clients-with_offer : active_clients (with_offer rows offer) ≡ active_clients rows
   unfolding with_offer
   active_clients-with_offer =
-      over_frameworks (of_offer offer).client (λ f. map (client_of f) (filter (λ c. not c.suppressed) f.clients)) rows.frameworks
-      (count_offer-active (of_offer offer).client)
+      over_frameworks (holding_of_offer offer).client (λ f. map (client_of f) (filter (λ c. not c.suppressed) f.clients)) rows.frameworks
+      (count_offer-active (holding_of_offer offer).client)
 
 -- ---- free resources
 
@@ -127,10 +127,10 @@ pub free_of-with_offer : (rows : Rows) (offer : OfferRow) (agent : AgentRow)
 unfolding free_of
 free_of-with_offer rows offer agent total each one here =
     let Parts : Type 0 = List (List Resource) in
-    let before : Parts = parts_on agent.name (map of_offer rows.offers) in
-    let after : Parts = parts_on agent.name (map of_task rows.tasks) in
+    let before : Parts = parts_on agent.name (map holding_of_offer rows.offers) in
+    let after : Parts = parts_on agent.name (map holding_of_task rows.tasks) in
     let old : parts_on agent.name (holdings_of rows) ≡ before ++ after
-    = parts_on-append agent.name (map of_offer rows.offers) (map of_task rows.tasks) in
+    = parts_on-append agent.name (map holding_of_offer rows.offers) (map holding_of_task rows.tasks) in
     let new : parts_on agent.name (holdings_of (with_offer rows offer)) ≡ before ++ offer.bundle ∷ after
     = parts_on-with_offer rows offer agent.name ∙ ap (λ (b : Bool). before ++ cond b (offer.bundle ∷ after) after) here in
     ap (rest_of_all agent.total) new

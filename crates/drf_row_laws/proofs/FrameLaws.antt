@@ -8,8 +8,8 @@ use Rattle.drf_bundle.specs.declared.resource.Resource.{Resource}
 use Rattle.drf_rows.specs.LimitNumbers.{LimitNumbers}
 use Rattle.drf_rows.specs.Client.{Client}
 use Rattle.drf_rows.specs.Quota.{entitlement}
-use Rattle.drf_rows.specs.Holdings.{of_offer}
-use Rattle.drf_rows.specs.Cycle.{free_of, is_grantable, count_offer, new_offer, with_offer, tried, all_tried, turn, turn_order, turns, at_moment, cycle}
+use Rattle.drf_rows.specs.Holdings.{holding_of_offer}
+use Rattle.drf_rows.specs.Cycle.{free_of, is_grantable, count_offer, new_offer, with_offer, tried, all_tried, turn, turn_order, turns, at_timestamp, cycle}
 use Rattle.drf_rows.specs.Offers.{offer_at, offer_accepted, offer_declined}
 use Rattle.drf_rows.specs.Step.{refusal_of, effect, rows_after}
 use Rattle.drf_rows.specs.declared.event.Event.{Event}
@@ -150,7 +150,7 @@ module _ (start : Rows) where
   only_one : (rows : Rows) (offer : OfferRow) → OnlyOffered rows → OnlyOffered (with_offer rows offer)
   unfolding with_offer
   only_one rows offer only = λ i. record (only i) {
-    frameworks = map (count_offer (of_offer offer).client) rows.frameworks;
+    frameworks = map (count_offer (holding_of_offer offer).client) rows.frameworks;
     offers = rows.offers ++ offer ∷ [];
     next_offer = rows.next_offer + 1;
   }
@@ -166,9 +166,9 @@ module _ (start : Rows) where
   turns_only agents = any_turns OnlyOffered only_one start agents refl
 
 -- a cycle moves the clock and makes offers, and changes nothing else
-pub cycle_only : (rows : Rows) (at : ℕ) → cycle rows at ≡ with_tables by_offer (at_moment rows at) (cycle rows at)
+pub cycle_only : (rows : Rows) (at : ℕ) → cycle rows at ≡ with_tables by_offer (at_timestamp rows at) (cycle rows at)
 unfolding cycle
-cycle_only rows at = turns_only (at_moment rows at) (filter (λ a. a.active) rows.agents)
+cycle_only rows at = turns_only (at_timestamp rows at) (filter (λ a. a.active) rows.agents)
 
 -- a filter that every element passes leaves the list as it is
 pub all_stay : {X : Type 0} (xs : List X) → filter (λ x. true) xs ≡ xs
@@ -181,17 +181,17 @@ only_changed rows (DeactivateAgent agent) = λ i. record (effect rows (Deactivat
 only_changed rows (Accept a) = by (offer_at rows a.offer)
   where
     by : (found : Option OfferRow)
-        → let after : Rows = option_map_or (λ o. offer_accepted (at_moment rows a.at) o a.tasks a.refuse_ms) found rows in
+        → let after : Rows = option_map_or (λ o. offer_accepted (at_timestamp rows a.at) o a.tasks a.refuse_ms) found rows in
         after ≡ with_tables (changed (Accept a)) rows after
     by None = refl
     by (Some o) = refl
 only_changed rows (Decline d) = by (offer_at rows d.offer)
   where
     by : (found : Option OfferRow)
-        → let after : Rows = option_map_or (λ o. offer_declined (at_moment rows d.at) o d.refuse_ms) found rows in
+        → let after : Rows = option_map_or (λ o. offer_declined (at_timestamp rows d.at) o d.refuse_ms) found rows in
         after ≡ with_tables (changed (Decline d)) rows after
     by None = refl
-    by (Some o) = λ i. record (offer_declined (at_moment rows d.at) o d.refuse_ms) { tasks = all_stay rows.tasks i }
+    by (Some o) = λ i. record (offer_declined (at_timestamp rows d.at) o d.refuse_ms) { tasks = all_stay rows.tasks i }
 only_changed rows (Rescind offer) = λ i. record (effect rows (Rescind offer)) { tasks = all_stay rows.tasks i }
 only_changed rows (Finish framework task) = λ i. record (effect rows (Finish framework task)) { offers = all_stay rows.offers i }
 only_changed rows (Cycle at) =

@@ -11,7 +11,7 @@ use Rattle.drf_bundle.specs.Value.{Point}
 use Rattle.drf_bundle.specs.Bundle.{Key, IsBundle, units}
 use Rattle.drf_bundle.specs.Taken.{units_of_all}
 use Rattle.drf_bundle.specs.declared.resource.Resource.{Resource}
-use Rattle.drf_rows.specs.Holdings.{Holding, of_offer, of_task, holdings_of, amount_in, held_where, is_on, parts_on, AreBundles}
+use Rattle.drf_rows.specs.Holdings.{Holding, holding_of_offer, holding_of_task, holdings_of, amount_in, held_where, is_on, parts_on, AreBundles}
 use Rattle.drf_rows.specs.Cycle.{with_offer}
 use Rattle.drf_rows.specs.declared.rows.OfferRow.{OfferRow}
 use Rattle.drf_rows.specs.declared.rows.Rows.{Rows}
@@ -67,11 +67,11 @@ module _ (agent : Text) (key : Key) (p : Point) where
 
 -- the holdings with one more offer
 pub holdings_of-with_offer : (rows : Rows) (offer : OfferRow)
-    → holdings_of (with_offer rows offer) ≡ map of_offer rows.offers ++ (of_offer offer ∷ map of_task rows.tasks)
+    → holdings_of (with_offer rows offer) ≡ map holding_of_offer rows.offers ++ (holding_of_offer offer ∷ map holding_of_task rows.tasks)
 unfolding with_offer
 holdings_of-with_offer rows offer =
-    ap (λ (hs : List Holding). hs ++ map of_task rows.tasks) (map-append of_offer rows.offers (offer ∷ []))
-    ∙ append_one (map of_offer rows.offers) (of_offer offer) (map of_task rows.tasks)
+    ap (λ (hs : List Holding). hs ++ map holding_of_task rows.tasks) (map-append holding_of_offer rows.offers (offer ∷ []))
+    ∙ append_one (map holding_of_offer rows.offers) (holding_of_offer offer) (map holding_of_task rows.tasks)
   where
     append_one : (hs : List Holding) (h : Holding) (gs : List Holding) → (hs ++ h ∷ []) ++ gs ≡ hs ++ (h ∷ gs)
     append_one [] h gs = refl
@@ -80,32 +80,32 @@ holdings_of-with_offer rows offer =
 -- an offer adds what it has if it passes the test
 pub held_where-with_offer : (test : Holding → Bool) (rows : Rows) (offer : OfferRow) (label : Text)
     → held_where test (holdings_of (with_offer rows offer)) label
-    ≡ held_where test (holdings_of rows) label + cond (test (of_offer offer)) (amount_in label (of_offer offer)) 0
+    ≡ held_where test (holdings_of rows) label + cond (test (holding_of_offer offer)) (amount_in label (holding_of_offer offer)) 0
 held_where-with_offer test rows offer label =
-    let before : List Holding = map of_offer rows.offers in
-    let after : List Holding = map of_task rows.tasks in
+    let before : List Holding = map holding_of_offer rows.offers in
+    let after : List Holding = map holding_of_task rows.tasks in
     ap (λ (hs : List Holding). held_where test hs label) (holdings_of-with_offer rows offer)
-    ∙ held_where-append test before (of_offer offer ∷ after) label
-    ∙ omega (arith, held_where-cons test (of_offer offer) after label, held_where-append test before after label)
+    ∙ held_where-append test before (holding_of_offer offer ∷ after) label
+    ∙ omega (arith, held_where-cons test (holding_of_offer offer) after label, held_where-append test before after label)
 
 -- on its own agent, the offer is one of the bundles that are held there
 pub parts_on-with_offer : (rows : Rows) (offer : OfferRow) (agent : Text)
     → parts_on agent (holdings_of (with_offer rows offer))
-    ≡ parts_on agent (map of_offer rows.offers)
-    ++ cond (same_text offer.agent agent) (offer.bundle ∷ parts_on agent (map of_task rows.tasks)) (parts_on agent (map of_task rows.tasks))
+    ≡ parts_on agent (map holding_of_offer rows.offers)
+    ++ cond (same_text offer.agent agent) (offer.bundle ∷ parts_on agent (map holding_of_task rows.tasks)) (parts_on agent (map holding_of_task rows.tasks))
 parts_on-with_offer rows offer agent =
     ap (parts_on agent) (holdings_of-with_offer rows offer)
-    ∙ parts_on-append agent (map of_offer rows.offers) (of_offer offer ∷ map of_task rows.tasks)
-    ∙ ap (λ (parts : List (List Resource)). parts_on agent (map of_offer rows.offers) ++ parts) (parts_on-cons agent (of_offer offer) (map of_task rows.tasks))
+    ∙ parts_on-append agent (map holding_of_offer rows.offers) (holding_of_offer offer ∷ map holding_of_task rows.tasks)
+    ∙ ap (λ (parts : List (List Resource)). parts_on agent (map holding_of_offer rows.offers) ++ parts) (parts_on-cons agent (holding_of_offer offer) (map holding_of_task rows.tasks))
 
 -- on other agents nothing changes
 pub parts_on-other : (rows : Rows) (offer : OfferRow) (agent : Text) → same_text offer.agent agent ≡ false
     → parts_on agent (holdings_of (with_offer rows offer)) ≡ parts_on agent (holdings_of rows)
 parts_on-other rows offer agent past =
-    let before : List (List Resource) = parts_on agent (map of_offer rows.offers) in
-    let after : List (List Resource) = parts_on agent (map of_task rows.tasks) in
+    let before : List (List Resource) = parts_on agent (map holding_of_offer rows.offers) in
+    let after : List (List Resource) = parts_on agent (map holding_of_task rows.tasks) in
     parts_on-with_offer rows offer agent ∙ ap (λ (b : Bool). before ++ cond b (offer.bundle ∷ after) after) past
-    ∙ sym (parts_on-append agent (map of_offer rows.offers) (map of_task rows.tasks))
+    ∙ sym (parts_on-append agent (map holding_of_offer rows.offers) (map holding_of_task rows.tasks))
 
 -- if all holdings and the new one have a property, so have all afterwards
 each-insert : (P : Holding → Type 0) (hs gs : List Holding) (h : Holding)
@@ -114,6 +114,6 @@ each-insert P [] gs h all here = (here, all)
 each-insert P (x ∷ hs) gs h all here = (all.0, each-insert P hs gs h all.1 here)
 
 pub each-with_offer : (P : Holding → Type 0) (rows : Rows) (offer : OfferRow)
-    → AllByRecursion P (holdings_of rows) → P (of_offer offer) → AllByRecursion P (holdings_of (with_offer rows offer))
+    → AllByRecursion P (holdings_of rows) → P (holding_of_offer offer) → AllByRecursion P (holdings_of (with_offer rows offer))
 each-with_offer P rows offer all here =
-    rw (holdings_of-with_offer rows offer) (each-insert P (map of_offer rows.offers) (map of_task rows.tasks) (of_offer offer) all here)
+    rw (holdings_of-with_offer rows offer) (each-insert P (map holding_of_offer rows.offers) (map holding_of_task rows.tasks) (holding_of_offer offer) all here)

@@ -14,7 +14,7 @@ pub mod LiveLaws
 pub mod WeightLaws
 pub mod LowestLaws
 pub mod CycleLaws
-pub mod EndingLaws
+pub mod ReleaseLaws
 pub mod ReservationLaws
 pub mod MemberLaws
 pub mod TotalLaws

@@ -11,7 +11,7 @@ use Rattle.drf_rows.specs.Filters.{in_force, is_of_client, is_on_agent, is_held_
 use Rattle.drf_row_laws.proofs.FrameLaws.{by_offer, with_tables, all_tried_only, turn_only, turns_only}
 use Rattle.drf_row_laws.proofs.FilterLaws.{held_back-in_force, in_force-later, number_in_force-later, in_force-left, in_force-more}
 use Rattle.drf_rows.specs.Quota.{entitlement}
-use Rattle.drf_rows.specs.Cycle.{free_of, is_allocatable, grant, new_offer, with_offer, tried, all_tried, turn_order, turn, turns, at_moment, cycle}
+use Rattle.drf_rows.specs.Cycle.{free_of, is_allocatable, grant, new_offer, with_offer, tried, all_tried, turn_order, turn, turns, at_timestamp, cycle}
 use Rattle.drf_rows.specs.Roles.{is_of_left}
 use Rattle.drf_rows.specs.Offers.{offer_at, left_of_offer, filtered_until, filter_of, filters_all, filters_rest, filters_with, are_many_filters, offer_accepted, offer_declined}
 use Rattle.drf_rows.specs.Tasks.{Start}
@@ -103,7 +103,7 @@ module _ (rows : Rows) (at : ℕ) where
 
   cycle-live : cycle (live_rows rows) at ≡ with_filters (cycle rows at) (in_force rows.clock rows.filters)
   unfolding cycle
-  cycle-live = turns-filters (at_moment rows at) (in_force rows.clock rows.filters) (filter (λ a. a.active) rows.agents) live_hold_the_same
+  cycle-live = turns-filters (at_timestamp rows at) (in_force rows.clock rows.filters) (filter (λ a. a.active) rows.agents) live_hold_the_same
 
 refusal_of-live : (limits : LimitNumbers) (rows : Rows) (event : Event) → refusal_of limits (live_rows rows) event ≡ refusal_of limits rows event
 unfolding refusal_of free_of
@@ -143,33 +143,33 @@ module _ (rows : Rows) (n : ℕ) where
       in_force-left rows.clock after.clock p rows.filters (omega (arith, clock)) ∙ ap (in_force after.clock) (sym left))
 
   live-accepted : (at : ℕ) (starts : List Start) (refuse_ms : ℕ) (found : Option OfferRow)
-      → live_rows (record (option_map_or (λ o. offer_accepted (at_moment (live_rows rows) at) o starts refuse_ms) found (live_rows rows)) { events = n })
-      ≡ live_rows (record (option_map_or (λ o. offer_accepted (at_moment rows at) o starts refuse_ms) found rows) { events = n })
+      → live_rows (record (option_map_or (λ o. offer_accepted (at_timestamp (live_rows rows) at) o starts refuse_ms) found (live_rows rows)) { events = n })
+      ≡ live_rows (record (option_map_or (λ o. offer_accepted (at_timestamp rows at) o starts refuse_ms) found rows) { events = n })
   live-accepted at starts refuse_ms None = live-stay rows (omega arith) refl
   live-accepted at starts refuse_ms (Some o) =
-      let start : Rows = at_moment rows at in
+      let start : Rows = at_timestamp rows at in
       let refused : Bool = filters_rest o starts refuse_ms in
       live-kept (record (offer_accepted start o starts refuse_ms) { events = n })
-      (filters_with (at_moment (live_rows rows) at) refused o (left_of_offer o starts) refuse_ms)
+      (filters_with (at_timestamp (live_rows rows) at) refused o (left_of_offer o starts) refuse_ms)
       (live-refused rows.clock start.clock rows.filters refused (filter_of o (left_of_offer o starts) (filtered_until start.clock refuse_ms) ∷ []) (omega arith))
 
   live-declined : (at refuse_ms : ℕ) (found : Option OfferRow)
-      → live_rows (record (option_map_or (λ o. offer_declined (at_moment (live_rows rows) at) o refuse_ms) found (live_rows rows)) { events = n })
-      ≡ live_rows (record (option_map_or (λ o. offer_declined (at_moment rows at) o refuse_ms) found rows) { events = n })
+      → live_rows (record (option_map_or (λ o. offer_declined (at_timestamp (live_rows rows) at) o refuse_ms) found (live_rows rows)) { events = n })
+      ≡ live_rows (record (option_map_or (λ o. offer_declined (at_timestamp rows at) o refuse_ms) found rows) { events = n })
   live-declined at refuse_ms None = live-stay rows (omega arith) refl
   live-declined at refuse_ms (Some o) =
-      let start : Rows = at_moment rows at in
+      let start : Rows = at_timestamp rows at in
       live-kept (record (offer_declined start o refuse_ms) { events = n })
-      (filters_with (at_moment (live_rows rows) at) (filters_all refuse_ms) o o.bundle refuse_ms)
+      (filters_with (at_timestamp (live_rows rows) at) (filters_all refuse_ms) o o.bundle refuse_ms)
       (live-refused rows.clock start.clock rows.filters (filters_all refuse_ms) (filter_of o o.bundle (filtered_until start.clock refuse_ms) ∷ []) (omega arith))
 
   live-cycle : (at : ℕ) → live_rows (record (cycle (live_rows rows) at) { events = n }) ≡ live_rows (record (cycle rows at) { events = n })
   unfolding cycle
   live-cycle at =
       let agents : List AgentRow = filter (λ a. a.active) rows.agents in
-      let kept = kept-turns (at_moment rows at) agents in
+      let kept = kept-turns (at_timestamp rows at) agents in
       ap (λ (r : Rows). live_rows (record r { events = n })) (cycle-live rows at)
-      ∙ live-stay (turns (at_moment rows at) agents) (omega (arith, kept.1)) kept.0
+      ∙ live-stay (turns (at_timestamp rows at) agents) (omega (arith, kept.1)) kept.0
 
   -- the current state after the effect is the same from the current state
   effect-live : (event : Event) → live_rows (record (effect (live_rows rows) event) { events = n }) ≡ live_rows (record (effect rows event) { events = n })

@@ -17,14 +17,14 @@ use Rattle.drf_bundle.specs.Bundle.{quantities_of}
 use Rattle.drf_bundle.proofs.laws.UnitProofs.{quantities_no_zeros}
 use Rattle.drf_bundle.specs.declared.quantities.Entry.{Entry}
 use Rattle.drf_rows.specs.Client.{Client}
-use Rattle.drf_rows.specs.Holdings.{Holding, of_offer, of_task, holdings_of}
+use Rattle.drf_rows.specs.Holdings.{Holding, holding_of_offer, holding_of_task, holdings_of}
 use Rattle.drf_rows.specs.Held.{client_of, clients_of, cluster_total, is_registered}
 use Rattle.drf_rows.specs.Filters.{is_of_client, is_on_agent, filters_without_agent, filters_without_framework}
 use Rattle.drf_rows.specs.Consistent.{are_distinct, are_distinct_roles, IsAgent, AreAgents, IsFramework, AreFrameworks, IsHeld, IsCovered, IsFilter, offers_counted, IsConsistent}
 use Rattle.drf_row_laws.proofs.ConsistentLaws.{same_text-swap}
 use Rattle.drf_rows.specs.Members.{has_agent, active_at, with_activity, suppressed_at, suppressed_in, with_suppression, revived, agent_removed, framework_removed}
-use Rattle.drf_rows.specs.Endings.{without_ended, all_on, all_of}
-use Rattle.drf_row_laws.proofs.EndingLaws.{sum_by-out, filter-one, none-filter, find-place, IsConsistent-filters}
+use Rattle.drf_rows.specs.Releases.{without_ended, all_on, all_of}
+use Rattle.drf_row_laws.proofs.ReleaseLaws.{sum_by-out, filter-one, none-filter, find-place, IsConsistent-filters}
 use Rattle.drf_bundle.proofs.ListLaws.{list_any-map, sum_by-map, sum_by-filter-cons, cond_le, each_from, each_from_both, each_append, each_map, each_filter, none_has}
 use Rattle.drf_rows.specs.declared.rows.AgentRow.{AgentRow}
 use Rattle.drf_rows.specs.declared.rows.ClientRow.{ClientRow}
@@ -64,34 +64,34 @@ with_activity-is : (rows : Rows) (name : Text) (active : Bool)
 with_activity-is rows name active = λ i. map (λ a. active_at-is name active a i) rows.agents
 
 module _ (rows : Rows) (name : Text) (active : Bool) where
-  abbrev told : AgentRow → AgentRow
-  told = active_as (activity name active)
+  abbrev reported : AgentRow → AgentRow
+  reported = active_as (activity name active)
 
   -- names and totals stay
   pub names-with_activity : map (λ a. a.name) (with_activity rows name active) ≡ map (λ a. a.name) rows.agents
   names-with_activity =
-      ap (map (λ (a : AgentRow). a.name)) (with_activity-is rows name active) ∙ map-map (λ (a : AgentRow). a.name) told rows.agents
+      ap (map (λ (a : AgentRow). a.name)) (with_activity-is rows name active) ∙ map-map (λ (a : AgentRow). a.name) reported rows.agents
 
   pub has_agent-with_activity : (agent : Text)
       → list_any (λ a. same_text a.name agent) (with_activity rows name active) ≡ has_agent rows agent
   has_agent-with_activity agent =
       ap (list_any (λ (a : AgentRow). same_text a.name agent)) (with_activity-is rows name active)
-      ∙ list_any-map (λ (a : AgentRow). same_text a.name agent) told rows.agents
+      ∙ list_any-map (λ (a : AgentRow). same_text a.name agent) reported rows.agents
 
   pub cluster_total-with_activity : cluster_total (with_activity rows name active) ≡ cluster_total rows.agents
   cluster_total-with_activity =
       ap cluster_total (with_activity-is rows name active)
-      ∙ fold-map (λ sum (a : AgentRow). plus sum (quantities_of a.total)) told [] rows.agents
+      ∙ fold-map (λ sum (a : AgentRow). plus sum (quantities_of a.total)) reported [] rows.agents
 
   pub IsConsistent-with_activity : IsConsistent rows → IsConsistent (record rows { agents = with_activity rows name active })
   IsConsistent-with_activity consistent =
       let agents : List AgentRow = with_activity rows name active in
-      let same : map told rows.agents ≡ agents = sym (with_activity-is rows name active) in
+      let same : map reported rows.agents ≡ agents = sym (with_activity-is rows name active) in
       record {
         agents = record {
           names = ap are_distinct names-with_activity ∙ consistent.agents.names;
-          each = subst (AllByRecursion IsAgent) same (each_map IsAgent told rows.agents
-              (each_from IsAgent (λ a. IsAgent (told a)) rows.agents (λ a right. record { total = right.total; small = right.small })
+          each = subst (AllByRecursion IsAgent) same (each_map IsAgent reported rows.agents
+              (each_from IsAgent (λ a. IsAgent (reported a)) rows.agents (λ a right. record { total = right.total; small = right.small })
               consistent.agents.each));
         };
         frameworks = consistent.frameworks;
@@ -99,7 +99,7 @@ module _ (rows : Rows) (name : Text) (active : Bool) where
             (λ h held. record { agent = has_agent-with_activity h.agent ∙ held.agent; client = held.client; bundle = held.bundle })
             consistent.holdings;
         covered = subst (AllByRecursion (IsCovered (holdings_of rows))) same
-            (each_map (IsCovered (holdings_of rows)) told rows.agents consistent.covered);
+            (each_map (IsCovered (holdings_of rows)) reported rows.agents consistent.covered);
         tasks = consistent.tasks;
         weights = consistent.weights;
         limits = consistent.limits;
@@ -307,10 +307,10 @@ pub none_on : (rows : Rows) (name : Text) → without_ended rows (all_on name) �
     → AllByRecursion (λ h. same_text h.agent name ≡ false) (holdings_of rows)
 none_on rows name nothing =
     let Past : Holding → Type 0 = λ h. same_text h.agent name ≡ false in
-    each_append Past (map of_offer rows.offers) (map of_task rows.tasks)
-    (each_map Past of_offer rows.offers
+    each_append Past (map holding_of_offer rows.offers) (map holding_of_task rows.tasks)
+    (each_map Past holding_of_offer rows.offers
     (none-filter (λ (o : OfferRow). same_text o.agent name) rows.offers (ap (λ (r : Rows). r.offers) nothing)))
-    (each_map Past of_task rows.tasks
+    (each_map Past holding_of_task rows.tasks
     (none-filter (λ (t : TaskRow). same_text t.agent name) rows.tasks (ap (λ (r : Rows). r.tasks) nothing)))
 
 -- if a and b have the same name and b is not n, then a is not n
@@ -368,10 +368,10 @@ pub none_of : (rows : Rows) (name : Text) → without_ended rows (all_of name) �
     → AllByRecursion (λ h. same_text h.client.framework name ≡ false) (holdings_of rows)
 none_of rows name nothing =
     let Past : Holding → Type 0 = λ h. same_text h.client.framework name ≡ false in
-    each_append Past (map of_offer rows.offers) (map of_task rows.tasks)
-    (each_map Past of_offer rows.offers
+    each_append Past (map holding_of_offer rows.offers) (map holding_of_task rows.tasks)
+    (each_map Past holding_of_offer rows.offers
     (none-filter (λ (o : OfferRow). same_text o.framework name) rows.offers (ap (λ (r : Rows). r.offers) nothing)))
-    (each_map Past of_task rows.tasks
+    (each_map Past holding_of_task rows.tasks
     (none-filter (λ (t : TaskRow). same_text t.framework name) rows.tasks (ap (λ (r : Rows). r.tasks) nothing)))
 
 module _ (rows : Rows) (name : Text) (nothing : without_ended rows (all_of name) ≡ rows) where

@@ -5,16 +5,16 @@ use Rattle.drf_bundle.specs.Bundle.{IsBundle}
 use Rattle.drf_bundle.specs.declared.resource.Resource.{Resource}
 use Rattle.drf_rows.specs.Consistent.{IsFilter, IsConsistent}
 use Rattle.drf_rows.specs.Offers.{filter_of, has_offer, offer_at, filtered_until}
-use Rattle.drf_row_laws.proofs.EndingLaws.{held-offer_at}
-use Rattle.drf_rows.specs.declared.limits.TheConstants.{LATEST_MOMENT}
+use Rattle.drf_row_laws.proofs.ReleaseLaws.{held-offer_at}
+use Rattle.drf_rows.specs.declared.limits.TheConstants.{LATEST_TIMESTAMP}
 use Rattle.drf_rows.specs.declared.rows.OfferRow.{OfferRow}
 use Rattle.drf_rows.specs.declared.rows.Rows.{Rows}
 
 -- a filter of any bundle, with a duration
-pub offer_filter : (rows : Rows) (number : ℕ) (o : OfferRow) (bundle : List Resource) (moment refuse_ms : ℕ)
-    → IsConsistent rows → offer_at rows number ≡ Some o → IsBundle bundle → moment ≤ LATEST_MOMENT
-    → IsFilter rows.agents rows.frameworks (filter_of o bundle (filtered_until moment refuse_ms))
-offer_filter rows number o bundle moment refuse_ms right found is early =
+pub offer_filter : (rows : Rows) (number : ℕ) (o : OfferRow) (bundle : List Resource) (timestamp refuse_ms : ℕ)
+    → IsConsistent rows → offer_at rows number ≡ Some o → IsBundle bundle → timestamp ≤ LATEST_TIMESTAMP
+    → IsFilter rows.agents rows.frameworks (filter_of o bundle (filtered_until timestamp refuse_ms))
+offer_filter rows number o bundle timestamp refuse_ms right found is early =
     let held = held-offer_at rows number o right found in
     record { agent = held.agent; client = held.client; bundle = is; until = omega (arith, early) }
 
@@ -37,7 +37,7 @@ same_offer rows number o p one other =
     cc
 
 -- the clock stays within its range
-pub moment_early : (rows : Rows) (at moment : ℕ) → IsConsistent rows → at ≤ LATEST_MOMENT → moment ≡ max rows.clock at → moment ≤ LATEST_MOMENT
-moment_early rows at moment right late same =
-    let early : rows.clock ≤ LATEST_MOMENT = right.early in
+pub timestamp_early : (rows : Rows) (at timestamp : ℕ) → IsConsistent rows → at ≤ LATEST_TIMESTAMP → timestamp ≡ max rows.clock at → timestamp ≤ LATEST_TIMESTAMP
+timestamp_early rows at timestamp right late same =
+    let early : rows.clock ≤ LATEST_TIMESTAMP = right.early in
     omega (arith, early, late, same)

@@ -13,11 +13,11 @@ use Rattle.drf_role.specs.TextLaws.{same_itself}
 use Rattle.drf_role.specs.Path.{Path, same_path}
 use Rattle.drf_bundle.specs.declared.resource.Resource.{Resource}
 use Rattle.drf_rows.specs.Client.{Client}
-use Rattle.drf_rows.specs.Holdings.{of_offer}
-use Rattle.drf_rows.specs.Cycle.{counted, count_offer, with_offer, at_moment, cycle}
-use Rattle.drf_rows.specs.Endings.{is_task}
+use Rattle.drf_rows.specs.Holdings.{holding_of_offer}
+use Rattle.drf_rows.specs.Cycle.{counted, count_offer, with_offer, at_timestamp, cycle}
+use Rattle.drf_rows.specs.Releases.{is_task}
 use Rattle.drf_row_laws.proofs.FrameLaws.{any_turns, cycle_only, all_stay, only_changed, step_keeps}
-use Rattle.drf_row_laws.proofs.EndingLaws.{filter-out, find-place}
+use Rattle.drf_row_laws.proofs.ReleaseLaws.{filter-out, find-place}
 use Rattle.drf_rows.specs.Offers.{offer_at, offer_accepted, offer_declined}
 use Rattle.drf_rows.specs.Tasks.{Start}
 use Rattle.drf_bundle.specs.Bundle.{relabel}
@@ -94,7 +94,7 @@ abbrev raised_by : OfferRow → Bool → ClientRow → ClientRow
 raised_by o here c = record c { count = c.count + count_by (λ p. here && same_path c.role p.role) (o ∷ []) }
 
 raised-one : (o : OfferRow) (here : Bool) (cs : List ClientRow)
-    → (if here then map (counted (of_offer o).client) cs else cs) ≡ map (raised_by o here) cs
+    → (if here then map (counted (holding_of_offer o).client) cs else cs) ≡ map (raised_by o here) cs
 raised-one o true [] = refl
 raised-one o false [] = refl
 raised-one o true (c ∷ cs) = λ i. by (same_path c.role o.role) i ∷ raised-one o true cs i
@@ -108,17 +108,17 @@ raised-one o false (c ∷ cs) =
     let same : c.count ≡ c.count + (0 + 0) = omega arith in
     λ i. record c { count = same i } ∷ raised-one o false cs i
 
-counts-one : (o : OfferRow) (fs : List FrameworkRow) → map (count_offer (of_offer o).client) fs ≡ map (with_counts (o ∷ [])) fs
+counts-one : (o : OfferRow) (fs : List FrameworkRow) → map (count_offer (holding_of_offer o).client) fs ≡ map (with_counts (o ∷ [])) fs
 counts-one o [] = refl
 counts-one o (f ∷ fs) =
     λ i. (by (same_text f.name o.framework) ∙ one) i ∷ counts-one o fs i
   where
-    by : (b : Bool) → (if b then record f { clients = map (counted (of_offer o).client) f.clients } else f)
-        ≡ record f { clients = if b then map (counted (of_offer o).client) f.clients else f.clients }
+    by : (b : Bool) → (if b then record f { clients = map (counted (holding_of_offer o).client) f.clients } else f)
+        ≡ record f { clients = if b then map (counted (holding_of_offer o).client) f.clients else f.clients }
     by true = refl
     by false = refl
 
-    one : record f { clients = if same_text f.name o.framework then map (counted (of_offer o).client) f.clients else f.clients }
+    one : record f { clients = if same_text f.name o.framework then map (counted (holding_of_offer o).client) f.clients else f.clients }
         ≡ with_counts (o ∷ []) f
     one = λ i. record f { clients = raised-one o (same_text f.name o.framework) f.clients i }
 
@@ -135,10 +135,10 @@ made_more start rows o so = record {
       ∙ counts-both so.made (o ∷ []) start.frameworks;
 }
 
-made_cycle : (rows : Rows) (at : ℕ) → MadeOffers (at_moment rows at) (cycle rows at)
+made_cycle : (rows : Rows) (at : ℕ) → MadeOffers (at_timestamp rows at) (cycle rows at)
 unfolding cycle
 made_cycle rows at =
-    let start : Rows = at_moment rows at in
+    let start : Rows = at_timestamp rows at in
     any_turns (MadeOffers start) (made_more start) start (filter (λ a. a.active) rows.agents) (made_none start)
 
 pub cycle_only_offers : CycleOnlyOffers
@@ -270,13 +270,13 @@ number_gone rows number o found =
     (eqb-true o.number number (find-place (λ (p : OfferRow). p.number == number) rows.offers o found).1)
 
 gone-accepted : (rows : Rows) (at : ℕ) (starts : List Start) (refuse_ms number : ℕ) (found : Option OfferRow) → offer_at rows number ≡ found
-    → (option_map_or (λ o. offer_accepted (at_moment rows at) o starts refuse_ms) found rows).offers
+    → (option_map_or (λ o. offer_accepted (at_timestamp rows at) o starts refuse_ms) found rows).offers
     ≡ filter (λ p. not (p.number == number)) rows.offers
 gone-accepted rows at starts refuse_ms number None there = none-found (λ (p : OfferRow). p.number == number) rows.offers there
 gone-accepted rows at starts refuse_ms number (Some o) there = number_gone rows number o there
 
 gone-declined : (rows : Rows) (at refuse_ms number : ℕ) (found : Option OfferRow) → offer_at rows number ≡ found
-    → (option_map_or (λ o. offer_declined (at_moment rows at) o refuse_ms) found rows).offers
+    → (option_map_or (λ o. offer_declined (at_timestamp rows at) o refuse_ms) found rows).offers
     ≡ filter (λ p. not (p.number == number)) rows.offers
 gone-declined rows at refuse_ms number None there = none-found (λ (p : OfferRow). p.number == number) rows.offers there
 gone-declined rows at refuse_ms number (Some o) there = number_gone rows number o there

@@ -26,9 +26,9 @@ use Rattle.drf_bundle.specs.declared.resource.Resource.{Resource}
 use Rattle.drf_bundle.specs.declared.value.Value.{Value}
 use Rattle.drf_bundle.specs.declared.value.Value.TheVariants.{Scalar, Ranges, Items}
 use Rattle.drf_rows.specs.Client.{Client}
-use Rattle.drf_rows.specs.Holdings.{Holding, of_offer, of_task, holdings_of, is_on}
+use Rattle.drf_rows.specs.Holdings.{Holding, holding_of_offer, holding_of_task, holdings_of, is_on}
 use Rattle.drf_row_laws.proofs.HoldingsLaws.{holdings_of-with_offer}
-use Rattle.drf_rows.specs.Cycle.{free_of, new_offer, with_offer, turn_order, at_moment, cycle}
+use Rattle.drf_rows.specs.Cycle.{free_of, new_offer, with_offer, turn_order, at_timestamp, cycle}
 use Rattle.drf_row_laws.proofs.FrameLaws.{Any, turns_keep}
 use Rattle.drf_row_laws.proofs.CycleLaws.{bundle-free_of}
 use Rattle.drf_rows.specs.Consistent.{IsAgent, IsHeld, IsCovered}
@@ -262,14 +262,14 @@ pub consumption-with_offer : (test : Path → Bool) (rows : Rows) (offer : Offer
 unfolding with_offer
 consumption-with_offer test rows offer label =
     let f : Holding → ℕ = λ h. cond (test h.client.role) (unreserved_in label h.bundle) 0 in
-    let before : List Holding = map of_offer rows.offers in
-    let after : List Holding = map of_task rows.tasks in
+    let before : List Holding = map holding_of_offer rows.offers in
+    let after : List Holding = map holding_of_task rows.tasks in
     let held = ap (sum_by f) (holdings_of-with_offer rows offer) in
     omega (
       arith,
       held,
-      sum_by-append f before (of_offer offer ∷ after),
-      sum_by-cons f (of_offer offer) after,
+      sum_by-append f before (holding_of_offer offer ∷ after),
+      sum_by-cons f (holding_of_offer offer) after,
       sum_by-append f before after,
     )
 
@@ -331,7 +331,7 @@ pub cycle_keeps_limits : CycleKeepsLimits
 unfolding cycle
 cycle_keeps_limits rows at label place l consistent here named =
     let totals = each_from IsAgent (λ a. IsBundle a.total) rows.agents (λ a right. right.total) consistent.agents.each in
-    let start : Rows = at_moment rows at in
+    let start : Rows = at_timestamp rows at in
     (turns_keep (λ after. KeepsLimit start after label l) (λ a. IsBundle a.total) Any (λ r kept. each_true (turn_order r))
     (λ r agent client right known is kept. keeps-offer start label place l here named r agent client right kept)
     start (filter (λ a. a.active) rows.agents)

@@ -29,7 +29,7 @@ use Rattle.drf_rows.specs.Held.{clients_of, cluster_total, count_of, held_by, st
 use Rattle.drf_row_laws.proofs.MemberLaws.{amount-cluster_total}
 use Rattle.drf_rows.specs.Report.{path_cmp, with_node, nodes_to, nodes_on, nodes_of, held_under, node_line, report_of}
 use Rattle.drf_row_laws.proofs.ReportedShares.{in_order-cluster_total}
-use Rattle.drf_row_laws.specs.Laws.{HeldIsReported, CountIsReported, TotalIsReported, AmountsAreAboveZero, NodesRise, NodesBeginPaths, are_in_order, paths_told}
+use Rattle.drf_row_laws.specs.Laws.{HeldIsReported, CountIsReported, TotalIsReported, AmountsAreAboveZero, NodesRise, NodesBeginPaths, are_in_order, paths_reported}
 use Rattle.drf_bundle.proofs.ListLaws.{each_filter, each_made}
 use Rattle.drf_rows.specs.declared.rows.Rows.{Rows}
 
@@ -138,9 +138,9 @@ in_order-put ns [] ordered = ordered
 in_order-put ns (m ∷ ms) ordered = in_order-put (with_node ns m) ms (in_order-with ns m ordered)
 
 -- the nodes of a report
-told : (rows : Rows) → paths_told rows ≡ nodes_of rows
+reported : (rows : Rows) → paths_reported rows ≡ nodes_of rows
 unfolding report_of
-told rows = by (nodes_of rows)
+reported rows = by (nodes_of rows)
   where
     by : (nodes : List Path) → map (λ line. line.path) (map (node_line rows) nodes) ≡ nodes
     by [] = refl
@@ -148,7 +148,7 @@ told rows = by (nodes_of rows)
 
 pub nodes_rise : NodesRise
 nodes_rise rows =
-    ap are_in_order (told rows) ∙ in_order-put [] (flat_map (λ client. nodes_on (path_of client)) (clients_of rows)) refl
+    ap are_in_order (reported rows) ∙ in_order-put [] (flat_map (λ client. nodes_on (path_of client)) (clients_of rows)) refl
 
 -- ---- which nodes are in a report
 
@@ -225,10 +225,10 @@ any-on_path : (x path : Path) → 1 ≤ length x → list_any (same_path x) (nod
 any-on_path x path some = elim (cases_Bool (begins_with path x)) [
   | inl begins ↦
       let whole = (starts_is bytes_decides path x (begins_with path x) refl).0 begins in
-      let front : take (length x) path ≡ x =
+      let prefix : take (length x) path ≡ x =
       ap (take (length x)) whole ∙ take-append_seam x (drop (length x) path) in
       let short : length x ≤ length path = omega (arith, ap length whole, length-append x (drop (length x) path)) in
-      ap (λ (p : Path). list_any (same_path p) (nodes_on path)) (sym front)
+      ap (λ (p : Path). list_any (same_path p) (nodes_on path)) (sym prefix)
       ∙ some_to path (length path) (length x) some short ∙ sym begins
   | inr other ↦ none_to x path (length path) other ∙ sym other
 ]
@@ -260,6 +260,6 @@ any-nodes node rows =
 
 pub nodes_begin_paths : NodesBeginPaths
 nodes_begin_paths rows [] =
-    ap (list_any (same_path [])) (told rows) ∙ any-nodes [] rows ∙ empty_clients (clients_of rows)
+    ap (list_any (same_path [])) (reported rows) ∙ any-nodes [] rows ∙ empty_clients (clients_of rows)
 nodes_begin_paths rows (p ∷ ps) =
-    ap (list_any (same_path (p ∷ ps))) (told rows) ∙ any-nodes (p ∷ ps) rows ∙ any-clients (p ∷ ps) (clients_of rows) (omega arith)
+    ap (list_any (same_path (p ∷ ps))) (reported rows) ∙ any-nodes (p ∷ ps) rows ∙ any-clients (p ∷ ps) (clients_of rows) (omega arith)

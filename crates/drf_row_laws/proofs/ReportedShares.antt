@@ -22,7 +22,7 @@ use Rattle.drf_rows.specs.Report.{report_of, node_line, nodes_of}
 use Rattle.drf_rows.specs.Consistent.{IsAgent}
 use Rattle.drf_row_laws.proofs.MemberLaws.{amount_on, amount-cluster_total}
 use Rattle.drf_bundle.proofs.ListLaws.{each_made}
-use Rattle.drf_row_laws.specs.Laws.{TellsLowest, SharesAreLowest}
+use Rattle.drf_row_laws.specs.Laws.{ReportsLowest, SharesAreLowest}
 use Rattle.drf_rows.specs.declared.limits.TheConstants.{LARGEST_AMOUNT}
 use Rattle.drf_rows.specs.declared.rows.AgentRow.{AgentRow}
 use Rattle.drf_rows.specs.declared.rows.Rows.{Rows}
@@ -100,7 +100,7 @@ module _ (rows : Rows) (agents : AllByRecursion IsAgent rows.agents) (few : leng
       (small_entries (cluster_total rows.agents) (in_order-cluster_total rows.agents)
       (λ label. small_total rows.agents label agents few))
 
-  lowest-line : IsTrue (are_weights rows.weights) → (node : Path) → TellsLowest rows (node_line rows node)
+  lowest-line : IsTrue (are_weights rows.weights) → (node : Path) → ReportsLowest rows (node_line rows node)
   unfolding standing_of
   lowest-line weights node =
       let share : Fraction = share_of (standing_of rows) node in
@@ -118,4 +118,4 @@ module _ (rows : Rows) (agents : AllByRecursion IsAgent rows.agents) (few : leng
 pub shares_are_lowest : SharesAreLowest
 unfolding report_of
 shares_are_lowest rows agents few weights =
-    each_made (TellsLowest rows) (node_line rows) (nodes_of rows) (lowest-line rows agents few weights)
+    each_made (ReportsLowest rows) (node_line rows) (nodes_of rows) (lowest-line rows agents few weights)

@@ -25,7 +25,7 @@ use Rattle.drf_rows.specs.Cycle.{free_of}
 use Rattle.drf_rows.specs.Members.{has_agent}
 use Rattle.drf_rows.specs.Consistent.{IsAgent, IsCovered, IsConsistent, IsConserved}
 use Rattle.drf_row_laws.proofs.ConsistentLaws.{bundles-consistent}
-use Rattle.drf_row_laws.proofs.EndingLaws.{sum_by-out}
+use Rattle.drf_row_laws.proofs.ReleaseLaws.{sum_by-out}
 use Rattle.drf_rows.proofs.TaskLaws.{units-covers_all}
 use Rattle.drf_rows.specs.Quota.{reserves, unreserved_in, reserved_in, consumption_where, consumption, is_within, binds, stays_within, admits}
 use Rattle.drf_row_laws.proofs.QuotaLaws.{moved_is_reserved}

@@ -8,7 +8,7 @@ use Rattle.std.proofs.lemmas.Bool.Decides.{nat_tests}
 use Rattle.drf_bundle.proofs.ListLaws.{any_fails}
 use Rattle.drf_rows.specs.LimitNumbers.{LimitNumbers}
 use Rattle.drf_rows.specs.Step.{first_case, cases_of, refusal_of, effect, answer, rows_after, reply_to}
-use Rattle.drf_row_laws.specs.Laws.{is_rising, CasesRise, LeastIsTold}
+use Rattle.drf_row_laws.specs.Laws.{is_rising, CasesRise, LeastIsReported}
 use Rattle.drf_rows.specs.Refusal.{refusal_number}
 use Rattle.drf_rows.specs.declared.event.Event.{Event}
 use Rattle.drf_rows.specs.declared.event.Event.TheVariants.{AddAgent}
@@ -62,9 +62,9 @@ pub no_case_of : (limits : LimitNumbers) (rows : Rows) (event : Event) → refus
 unfolding refusal_of
 no_case_of limits rows event none = no_case (cases_of limits rows event) none
 
-pub least_is_told : LeastIsTold
+pub least_is_reported : LeastIsReported
 unfolding refusal_of
-least_is_told limits rows event = (
+least_is_reported limits rows event = (
   λ refusal found. least_first (cases_of limits rows event) refusal (cases_rise limits rows event) found,
   λ none. any_fails (λ c. c.0) (cases_of limits rows event) (no_case (cases_of limits rows event) none),
 )

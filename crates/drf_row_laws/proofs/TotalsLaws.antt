@@ -30,7 +30,7 @@ use Rattle.drf_rows.specs.Cycle.{free_of}
 use Rattle.drf_row_laws.proofs.CycleLaws.{bundle-free_of, units-free_of}
 use Rattle.drf_rows.specs.Consistent.{are_distinct, IsAgent, IsHeld, IsCovered, IsFilter, IsConsistent}
 use Rattle.drf_row_laws.proofs.ConsistentLaws.{bundles-consistent}
-use Rattle.drf_row_laws.proofs.EndingLaws.{IsPlace, find-place, each-one, each-out, sum_by-out}
+use Rattle.drf_row_laws.proofs.ReleaseLaws.{IsPlace, find-place, each-one, each-out, sum_by-out}
 use Rattle.drf_row_laws.proofs.MemberLaws.{others_of_name, without_named, amount_on, amount-cluster_total}
 use Rattle.drf_rows.specs.Members.{has_agent}
 use Rattle.drf_bundle.proofs.ListLaws.{list_any-map, each_from, each_from_both, each_append, each_parts, each_map}
@@ -144,10 +144,10 @@ module _ (role : Path) (resources : List Resource) (is_role : IsRole role) (read
 abbrev total_as : (AgentRow → List Resource) → AgentRow → AgentRow
 total_as total_of a = record a { total = total_of a }
 
-abbrev total_told : Text → (List Resource → List Resource) → AgentRow → List Resource
-total_told name made a = if same_text a.name name then made a.total else a.total
+abbrev total_reported : Text → (List Resource → List Resource) → AgentRow → List Resource
+total_reported name made a = if same_text a.name name then made a.total else a.total
 
-total_at-is : (name : Text) (made : List Resource → List Resource) (a : AgentRow) → total_at name made a ≡ total_as (total_told name made) a
+total_at-is : (name : Text) (made : List Resource → List Resource) (a : AgentRow) → total_at name made a ≡ total_as (total_reported name made) a
 total_at-is name made a = by (same_text a.name name)
   where
     by : (b : Bool) → (if b then record a { total = made a.total } else a) ≡ record a { total = if b then made a.total else a.total }
@@ -155,21 +155,21 @@ total_at-is name made a = by (same_text a.name name)
     by false = refl
 
 module _ (rows : Rows) (name : Text) (made : List Resource → List Resource) where
-  with_total-is : with_total rows name made ≡ map (total_as (total_told name made)) rows.agents
+  with_total-is : with_total rows name made ≡ map (total_as (total_reported name made)) rows.agents
   with_total-is = λ i. map (λ a. total_at-is name made a i) rows.agents
 
   -- names and activity stay
   pub names-with_total : map (λ a. a.name) (with_total rows name made) ≡ map (λ a. a.name) rows.agents
-  names-with_total = ap (map (λ (a : AgentRow). a.name)) with_total-is ∙ map-map (λ (a : AgentRow). a.name) (total_as (total_told name made)) rows.agents
+  names-with_total = ap (map (λ (a : AgentRow). a.name)) with_total-is ∙ map-map (λ (a : AgentRow). a.name) (total_as (total_reported name made)) rows.agents
 
   pub activity-with_total : map (λ a. a.active) (with_total rows name made) ≡ map (λ a. a.active) rows.agents
   activity-with_total =
-      ap (map (λ (a : AgentRow). a.active)) with_total-is ∙ map-map (λ (a : AgentRow). a.active) (total_as (total_told name made)) rows.agents
+      ap (map (λ (a : AgentRow). a.active)) with_total-is ∙ map-map (λ (a : AgentRow). a.active) (total_as (total_reported name made)) rows.agents
 
   pub has_agent-with_total : (agent : Text) → list_any (λ a. same_text a.name agent) (with_total rows name made) ≡ has_agent rows agent
   has_agent-with_total agent =
       ap (list_any (λ (a : AgentRow). same_text a.name agent)) with_total-is
-      ∙ list_any-map (λ (a : AgentRow). same_text a.name agent) (total_as (total_told name made)) rows.agents
+      ∙ list_any-map (λ (a : AgentRow). same_text a.name agent) (total_as (total_reported name made)) rows.agents
 
   -- the agent with the name gets a valid bundle that covers what is held there
   pub record IsRightTotal (a : AgentRow) : Type 0 where

@@ -71,8 +71,8 @@ CasesRise =
     → is_rising (map (λ c. refusal_number c.1) (cases_of limits rows event)) ≡ true
 
 -- an event is refused with a case that holds, and with the least number of these; if no case holds, it is not refused
-abbrev pub LeastIsTold : Type 0
-LeastIsTold =
+abbrev pub LeastIsReported : Type 0
+LeastIsReported =
     (limits : LimitNumbers) (rows : Rows) (event : Event)
     → let cases : List (Bool × Refusal) = cases_of limits rows event in
     ((refusal : Refusal) → refusal_of limits rows event ≡ Some refusal
@@ -148,13 +148,13 @@ AmountsAreAboveZero =
     → HasNoZeros (report_of rows).total × AllByRecursion (λ line. HasNoZeros line.held) (report_of rows).nodes
 
 -- a pair of numbers as a fraction
-abbrev pub told_as : ℕ × ℕ → Fraction
-told_as terms = record { part = terms.0; whole = terms.1 }
+abbrev pub reported_as : ℕ × ℕ → Fraction
+reported_as terms = record { part = terms.0; whole = terms.1 }
 
 -- the line has the share and the weighted share of its node in lowest terms
-pub record TellsLowest (rows : Rows) (line : NodeLine) : Type 0 where
-  pub share : IsLowest (share_of (standing_of rows) line.path) (told_as line.share)
-  pub weighted : IsLowest (weighted_share_of (standing_of rows) line.path) (told_as line.weighted)
+pub record ReportsLowest (rows : Rows) (line : NodeLine) : Type 0 where
+  pub share : IsLowest (share_of (standing_of rows) line.path) (reported_as line.share)
+  pub weighted : IsLowest (weighted_share_of (standing_of rows) line.path) (reported_as line.weighted)
 
 -- this is so for each line of a report
 abbrev pub SharesAreLowest : Type 0
@@ -163,7 +163,7 @@ SharesAreLowest =
     → AllByRecursion IsAgent rows.agents
     → length rows.agents ≤ ceilings.agents
     → IsTrue (are_weights rows.weights)
-    → AllByRecursion (TellsLowest rows) (report_of rows).nodes
+    → AllByRecursion (ReportsLowest rows) (report_of rows).nodes
 
 -- the paths rise strictly
 abbrev pub are_in_order : List Path → Bool
@@ -171,16 +171,16 @@ are_in_order [] = true
 are_in_order (path ∷ paths) = list_all (λ p. is_lt (path_cmp path p)) paths && are_in_order paths
 
 -- the nodes of a report
-abbrev pub paths_told : Rows → List Path
-paths_told rows = map (λ line. line.path) (report_of rows).nodes
+abbrev pub paths_reported : Rows → List Path
+paths_reported rows = map (λ line. line.path) (report_of rows).nodes
 
 -- the nodes of a report are in order of their paths
 abbrev pub NodesRise : Type 0
-NodesRise = (rows : Rows) → are_in_order (paths_told rows) ≡ true
+NodesRise = (rows : Rows) → are_in_order (paths_reported rows) ≡ true
 
 -- the nodes of a report are the non-empty prefixes of the paths of registered clients
 abbrev pub NodesBeginPaths : Type 0
 NodesBeginPaths =
     (rows : Rows) (node : Path)
-    → list_any (same_path node) (paths_told rows)
+    → list_any (same_path node) (paths_reported rows)
     ≡ (not (is_empty node) && list_any (λ c. begins_with (path_of c) node) (clients_of rows))

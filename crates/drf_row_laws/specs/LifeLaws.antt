@@ -7,12 +7,12 @@ use Rattle.drf_bundle.specs.Bundle.{join}
 use Rattle.drf_bundle.specs.declared.resource.Resource.{Resource}
 use Rattle.drf_rows.specs.LimitNumbers.{LimitNumbers}
 use Rattle.drf_rows.specs.Client.{Client}
-use Rattle.drf_rows.specs.Holdings.{of_offer}
+use Rattle.drf_rows.specs.Holdings.{holding_of_offer}
 use Rattle.drf_rows.specs.Held.{client_of}
 use Rattle.drf_rows.specs.Filters.{is_of_client, is_on_agent, is_held_back}
 use Rattle.drf_rows.specs.Consistent.{IsConsistent}
 use Rattle.drf_rows.specs.Cycle.{free_of, new_offer, with_offer, cycle}
-use Rattle.drf_rows.specs.Endings.{is_task}
+use Rattle.drf_rows.specs.Releases.{is_task}
 use Rattle.drf_rows.specs.Members.{has_agent, has_framework}
 use Rattle.drf_rows.specs.Offers.{offer_at}
 use Rattle.drf_rows.specs.Tasks.{Start}
@@ -75,7 +75,7 @@ pub record LeavesItsTasks (rows : Rows) (a : accepting.Accept) (o : OfferRow) (a
         clock = max rows.clock a.at;
       }
   pub at_most_one_filter : length (filters_added rows after) ≤ 1
-  pub of_the_client_there : list_all (λ f. is_of_client (of_offer o).client f && is_on_agent o.agent f) (filters_added rows after) ≡ true
+  pub of_the_client_there : list_all (λ f. is_of_client (holding_of_offer o).client f && is_on_agent o.agent f) (filters_added rows after) ≡ true
 
 -- this is so for an offer that is accepted
 abbrev pub AcceptedStartsTasks : Type 0
@@ -153,13 +153,13 @@ abbrev pub SuppressedIsNotOffered : Type 0
 SuppressedIsNotOffered =
     (rows : Rows) (client : Client) (at : ℕ)
     → is_suppressed rows client ≡ true
-    → list_any (λ o. is_same_client client (of_offer o).client) (new_offers rows (cycle rows at)) ≡ false
+    → list_any (λ o. is_same_client client (holding_of_offer o).client) (new_offers rows (cycle rows at)) ≡ false
 
 -- no cycle offers a client what a filter covers that is then in force
 abbrev pub FilteredIsNotOffered : Type 0
 FilteredIsNotOffered =
     (rows : Rows) (at : ℕ)
-    → list_any (λ o. is_held_back rows.filters (max rows.clock at) (of_offer o).client o.agent o.bundle) (new_offers rows (cycle rows at))
+    → list_any (λ o. is_held_back rows.filters (max rows.clock at) (holding_of_offer o).client o.agent o.bundle) (new_offers rows (cycle rows at))
     ≡ false
 
 -- the numbers are consecutive: from `first` to the one before `next`
@@ -168,16 +168,16 @@ CountUp first [] next = next ≡ first
 CountUp first (n ∷ ns) next = (n ≡ first) × CountUp (first + 1) ns next
 
 -- the offers in a reply
-abbrev pub lines_told : Reply → List OfferLine
-lines_told (Offers lines) = lines
-lines_told other = []
+abbrev pub lines_reported : Reply → List OfferLine
+lines_reported (Offers lines) = lines
+lines_reported other = []
 
 -- no number is given to two offers: those of a run have consecutive numbers, from the next offer number on
 abbrev pub NumbersAreNew : Type 0
 NumbersAreNew =
     (limits : LimitNumbers) (rows : Rows) (events : List Event)
     → CountUp rows.next_offer
-    (map (λ line. line.number) (flat_map lines_told (replies_to limits rows events)))
+    (map (λ line. line.number) (flat_map lines_reported (replies_to limits rows events)))
     (rows_after_all limits rows events).next_offer
 
 -- the event registers, removes, activates or deactivates the agent, or changes its total

@@ -112,7 +112,7 @@ not_empty r rs e = cc
 pub leaves : (whole : List Resource) (parts : List (List Resource)) (left : ℕ) → IsBundle whole → AllByRecursion IsBundle parts
     → covers_all whole parts ≡ true → left ≡ amount whole - sum_by amount parts
     → nat_lt 0 left ≡ not (is_empty (rest_of_all whole parts))
-leaves whole parts left is each covered told =
+leaves whole parts left is each covered reported =
     by (rest_of_all whole parts) refl
   where
     rest : List Resource
@@ -124,20 +124,20 @@ leaves whole parts left is each covered told =
 
     by : (rs : List Resource) → rs ≡ rest → nat_lt 0 left ≡ not (is_empty rs)
     by [] none =
-        let zero : left ≡ 0 = omega (arith, told, more, (bundle_laws.amount_zero rest (bundle-rest_of_all whole parts is)).1 (sym none)) in
+        let zero : left ≡ 0 = omega (arith, reported, more, (bundle_laws.amount_zero rest (bundle-rest_of_all whole parts is)).1 (sym none)) in
         ap (nat_lt 0) zero
     by (r ∷ rs) some = lt-ltb 0 left (above (zero_or_some (amount rest)))
       where
         above : (amount rest ≡ 0) ⊎ (0 < amount rest) → 0 < left
         above (inl zero) = absurd (not_empty r rs (some ∙ (bundle_laws.amount_zero rest (bundle-rest_of_all whole parts is)).0 zero))
-        above (inr below) = omega (arith, told, more, below)
+        above (inr below) = omega (arith, reported, more, below)
 
 -- a truth value that says `Covers` is the result of `covers`
 pub covers_from : (b : Bool) (whole part : List Resource) → IsBundle whole → IsBundle part
     → (IsTrue b ↔ Covers IsBundle join whole part) → b ≡ covers whole part
-covers_from b whole part first second told =
+covers_from b whole part first second reported =
     let exact = covers_exact whole part first second in
-    same_tests b (covers whole part) (λ here. exact.1 (told.0 here)) (λ here. told.1 (exact.0 here))
+    same_tests b (covers whole part) (λ here. exact.1 (reported.0 here)) (λ here. reported.1 (exact.0 here))
   where
     -- two truth values that imply each other are equal
     same_tests : (a b : Bool) → (a ≡ true → b ≡ true) → (b ≡ true → a ≡ true) → a ≡ b

@@ -12,10 +12,10 @@ use Rattle.drf_bundle.specs.Bundle.{Key, IsBundle, is_default, units, quantities
 use Rattle.drf_bundle.specs.Taken.{joined, units_of_all}
 use Rattle.drf_rows.specs.Holdings.{Holding, holdings_of, parts_on}
 use Rattle.drf_rows.specs.Held.{is_registered}
-use Rattle.drf_rows.specs.Endings.{is_task}
+use Rattle.drf_rows.specs.Releases.{is_task}
 use Rattle.drf_rows.specs.Cycle.{free_of}
 use Rattle.drf_rows.specs.Weights.{are_weights}
-use Rattle.drf_rows.specs.declared.limits.TheConstants.{LARGEST_AMOUNT, LATEST_MOMENT}
+use Rattle.drf_rows.specs.declared.limits.TheConstants.{LARGEST_AMOUNT, LATEST_TIMESTAMP}
 use Rattle.drf_rows.specs.declared.rows.FilterRow.{FilterRow}
 use Rattle.drf_rows.specs.declared.rows.LimitRow.{LimitRow}
 use Rattle.drf_rows.specs.declared.rows.TaskRow.{TaskRow}
@@ -109,7 +109,7 @@ pub record IsConsistent (rows : Rows) : Type 0 where
   pub weights : AreWeights rows.weights
   pub limits : AreLimits rows.limits
   pub filters : AllByRecursion (IsFilter rows.agents rows.frameworks) rows.filters
-  pub early : rows.clock ≤ LATEST_MOMENT
+  pub early : rows.clock ≤ LATEST_TIMESTAMP
   pub counted : offers_counted rows.frameworks < rows.next_offer
   pub numbered : are_rising (map (λ o. o.number) rows.offers) rows.next_offer ≡ true
 

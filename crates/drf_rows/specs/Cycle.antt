@@ -6,7 +6,7 @@ use Rattle.drf_role.specs.Text.{same_text}
 use Rattle.drf_bundle.specs.Bundle.{quantities_of}
 use Rattle.drf_bundle.specs.Quantities.{amount_of}
 use Rattle.drf_bundle.specs.Taken.{rest_of_all}
-use Rattle.drf_rows.specs.Holdings.{holdings_of, parts_on, of_offer}
+use Rattle.drf_rows.specs.Holdings.{holdings_of, parts_on, holding_of_offer}
 use Rattle.drf_bundle.specs.declared.resource.Resource.{Resource}
 use Rattle.drf_role.specs.Path.{same_path}
 use Rattle.drf_rows.specs.Client.{Client, path_of}
@@ -56,7 +56,7 @@ new_offer rows agent client bundle =
 -- the state with one more offer, which is added last and counted for its client
 unfoldable pub with_offer : Rows → OfferRow → Rows
 with_offer rows offer = record rows {
-  frameworks = map (count_offer (of_offer offer).client) rows.frameworks;
+  frameworks = map (count_offer (holding_of_offer offer).client) rows.frameworks;
   offers = rows.offers ++ offer ∷ [];
   next_offer = rows.next_offer + 1;
 }
@@ -98,9 +98,9 @@ abbrev pub turns : Rows → List AgentRow → Rows
 turns rows agents = fold turn rows agents
 
 -- the state with the clock moved to a timestamp; the clock never goes back
-abbrev pub at_moment : Rows → ℕ → Rows
-at_moment rows at = record rows { clock = max rows.clock at }
+abbrev pub at_timestamp : Rows → ℕ → Rows
+at_timestamp rows at = record rows { clock = max rows.clock at }
 
 -- the state after a cycle: each active agent has its turn, in order of registration
 unfoldable pub cycle : Rows → ℕ → Rows
-cycle rows at = turns (at_moment rows at) (filter (λ a. a.active) rows.agents)
+cycle rows at = turns (at_timestamp rows at) (filter (λ a. a.active) rows.agents)

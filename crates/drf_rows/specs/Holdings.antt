@@ -18,16 +18,16 @@ pub record Holding : Type 0 where
   pub bundle : List Resource
 
 -- an offer as a holding
-abbrev pub of_offer : OfferRow → Holding
-of_offer o = record { agent = o.agent; client = record { role = o.role; framework = o.framework }; bundle = o.bundle }
+abbrev pub holding_of_offer : OfferRow → Holding
+holding_of_offer o = record { agent = o.agent; client = record { role = o.role; framework = o.framework }; bundle = o.bundle }
 
 -- a task as a holding
-abbrev pub of_task : TaskRow → Holding
-of_task t = record { agent = t.agent; client = record { role = t.role; framework = t.framework }; bundle = t.bundle }
+abbrev pub holding_of_task : TaskRow → Holding
+holding_of_task t = record { agent = t.agent; client = record { role = t.role; framework = t.framework }; bundle = t.bundle }
 
 -- all holdings: first the offers, then the tasks
 abbrev pub holdings_of : Rows → List Holding
-holdings_of rows = map of_offer rows.offers ++ map of_task rows.tasks
+holdings_of rows = map holding_of_offer rows.offers ++ map holding_of_task rows.tasks
 
 -- how much of a scalar a holding has, in thousandths
 abbrev pub amount_in : Text → Holding → ℕ

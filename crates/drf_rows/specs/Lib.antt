@@ -13,7 +13,7 @@ pub mod TaskLaws
 pub mod Quota
 pub mod Cycle
 pub mod Totals
-pub mod Endings
+pub mod Releases
 pub mod Ended
 pub mod Offers
 pub mod Members

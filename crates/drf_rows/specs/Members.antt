@@ -5,7 +5,7 @@ use Rattle.drf_role.specs.Text.{Text, same_text}
 use Rattle.drf_role.specs.Path.{Path, same_path}
 use Rattle.drf_bundle.specs.declared.resource.Resource.{Resource}
 use Rattle.drf_rows.specs.Client.{Client}
-use Rattle.drf_rows.specs.Endings.{without_ended, offers_on, all_on, all_of}
+use Rattle.drf_rows.specs.Releases.{without_ended, offers_on, all_on, all_of}
 use Rattle.drf_rows.specs.Filters.{filters_without_client, filters_without_agent, filters_without_framework}
 use Rattle.drf_rows.specs.declared.rows.AgentRow.{AgentRow}
 use Rattle.drf_rows.specs.declared.rows.ClientRow.{ClientRow}

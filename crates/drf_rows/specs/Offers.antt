@@ -7,7 +7,7 @@ use Rattle.drf_role.specs.Text.{Text, same_text}
 use Rattle.drf_bundle.specs.Taken.{rest_of_all}
 use Rattle.drf_bundle.specs.declared.resource.Resource.{Resource}
 use Rattle.drf_rows.specs.LimitNumbers.{LimitNumbers}
-use Rattle.drf_rows.specs.Endings.{without_ended, one_offer, is_task}
+use Rattle.drf_rows.specs.Releases.{without_ended, one_offer, is_task}
 use Rattle.drf_rows.specs.Consistent.{are_distinct}
 use Rattle.drf_rows.specs.Filters.{number_in_force}
 use Rattle.drf_rows.specs.Tasks.{Start, names_of, uses, covers_all}
@@ -28,12 +28,12 @@ abbrev pub has_offer : Rows → ℕ → Bool
 has_offer rows number = is_some (offer_at rows number)
 
 -- the offer is outstanding and was made to another framework
-abbrev pub is_anothers : Rows → Text → ℕ → Bool
-is_anothers rows framework number = option_map_or (λ o. not (same_text o.framework framework)) (offer_at rows number) false
+abbrev pub belongs_to_another : Rows → Text → ℕ → Bool
+belongs_to_another rows framework number = option_map_or (λ o. not (same_text o.framework framework)) (offer_at rows number) false
 
 -- the offer is outstanding and does not cover all tasks together; this includes tasks whose parts have no join
-abbrev pub is_beyond : Rows → ℕ → List Start → Bool
-is_beyond rows number starts = option_map_or (λ o. not (covers_all o.bundle (uses starts))) (offer_at rows number) false
+abbrev pub exceeds_offer : Rows → ℕ → List Start → Bool
+exceeds_offer rows number starts = option_map_or (λ o. not (covers_all o.bundle (uses starts))) (offer_at rows number) false
 
 -- the framework has a task with that name
 abbrev pub has_task : Rows → Text → Text → Bool

@@ -11,16 +11,16 @@ use Rattle.drf_rows.specs.LimitNumbers.{LimitNumbers}
 use Rattle.drf_rows.specs.Held.{cluster_total, clients_of, is_registered}
 use Rattle.drf_rows.specs.Members.{has_agent, has_framework, distinct, with_agent, with_framework, with_activity, with_suppression, agent_deactivated, revived, agent_removed, framework_removed}
 use Rattle.drf_rows.specs.Roles.{framework_set, is_role_in_use, too_many_roles}
-use Rattle.drf_rows.specs.Offers.{offer_at, has_offer, is_anothers, is_beyond, has_task, is_task_known, is_empty, filters_all, filters_rest, are_many_filters, offer_accepted, offer_declined}
-use Rattle.drf_rows.specs.Endings.{without_ended, one_offer, one_task}
-use Rattle.drf_rows.specs.Cycle.{at_moment, cycle}
+use Rattle.drf_rows.specs.Offers.{offer_at, has_offer, belongs_to_another, exceeds_offer, has_task, is_task_known, is_empty, filters_all, filters_rest, are_many_filters, offer_accepted, offer_declined}
+use Rattle.drf_rows.specs.Releases.{without_ended, one_offer, one_task}
+use Rattle.drf_rows.specs.Cycle.{at_timestamp, cycle}
 use Rattle.drf_rows.specs.Filters.{in_force}
 use Rattle.drf_rows.specs.Report.{report_of}
 use Rattle.drf_rows.specs.Tasks.{uses}
 use Rattle.drf_rows.specs.Totals.{with_reserved, with_unreserved, with_other_total, is_not_free, is_below_held}
 use Rattle.drf_rows.specs.Quota.{has_limit, limits_with, admits}
 use Rattle.drf_rows.specs.Weights.{is_weight, too_many_weights, weights_with}
-use Rattle.drf_rows.specs.declared.limits.TheConstants.{LATEST_MOMENT, LARGEST_AMOUNT}
+use Rattle.drf_rows.specs.declared.limits.TheConstants.{LATEST_TIMESTAMP, LARGEST_AMOUNT}
 use Rattle.drf_rows.specs.declared.rows.AgentRow.{AgentRow}
 use Rattle.drf_rows.specs.declared.rows.OfferRow.{OfferRow}
 use Rattle.drf_rows.specs.declared.rows.Rows.{Rows}
@@ -131,20 +131,20 @@ own_cases_of limits rows (SetFramework framework roles) =
     ∷ []
 own_cases_of limits rows (RemoveFramework framework) = (not (has_framework rows framework), UnknownFramework) ∷ []
 own_cases_of limits rows (Accept a) =
-    (nat_lt LATEST_MOMENT a.at, BadMoment)
+    (nat_lt LATEST_TIMESTAMP a.at, BadMoment)
     ∷ (not (has_framework rows a.framework), UnknownFramework)
     ∷ (not (has_offer rows a.offer), UnknownOffer)
-    ∷ (is_anothers rows a.framework a.offer, NotYours)
+    ∷ (belongs_to_another rows a.framework a.offer, NotYours)
     ∷ (is_task_known rows a.framework a.tasks, KnownTask)
     ∷ (list_any is_empty (uses a.tasks), Empty)
-    ∷ (is_beyond rows a.offer a.tasks, NotCovered)
+    ∷ (exceeds_offer rows a.offer a.tasks, NotCovered)
     ∷ (accept_is_too_much limits rows a, TooMany)
     ∷ []
 own_cases_of limits rows (Decline d) =
-    (nat_lt LATEST_MOMENT d.at, BadMoment)
+    (nat_lt LATEST_TIMESTAMP d.at, BadMoment)
     ∷ (not (has_framework rows d.framework), UnknownFramework)
     ∷ (not (has_offer rows d.offer), UnknownOffer)
-    ∷ (is_anothers rows d.framework d.offer, NotYours)
+    ∷ (belongs_to_another rows d.framework d.offer, NotYours)
     ∷ (decline_is_too_much limits rows d, TooMany)
     ∷ []
 own_cases_of limits rows (Rescind offer) = (not (has_offer rows offer), UnknownOffer) ∷ []
@@ -183,7 +183,7 @@ own_cases_of limits rows (SetLimit role limit) =
     (is_default role, DefaultRole)
     ∷ (too_many_limits limits rows role limit, TooMany)
     ∷ []
-own_cases_of limits rows (Cycle at) = (nat_lt LATEST_MOMENT at, BadMoment) ∷ []
+own_cases_of limits rows (Cycle at) = (nat_lt LATEST_TIMESTAMP at, BadMoment) ∷ []
 own_cases_of limits rows event.Report = []
 
 -- all cases in which an event is refused, in order of their numbers: when the history is full, every event is refused
@@ -205,9 +205,9 @@ effect rows (AddFramework framework roles) = record rows { frameworks = with_fra
 effect rows (SetFramework framework roles) = framework_set rows framework roles
 effect rows (RemoveFramework framework) = framework_removed rows framework
 effect rows (Accept a) =
-    option_map_or (λ o. offer_accepted (at_moment rows a.at) o a.tasks a.refuse_ms) (offer_at rows a.offer) rows
+    option_map_or (λ o. offer_accepted (at_timestamp rows a.at) o a.tasks a.refuse_ms) (offer_at rows a.offer) rows
 effect rows (Decline d) =
-    option_map_or (λ o. offer_declined (at_moment rows d.at) o d.refuse_ms) (offer_at rows d.offer) rows
+    option_map_or (λ o. offer_declined (at_timestamp rows d.at) o d.refuse_ms) (offer_at rows d.offer) rows
 effect rows (Rescind offer) = without_ended rows (one_offer offer)
 effect rows (Finish framework task) = without_ended rows (one_task framework task)
 effect rows (Suppress framework role) =
@@ -221,8 +221,8 @@ effect rows (Cycle at) = cycle rows at
 effect rows event.Report = rows
 
 -- the line of an offer in a reply
-abbrev pub line_told : OfferRow → OfferLine
-line_told o = record { number = o.number; agent = o.agent; framework = o.framework; role = o.role; resources = o.bundle }
+abbrev pub line_reported : OfferRow → OfferLine
+line_reported o = record { number = o.number; agent = o.agent; framework = o.framework; role = o.role; resources = o.bundle }
 
 -- the offers of `after` that `before` does not have: offers are added last, so they are the ones after the first
 -- `length before.offers`
@@ -231,7 +231,7 @@ new_offers before after = drop (length before.offers) after.offers
 
 -- the reply to an event that is not refused
 abbrev pub answer : Rows → Rows → Event → Reply
-answer before after (Cycle at) = Offers (map line_told (new_offers before after))
+answer before after (Cycle at) = Offers (map line_reported (new_offers before after))
 answer before after event.Report = reply.Report (report_of before)
 answer before after other = Done
 

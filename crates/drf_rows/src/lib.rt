@@ -2,9 +2,9 @@
 #![tactic(auto)]
 
 mod copied;
-mod ending;
 mod event;
 mod limits;
+mod release;
 mod reply;
 mod report;
 mod roles;
@@ -15,9 +15,9 @@ mod tasks;
 mod worth;
 
 pub use copied::{Copied, copy_all};
-pub use ending::Ending;
 pub use event::{Accept, Decline, Event};
-pub use limits::{LARGEST_AMOUNT, LATEST_MOMENT, LONGEST_FILTER, Limits};
+pub use limits::{LARGEST_AMOUNT, LATEST_TIMESTAMP, LONGEST_FILTER, Limits};
+pub use release::Release;
 pub use reply::{OfferLine, Refusal, Reply};
 pub use report::{NodeLine, Report};
 pub use roles::is_among;

@@ -6,7 +6,7 @@ ghost use Rattle.drf_rows.specs.LimitNumbers.{LimitNumbers, ceilings, IsWithin, 
 use std::marker::Model;
 
 /// The greatest timestamp of an event, in milliseconds.
-pub const LATEST_MOMENT: u64 = 1 << 62;
+pub const LATEST_TIMESTAMP: u64 = 1 << 62;
 
 /// The longest time for which a filter is in force, in milliseconds: 365 days.
 pub const LONGEST_FILTER: u64 = 31_536_000_000;

@@ -8,13 +8,13 @@ use Rattle.drf_rows.specs.declared.rows.Rows.{Rows}
 abbrev pub uncounted : ClientRow → ClientRow
 uncounted c = record c { count = 0 }
 
-abbrev pub begun_anew : FrameworkRow → FrameworkRow
-begun_anew f = record f { clients = map uncounted f.clients }
+abbrev pub with_counts_reset : FrameworkRow → FrameworkRow
+with_counts_reset f = record f { clients = map uncounted f.clients }
 
 -- Offers are rescinded, and counts, offer numbers and the number of accepted events are reset. Everything else stays as it was.
 abbrev pub epoch : Rows → Rows
 epoch rows = record rows {
-  frameworks = map begun_anew rows.frameworks;
+  frameworks = map with_counts_reset rows.frameworks;
   offers = [];
   next_offer = 1;
   events = 0;

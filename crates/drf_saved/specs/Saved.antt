@@ -19,7 +19,7 @@ use Rattle.drf_rows.specs.Quota.{has_limit}
 use Rattle.drf_rows.specs.Step.{opening, is_too_large, too_many_agents}
 use Rattle.drf_rows.specs.Totals.{agent_at}
 use Rattle.drf_rows.specs.Weights.{has_weight, is_weight}
-use Rattle.drf_rows.specs.declared.limits.TheConstants.{LATEST_MOMENT}
+use Rattle.drf_rows.specs.declared.limits.TheConstants.{LATEST_TIMESTAMP}
 use Rattle.drf_rows.specs.declared.reply.Refusal.TheVariants.{HistoryFull, BadMoment, UnknownAgent, KnownAgent, UnknownFramework, KnownFramework, KnownTask, NotInRole, DefaultRole, Empty, NotCovered, BadWeight, TooLarge, TooMany}
 use Rattle.drf_rows.specs.declared.rows.FrameworkRow.{FrameworkRow}
 use Rattle.drf_rows.specs.declared.rows.Rows.{Rows}
@@ -158,7 +158,7 @@ row_cases limits rows (Filter f) =
 abbrev pub head_cases : LimitNumbers → Head → List (Bool × RowFault)
 head_cases limits head =
     (nat_lt limits.events head.events, Refused HistoryFull)
-    ∷ (nat_lt LATEST_MOMENT head.clock, Refused BadMoment)
+    ∷ (nat_lt LATEST_TIMESTAMP head.clock, Refused BadMoment)
     ∷ (not (nat_le 1 head.next_offer) || nat_lt (1 + head.events * 2 ^ 24) head.next_offer, BadNumber)
     ∷ []
 

@@ -7,7 +7,7 @@ use Rattle.drf_bundle.specs.Quantities.{with_amount}
 use Rattle.drf_bundle.specs.declared.quantities.Entry.{Entry}
 use Rattle.drf_role.specs.Path.{Path}
 use Rattle.drf_role.specs.Text.{Text}
-use Rattle.drf_rows.specs.Holdings.{Holding, of_offer, of_task}
+use Rattle.drf_rows.specs.Holdings.{Holding, holding_of_offer, holding_of_task}
 use Rattle.drf_rows.specs.Quota.{consumption_where, held_unreserved, is_within, reserved_for, unreserved_in}
 use Rattle.drf_rows.specs.declared.rows.LimitRow.{LimitRow}
 use Rattle.drf_rows.specs.declared.rows.Rows.{Rows}
@@ -20,10 +20,10 @@ use Rattle.drf_show.specs.Shown.{limit_line}
 -- the consumption of roles, table by table
 pub consumption_parts : (rows : Rows) (test : Path → Bool) (label : Text)
     → consumption_where test rows label
-    ≡ (held_unreserved test (map of_offer rows.offers) label + held_unreserved test (map of_task rows.tasks) label) + reserved_for test rows.agents label
+    ≡ (held_unreserved test (map holding_of_offer rows.offers) label + held_unreserved test (map holding_of_task rows.tasks) label) + reserved_for test rows.agents label
 consumption_parts rows test label =
     ap (λ n. n + reserved_for test rows.agents label)
-    (sum_by-append (λ (h : Holding). cond (test h.client.role) (unreserved_in label h.bundle) 0) (map of_offer rows.offers) (map of_task rows.tasks))
+    (sum_by-append (λ (h : Holding). cond (test h.client.role) (unreserved_in label h.bundle) 0) (map holding_of_offer rows.offers) (map holding_of_task rows.tasks))
 
 -- one more scalar of a limit
 pub used_more : (used : List Usage) (role : Path) (entries now new : List Entry) (i : ℕ) (e : Entry) → i < length entries → e ≡ get_or entries i e

@@ -13,17 +13,17 @@ use Rattle.drf_role.specs.TextLaws.{same_from_test}
 use Rattle.drf_rows.specs.Holdings.{Holding}
 use Rattle.drf_show.specs.Had.{Part, parts_for, parts_of}
 
-abbrev pub Lent : Type 0
-Lent = Vec (Bor Path × Bor (List Resource))
+abbrev pub Borrowed : Type 0
+Borrowed = Vec (Bor Path × Bor (List Resource))
 
-abbrev pub parts_or : Option Lent → List Part
+abbrev pub parts_or : Option Borrowed → List Part
 parts_or o = option_map_or (λ v. parts_of v.items) o []
 
-abbrev pub parts_at : List (Text × Lent) → Text → List Part
+abbrev pub parts_at : List (Text × Borrowed) → Text → List Part
 parts_at es q = parts_or (lookup (same_text q) es)
 
 -- one more part is stored for a framework
-pub added_at : (old new : List (Text × Lent)) (framework : Text) (w : Option Lent) (part : Part)
+pub added_at : (old new : List (Text × Borrowed)) (framework : Text) (w : Option Borrowed) (part : Part)
     → ((q : Text) → lookup (same_text q) new ≡ cond (same_text framework q) w (lookup (same_text q) old))
     → parts_or w ≡ parts_at old framework ++ part ∷ []
     → (q : Text) → parts_at new q ≡ parts_at old q ++ cond (same_text framework q) (part ∷ []) []

@@ -18,7 +18,7 @@ use Rattle.drf_rows.specs.Client.{Client, path_of}
 use Rattle.drf_rows.specs.Held.{client_of, standing_of}
 use Rattle.drf_rows.specs.Report.{sum_of, terms_of}
 use Rattle.drf_rows.specs.Share.{weighted_share_of}
-use Rattle.drf_rows.specs.Holdings.{Holding, amount_in, of_offer, of_task}
+use Rattle.drf_rows.specs.Holdings.{Holding, amount_in, holding_of_offer, holding_of_task}
 use Rattle.drf_rows.specs.declared.rows.ClientRow.{ClientRow}
 use Rattle.drf_rows.specs.declared.rows.FrameworkRow.{FrameworkRow}
 use Rattle.drf_rows.specs.declared.rows.Rows.{Rows}
@@ -42,25 +42,25 @@ parts-le framework label (h ∷ hs) = elim (cases_Bool (same_text h.client.frame
 ]
 
 module _ (rows : Rows) (fit : IsFit rows) (framework : Text) where
-  both : (label : Text) → sum_by (amount_in label) (map of_offer rows.offers) + sum_by (amount_in label) (map of_task rows.tasks) < 2 ^ 52
+  both : (label : Text) → sum_by (amount_in label) (map holding_of_offer rows.offers) + sum_by (amount_in label) (map holding_of_task rows.tasks) < 2 ^ 52
   both label = omega (
     arith,
-    sum_by-append (amount_in label) (map of_offer rows.offers) (map of_task rows.tasks),
+    sum_by-append (amount_in label) (map holding_of_offer rows.offers) (map holding_of_task rows.tasks),
     held-le-total rows label fit.consistent,
     small_total rows.agents label fit.consistent.agents.each fit.agents,
   )
 
-  pub offers_small : AreSmall (parts_for framework (map of_offer rows.offers))
-  offers_small label = omega (arith, parts-le framework label (map of_offer rows.offers), both label)
+  pub offers_small : AreSmall (parts_for framework (map holding_of_offer rows.offers))
+  offers_small label = omega (arith, parts-le framework label (map holding_of_offer rows.offers), both label)
 
-  pub tasks_small : AreSmall (parts_for framework (map of_task rows.tasks))
-  tasks_small label = omega (arith, parts-le framework label (map of_task rows.tasks), both label)
+  pub tasks_small : AreSmall (parts_for framework (map holding_of_task rows.tasks))
+  tasks_small label = omega (arith, parts-le framework label (map holding_of_task rows.tasks), both label)
 
-abbrev Lent : Type 0
-Lent = Bor Path × Bor (List Resource)
+abbrev Borrowed : Type 0
+Borrowed = Bor Path × Bor (List Resource)
 
 -- the sum after one more part
-module _ (role : Path) (parts : List Lent) (i : ℕ) (part : Lent) (inside : i < length parts) (is : part ≡ get_or parts i part) where
+module _ (role : Path) (parts : List Borrowed) (i : ℕ) (part : Borrowed) (inside : i < length parts) (is : part ≡ get_or parts i part) where
   abbrev its : Part → Bool
   its p = same_path p.0 role
 
@@ -73,8 +73,8 @@ module _ (role : Path) (parts : List Lent) (i : ℕ) (part : Lent) (inside : i <
   taken : parts_of (take (i + 1) parts) ≡ parts_of (take i parts) ++ now ∷ []
   taken =
       ap parts_of (take_more parts i part inside)
-      ∙ map-append (λ (p : Lent). (p.0.now, p.1.now)) (take i parts) (get_or parts i part ∷ [])
-      ∙ ap (λ (p : Lent). parts_of (take i parts) ++ (p.0.now, p.1.now) ∷ []) (sym is)
+      ∙ map-append (λ (p : Borrowed). (p.0.now, p.1.now)) (take i parts) (get_or parts i part ∷ [])
+      ∙ ap (λ (p : Borrowed). parts_of (take i parts) ++ (p.0.now, p.1.now) ∷ []) (sym is)
 
   abbrev if_its : Bool → List Part
   if_its true = now ∷ []
@@ -103,7 +103,7 @@ module _ (role : Path) (parts : List Lent) (i : ℕ) (part : Lent) (inside : i <
       ≡ part_amount label now + sum_by (part_amount label) (parts_of (drop (i + 1) parts))
   left_there label =
       at_drop_more (λ ps. sum_by (part_amount label) (parts_of ps)) parts i part inside
-      ∙ ap (λ (p : Lent). sum_by (part_amount label) (parts_of (p ∷ drop (i + 1) parts))) (sym is)
+      ∙ ap (λ (p : Borrowed). sum_by (part_amount label) (parts_of (p ∷ drop (i + 1) parts))) (sym is)
       ∙ sum_by-cons (part_amount label) now (parts_of (drop (i + 1) parts))
 
 -- a part adds no more than it has
@@ -141,8 +141,8 @@ had_is client hs =
 -- so its line is the one that the definition gives
 pub client_line_is : (rows : Rows) (weighted : Path → ℕ × ℕ) (offered used : Text → List Part) (framework : FrameworkRow) (client : ClientRow)
     → ((node : Path) → weighted node ≡ terms_of (weighted_share_of (standing_of rows) node))
-    → ((name : Text) → offered name ≡ parts_for name (map of_offer rows.offers))
-    → ((name : Text) → used name ≡ parts_for name (map of_task rows.tasks))
+    → ((name : Text) → offered name ≡ parts_for name (map holding_of_offer rows.offers))
+    → ((name : Text) → used name ≡ parts_for name (map holding_of_task rows.tasks))
     → client_line_by weighted offered used framework client ≡ client_line rows framework client
 client_line_is rows weighted offered used framework client shares offers tasks = λ i. record {
   framework = framework.name;
@@ -150,6 +150,6 @@ client_line_is rows weighted offered used framework client shares offers tasks =
   suppressed = client.suppressed;
   count = client.count;
   weighted = shares (path_of (client_of framework client)) i;
-  offered = (ap (sum_for client.role) (offers framework.name) ∙ had_is (client_of framework client) (map of_offer rows.offers)) i;
-  used = (ap (sum_for client.role) (tasks framework.name) ∙ had_is (client_of framework client) (map of_task rows.tasks)) i;
+  offered = (ap (sum_for client.role) (offers framework.name) ∙ had_is (client_of framework client) (map holding_of_offer rows.offers)) i;
+  used = (ap (sum_for client.role) (tasks framework.name) ∙ had_is (client_of framework client) (map holding_of_task rows.tasks)) i;
 }

@@ -55,14 +55,14 @@ widened_last old column width past = record {
 
 pub widened_more : (old now new : List ℕ) (cells : Cells) (column : ℕ) (cell : Text) → length cells ≡ column
     → AreWidened old now cells → IsWidenedAt now new column (length cell) → AreWidened old new (cells ++ cell ∷ [])
-widened_more old now new cells column cell front so_far widened = λ q. by q (cases_order q column)
+widened_more old now new cells column cell prefix so_far widened = λ q. by q (cases_order q column)
   where
     by : (q : ℕ) → (q ≡ column) ⊎ ((q < column) ⊎ (column < q))
         → get_or new q 0 ≡ max (get_or old q 0) (length (get_or (cells ++ cell ∷ []) q []))
     by q (inl same) =
         ap (λ n. get_or new n 0) same
         ∙ widened.there
-        ∙ ap (λ n. max n (length cell)) (so_far column ∙ ap (λ (t : Text). max (get_or old column 0) (length t)) (get_or_past cells column [] (omega (arith, front))) ∙ max-zero (get_or old column 0))
+        ∙ ap (λ n. max n (length cell)) (so_far column ∙ ap (λ (t : Text). max (get_or old column 0) (length t)) (get_or_past cells column [] (omega (arith, prefix))) ∙ max-zero (get_or old column 0))
         ∙ (λ i. max (get_or old (same' i) 0) (length (there i)))
       where
         same' : column ≡ q
@@ -72,30 +72,30 @@ widened_more old now new cells column cell front so_far widened = λ q. by q (ca
         nothing = omega (arith, same)
 
         there : cell ≡ get_or (cells ++ cell ∷ []) q []
-        there = sym (get_or-append_right cells (cell ∷ []) column q [] front (omega (arith, same)) ∙ ap (λ n. get_or (cell ∷ []) n []) nothing)
+        there = sym (get_or-append_right cells (cell ∷ []) column q [] prefix (omega (arith, same)) ∙ ap (λ n. get_or (cell ∷ []) n []) nothing)
     by q (inr (inl before)) =
         widened.others q (λ same. absurd (omega (arith, same, before)))
         ∙ so_far q
-        ∙ ap (λ (t : Text). max (get_or old q 0) (length t)) (sym (get_or_append_left cells (cell ∷ []) [] q (omega (arith, before, front))))
+        ∙ ap (λ (t : Text). max (get_or old q 0) (length t)) (sym (get_or_append_left cells (cell ∷ []) [] q (omega (arith, before, prefix))))
     by q (inr (inr behind)) =
         widened.others q (λ same. absurd (omega (arith, same, behind)))
         ∙ so_far q
         ∙ ap (λ (t : Text). max (get_or old q 0) (length t))
-        (get_or_past cells q [] (omega (arith, behind, front)) ∙ sym (get_or_past (cells ++ cell ∷ []) q [] (omega (arith, behind, front, length-append cells (cell ∷ [])))))
+        (get_or_past cells q [] (omega (arith, behind, prefix)) ∙ sym (get_or_past (cells ++ cell ∷ []) q [] (omega (arith, behind, prefix, length-append cells (cell ∷ [])))))
 
 -- one more text of a list
 module _ {X : Type 0} (text_in : X → Text) (cells : List X) (i : ℕ) (cell : X) (inside : i < length cells) (is : cell ≡ get_or cells i cell) where
-  front_more : map text_in (take (i + 1) cells) ≡ map text_in (take i cells) ++ text_in cell ∷ []
-  front_more =
+  prefix_more : map text_in (take (i + 1) cells) ≡ map text_in (take i cells) ++ text_in cell ∷ []
+  prefix_more =
       ap (map text_in) (take_more cells i cell inside)
       ∙ map-append text_in (take i cells) (get_or cells i cell ∷ [])
       ∙ ap (λ (c : X). map text_in (take i cells) ++ text_in c ∷ []) (sym is)
 
-  front_length : length (map text_in (take i cells)) ≡ i
-  front_length = length-map (take i cells) text_in ∙ length-take-le i cells (omega (arith, inside))
+  prefix_length : length (map text_in (take i cells)) ≡ i
+  prefix_length = length-map (take i cells) text_in ∙ length-take-le i cells (omega (arith, inside))
 
   pub widened_next : (old now new : List ℕ) → AreWidened old now (map text_in (take i cells))
       → IsWidenedAt now new i (length (text_in cell)) → AreWidened old new (map text_in (take (i + 1) cells))
   widened_next old now new so_far widened =
-      subst (λ (cs : Cells). AreWidened old new cs) (sym front_more)
-      (widened_more old now new (map text_in (take i cells)) i (text_in cell) front_length so_far widened)
+      subst (λ (cs : Cells). AreWidened old new cs) (sym prefix_more)
+      (widened_more old now new (map text_in (take i cells)) i (text_in cell) prefix_length so_far widened)

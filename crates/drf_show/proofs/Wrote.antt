@@ -7,8 +7,8 @@ use Rattle.drf_core.specs.Machine.{Machine, Engine, live}
 use Rattle.drf_rows.specs.LimitNumbers.{LimitNumbers}
 use Rattle.drf_rows.specs.Step.{live_rows}
 use Rattle.drf_rows.specs.declared.rows.Rows.{Rows}
-use Rattle.drf_journal.specs.Audited.{rows_after_lines, told_of_lines}
-use Rattle.drf_journal.specs.Device.{AppendsFrontOf}
+use Rattle.drf_journal.specs.Audited.{rows_after_lines, reported_of_lines}
+use Rattle.drf_journal.specs.Device.{AppendsPrefixOf}
 use Rattle.drf_journal.specs.Ended.{HasCause}
 use Rattle.drf_journal.specs.Lines.{lines_of}
 use Rattle.drf_journal.specs.Resumed.{resumed}
@@ -27,10 +27,10 @@ shown_live form limits a b same = ap (λ (rows : Rows). rows_text form limits ro
 pub shown_due : (form : Form) (old new : Engine) (read text : List ℕ)
     → live new ≡ resumed (live old) (lines_of read)
     → text ≡ shown form old.limits new.rows
-    → text ≡ told_of_lines (shown form (live old).limits) (live old) (lines_of read)
-unfolding live told_of_lines
-shown_due form old new read text is told =
-    told ∙ shown_live form old.limits new.rows (rows_after_lines old.limits (live_rows old.rows) (lines_of read)) (ap (λ (m : Machine). m.rows) is)
+    → text ≡ reported_of_lines (shown form (live old).limits) (live old) (lines_of read)
+unfolding live reported_of_lines
+shown_due form old new read text is reported =
+    reported ∙ shown_live form old.limits new.rows (rows_after_lines old.limits (live_rows old.rows) (lines_of read)) (ap (λ (m : Machine). m.rows) is)
 
 module _ (form : Form) (machine : Machine) (unread_before unread_after : Option (List ℕ)) where
   -- nothing was written if not all lines were taken
@@ -38,28 +38,28 @@ module _ (form : Form) (machine : Machine) (unread_before unread_after : Option 
       → HasCause {T = T} (Err fault) reader_failed reads false → Consumes unread_before unread_after read
       → HasShown form machine unread_before unread_after written written (Err fault)
   shown_unread T written Read reads reader_failed read cause consumed =
-      record { read = read; written = []; consumed = consumed; appended = Appends-nil written; told = refl; whole = tt; late = λ some. absurd (omega arith) }
+      record { read = read; written = []; consumed = consumed; appended = Appends-nil written; reported = refl; whole = tt; late = λ some. absurd (omega arith) }
   shown_unread T written Write reads reader_failed read cause consumed = absurd (false≢true cause.1)
   shown_unread T written Memory reads reader_failed read cause consumed =
-      record { read = read; written = []; consumed = consumed; appended = Appends-nil written; told = (0, refl); whole = tt; late = λ some. absurd (omega arith) }
+      record { read = read; written = []; consumed = consumed; appended = Appends-nil written; reported = (0, refl); whole = tt; late = λ some. absurd (omega arith) }
 
   -- and nothing was written if memory ran out after them
   pub shown_forgotten : (written : Option (List ℕ)) (read : List ℕ) → Consumes unread_before unread_after read
       → HasShown form machine unread_before unread_after written written (Err Memory)
   shown_forgotten written read consumed =
-      record { read = read; written = []; consumed = consumed; appended = Appends-nil written; told = (0, refl); whole = tt; late = λ some. absurd (omega arith) }
+      record { read = read; written = []; consumed = consumed; appended = Appends-nil written; reported = (0, refl); whole = tt; late = λ some. absurd (omega arith) }
 
   -- the text was written, or a prefix of it
   pub shown_ends : (written_before written_after : Option (List ℕ)) (read text : List ℕ) (result : Result (Unit {0}) RunFault)
       → Consumes unread_before unread_after read → IsAtEnd unread_after
-      → text ≡ told_of_lines (shown form machine.limits) machine (lines_of read)
+      → text ≡ reported_of_lines (shown form machine.limits) machine (lines_of read)
       → OnOk result (Appends written_before written_after text)
-      → OnErr result (AppendsFrontOf written_before written_after text)
+      → OnErr result (AppendsPrefixOf written_before written_after text)
       → IfErr result (λ f. f ≡ Write)
       → HasShown form machine unread_before unread_after written_before written_after result
-  shown_ends written_before written_after read text (Ok done) consumed whole told wrote front is =
-      record { read = read; written = text; consumed = consumed; appended = wrote; told = told; whole = whole; late = λ some. whole }
-  shown_ends written_before written_after read text (Err Write) consumed whole told wrote front is =
-      record { read = read; written = take front.0 text; consumed = consumed; appended = front.1; told = (front.0, ap (take front.0) told); whole = tt; late = λ some. whole }
-  shown_ends written_before written_after read text (Err Read) consumed whole told wrote front is = let none : ⊥ = cc in absurd none
-  shown_ends written_before written_after read text (Err Memory) consumed whole told wrote front is = let none : ⊥ = cc in absurd none
+  shown_ends written_before written_after read text (Ok done) consumed whole reported wrote prefix is =
+      record { read = read; written = text; consumed = consumed; appended = wrote; reported = reported; whole = whole; late = λ some. whole }
+  shown_ends written_before written_after read text (Err Write) consumed whole reported wrote prefix is =
+      record { read = read; written = take prefix.0 text; consumed = consumed; appended = prefix.1; reported = (prefix.0, ap (take prefix.0) reported); whole = tt; late = λ some. whole }
+  shown_ends written_before written_after read text (Err Read) consumed whole reported wrote prefix is = let none : ⊥ = cc in absurd none
+  shown_ends written_before written_after read text (Err Memory) consumed whole reported wrote prefix is = let none : ⊥ = cc in absurd none

@@ -8,7 +8,7 @@ use Rattle.drf_bundle.specs.declared.quantities.Entry.{Entry}
 use Rattle.drf_rows.specs.Client.{Client, path_of}
 use Rattle.drf_rows.specs.Cycle.{free_of}
 use Rattle.drf_rows.specs.Held.{client_of, clients_of, cluster_total, standing_of}
-use Rattle.drf_rows.specs.Holdings.{Holding, holdings_of, is_of, is_on, of_offer, of_task}
+use Rattle.drf_rows.specs.Holdings.{Holding, holdings_of, is_of, is_on, holding_of_offer, holding_of_task}
 use Rattle.drf_rows.specs.LimitNumbers.{LimitNumbers}
 use Rattle.drf_rows.specs.Quota.{consumption}
 use Rattle.drf_rows.specs.Report.{sum_of, terms_of}
@@ -57,8 +57,8 @@ client_line rows framework client = record {
   suppressed = client.suppressed;
   count = client.count;
   weighted = terms_of (weighted_share_of (standing_of rows) (path_of (client_of framework client)));
-  offered = had_of (client_of framework client) (map of_offer rows.offers);
-  used = had_of (client_of framework client) (map of_task rows.tasks);
+  offered = had_of (client_of framework client) (map holding_of_offer rows.offers);
+  used = had_of (client_of framework client) (map holding_of_task rows.tasks);
 }
 
 abbrev pub client_lines : Rows → List ClientLine

@@ -144,7 +144,7 @@ pub(crate) fn client_lines<S: Sorter>(
     requires content { IsSame (S.content sorter.now) (content_of rows.now) }
     ensures { IfOk result (λ lines. lines.items ≡ client_lines rows.now) }
 {
-    let offered = Had::of_offers(alloc, key, rows.offers.as_slice())?;
+    let offered = Had::offers_by_framework(alloc, key, rows.offers.as_slice())?;
     let used = Had::of_tasks(alloc, key, rows.tasks.as_slice())?;
     lines_of(alloc, sorter, &offered, &used, rows.frameworks.as_slice())
 }

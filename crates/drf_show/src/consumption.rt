@@ -2,7 +2,7 @@
 ghost use Rattle.std.specs.Prelude.{◌≡◌, ◌+◌, ◌<◌, ◌^◌, [], Bool, map, IfOk, OnOk};
 ghost use Rattle.drf_role.specs.Text.{Text};
 ghost use Rattle.drf_role.specs.Path.{Path};
-ghost use Rattle.drf_rows.specs.Holdings.{of_offer, of_task};
+ghost use Rattle.drf_rows.specs.Holdings.{holding_of_offer, holding_of_task};
 ghost use Rattle.drf_rows.specs.Quota.{consumption_where, held_unreserved, reserved_for};
 ghost use Rattle.drf_gates.specs.quota.Allowance.{IsConsumptionOf, IsRaisedBy, used_where};
 ghost use Rattle.drf_show.specs.Consuming.{limit_line_by, used_of};
@@ -30,8 +30,8 @@ fn none_under(alloc: Global, key: HashKey, limits: &[LimitRow]) -> Result<Consum
 /// Adds what offers consume.
 fn consume_offers(consumption: &mut Consumption, offers: &[OfferRow]) -> Result<(), AllocError>
     requires { (test : Path → Bool) (label : Text)
-        → used_where test consumption.old label + held_unreserved test (map of_offer offers.now) label < 2 ^ 64 }
-    ensures { OnOk result (IsRaisedBy consumption.old consumption.new (λ test label. held_unreserved test (map of_offer offers.now) label)) }
+        → used_where test consumption.old label + held_unreserved test (map holding_of_offer offers.now) label < 2 ^ 64 }
+    ensures { OnOk result (IsRaisedBy consumption.old consumption.new (λ test label. held_unreserved test (map holding_of_offer offers.now) label)) }
 {
     for offer in offers {
         consumption.consume_unreserved(&offer.role, &offer.bundle)?;
@@ -42,8 +42,8 @@ fn consume_offers(consumption: &mut Consumption, offers: &[OfferRow]) -> Result<
 /// Adds what tasks consume.
 fn consume_tasks(consumption: &mut Consumption, tasks: &[TaskRow]) -> Result<(), AllocError>
     requires { (test : Path → Bool) (label : Text)
-        → used_where test consumption.old label + held_unreserved test (map of_task tasks.now) label < 2 ^ 64 }
-    ensures { OnOk result (IsRaisedBy consumption.old consumption.new (λ test label. held_unreserved test (map of_task tasks.now) label)) }
+        → used_where test consumption.old label + held_unreserved test (map holding_of_task tasks.now) label < 2 ^ 64 }
+    ensures { OnOk result (IsRaisedBy consumption.old consumption.new (λ test label. held_unreserved test (map holding_of_task tasks.now) label)) }
 {
     for task in tasks {
         consumption.consume_unreserved(&task.role, &task.bundle)?;

@@ -3,7 +3,7 @@ ghost use Rattle.std.specs.Prelude.{◌≡◌, ◌+◌, ◌<◌, ◌^◌, [], �
 ghost use Rattle.drf_bundle.specs.Bundle.{quantities_of};
 ghost use Rattle.drf_bundle.specs.Quantities.{amount_of, is_in_order};
 ghost use Rattle.drf_role.specs.Text.{Text, same_text};
-ghost use Rattle.drf_rows.specs.Holdings.{of_offer, of_task};
+ghost use Rattle.drf_rows.specs.Holdings.{holding_of_offer, holding_of_task};
 ghost use Rattle.drf_show.specs.Had.{AreAllOf, AreSmall, parts_for, parts_in, parts_of, sum_for, sum_with};
 
 use drf_bundle::{Bundle, Quantities};
@@ -49,12 +49,12 @@ impl<'a> Had<'a> {
     }
 
     /// Returns the bundles of offers, by framework.
-    pub(crate) fn of_offers(
+    pub(crate) fn offers_by_framework(
         alloc: Global,
         key: HashKey,
         offers: &'a [OfferRow],
     ) -> Result<Had<'a>, AllocError>
-        ensures { IfOk result (λ had. AreAllOf had (map of_offer offers.now)) }
+        ensures { IfOk result (λ had. AreAllOf had (map holding_of_offer offers.now)) }
     {
         let mut had = Had::new(alloc, key);
         for offer in offers {
@@ -69,7 +69,7 @@ impl<'a> Had<'a> {
         key: HashKey,
         tasks: &'a [TaskRow],
     ) -> Result<Had<'a>, AllocError>
-        ensures { IfOk result (λ had. AreAllOf had (map of_task tasks.now)) }
+        ensures { IfOk result (λ had. AreAllOf had (map holding_of_task tasks.now)) }
     {
         let mut had = Had::new(alloc, key);
         for task in tasks {

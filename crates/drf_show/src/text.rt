@@ -25,7 +25,7 @@ use std::alloc::{AllocError, Global};
 use std::thread::Threads;
 
 /// Appends a table; an aligned one comes after an empty line.
-fn push_behind<T: Shown>(
+fn push_table<T: Shown>(
     alloc: Global,
     form: Form,
     items: &[T],
@@ -63,7 +63,7 @@ fn push_agents(
     ensures { OnOk result (text.new.items ≡ text.old.items ++ behind form (agent_table rows.now)) }
 {
     let lines = agent_lines(rt, alloc, key, rows)?;
-    push_behind(alloc, form, &lines, text)
+    push_table(alloc, form, &lines, text)
 }
 
 /// Appends the table of the clients.
@@ -80,7 +80,7 @@ fn push_clients<S: Sorter>(
     ensures { OnOk result (text.new.items ≡ text.old.items ++ behind form (client_table rows.now)) }
 {
     let lines = client_lines(alloc, key, sorter, rows)?;
-    push_behind(alloc, form, &lines, text)
+    push_table(alloc, form, &lines, text)
 }
 
 /// Appends the table of the limits.
@@ -95,7 +95,7 @@ fn push_limits(
     ensures { OnOk result (text.new.items ≡ text.old.items ++ behind form (limit_table rows.now)) }
 {
     let lines = limit_lines(alloc, key, rows)?;
-    push_behind(alloc, form, &lines, text)
+    push_table(alloc, form, &lines, text)
 }
 
 /// Appends the table of the filters.
@@ -108,7 +108,7 @@ fn push_filters(
     ensures { OnOk result (text.new.items ≡ text.old.items ++ behind form (filter_table rows.now)) }
 {
     let lines = filter_lines(alloc, rows.clock, rows.filters.as_slice())?;
-    push_behind(alloc, form, &lines, text)
+    push_table(alloc, form, &lines, text)
 }
 
 /// Appends the table that says how full the tables are.
@@ -126,7 +126,7 @@ fn push_counts(
 {
     let scalar_names = report.total.entries().len() as u64;
     let lines = table_lines(alloc, limits, rows, scalar_names)?;
-    push_behind(alloc, form, &lines, text)
+    push_table(alloc, form, &lines, text)
 }
 
 /// Appends all tables.
@@ -149,11 +149,11 @@ fn push_tables<S: Sorter>(
     push_head(alloc, form, rows, text)?;
     push_agents(rt, alloc, key, form, rows, text)?;
     push_clients(alloc, key, form, sorter, rows, text)?;
-    push_behind(alloc, form, report.nodes.as_slice(), text)?;
-    push_behind(alloc, form, rows.weights.as_slice(), text)?;
+    push_table(alloc, form, report.nodes.as_slice(), text)?;
+    push_table(alloc, form, rows.weights.as_slice(), text)?;
     push_limits(alloc, key, form, rows, text)?;
-    push_behind(alloc, form, rows.offers.as_slice(), text)?;
-    push_behind(alloc, form, rows.tasks.as_slice(), text)?;
+    push_table(alloc, form, rows.offers.as_slice(), text)?;
+    push_table(alloc, form, rows.tasks.as_slice(), text)?;
     push_filters(alloc, form, rows, text)?;
     push_counts(alloc, form, rows, report, limits, text)
 }

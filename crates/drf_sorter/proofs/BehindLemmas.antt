@@ -17,42 +17,42 @@ use Rattle.drf_role.proofs.PartLaws.{HasNoSlash, first_part, parts_no_slash, par
 use Rattle.drf_rows.specs.Report.{path_cmp}
 
 -- after a prefix that two paths share, the rest decides
-rest_decides : (front a b : Path) → path_cmp (front ++ a) (front ++ b) ≡ path_cmp a b
+rest_decides : (prefix a b : Path) → path_cmp (prefix ++ a) (prefix ++ b) ≡ path_cmp a b
 rest_decides [] a b = refl
 rest_decides (p ∷ ps) a b =
     ap (λ (o : Ordering). ordering_then o (path_cmp (ps ++ a) (ps ++ b))) (cmp_itself p) ∙ rest_decides ps a b
 
 -- a path is greater than a proper prefix of it
-behind_front : (front : Path) (p : Text) (ps : Path) → path_cmp (front ++ p ∷ ps) front ≡ Greater
-behind_front [] p ps = refl
-behind_front (q ∷ qs) p ps =
-    ap (λ (o : Ordering). ordering_then o (path_cmp (qs ++ p ∷ ps) qs)) (cmp_itself q) ∙ behind_front qs p ps
+behind_prefix : (prefix : Path) (p : Text) (ps : Path) → path_cmp (prefix ++ p ∷ ps) prefix ≡ Greater
+behind_prefix [] p ps = refl
+behind_prefix (q ∷ qs) p ps =
+    ap (λ (o : Ordering). ordering_then o (path_cmp (qs ++ p ∷ ps) qs)) (cmp_itself q) ∙ behind_prefix qs p ps
 
-pub goes_on_behind : (path other : Path) (text front more : Text) → parts_of text ≡ path → parts_of front ≡ other
-    → text ≡ front ++ 47 ∷ more → path_cmp path other ≡ Greater
-goes_on_behind path other text front more is its whole =
+pub goes_on_behind : (path other : Path) (text prefix more : Text) → parts_of text ≡ path → parts_of prefix ≡ other
+    → text ≡ prefix ++ 47 ∷ more → path_cmp path other ≡ Greater
+goes_on_behind path other text prefix more is its whole =
     let first = first_part more in
     let parts : path ≡ other ++ first.0 ∷ first.1 =
-    sym is ∙ ap parts_of whole ∙ parts_of-append front more ∙ (λ i. its i ++ first.2 i) in
-    ap (λ (p : Path). path_cmp p other) parts ∙ behind_front other first.0 first.1
+    sym is ∙ ap parts_of whole ∙ parts_of-append prefix more ∙ (λ i. its i ++ first.2 i) in
+    ap (λ (p : Path). path_cmp p other) parts ∙ behind_prefix other first.0 first.1
 
 -- if no part has a slash, the first parts have none
-front_no_slash : (ps qs : Path) → All HasNoSlash (ps ++ qs) → All HasNoSlash ps
-front_no_slash [] qs all = All-nil HasNoSlash
-front_no_slash (p ∷ ps) qs all =
+prefix_no_slash : (ps qs : Path) → All HasNoSlash (ps ++ qs) → All HasNoSlash ps
+prefix_no_slash [] qs all = All-nil HasNoSlash
+prefix_no_slash (p ∷ ps) qs all =
     All-cons HasNoSlash p ps (All-head HasNoSlash p (ps ++ qs) all)
-    (front_no_slash ps qs (All-tail HasNoSlash p (ps ++ qs) all))
+    (prefix_no_slash ps qs (All-tail HasNoSlash p (ps ++ qs) all))
 
 -- a text without its last part
-text_front : (p : Text) (ps : Path) (x : Text) (text : Text) → text ≡ text_of ((p ∷ ps) ++ x ∷ [])
+text_prefix : (p : Text) (ps : Path) (x : Text) (text : Text) → text ≡ text_of ((p ∷ ps) ++ x ∷ [])
     → take (length text - length x) text ≡ text_of (p ∷ ps) ++ 47 ∷ []
-text_front p ps x text is =
-    let front : Text = text_of (p ∷ ps) ++ 47 ∷ [] in
-    let whole : text ≡ front ++ x =
+text_prefix p ps x text is =
+    let prefix : Text = text_of (p ∷ ps) ++ 47 ∷ [] in
+    let whole : text ≡ prefix ++ x =
     is ∙ text_of-append p ps x [] ∙ sym (append_assoc (text_of (p ∷ ps)) (47 ∷ []) x) in
-    let long : length text - length x ≡ length front =
-    omega (arith, ap length whole, length-append front x) in
-    ap (λ (n : ℕ). take n text) long ∙ ap (λ (t : Text). take (length front) t) whole ∙ take-append_seam front x
+    let long : length text - length x ≡ length prefix =
+    omega (arith, ap length whole, length-append prefix x) in
+    ap (λ (n : ℕ). take n text) long ∙ ap (λ (t : Text). take (length prefix) t) whole ∙ take-append_seam prefix x
 
 -- a path as the parts before its last one, and the last one
 split_last : (path : Path) (i : ℕ) (x : Text) → slice_get path i ≡ Some x → length path ≤ i + 1
@@ -66,7 +66,7 @@ pub part_fits : (path : Path) (i : ℕ) (x text : Text) → slice_get path i ≡
     → text ≡ text_of path → length x ≤ length text
 part_fits path i x text at last is = of (take i path) (is ∙ ap text_of (split_last path i x at last))
   where
-    of : (front : Path) → text ≡ text_of (front ++ x ∷ []) → length x ≤ length text
+    of : (prefix : Path) → text ≡ text_of (prefix ++ x ∷ []) → length x ≤ length text
     of [] is = omega (arith, ap length is)
     of (p ∷ ps) is =
         omega
@@ -84,28 +84,28 @@ ends_behind path other i x y text its more at last there less joined parts its_p
     long = omega (arith, length-take i path, slice_get_within path i x at)
 
     -- the rest of the other path begins with y
-    from : (front rest : Path) → other ≡ front ++ rest → path ≡ front ++ x ∷ [] → length front ≡ i
+    from : (prefix rest : Path) → other ≡ prefix ++ rest → path ≡ prefix ++ x ∷ [] → length prefix ≡ i
         → (q : Text) (qs : Path) → rest ≡ q ∷ qs → path_cmp path other ≡ Greater
-    from front rest split is long q qs first =
-        let whole : other ≡ front ++ q ∷ qs = split ∙ ap (λ (r : Path). front ++ r) first in
+    from prefix rest split is long q qs first =
+        let whole : other ≡ prefix ++ q ∷ qs = split ∙ ap (λ (r : Path). prefix ++ r) first in
         let same : q ≡ y =
-        sym (get_or_at front q qs [] i long) ∙ ap (λ (p : Path). get_or p i []) (sym whole)
+        sym (get_or_at prefix q qs [] i long) ∙ ap (λ (p : Path). get_or p i []) (sym whole)
         ∙ get_or_from_slice_get other i y [] there in
         (λ i. path_cmp (is i) (whole i))
-        ∙ rest_decides front (x ∷ []) (q ∷ qs)
+        ∙ rest_decides prefix (x ∷ []) (q ∷ qs)
         ∙ ap (λ (t : Text). ordering_then (slice_cmp nat_cmp x t) (path_cmp [] qs)) same
         ∙ ap (λ (o : Ordering). ordering_then o (path_cmp [] qs)) less
 
-    by : (front : Path) → path ≡ front ++ x ∷ [] → length front ≡ i → path_cmp path other ≡ Greater
+    by : (prefix : Path) → path ≡ prefix ++ x ∷ [] → length prefix ≡ i → path_cmp path other ≡ Greater
     by [] is long =
         let first = first_part its in
         from [] other refl is long first.0 first.1 (sym its_parts ∙ first.2)
     by (p ∷ ps) is long =
         let first = first_part more in
         let clean : All HasNoSlash (p ∷ ps) =
-        front_no_slash (p ∷ ps) (x ∷ []) (subst (All HasNoSlash) (parts ∙ is) (parts_no_slash text)) in
+        prefix_no_slash (p ∷ ps) (x ∷ []) (subst (All HasNoSlash) (parts ∙ is) (parts_no_slash text)) in
         let whole : its ≡ text_of (p ∷ ps) ++ 47 ∷ more =
-        begins ∙ ap (λ (t : Text). t ++ more) (text_front p ps x text (joined ∙ ap text_of is))
+        begins ∙ ap (λ (t : Text). t ++ more) (text_prefix p ps x text (joined ∙ ap text_of is))
         ∙ append_assoc (text_of (p ∷ ps)) (47 ∷ []) more in
         let split : other ≡ (p ∷ ps) ++ parts_of more =
         sym its_parts ∙ ap parts_of whole ∙ parts_of-append (text_of (p ∷ ps)) more

@@ -148,8 +148,8 @@ module _ (path : Path) (lines : List NodeLine) (i : ℕ) (x : NodeLine) (some : 
   back : i - 1 + 1 ≡ i
   back = omega arith
 
-  front : take i lines ≡ take (i - 1) lines ++ x ∷ []
-  front = ap (λ (n : ℕ). take n lines) (sym back) ∙ take_more lines (i - 1) x inside
+  prefix : take i lines ≡ take (i - 1) lines ++ x ∷ []
+  prefix = ap (λ (n : ℕ). take n lines) (sym back) ∙ take_more lines (i - 1) x inside
       ∙ ap (λ (y : NodeLine). take (i - 1) lines ++ y ∷ []) (sym is)
 
   ends : drop (i - 1) lines ≡ x ∷ drop i lines
@@ -158,7 +158,7 @@ module _ (path : Path) (lines : List NodeLine) (i : ℕ) (x : NodeLine) (some : 
   pub among_less : path_cmp path x.path ≡ Less → IsAmong path lines (i - 1)
   among_less less line same =
       among line same
-      ∙ ap (λ (ls : List NodeLine). with_line ls line ++ drop i lines) front
+      ∙ ap (λ (ls : List NodeLine). with_line ls line ++ drop i lines) prefix
       ∙ ap (λ (ls : List NodeLine). ls ++ drop i lines)
       (ahead-end (take (i - 1) lines) x line (ap (λ (p : Path). path_cmp p x.path) same ∙ less))
       ∙ append_assoc (with_line (take (i - 1) lines) line) (x ∷ []) (drop i lines)
@@ -169,9 +169,9 @@ module _ (path : Path) (lines : List NodeLine) (i : ℕ) (x : NodeLine) (some : 
       → with_line (x ∷ []) line ≡ end → with_line lines line ≡ take (i - 1) lines ++ (end ++ drop i lines)
   past line end same rising behind at =
       among line same
-      ∙ ap (λ (ls : List NodeLine). with_line ls line ++ drop i lines) front
+      ∙ ap (λ (ls : List NodeLine). with_line ls line ++ drop i lines) prefix
       ∙ ap (λ (ls : List NodeLine). ls ++ drop i lines)
-      (past-end (take (i - 1) lines) x line end behind at (subst AreRising front (rising_take i lines rising)))
+      (past-end (take (i - 1) lines) x line end behind at (subst AreRising prefix (rising_take i lines rising)))
       ∙ append_assoc (take (i - 1) lines) end (drop i lines)
 
   pub stands_at : path_cmp path x.path ≡ Equal → AreRising lines → StandsAt path lines (i - 1)
@@ -192,7 +192,7 @@ module _ (path : Path) (lines : List NodeLine) (i : ℕ) (x : NodeLine) (some : 
       (λ p less. turned_more p line.path (path_total.trans p x.path line.path less (turned_less line.path x.path own)))
       (ap (λ (o : Ordering). match_ordering o (line ∷ x ∷ []) (line ∷ []) (x ∷ line ∷ [])) own)
       ∙ sym (append_assoc (take (i - 1) lines) (x ∷ []) (line ∷ drop i lines))
-      ∙ ap (λ (ls : List NodeLine). ls ++ line ∷ drop i lines) (sym front)
+      ∙ ap (λ (ls : List NodeLine). ls ++ line ∷ drop i lines) (sym prefix)
 
 -- the path is greater than all in the list
 pub goes_last : (path : Path) (lines : List NodeLine) (x : NodeLine) → slice_get lines (length lines - 1) ≡ Some x
@@ -220,28 +220,28 @@ any_through p q step (x ∷ xs) some = elim (or_cases (p x) (list_any p xs) some
 ]
 
 -- each prefix of a client's path is a node with clients
-pub has_node-front : (content : Content) (path : Path) (k : ℕ) → has_client content path ≡ true
+pub has_node-prefix : (content : Content) (path : Path) (k : ℕ) → has_client content path ≡ true
     → has_node content (take k path) ≡ true
-has_node-front content path k has =
+has_node-prefix content path k has =
     any_through (λ (c : Ranked). same_path c.path path) (λ (c : Ranked). begins_with c.path (take k path))
     (λ c same. ap (λ (p : Path). begins_with p (take k path)) (same_path-true c.path path same) ∙ begins_take path k)
     content.clients has
 
 -- each node of a client is a prefix of its path
-pub has_line-fronts : (lines : List NodeLine) (path node : Path) → 1 ≤ length node → begins_with path node ≡ true
+pub has_line-prefixes : (lines : List NodeLine) (path node : Path) → 1 ≤ length node → begins_with path node ≡ true
     → ((k : ℕ) → 1 ≤ k → k ≤ length path → has_line lines (take k path) ≡ true) → has_line lines node ≡ true
-has_line-fronts lines path node some begins fronts = elim (cases_lt (length path) (length node)) [
+has_line-prefixes lines path node some begins prefixes = elim (cases_lt (length path) (length node)) [
   | inl short ↦ absurd (false≢true (sym (begins_short path node short) ∙ begins))
   | inr within ↦
-      ap (has_line lines) (sym (begins_to path node begins)) ∙ fronts (length node) some within
+      ap (has_line lines) (sym (begins_to path node begins)) ∙ prefixes (length node) some within
 ]
 
 -- one more of the prefixes has a line
-pub fronts-more : (old : List NodeLine) (line : NodeLine) (path : Path) (i : ℕ) → line.path ≡ take (i + 1) path
+pub prefixes-more : (old : List NodeLine) (line : NodeLine) (path : Path) (i : ℕ) → line.path ≡ take (i + 1) path
     → ((k : ℕ) → 1 ≤ k → k ≤ i → has_line old (take k path) ≡ true)
     → (k : ℕ) → 1 ≤ k → k ≤ i + 1 → has_line (with_line old line) (take k path) ≡ true
-fronts-more old line path i is fronts k some within = elim (cases_eq k (i + 1)) [
+prefixes-more old line path i is prefixes k some within = elim (cases_eq k (i + 1)) [
   | inl here ↦
       ap (has_line (with_line old line)) (ap (λ (n : ℕ). take n path) here ∙ sym is) ∙ has_line-new old line
-  | inr other ↦ has_line-others old line (take k path) (fronts k some (omega (arith, other)))
+  | inr other ↦ has_line-others old line (take k path) (prefixes k some (omega (arith, other)))
 ]

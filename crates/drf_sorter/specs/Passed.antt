@@ -4,7 +4,7 @@ use Rattle.std.specs.List.{AllByRecursion}
 use Rattle.drf_role.specs.Path.{Path}
 
 -- the current client is passed, and perhaps clients right after it whose paths have the same first `len` parts
-pub record IsPassedFront (len : ℕ) (old new : List Path) : Type 0 where
+pub record IsPassedPrefix (len : ℕ) (old new : List Path) : Type 0 where
   pub passed : List Path
   pub split : old ≡ passed ++ new
   pub alike : (first : Path) → slice_get old 0 ≡ Some first → AllByRecursion (λ path. take len path ≡ take len first) passed

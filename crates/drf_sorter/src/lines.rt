@@ -126,11 +126,11 @@ fn is_below(path: &NodePath, other: &NodePath) -> bool
     ensures { IsTrue result → path_cmp path.now other.now ≡ Greater }
 {
     let text = path.text().as_bytes();
-    let front = other.text().as_bytes();
-    if text.len() <= front.len() {
+    let prefix = other.text().as_bytes();
+    if text.len() <= prefix.len() {
         return false;
     }
-    text[front.len()] == b'/' && text.starts_with(front)
+    text[prefix.len()] == b'/' && text.starts_with(prefix)
 }
 
 /// Returns whether the paths are the same up to the last part of `path`, and that part is greater than the other's at its place.
@@ -143,8 +143,8 @@ fn is_beside(path: &NodePath, other: &NodePath) -> bool
     }
     let part = path.part(last);
     let text = path.text().as_bytes();
-    let front = &text[..text.len() - part.len()];
-    other.part(last) < part && other.text().as_bytes().starts_with(front)
+    let prefix = &text[..text.len() - part.len()];
+    other.part(last) < part && other.text().as_bytes().starts_with(prefix)
 }
 
 /// Returns whether the path is found to be greater than all others in the list. It is a cheap test that can miss: it finds only a path

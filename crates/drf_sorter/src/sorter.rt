@@ -2,7 +2,7 @@
 ghost use Rattle.std.specs.Prelude.{◌≡◌, ◌≤◌, ◌+◌, ◌↔◌, Bool, List, false, true, length, drop, slice_get, IfOk, IfSome, IsOk, IsSome, IsTrue, OnOk, OnErr, option_copied};
 ghost use Rattle.std.specs.List.{AllByRecursion};
 ghost use Rattle.drf_role.specs.Path.{IsClientPath, Path};
-ghost use Rattle.drf_sorter.specs.Passed.{IsPassedFront};
+ghost use Rattle.drf_sorter.specs.Passed.{IsPassedPrefix};
 ghost use Rattle.drf_sorter.specs.Work.{Work, Defers, IsRepaired, OwesAtMost, Spends};
 ghost use Rattle.drf_sorter.specs.Content.{Content, IsSound, IsOrderOf, HasChargeAt, HasNodes, HoldsAt, activated, charged, discharged, empty, has_client, has_node, has_weight, refunded, with_change, with_client, with_weight, without_client};
 ghost use Rattle.drf_sorter.specs.Lines.{AreLinesOf};
@@ -106,7 +106,7 @@ pub trait Sorter: Sized + Drop {
         ensures replaced { IsTrue (has_weight (content self.old) role.now) → IsOk result }
         ensures spends { Defers COUNTED (work self.old) (work self.new) 1 };
 
-    /// Puts the active clients into the definition's order. `first`, `pass` and `pass_front` walk along this order, whatever is charged in
+    /// Puts the active clients into the definition's order. `first`, `pass` and `pass_prefix` walk along this order, whatever is charged in
     /// the meantime. It fails only when out of memory.
     fn fix_order(&mut self) -> Result<(), AllocError>
         requires { IsSound (content self.old) }
@@ -127,8 +127,8 @@ pub trait Sorter: Sized + Drop {
         ensures work { work self.new ≡ work self.old };
 
     /// Moves past the current client and, if the sorter can, past the clients right after it whose paths have the same first `len` parts.
-    fn pass_front(&mut self, len: usize)
-        ensures queue { IsPassedFront len (queue self.old) (queue self.new) }
+    fn pass_prefix(&mut self, len: usize)
+        ensures queue { IsPassedPrefix len (queue self.old) (queue self.new) }
         ensures content { content self.new ≡ content self.old }
         ensures work { work self.new ≡ work self.old }
     {

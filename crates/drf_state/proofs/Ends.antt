@@ -10,8 +10,8 @@ use Rattle.drf_lines.specs.OneLine.{IsOneLine}
 use Rattle.drf_state.specs.State.{ended}
 use Rattle.drf_state.specs.laws.Parts.{parts_of_text}
 
-one_line-front : (bytes : List ℕ) (n : ℕ) → Nowhere (Passes (is_byte 10) bytes) 0 n → IsOneLine (take n bytes)
-one_line-front bytes n none =
+one_line-prefix : (bytes : List ℕ) (n : ℕ) → Nowhere (Passes (is_byte 10) bytes) 0 n → IsOneLine (take n bytes)
+one_line-prefix bytes n none =
     All-from_get_or (λ (b : ℕ). (b == 10) ≡ false) (take n bytes) 0
     (λ i below.
     let small : i < n = omega (arith, length-take n bytes, below) in
@@ -30,12 +30,12 @@ first_line bytes None first = tt
 first_line bytes (Some at) first = (
   first.0.high,
   ap parts_of_text (cut_at bytes at first.0.high (eqb-true (get_or bytes at 0) 10 first.1))
-      ∙ slice_split_at (λ b. b == 10) (take at bytes) 10 (drop (at + 1) bytes) (one_line-front bytes at first.0.before) refl,
+      ∙ slice_split_at (λ b. b == 10) (take at bytes) 10 (drop (at + 1) bytes) (one_line-prefix bytes at first.0.before) refl,
 )
 
 pub only_line : (bytes : List ℕ) (place : Option ℕ) → IsFirstByte (is_byte 10) bytes place → IfNone place (parts_of_text bytes ≡ bytes ∷ [])
 only_line bytes None first =
-    slice_split_none (λ b. b == 10) bytes (subst IsOneLine (take_all (length bytes) bytes (omega arith)) (one_line-front bytes (length bytes) first))
+    slice_split_none (λ b. b == 10) bytes (subst IsOneLine (take_all (length bytes) bytes (omega arith)) (one_line-prefix bytes (length bytes) first))
 only_line bytes (Some at) first = tt
 
 -- the line with its line feed

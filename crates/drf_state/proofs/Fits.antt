@@ -15,23 +15,23 @@ use Rattle.drf_saved.specs.declared.fault.RowFault.{RowFault}
 -- ---- cases
 
 -- a case that holds is returned before all later ones
-pub first_front : (front rest : List (Bool × RowFault)) (fault : RowFault) → first_fault front ≡ Some fault → first_fault (front ++ rest) ≡ Some fault
-first_front [] rest fault is = cc
-first_front ((true, case) ∷ front) rest fault is = is
-first_front ((false, case) ∷ front) rest fault is = first_front front rest fault is
+pub first_prefix : (prefix rest : List (Bool × RowFault)) (fault : RowFault) → first_fault prefix ≡ Some fault → first_fault (prefix ++ rest) ≡ Some fault
+first_prefix [] rest fault is = cc
+first_prefix ((true, case) ∷ prefix) rest fault is = is
+first_prefix ((false, case) ∷ prefix) rest fault is = first_prefix prefix rest fault is
 
 -- if none of the first cases holds, the later ones decide
-pub first_rest : (front rest : List (Bool × RowFault)) → first_fault front ≡ None → first_fault (front ++ rest) ≡ first_fault rest
+pub first_rest : (prefix rest : List (Bool × RowFault)) → first_fault prefix ≡ None → first_fault (prefix ++ rest) ≡ first_fault rest
 first_rest [] rest is = refl
-first_rest ((true, case) ∷ front) rest is = let none : ⊥ = cc in absurd none
-first_rest ((false, case) ∷ front) rest is = first_rest front rest is
+first_rest ((true, case) ∷ prefix) rest is = let none : ⊥ = cc in absurd none
+first_rest ((false, case) ∷ prefix) rest is = first_rest prefix rest is
 
 -- ---- roles
 
 pub default_from : (role : Path) (t : Bool) → IsTrue t ↔ (role ≡ default_role) → t ≡ is_default role
-default_from role t told =
+default_from role t reported =
     both_ways t (is_default role)
-    (λ is. (path_decides role default_role).1 (told.0 is)) (λ is. told.1 ((path_decides role default_role).0 is))
+    (λ is. (path_decides role default_role).1 (reported.0 is)) (λ is. reported.1 ((path_decides role default_role).0 is))
 
 apart_each : (role : Path) (clients : List ClientRow)
     → list_all (λ (c : ClientRow). not (same_path role c.role)) clients ≡ list_all (λ r. not (same_path role r)) (map (λ (c : ClientRow). c.role) clients)

@@ -79,15 +79,15 @@ says_next limits bytes rest read at lines rows text line next =
 
 -- ---- the result of the line
 
-pub stopped_behind : (said : Said) (line : ℕ) (rows : Rows) (last : Bool) (more : Rows → Said) (told : Result (Option Rows) StateFault) (stopped : LineStop)
-    → said ≡ says_behind line rows last more told → IsStop told stopped → IsFaultOf said (stopped_at line stopped)
-stopped_behind said line rows last more told (stop.Fault fault) is stops = is ∙ ap (says_behind line rows last more) stops
-stopped_behind said line rows last more told stop.Memory is stops = tt
+pub stopped_behind : (said : Said) (line : ℕ) (rows : Rows) (last : Bool) (more : Rows → Said) (reported : Result (Option Rows) StateFault) (stopped : LineStop)
+    → said ≡ says_behind line rows last more reported → IsStop reported stopped → IsFaultOf said (stopped_at line stopped)
+stopped_behind said line rows last more reported (stop.Fault fault) is stops = is ∙ ap (says_behind line rows last more) stops
+stopped_behind said line rows last more reported stop.Memory is stops = tt
 
-pub stopped_first : (said : Said) (more : Rows → Said) (told : Result Rows StateFault) (stopped : LineStop)
-    → said ≡ says_first more told → IsStop told stopped → IsFaultOf said (stopped_at 1 stopped)
-stopped_first said more told (stop.Fault fault) is stops = is ∙ ap (says_first more) stops
-stopped_first said more told stop.Memory is stops = tt
+pub stopped_first : (said : Said) (more : Rows → Said) (reported : Result Rows StateFault) (stopped : LineStop)
+    → said ≡ says_first more reported → IsStop reported stopped → IsFaultOf said (stopped_at 1 stopped)
+stopped_first said more reported (stop.Fault fault) is stops = is ∙ ap (says_first more) stops
+stopped_first said more reported stop.Memory is stops = tt
 
 -- ---- the first line
 
@@ -109,5 +109,5 @@ says_nothing limits bytes none = ap (parts_say limits) none
 
 -- an error that is returned unchanged
 pub passed_on : {A : Type 0} (said : Said) (e : StateError) (r : Result A StateError) → IsFaultOf said e → IsErrAnd r (λ f. f ≡ e) → IfErr r (IsFaultOf said)
-passed_on said e (Ok a) told is = absurd is
-passed_on said e (Err f) told is = subst (IsFaultOf said) (sym is) told
+passed_on said e (Ok a) reported is = absurd is
+passed_on said e (Err f) reported is = subst (IsFaultOf said) (sym is) reported

@@ -16,13 +16,13 @@ use Rattle.drf_bundle.specs.declared.resource.Resource.{Resource}
 use Rattle.drf_rows.specs.Client.{path_of}
 use Rattle.drf_rows.specs.Consistent.{AreLimits, IsAgent, IsConsistent, IsHeld, are_distinct_roles, offers_counted}
 use Rattle.drf_rows.specs.Filters.{in_force, is_in_force}
-use Rattle.drf_rows.specs.Holdings.{Holding, of_offer, of_task}
+use Rattle.drf_rows.specs.Holdings.{Holding, holding_of_offer, holding_of_task}
 use Rattle.drf_rows.specs.LimitNumbers.{LimitNumbers, IsWithinCeilings}
 use Rattle.drf_rows.specs.Members.{active_at}
 use Rattle.drf_rows.specs.Quota.{limits_put, limits_with}
 use Rattle.drf_rows.specs.Step.{live_rows}
 use Rattle.drf_bundle.proofs.ListLaws.{each_parts}
-use Rattle.drf_rows.specs.declared.limits.TheConstants.{LATEST_MOMENT}
+use Rattle.drf_rows.specs.declared.limits.TheConstants.{LATEST_TIMESTAMP}
 use Rattle.drf_rows.specs.declared.rows.AgentRow.{AgentRow}
 use Rattle.drf_rows.specs.declared.rows.FrameworkRow.{FrameworkRow}
 use Rattle.drf_rows.specs.declared.rows.LimitRow.{LimitRow}
@@ -191,17 +191,17 @@ names_some limits l are =
 
 -- ---- holdings
 
-pub offer_held : (rows : Rows) (o : OfferRow) → IsConsistent (with_row rows (Offer o)) → IsHeld rows.agents rows.frameworks (of_offer o)
+pub offer_held : (rows : Rows) (o : OfferRow) → IsConsistent (with_row rows (Offer o)) → IsHeld rows.agents rows.frameworks (holding_of_offer o)
 offer_held rows o together =
     let P : Holding → Type 0 = IsHeld rows.agents rows.frameworks in
-    let offers = (each_parts P (map of_offer (rows.offers ++ o ∷ [])) (map of_task rows.tasks) together.holdings).0 in
-    (each_parts P (map of_offer rows.offers) (of_offer o ∷ []) (subst (AllByRecursion P) (map-append of_offer rows.offers (o ∷ [])) offers)).1.0
+    let offers = (each_parts P (map holding_of_offer (rows.offers ++ o ∷ [])) (map holding_of_task rows.tasks) together.holdings).0 in
+    (each_parts P (map holding_of_offer rows.offers) (holding_of_offer o ∷ []) (subst (AllByRecursion P) (map-append holding_of_offer rows.offers (o ∷ [])) offers)).1.0
 
-pub task_held : (rows : Rows) (t : TaskRow) → IsConsistent (with_row rows (Task t)) → IsHeld rows.agents rows.frameworks (of_task t)
+pub task_held : (rows : Rows) (t : TaskRow) → IsConsistent (with_row rows (Task t)) → IsHeld rows.agents rows.frameworks (holding_of_task t)
 task_held rows t together =
     let P : Holding → Type 0 = IsHeld rows.agents rows.frameworks in
-    let tasks = (each_parts P (map of_offer rows.offers) (map of_task (rows.tasks ++ t ∷ [])) together.holdings).1 in
-    (each_parts P (map of_task rows.tasks) (of_task t ∷ []) (subst (AllByRecursion P) (map-append of_task rows.tasks (t ∷ [])) tasks)).1.0
+    let tasks = (each_parts P (map holding_of_offer rows.offers) (map holding_of_task (rows.tasks ++ t ∷ [])) together.holdings).1 in
+    (each_parts P (map holding_of_task rows.tasks) (holding_of_task t ∷ []) (subst (AllByRecursion P) (map-append holding_of_task rows.tasks (t ∷ [])) tasks)).1.0
 
 -- the sorter knows the client of a holding, and stays sound with the holding
 pub known_client : (rows : Rows) (h : Holding) (content : Content) (path : Path) → content ≡ content_of rows → path ≡ path_of h.client
@@ -272,8 +272,8 @@ standing limits tables content counted restored = record {
 }
 
 -- the numbers of an allowed head are in range
-pub head_fits : (limits : LimitNumbers) (head : Head) → head_fault limits head ≡ None → (head.clock ≤ LATEST_MOMENT) × (1 ≤ head.next_offer)
+pub head_fits : (limits : LimitNumbers) (head : Head) → head_fault limits head ≡ None → (head.clock ≤ LATEST_TIMESTAMP) × (1 ≤ head.next_offer)
 head_fits limits head fits =
     let none = no_head_case limits head fits in
     let numbers = or_parts (not (nat_le 1 head.next_offer)) (nat_lt (1 + head.events * 2 ^ 24) head.next_offer) none.1.1.0 in
-    (ltb-false LATEST_MOMENT head.clock none.1.0, leb-true 1 head.next_offer (not-false (nat_le 1 head.next_offer) numbers.0))
+    (ltb-false LATEST_TIMESTAMP head.clock none.1.0, leb-true 1 head.next_offer (not-false (nat_le 1 head.next_offer) numbers.0))

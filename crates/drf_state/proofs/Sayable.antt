@@ -35,7 +35,7 @@ use Rattle.drf_saved.specs.declared.saved.SavedRow.TheVariants.{Agent, Framework
 use Rattle.drf_saved_laws.specs.SavedLaws.{IsSaveable}
 use Rattle.drf_lines.specs.FrameworkRows.{IsClientRead}
 use Rattle.drf_lines.specs.Written.{IsText}
-use Rattle.drf_lines.proofs.Rows.{IsBundleTold, IsNameTold, IsRoleTold, agent_read, end_read, filter_read, framework_read, head_read, limit_read, offer_read, task_read, weight_read}
+use Rattle.drf_lines.proofs.Rows.{IsBundleReported, IsNameReported, IsRoleReported, agent_read, end_read, filter_read, framework_read, head_read, limit_read, offer_read, task_read, weight_read}
 use Rattle.drf_lines.proofs.Texts.{bundle_said, name_read, quantities_said, role_read, weight_said}
 use Rattle.drf_state.specs.Read.{AreRead, IsRead, IsReadBack}
 use Rattle.drf_state.specs.State.{body_text, lines_before}
@@ -48,14 +48,14 @@ is_text : (text : List ℕ) → IsPlain text → IsText text
 unfolding IsText
 is_text text plain = IsUtf8-from_ascii text (IsAscii-from_all text plain)
 
-name_told : (name : Text) → IsName name → IsNameTold name
-name_told name is = (name_read name is, is_text name (plain_name name is))
+name_reported : (name : Text) → IsName name → IsNameReported name
+name_reported name is = (name_read name is, is_text name (plain_name name is))
 
-role_told : (role : List Text) → IsRole role → IsRoleTold role
-role_told role is = (role_read role is (parts_of_role role is), is_text (text_of role) (plain_role role is))
+role_reported : (role : List Text) → IsRole role → IsRoleReported role
+role_reported role is = (role_read role is (parts_of_role role is), is_text (text_of role) (plain_role role is))
 
-bundle_told : BundleIsRead → (bundle : List Resource) → IsBundle bundle → IsBundleTold bundle
-bundle_told law bundle is = (bundle_said bundle law is, is_text (bundle_text bundle) (plain_bundle bundle is))
+bundle_reported : BundleIsRead → (bundle : List Resource) → IsBundle bundle → IsBundleReported bundle
+bundle_reported law bundle is = (bundle_said bundle law is, is_text (bundle_text bundle) (plain_bundle bundle is))
 
 -- the digits of a digest are ASCII
 digits_are : IsAscii lower_digits
@@ -87,26 +87,26 @@ pub record TextsAreRead : Type 0 where
   pub quantities : QuantitiesAreRead
   pub weight : WeightIsRead
 
-clients_told : (clients : List ClientRow) → AllByRecursion IsRole (map (λ c. c.role) clients) → AllByRecursion (λ c. c.count < 2 ^ 64) clients → All IsClientRead clients
-clients_told [] roles small = All-nil IsClientRead
-clients_told (c ∷ clients) roles small =
-    let told = role_told c.role roles.0 in
-    All-cons IsClientRead c clients (record { role = told.0; text = told.1; small = small.0 }) (clients_told clients roles.1 small.1)
+clients_reported : (clients : List ClientRow) → AllByRecursion IsRole (map (λ c. c.role) clients) → AllByRecursion (λ c. c.count < 2 ^ 64) clients → All IsClientRead clients
+clients_reported [] roles small = All-nil IsClientRead
+clients_reported (c ∷ clients) roles small =
+    let reported = role_reported c.role roles.0 in
+    All-cons IsClientRead c clients (record { role = reported.0; text = reported.1; small = small.0 }) (clients_reported clients roles.1 small.1)
 
 row_read : TextsAreRead → (row : SavedRow) → IsValidRow row → HasSmallNumbers row → IsRead row
-row_read law (Agent a) valid small = agent_read a (name_told a.name valid.0) (bundle_told law.bundle a.total valid.1)
-row_read law (Framework f) valid small = framework_read f (clients_told f.clients valid.roles small) (name_told f.name valid.name)
+row_read law (Agent a) valid small = agent_read a (name_reported a.name valid.0) (bundle_reported law.bundle a.total valid.1)
+row_read law (Framework f) valid small = framework_read f (clients_reported f.clients valid.roles small) (name_reported f.name valid.name)
 row_read law (Weight w) valid small =
-    weight_read w (role_told w.role valid) (weight_said w.weight law.weight small) (is_text (amount_text w.weight) (plain_amount w.weight small))
+    weight_read w (role_reported w.role valid) (weight_said w.weight law.weight small) (is_text (amount_text w.weight) (plain_amount w.weight small))
 row_read law (Limit l) valid small =
-    limit_read l (role_told l.role valid.0) (quantities_said l.limit (law.quantities l.limit valid.1.in_order valid.1.each))
+    limit_read l (role_reported l.role valid.0) (quantities_said l.limit (law.quantities l.limit valid.1.in_order valid.1.each))
     (is_text (quantities_text l.limit) (plain_quantities l.limit valid.1.each))
 row_read law (Offer o) valid small =
-    offer_read o (name_told o.agent valid.0) (name_told o.framework valid.1) (role_told o.role valid.2) (bundle_told law.bundle o.bundle valid.3) small
+    offer_read o (name_reported o.agent valid.0) (name_reported o.framework valid.1) (role_reported o.role valid.2) (bundle_reported law.bundle o.bundle valid.3) small
 row_read law (Task t) valid small =
-    task_read t (name_told t.agent valid.1) (name_told t.framework valid.2) (role_told t.role valid.3) (bundle_told law.bundle t.bundle valid.4) (name_told t.name valid.0)
+    task_read t (name_reported t.agent valid.1) (name_reported t.framework valid.2) (role_reported t.role valid.3) (bundle_reported law.bundle t.bundle valid.4) (name_reported t.name valid.0)
 row_read law (Filter f) valid small =
-    filter_read f (name_told f.agent valid.0) (name_told f.framework valid.1) (role_told f.role valid.2) (bundle_told law.bundle f.bundle valid.3) small
+    filter_read f (name_reported f.agent valid.0) (name_reported f.framework valid.1) (role_reported f.role valid.2) (bundle_reported law.bundle f.bundle valid.3) small
 
 rows_read : TextsAreRead → (rows : List SavedRow) → AllByRecursion IsValidRow rows → AllByRecursion HasSmallNumbers rows → AreRead rows
 rows_read law [] valid small = tt

@@ -52,6 +52,6 @@ pub record IsPut (old : Engine) (row : SavedRow) (new : Engine) : Type 0 where
   pub worked : HasWorked row old.work new.work
 
 -- why a head was not accepted or a row not added: the first case that holds, or out of memory
-abbrev pub IsTold : Option RowFault → RestoreError → Type 0
-IsTold first (Fault fault) = first ≡ Some fault
-IsTold first Memory = Unit {0}
+abbrev pub IsReported : Option RowFault → RestoreError → Type 0
+IsReported first (Fault fault) = first ≡ Some fault
+IsReported first Memory = Unit {0}

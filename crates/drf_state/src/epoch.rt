@@ -1,6 +1,6 @@
 //! Begins an epoch, by which a cluster continues when its history is full.
 ghost use Rattle.std.specs.Prelude.{◌≡◌, map, IfOk, OnOk, OnErr};
-ghost use Rattle.drf_saved.specs.Epoch.{begun_anew, epoch, uncounted};
+ghost use Rattle.drf_saved.specs.Epoch.{with_counts_reset, epoch, uncounted};
 
 use drf_rows::{ClientRow, FrameworkRow, Rows, Table};
 use std::alloc::{AllocError, Global};
@@ -21,8 +21,11 @@ fn uncounted(alloc: Global, clients: &[ClientRow]) -> Result<Table<ClientRow>, A
 }
 
 /// Returns the frameworks, whose clients all have a count of 0.
-fn begun_anew(alloc: Global, frameworks: &[FrameworkRow]) -> Result<Table<FrameworkRow>, AllocError>
-    ensures { IfOk result (λ rows. rows ≡ map begun_anew frameworks.now) }
+fn with_counts_reset(
+    alloc: Global,
+    frameworks: &[FrameworkRow],
+) -> Result<Table<FrameworkRow>, AllocError>
+    ensures { IfOk result (λ rows. rows ≡ map with_counts_reset frameworks.now) }
 {
     let mut rows = Vec::with_capacity(alloc, frameworks.len())?;
     for framework in frameworks {
@@ -40,7 +43,7 @@ pub fn begin_epoch(alloc: Global, rows: &mut Rows) -> Result<(), AllocError>
     ensures ok { OnOk result (rows.new ≡ epoch rows.old) }
     ensures err { OnErr result (rows.new ≡ rows.old) }
 {
-    rows.frameworks = begun_anew(alloc, rows.frameworks.as_slice())?;
+    rows.frameworks = with_counts_reset(alloc, rows.frameworks.as_slice())?;
     rows.offers = Table::from_vec(Vec::new(alloc));
     rows.next_offer = 1;
     rows.events = 0;

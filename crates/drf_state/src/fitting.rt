@@ -12,7 +12,7 @@ ghost use Rattle.drf_saved.specs.declared.saved.SavedRow.TheVariants.{Agent, Fil
 use drf_bundle::Quantities;
 use drf_role::Role;
 use drf_rows::{
-    AgentRow, ClientRow, FilterRow, FrameworkRow, LATEST_MOMENT, LimitRow, Limits, OfferRow,
+    AgentRow, ClientRow, FilterRow, FrameworkRow, LATEST_TIMESTAMP, LimitRow, Limits, OfferRow,
     Refusal, TaskRow, WeightRow,
 };
 use drf_saved::{Head, RowFault, SavedRow};
@@ -49,7 +49,7 @@ pub(crate) fn head_fault(limits: &Limits, head: Head) -> Option<RowFault>
             RowFault::Refused(Refusal::HistoryFull),
         ),
         (
-            LATEST_MOMENT < head.clock,
+            LATEST_TIMESTAMP < head.clock,
             RowFault::Refused(Refusal::BadMoment),
         ),
         (is_bad_number(head), RowFault::BadNumber),

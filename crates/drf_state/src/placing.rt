@@ -4,7 +4,7 @@ ghost use Rattle.drf_role.specs.Text.{Text};
 ghost use Rattle.drf_bundle.specs.Bundle.{quantities_of};
 ghost use Rattle.drf_bundle.specs.Quantities.{amount_of};
 ghost use Rattle.drf_rows.specs.Members.{has_agent};
-ghost use Rattle.drf_rows.specs.declared.limits.TheConstants.{LARGEST_AMOUNT, LATEST_MOMENT};
+ghost use Rattle.drf_rows.specs.declared.limits.TheConstants.{LARGEST_AMOUNT, LATEST_TIMESTAMP};
 ghost use Rattle.drf_saved.specs.Saved.{begun};
 ghost use Rattle.drf_saved.specs.declared.saved.SavedRow.TheVariants.{Agent, Framework, Weight, Limit, Offer, Task, Filter};
 ghost use Rattle.drf_state.specs.Placing.{FitsBehind, IsPlaced};
@@ -54,7 +54,7 @@ fn register(tables: &mut Tables, agent: AgentRow) -> Result<(), AllocError>
 impl<S: Sorter> Parts<S> {
     /// Creates parts with the numbers of a head and no rows.
     pub(crate) fn begin(alloc: Global, key: HashKey, head: Head) -> Result<Parts<S>, AllocError>
-        requires early { head.clock ≤ LATEST_MOMENT }
+        requires early { head.clock ≤ LATEST_TIMESTAMP }
         requires numbered { 1 ≤ head.next_offer }
         ensures rows { IfOk result (λ parts. parts.tables.rows ≡ begun head) }
         ensures agree { IfOk result (λ parts. PartsAgree parts.tables (S.content parts.sorter) parts.counted) }

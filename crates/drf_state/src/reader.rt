@@ -130,7 +130,7 @@ fn behind(bytes: &[u8], count: usize) -> &[u8]
 }
 
 /// Returns the first `count` bytes.
-fn front(bytes: &[u8], count: usize) -> &[u8]
+fn prefix(bytes: &[u8], count: usize) -> &[u8]
     requires { count ≤ length bytes.now }
     ensures { result.now ≡ take count bytes.now }
 {
@@ -174,8 +174,8 @@ fn take_lines<S: Sorter>(
     let mut lines = 1;
     while let Some(at) = line_end(behind(bytes, read)) {
         let rest = behind(bytes, read);
-        let line = front(rest, at);
-        let text = front(bytes, read);
+        let line = prefix(rest, at);
+        let text = prefix(bytes, read);
         let (next, is_last) = match take_line(scratch, restoring, text, lines, line) {
             Ok(taken) => taken,
             Err(stop) => return Err(stopped_at(lines + 1, stop)),
@@ -213,7 +213,7 @@ pub fn read_state<S: Sorter>(
     let Some(at) = line_end(bytes) else {
         return Err(out_of_order(1));
     };
-    let begun = match begin::<S>(&mut scratch, limits, front(bytes, at)) {
+    let begun = match begin::<S>(&mut scratch, limits, prefix(bytes, at)) {
         Ok(begun) => begun,
         Err(stop) => return Err(stopped_at(1, stop)),
     };

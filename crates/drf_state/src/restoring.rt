@@ -3,7 +3,7 @@ ghost use Rattle.std.specs.Prelude.{◌≡◌, IfOk, MatchResult};
 ghost use Rattle.drf_rows.specs.Step.{live_rows};
 ghost use Rattle.drf_saved.specs.Saved.{head_fault, row_fault};
 ghost use Rattle.drf_saved_laws.specs.SavedLaws.{IsSaveable};
-ghost use Rattle.drf_state.specs.Restored.{IsBegunWith, IsPut, IsTold};
+ghost use Rattle.drf_state.specs.Restored.{IsBegunWith, IsPut, IsReported};
 
 use crate::fault::RestoreError;
 use crate::fitting::{head_fault, row_fault};
@@ -47,7 +47,7 @@ impl<S: Sorter> Restoring<S> {
         key: HashKey,
         head: Head,
     ) -> Result<Restoring<S>, RestoreError>
-        ensures { MatchResult result (IsBegunWith limits head) (IsTold (head_fault limits head)) }
+        ensures { MatchResult result (IsBegunWith limits head) (IsReported (head_fault limits head)) }
     {
         // The contract of this call says that the capacities are within their upper bounds.
         let _ = limits.agents();
@@ -64,7 +64,7 @@ impl<S: Sorter> Restoring<S> {
     /// Adds a row, which must be allowed after the rows before it. Fails with the first error of the row, or with
     /// `Memory` if memory runs out.
     pub fn put(self, row: SavedRow) -> Result<Restoring<S>, RestoreError>
-        ensures { MatchResult result (IsPut self row) (IsTold (row_fault self.limits self.rows row)) }
+        ensures { MatchResult result (IsPut self row) (IsReported (row_fault self.limits self.rows row)) }
     {
         let Restoring {
             alloc,

@@ -27,13 +27,13 @@ module _ {X : Type 0} (test : X → Bool) where
       position_from-zero test (x ∷ xs)
       ∙ ap (cond (test x) (Some 0)) (searched_later test 0 xs ∙ ap (option_map suc) (sym (position_from-zero test xs)))
 
-  pub position-behind : (front : List X) (x : X) (back : List X) → list_any test front ≡ false → test x ≡ true
-      → position test (front ++ x ∷ back) ≡ Some (length front)
+  pub position-behind : (prefix : List X) (x : X) (back : List X) → list_any test prefix ≡ false → test x ≡ true
+      → position test (prefix ++ x ∷ back) ≡ Some (length prefix)
   position-behind [] x back none its = position-cons x back ∙ ap (λ b. cond b (Some 0) (option_map suc (position test back))) its
-  position-behind (f ∷ front) x back none its =
-      let parts = or_parts (test f) (list_any test front) none in
-      position-cons f (front ++ x ∷ back)
-      ∙ (λ i. cond (parts.0 i) (Some 0) (option_map suc (position-behind front x back parts.1 its i)))
+  position-behind (f ∷ prefix) x back none its =
+      let parts = or_parts (test f) (list_any test prefix) none in
+      position-cons f (prefix ++ x ∷ back)
+      ∙ (λ i. cond (parts.0 i) (Some 0) (option_map suc (position-behind prefix x back parts.1 its i)))
 
   pub position-none : (xs : List X) → list_any test xs ≡ false → position test xs ≡ None
   position-none [] none = refl
@@ -56,16 +56,16 @@ own-cons path finding findings =
     by false (Some place) = refl
 
 module _ (path : Path) where
-  module _ (front : List Finding) (f : Finding) (back : List Finding) (none : list_any (is_of_client path) front ≡ false) (its : is_of_client path f ≡ true) where
-    pub own-behind : own_on path (front ++ f ∷ back) ≡ f ∷ []
+  module _ (prefix : List Finding) (f : Finding) (back : List Finding) (none : list_any (is_of_client path) prefix ≡ false) (its : is_of_client path f ≡ true) where
+    pub own-behind : own_on path (prefix ++ f ∷ back) ≡ f ∷ []
     own-behind =
-        ap (own_at (front ++ f ∷ back)) (position-behind (is_of_client path) front f back none its)
-        ∙ ap (take 1) (drop_at front (f ∷ back) (length front) refl)
+        ap (own_at (prefix ++ f ∷ back)) (position-behind (is_of_client path) prefix f back none its)
+        ∙ ap (take 1) (drop_at prefix (f ∷ back) (length prefix) refl)
 
-    pub earlier-behind : earlier_on path (front ++ f ∷ back) ≡ front
+    pub earlier-behind : earlier_on path (prefix ++ f ∷ back) ≡ prefix
     earlier-behind =
-        ap (earlier_at (front ++ f ∷ back)) (position-behind (is_of_client path) front f back none its)
-        ∙ take_at front (f ∷ back) (length front) refl
+        ap (earlier_at (prefix ++ f ∷ back)) (position-behind (is_of_client path) prefix f back none its)
+        ∙ take_at prefix (f ∷ back) (length prefix) refl
 
   pub earlier-none : (findings : List Finding) → list_any (is_of_client path) findings ≡ false → earlier_on path findings ≡ []
   earlier-none findings none = ap (earlier_at findings) (position-none (is_of_client path) findings none)

@@ -51,14 +51,14 @@ place-inside findings places path found place are is some = position-within (is_
 -- ---- grants
 
 -- the grants before an index are a prefix of all grants
-pub front-kept : {X : Type 0} (test : X → Bool) (xs : List X) (n : ℕ) → take (length (filter test (take n xs))) (filter test xs) ≡ filter test (take n xs)
-front-kept test xs n =
+pub prefix-kept : {X : Type 0} (test : X → Bool) (xs : List X) (n : ℕ) → take (length (filter test (take n xs))) (filter test xs) ≡ filter test (take n xs)
+prefix-kept test xs n =
     ap (take (length (filter test (take n xs)))) (ap (filter test) (sym (take-append-drop n xs)) ∙ filter-append test (take n xs) (drop n xs))
     ∙ take_at (filter test (take n xs)) (filter test (drop n xs)) (length (filter test (take n xs))) refl
 
 -- and their number is at most that of all grants
-pub front-few : {X : Type 0} (test : X → Bool) (xs : List X) (n : ℕ) → length (filter test (take n xs)) ≤ length (filter test xs)
-front-few test xs n =
+pub prefix-few : {X : Type 0} (test : X → Bool) (xs : List X) (n : ℕ) → length (filter test (take n xs)) ≤ length (filter test xs)
+prefix-few test xs n =
     let whole : length (filter test xs) ≡ length (filter test (take n xs)) + length (filter test (drop n xs)) =
     ap length (ap (filter test) (sym (take-append-drop n xs)) ∙ filter-append test (take n xs) (drop n xs))
     ∙ length-append (filter test (take n xs)) (filter test (drop n xs)) in
@@ -117,17 +117,17 @@ module _ (findings : List Finding) (grants : Grants) (place before : ℕ) (are :
   before-known = read ∙ get_or_default grants.before.items place before 0 (omega (arith, inside, are.long)) ∙ are.before place inside
 
   -- the slice of all grants that come before an index
-  pub grants_front : findings_of (take before grants.all.items) ≡ filter is_grant (take place findings)
-  grants_front =
+  pub grants_prefix : findings_of (take before grants.all.items) ≡ filter is_grant (take place findings)
+  grants_prefix =
       sym (take-map (λ (f : Bor Finding). f.now) before grants.all.items)
       ∙ (λ k. take (before-known k) (are.all k))
-      ∙ front-kept is_grant findings place
+      ∙ prefix-kept is_grant findings place
 
   pub grants_few : before ≤ length grants.all.items
   grants_few =
       let many : length grants.all.items ≡ length (filter is_grant findings) =
       sym (length-map grants.all.items (λ (f : Bor Finding). f.now)) ∙ ap length are.all in
-      omega (arith, before-known, front-few is_grant findings place, many)
+      omega (arith, before-known, prefix-few is_grant findings place, many)
 
 -- only grants take anything from a bundle
 pub granted-takers : (bundle : List Resource) (findings : List Finding)
@@ -150,6 +150,6 @@ granted-passers own earlier bundle = ap (λ (paths : List Path). if begins_with_
 
 -- ---- borrowed findings
 
-pub lent-takers : (bundle : List Resource) (findings : List (Bor Finding))
+pub borrowed-takers : (bundle : List Resource) (findings : List (Bor Finding))
     → flat_map (taker_in bundle) (findings_of findings) ≡ flat_map (λ f. taker_in bundle f.now) findings
-lent-takers bundle findings = flat_map-map (taker_in bundle) (λ (f : Bor Finding). f.now) findings
+borrowed-takers bundle findings = flat_map-map (taker_in bundle) (λ (f : Bor Finding). f.now) findings

@@ -9,7 +9,7 @@ use Rattle.std.proofs.lemmas.List.Elements.{Contains-append_cases, Contains-appe
 use Rattle.drf_role.specs.Path.{Path, same_path}
 use Rattle.drf_role.specs.PathLaws.{same_path-true, same_path_itself}
 use Rattle.drf_bundle.specs.declared.resource.Resource.{Resource}
-use Rattle.drf_explain.specs.Each.{told_here, told_of_each, turn_on, untouched_on, untouched_on_active}
+use Rattle.drf_explain.specs.Each.{reported_here, reported_of_each, turn_on, untouched_on, untouched_on_active}
 use Rattle.drf_explain.specs.EachLaws.{IsOpen}
 use Rattle.drf_explain.proofs.EachLaws.{each_on-open}
 use Rattle.drf_explain.specs.Explained.{outcome}
@@ -34,37 +34,37 @@ use Rattle.drf_summary.specs.SumLaws.{EachIsPassedRightly}
 
 module _ (agent : AgentRow) where
   each-append : (rows : Rows) (earlier later : List Client)
-      → told_of_each rows agent (earlier ++ later) ≡ told_of_each rows agent earlier ++ told_of_each (all_tried rows agent earlier) agent later
+      → reported_of_each rows agent (earlier ++ later) ≡ reported_of_each rows agent earlier ++ reported_of_each (all_tried rows agent earlier) agent later
   each-append rows [] later = refl
-  each-append rows (client ∷ earlier) later = ap (λ fs. told_here rows agent client ∷ fs) (each-append (tried rows agent client) earlier later)
+  each-append rows (client ∷ earlier) later = ap (λ fs. reported_here rows agent client ∷ fs) (each-append (tried rows agent client) earlier later)
 
   module _ (path : Path) where
-    any-told : (rows : Rows) (clients : List Client)
-        → list_any (is_of_client path) (told_of_each rows agent clients) ≡ list_any (is_at path) clients
-    any-told rows [] = refl
-    any-told rows (client ∷ clients) = ap (λ b. is_at path client || b) (any-told (tried rows agent client) clients)
+    any-reported : (rows : Rows) (clients : List Client)
+        → list_any (is_of_client path) (reported_of_each rows agent clients) ≡ list_any (is_at path) clients
+    any-reported rows [] = refl
+    any-reported rows (client ∷ clients) = ap (λ b. is_at path client || b) (any-reported (tried rows agent client) clients)
 
     any-first : (rows : Rows) (clients : List Client)
-        → list_any (is_of_client path) (map (told_here rows agent) clients) ≡ list_any (is_at path) clients
+        → list_any (is_of_client path) (map (reported_here rows agent) clients) ≡ list_any (is_at path) clients
     any-first rows [] = refl
     any-first rows (client ∷ clients) = ap (λ b. is_at path client || b) (any-first rows clients)
 
 -- the first of some clients with this path
 record Split (path : Path) (clients : List Client) : Type 0 where
-  front : List Client
+  prefix : List Client
   client : Client
   back : List Client
-  whole : clients ≡ front ++ client ∷ back
+  whole : clients ≡ prefix ++ client ∷ back
   its : is_at path client ≡ true
-  first : list_any (is_at path) front ≡ false
+  first : list_any (is_at path) prefix ≡ false
 
 split : (path : Path) (clients : List Client) → list_any (is_at path) clients ≡ true → Split path clients
 split path [] some = absurd (false≢true some)
 split path (c ∷ cs) some = elim (cases_Bool (is_at path c)) [
-  | inl here ↦ record { front = []; client = c; back = cs; whole = refl; its = here; first = refl }
+  | inl here ↦ record { prefix = []; client = c; back = cs; whole = refl; its = here; first = refl }
   | inr other ↦
       let later = split path cs (sym (ap (λ b. b || list_any (is_at path) cs) other) ∙ some) in record {
-        front = c ∷ later.front;
+        prefix = c ∷ later.prefix;
         client = later.client;
         back = later.back;
         whole = ap (λ (xs : List Client). c ∷ xs) later.whole;
@@ -77,12 +77,12 @@ split path (c ∷ cs) some = elim (cases_Bool (is_at path c)) [
 
 -- one of some clients is granted a part of a bundle when it is tried
 record HasTaker (rows : Rows) (agent : AgentRow) (bundle : List Resource) (passer : Path) (clients : List Client) : Type 0 where
-  front : List Client
+  prefix : List Client
   taker : Client
   back : List Client
-  whole : clients ≡ front ++ taker ∷ back
+  whole : clients ≡ prefix ++ taker ∷ back
   its : path_of taker ≡ passer
-  takes : takes_of (bundle_of (outcome (all_tried rows agent front) agent taker)) bundle ≡ true
+  takes : takes_of (bundle_of (outcome (all_tried rows agent prefix) agent taker)) bundle ≡ true
 
 only : (x p : Path) → Contains (x ∷ []) p → x ≡ p
 only x p (zero, inside, is) = is
@@ -90,16 +90,16 @@ only x p (suc k, inside, is) = absurd (omega (arith, inside))
 
 module _ (agent : AgentRow) (bundle : List Resource) (passer : Path) where
   abbrev takers : Rows → List Client → List Path
-  takers rows clients = flat_map (taker_in bundle) (told_of_each rows agent clients)
+  takers rows clients = flat_map (taker_in bundle) (reported_of_each rows agent clients)
 
   has_taker : (rows : Rows) (clients : List Client) → Contains (takers rows clients) passer → HasTaker rows agent bundle passer clients
   has_taker rows [] (k, inside, is) = absurd (omega (arith, inside))
   has_taker rows (c ∷ cs) has =
-      elim (Contains-append_cases (taker_in bundle (told_here rows agent c)) (takers (tried rows agent c) cs) passer has) [
+      elim (Contains-append_cases (taker_in bundle (reported_here rows agent c)) (takers (tried rows agent c) cs) passer has) [
         | inl here ↦ by (takes_of (bundle_of (outcome rows agent c)) bundle) refl here
         | inr behind ↦
             let later = has_taker (tried rows agent c) cs behind in record {
-              front = c ∷ later.front;
+              prefix = c ∷ later.prefix;
               taker = later.taker;
               back = later.back;
               whole = ap (λ (xs : List Client). c ∷ xs) later.whole;
@@ -110,24 +110,24 @@ module _ (agent : AgentRow) (bundle : List Resource) (passer : Path) where
     where
       by : (takes : Bool) → takes_of (bundle_of (outcome rows agent c)) bundle ≡ takes → Contains (if takes then path_of c ∷ [] else []) passer
           → HasTaker rows agent bundle passer (c ∷ cs)
-      by true is here = record { front = []; taker = c; back = cs; whole = refl; its = only (path_of c) passer here; takes = is }
+      by true is here = record { prefix = []; taker = c; back = cs; whole = refl; its = only (path_of c) passer here; takes = is }
       by false is (k, inside, at) = absurd (omega (arith, inside))
 
   taker_among : (rows : Rows) (clients : List Client) → HasTaker rows agent bundle passer clients → Contains (takers rows clients) passer
   taker_among rows clients t =
-      let start : Rows = all_tried rows agent t.front in
-      let front : List Path = takers rows t.front in
+      let start : Rows = all_tried rows agent t.prefix in
+      let prefix : List Path = takers rows t.prefix in
       let back : List Path = takers (tried start agent t.taker) t.back in
       let one : List Path = path_of t.taker ∷ [] in
       let inside : 0 < length one = omega arith in
-      let parts : takers rows clients ≡ front ++ (one ++ back) =
+      let parts : takers rows clients ≡ prefix ++ (one ++ back) =
       ap (takers rows) t.whole
-      ∙ ap (flat_map (taker_in bundle)) (each-append agent rows t.front (t.taker ∷ t.back))
-      ∙ flat_map-append (taker_in bundle) (told_of_each rows agent t.front) (told_of_each start agent (t.taker ∷ t.back))
-      ∙ ap (λ (takes : Bool). front ++ ((if takes then one else []) ++ back)) t.takes in
-      let its : Contains (front ++ (one ++ back)) (path_of t.taker) =
-      Contains-append_right front (one ++ back) (path_of t.taker) (Contains-append_left one back (path_of t.taker) (0, inside, refl)) in
-      subst (λ (ps : List Path). Contains ps passer) (sym parts) (subst (Contains (front ++ (one ++ back))) t.its its)
+      ∙ ap (flat_map (taker_in bundle)) (each-append agent rows t.prefix (t.taker ∷ t.back))
+      ∙ flat_map-append (taker_in bundle) (reported_of_each rows agent t.prefix) (reported_of_each start agent (t.taker ∷ t.back))
+      ∙ ap (λ (takes : Bool). prefix ++ ((if takes then one else []) ++ back)) t.takes in
+      let its : Contains (prefix ++ (one ++ back)) (path_of t.taker) =
+      Contains-append_right prefix (one ++ back) (path_of t.taker) (Contains-append_left one back (path_of t.taker) (0, inside, refl)) in
+      subst (λ (ps : List Path). Contains ps passer) (sym parts) (subst (Contains (prefix ++ (one ++ back))) t.its its)
 
 -- ---- the reported outcome is what the cycle grants
 
@@ -166,8 +166,8 @@ module _ (says : GrantIsGranted) (rows : Rows) (agent : AgentRow) (client : Clie
       by None is = refl
       by (Some bundle) is = absurd (false≢true (sym nothing ∙ ap is_granted ((says rows agent client bundle).1 is)))
 
-  none-told : grant rows agent client ≡ None → is_granted (outcome rows agent client) ≡ false
-  none-told nothing = by (outcome rows agent client) refl
+  none-reported : grant rows agent client ≡ None → is_granted (outcome rows agent client) ≡ false
+  none-reported nothing = by (outcome rows agent client) refl
     where
       by : (o : Outcome) → outcome rows agent client ≡ o → is_granted o ≡ false
       by (Grant bundle) is =
@@ -182,39 +182,39 @@ module _ (says : GrantIsGranted) (rows : Rows) (agent : AgentRow) (client : Clie
 -- ---- a turn
 
 module _ (rows : Rows) (agent : AgentRow) (path : Path) where
-  abbrev told : List Client → List Finding
-  told clients = told_of_each rows agent clients
+  abbrev reported : List Client → List Finding
+  reported clients = reported_of_each rows agent clients
 
   abbrev first : List Client → List Finding
-  first clients = map (told_here rows agent) clients
+  first clients = map (reported_here rows agent) clients
 
   -- the clients before this one that take a part of what it would be granted, if it is granted nothing
   abbrev passers_at : List Client → Client → List Path
-  passers_at front client =
-      passers_by (told_here (all_tried rows agent front) agent client ∷ []) (told front) (bundle_of (outcome rows agent client))
+  passers_at prefix client =
+      passers_by (reported_here (all_tried rows agent prefix) agent client ∷ []) (reported prefix) (bundle_of (outcome rows agent client))
 
-  passers-split : (clients : List Client) (s : Split path clients) → passers_on path (told clients, first clients) ≡ passers_at s.front s.client
+  passers-split : (clients : List Client) (s : Split path clients) → passers_on path (reported clients, first clients) ≡ passers_at s.prefix s.client
   passers-split clients s =
-      let start : Rows = all_tried rows agent s.front in
-      let mine : Finding = told_here start agent s.client in
-      let behind : List Finding = told_of_each (tried start agent s.client) agent s.back in
-      let all : told clients ≡ told s.front ++ mine ∷ behind = ap told s.whole ∙ each-append agent rows s.front (s.client ∷ s.back) in
-      let others : list_any (is_of_client path) (told s.front) ≡ false = any-told agent path rows s.front ∙ s.first in
-      let firsts : first clients ≡ first s.front ++ told_here rows agent s.client ∷ first s.back =
-      ap first s.whole ∙ map-append (told_here rows agent) s.front (s.client ∷ s.back) in
-      let own : own_on path (told clients) ≡ mine ∷ [] = ap (own_on path) all ∙ own-behind path (told s.front) mine behind others s.its in
-      let earlier : earlier_on path (told clients) ≡ told s.front = ap (earlier_on path) all ∙ earlier-behind path (told s.front) mine behind others s.its in
-      let due : own_on path (first clients) ≡ told_here rows agent s.client ∷ [] =
+      let start : Rows = all_tried rows agent s.prefix in
+      let mine : Finding = reported_here start agent s.client in
+      let behind : List Finding = reported_of_each (tried start agent s.client) agent s.back in
+      let all : reported clients ≡ reported s.prefix ++ mine ∷ behind = ap reported s.whole ∙ each-append agent rows s.prefix (s.client ∷ s.back) in
+      let others : list_any (is_of_client path) (reported s.prefix) ≡ false = any-reported agent path rows s.prefix ∙ s.first in
+      let firsts : first clients ≡ first s.prefix ++ reported_here rows agent s.client ∷ first s.back =
+      ap first s.whole ∙ map-append (reported_here rows agent) s.prefix (s.client ∷ s.back) in
+      let own : own_on path (reported clients) ≡ mine ∷ [] = ap (own_on path) all ∙ own-behind path (reported s.prefix) mine behind others s.its in
+      let earlier : earlier_on path (reported clients) ≡ reported s.prefix = ap (earlier_on path) all ∙ earlier-behind path (reported s.prefix) mine behind others s.its in
+      let due : own_on path (first clients) ≡ reported_here rows agent s.client ∷ [] =
       ap (own_on path) firsts
-      ∙ own-behind path (first s.front) (told_here rows agent s.client) (first s.back) (any-first agent path rows s.front ∙ s.first) s.its in
+      ∙ own-behind path (first s.prefix) (reported_here rows agent s.client) (first s.back) (any-first agent path rows s.prefix ∙ s.first) s.its in
       λ i. passers_by (own i) (earlier i) (bundle_in (due i))
 
   -- a client that is not tried is not passed over
-  passers-none : (clients : List Client) → list_any (is_at path) clients ≡ false → passers_on path (told clients, first clients) ≡ []
+  passers-none : (clients : List Client) → list_any (is_at path) clients ≡ false → passers_on path (reported clients, first clients) ≡ []
   passers-none clients none =
-      ap (λ earlier. passers_by (own_on path (told clients)) earlier (bundle_in (own_on path (first clients))))
-      (earlier-none path (told clients) (any-told agent path rows clients ∙ none))
-      ∙ by (begins_with_grant (own_on path (told clients)))
+      ap (λ earlier. passers_by (own_on path (reported clients)) earlier (bundle_in (own_on path (first clients))))
+      (earlier-none path (reported clients) (any-reported agent path rows clients ∙ none))
+      ∙ by (begins_with_grant (own_on path (reported clients)))
     where
       by : (gets : Bool) → cond {A = List Path} gets [] [] ≡ []
       by true = refl
@@ -226,46 +226,46 @@ module _ (rows : Rows) (agent : AgentRow) (path : Path) where
         (λ i. if opened.active i then untouched_on_active rows agent else [])
         ∙ (λ i. if opened.some i then [] else first (turn_order rows))
 
-    passers-open : passers_on path (turn_on rows agent) ≡ passers_on path (told (turn_order rows), first (turn_order rows))
+    passers-open : passers_on path (turn_on rows agent) ≡ passers_on path (reported (turn_order rows), first (turn_order rows))
     passers-open = λ i. passers_on path (each_on-open rows agent opened i, first-open i)
 
 module _ (says : GrantIsGranted) (rows : Rows) (agent : AgentRow) (path passer : Path) where
   abbrev order : List Client
   order = turn_order rows
 
-  passed_at : IsOpen rows agent → (s : Split path order) → Contains (passers_at rows agent path s.front s.client) passer
+  passed_at : IsOpen rows agent → (s : Split path order) → Contains (passers_at rows agent path s.prefix s.client) passer
       → IsPassedBy rows agent path passer
-  passed_at opened s has = by (is_granted (outcome (all_tried rows agent s.front) agent s.client)) refl has
+  passed_at opened s has = by (is_granted (outcome (all_tried rows agent s.prefix) agent s.client)) refl has
     where
       due : List Resource
       due = bundle_of (outcome rows agent s.client)
 
-      by : (gets : Bool) → is_granted (outcome (all_tried rows agent s.front) agent s.client) ≡ gets
-          → Contains (cond gets [] (takers agent due passer rows s.front)) passer → IsPassedBy rows agent path passer
+      by : (gets : Bool) → is_granted (outcome (all_tried rows agent s.prefix) agent s.client) ≡ gets
+          → Contains (cond gets [] (takers agent due passer rows s.prefix)) passer → IsPassedBy rows agent path passer
       by true is (k, inside, at) = absurd (omega (arith, inside))
       by false is has =
-          let t = has_taker agent due passer rows s.front has in record {
+          let t = has_taker agent due passer rows s.prefix has in record {
             opened = opened;
-            before = t.front;
+            before = t.prefix;
             taker = t.taker;
             between = t.back;
             client = s.client;
             later = s.back;
-            order = s.whole ∙ ap (λ (front : List Client). front ++ s.client ∷ s.back) t.whole;
+            order = s.whole ∙ ap (λ (prefix : List Client). prefix ++ s.client ∷ s.back) t.whole;
             its = same_path-true (path_of s.client) path s.its;
             first = sym (ap (list_any (is_at path)) t.whole) ∙ s.first;
             another = t.its;
-            taken = bundle_of (outcome (all_tried rows agent t.front) agent t.taker);
-            takes = taking-grant says (all_tried rows agent t.front) agent t.taker due t.takes;
+            taken = bundle_of (outcome (all_tried rows agent t.prefix) agent t.taker);
+            takes = taking-grant says (all_tried rows agent t.prefix) agent t.taker due t.takes;
             bundle = due;
-            due = due-grant says rows agent s.client (bundle_of (outcome (all_tried rows agent t.front) agent t.taker)) t.takes;
+            due = due-grant says rows agent s.client (bundle_of (outcome (all_tried rows agent t.prefix) agent t.taker)) t.takes;
             of_it = t.takes;
             nothing =
-                sym (ap (λ (front : List Client). grant (all_tried rows agent front) agent s.client) t.whole)
-                ∙ none-granted says (all_tried rows agent s.front) agent s.client is;
+                sym (ap (λ (prefix : List Client). grant (all_tried rows agent prefix) agent s.client) t.whole)
+                ∙ none-granted says (all_tried rows agent s.prefix) agent s.client is;
           }
 
-  passed_open : IsOpen rows agent → Contains (passers_on path (told rows agent path order, first rows agent path order)) passer
+  passed_open : IsOpen rows agent → Contains (passers_on path (reported rows agent path order, first rows agent path order)) passer
       → IsPassedBy rows agent path passer
   passed_open opened has = elim (cases_Bool (list_any (is_at path) order)) [
     | inl some ↦
@@ -281,8 +281,8 @@ module _ (says : GrantIsGranted) (rows : Rows) (agent : AgentRow) (path passer :
     where
       by : (active none : Bool) → agent.active ≡ active → is_empty (free_of rows agent) ≡ none
           → Contains (passers_on path (
-            cond active (cond none (NothingFree agent.name ∷ []) (told_of_each rows agent order)) (Inactive agent.name ∷ []),
-            cond active (cond none [] (map (told_here rows agent) order)) [],
+            cond active (cond none (NothingFree agent.name ∷ []) (reported_of_each rows agent order)) (Inactive agent.name ∷ []),
+            cond active (cond none [] (map (reported_here rows agent) order)) [],
           )) passer
           → IsPassedBy rows agent path passer
       by true true is none (k, inside, at) = absurd (omega (arith, inside))
@@ -291,9 +291,9 @@ module _ (says : GrantIsGranted) (rows : Rows) (agent : AgentRow) (path passer :
 
   passes : IsPassedBy rows agent path passer → Contains (passers_on path (turn_on rows agent)) passer
   passes p =
-      let front : List Client = p.before ++ p.taker ∷ p.between in
+      let prefix : List Client = p.before ++ p.taker ∷ p.between in
       let s : Split path order = record {
-        front = front;
+        prefix = prefix;
         client = p.client;
         back = p.later;
         whole = p.order;
@@ -305,12 +305,12 @@ module _ (says : GrantIsGranted) (rows : Rows) (agent : AgentRow) (path passer :
       let owed = (says rows agent p.client p.bundle).1 p.due in
       let takes : takes_of (bundle_of (outcome (all_tried rows agent p.before) agent p.taker)) due ≡ true =
       (λ i. takes_of (bundle_of (took i)) (bundle_of (owed i))) ∙ p.of_it in
-      let among : Contains (takers agent due passer rows front) passer =
-      taker_among agent due passer rows front
-      (record { front = p.before; taker = p.taker; back = p.between; whole = refl; its = p.another; takes = takes }) in
-      let nothing = none-told says (all_tried rows agent front) agent p.client p.nothing in
-      let there : Contains (passers_at rows agent path front p.client) passer =
-      subst (λ (gets : Bool). Contains (cond gets [] (takers agent due passer rows front)) passer) (sym nothing) among in
+      let among : Contains (takers agent due passer rows prefix) passer =
+      taker_among agent due passer rows prefix
+      (record { prefix = p.before; taker = p.taker; back = p.between; whole = refl; its = p.another; takes = takes }) in
+      let nothing = none-reported says (all_tried rows agent prefix) agent p.client p.nothing in
+      let there : Contains (passers_at rows agent path prefix p.client) passer =
+      subst (λ (gets : Bool). Contains (cond gets [] (takers agent due passer rows prefix)) passer) (sym nothing) among in
       subst (λ (ps : List Path). Contains ps passer) (sym (passers-open rows agent path p.opened ∙ passers-split rows agent path order s)) there
 
 pub each_passer_passes : GrantIsGranted → EachPasserPasses
@@ -342,17 +342,17 @@ module _ (says : GrantIsGranted) where
   each_is_passed_by_somebody rows agent path =
       (somebody_passes rows agent path, λ p. not_empty (passers_on path (turn_on rows agent)) p.passer (passes says rows agent path p.passer p.passes))
 
-  at-behind : (front : List Client) (client : Client) (back : List Client) → slice_get (front ++ client ∷ back) (length front) ≡ Some client
+  at-behind : (prefix : List Client) (client : Client) (back : List Client) → slice_get (prefix ++ client ∷ back) (length prefix) ≡ Some client
   at-behind [] client back = refl
-  at-behind (c ∷ front) client back = at-behind front client back
+  at-behind (c ∷ prefix) client back = at-behind prefix client back
 
   pub each_is_passed_rightly : EachIsPassedRightly
   each_is_passed_rightly rows agent path some =
       let p = (somebody_passes rows agent path some).passes in
-      let front : List Client = p.before ++ p.taker ∷ p.between in record {
-        place = length front;
+      let prefix : List Client = p.before ++ p.taker ∷ p.between in record {
+        place = length prefix;
         client = p.client;
-        stands = ap (λ (clients : List Client). slice_get clients (length front)) p.order ∙ at-behind front p.client p.later;
+        stands = ap (λ (clients : List Client). slice_get clients (length prefix)) p.order ∙ at-behind prefix p.client p.later;
         its = p.its;
         bundle = p.bundle;
         granted = p.due;

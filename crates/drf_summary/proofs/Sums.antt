@@ -5,14 +5,14 @@ use Rattle.std.specs.Option.{option_map_or}
 use Rattle.std.proofs.Common.{refl, sym, ap, ◌∙◌, inl, inr, cond, arith}
 use Rattle.std.proofs.lemmas.Bool.{cases_Bool, and_parts, false≢true}
 use Rattle.drf_role.specs.Path.{Path, same_path}
-use Rattle.drf_explain.specs.Each.{told_here, told_of_each, turn_on, turns_by_agent, turns_on_all, untouched_on}
+use Rattle.drf_explain.specs.Each.{reported_here, reported_of_each, turn_on, turns_by_agent, turns_on_all, untouched_on}
 use Rattle.drf_explain.specs.Explained.{after_agent, outcome}
 use Rattle.drf_explain.specs.declared.finding.Finding.{Finding}
 use Rattle.drf_explain.specs.declared.finding.Finding.TheVariants.{Inactive, NothingFree}
 use Rattle.drf_explain.specs.declared.finding.Outcome.{Outcome}
 use Rattle.drf_explain.specs.declared.finding.Outcome.TheVariants.{Grant, HeldBack, OverLimit, BelowThreshold, NothingLeft, ReservedForOthers}
 use Rattle.drf_rows.specs.Client.{Client, path_of}
-use Rattle.drf_rows.specs.Cycle.{at_moment, free_of, tried, turn_order}
+use Rattle.drf_rows.specs.Cycle.{at_timestamp, free_of, tried, turn_order}
 use Rattle.drf_rows.specs.Offers.{is_empty}
 use Rattle.drf_rows.specs.declared.rows.AgentRow.{AgentRow}
 use Rattle.drf_rows.specs.declared.rows.Rows.{Rows}
@@ -45,27 +45,27 @@ one_outcome NothingLeft = refl
 one_outcome ReservedForOthers = refl
 
 module _ (path : Path) where
-  tried_once : (rows : Rows) (agent : AgentRow) (clients : List Client) → list_any (is_of_client path) (told_of_each rows agent clients) ≡ true
-      → outcomes_in (outcome_on path (told_of_each rows agent clients)) ≡ 1
+  tried_once : (rows : Rows) (agent : AgentRow) (clients : List Client) → list_any (is_of_client path) (reported_of_each rows agent clients) ≡ true
+      → outcomes_in (outcome_on path (reported_of_each rows agent clients)) ≡ 1
   tried_once rows agent [] its = absurd (false≢true its)
   tried_once rows agent (client ∷ clients) its =
-      let first : Finding = told_here rows agent client in
-      let later : List Finding = told_of_each (tried rows agent client) agent clients in
+      let first : Finding = reported_here rows agent client in
+      let later : List Finding = reported_of_each (tried rows agent client) agent clients in
       ap (λ fs. outcomes_in (outcome_in fs)) (own-cons path first later)
       ∙ elim (cases_Bool (same_path (path_of client) path)) [
         | inl here ↦ rw here (one_outcome (outcome rows agent client))
         | inr other ↦ rw other (tried_once (tried rows agent client) agent clients (sym (ap (λ b. b || list_any (is_of_client path) later) other) ∙ its))
       ]
 
-none_inactive : (rows : Rows) (agent : AgentRow) (clients : List Client) → list_any is_inactive (told_of_each rows agent clients) ≡ false
+none_inactive : (rows : Rows) (agent : AgentRow) (clients : List Client) → list_any is_inactive (reported_of_each rows agent clients) ≡ false
 none_inactive rows agent [] = refl
 none_inactive rows agent (client ∷ clients) = none_inactive (tried rows agent client) agent clients
 
-none_nothing_free : (rows : Rows) (agent : AgentRow) (clients : List Client) → list_any is_nothing_free (told_of_each rows agent clients) ≡ false
+none_nothing_free : (rows : Rows) (agent : AgentRow) (clients : List Client) → list_any is_nothing_free (reported_of_each rows agent clients) ≡ false
 none_nothing_free rows agent [] = refl
 none_nothing_free rows agent (client ∷ clients) = none_nothing_free (tried rows agent client) agent clients
 
-none_bars : (rows : Rows) (agent : AgentRow) (clients : List Client) → list_any bars_all (told_of_each rows agent clients) ≡ false
+none_bars : (rows : Rows) (agent : AgentRow) (clients : List Client) → list_any bars_all (reported_of_each rows agent clients) ≡ false
 none_bars rows agent [] = refl
 none_bars rows agent (client ∷ clients) = none_bars (tried rows agent client) agent clients
 
@@ -73,16 +73,16 @@ module _ (path : Path) where
   counted_once : (rows : Rows) (agent : AgentRow) → is_accounted path (turn_on rows agent) ≡ true → counted_on path (turn_on rows agent) ≡ 1
   counted_once rows agent = by agent.active (is_empty (free_of rows agent))
     where
-      told : Bool → Bool → List Finding
-      told active none = cond active (cond none (NothingFree agent.name ∷ []) (told_of_each rows agent (turn_order rows))) (Inactive agent.name ∷ [])
+      reported : Bool → Bool → List Finding
+      reported active none = cond active (cond none (NothingFree agent.name ∷ []) (reported_of_each rows agent (turn_order rows))) (Inactive agent.name ∷ [])
 
-      by : (active none : Bool) → is_accounted path (told active none, untouched_on rows agent) ≡ true
-          → counted_on path (told active none, untouched_on rows agent) ≡ 1
+      by : (active none : Bool) → is_accounted path (reported active none, untouched_on rows agent) ≡ true
+          → counted_on path (reported active none, untouched_on rows agent) ≡ 1
       by true true its = refl
       by true false its =
           let order : List Client = turn_order rows in
           let tried_here = tried_once path rows agent order
-          (sym (ap (λ b. b || list_any (is_of_client path) (told_of_each rows agent order)) (none_bars rows agent order)) ∙ its) in
+          (sym (ap (λ b. b || list_any (is_of_client path) (reported_of_each rows agent order)) (none_bars rows agent order)) ∙ its) in
           rw (none_inactive rows agent order, none_nothing_free rows agent order) (omega (arith, tried_here))
       by false none its = refl
 
@@ -134,9 +134,9 @@ module _ (path : Path) where
 pub counts_add_up : CountsAddUp
 unfolding turns_by_agent
 counts_add_up rows at path below all =
-    let turns : List Turn = turns_on_all (at_moment rows at) rows.agents in
-    let whole = counted path turns (each_counted_once path (at_moment rows at) rows.agents all) in
-    let long = length-on_all (at_moment rows at) rows.agents in
+    let turns : List Turn = turns_on_all (at_timestamp rows at) rows.agents in
+    let whole = counted path turns (each_counted_once path (at_timestamp rows at) rows.agents all) in
+    let long = length-on_all (at_timestamp rows at) rows.agents in
     omega (
       arith,
       whole,

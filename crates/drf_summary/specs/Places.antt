@@ -31,12 +31,12 @@ pub record AreGrantsIn (findings : List Finding) (grants : Grants) : Type 0 wher
 
 -- the findings of the turn
 abbrev pub turn_of : FoundTurn → Turn
-turn_of t = (t.turn.now.told.items, t.turn.now.untouched.items)
+turn_of t = (t.turn.now.reported.items, t.turn.now.untouched.items)
 
 -- the index agrees with the findings of the turn
 pub record IsFound (t : FoundTurn) : Type 0 where
-  pub told : ArePlacesIn t.turn.now.told.items t.told
+  pub reported : ArePlacesIn t.turn.now.reported.items t.reported
   pub untouched : ArePlacesIn t.turn.now.untouched.items t.untouched
-  pub grants : AreGrantsIn t.turn.now.told.items t.grants
-  pub inactive : t.inactive ≡ list_any is_inactive t.turn.now.told.items
-  pub nothing_free : t.nothing_free ≡ list_any is_nothing_free t.turn.now.told.items
+  pub grants : AreGrantsIn t.turn.now.reported.items t.grants
+  pub inactive : t.inactive ≡ list_any is_inactive t.turn.now.reported.items
+  pub nothing_free : t.nothing_free ≡ list_any is_nothing_free t.turn.now.reported.items

@@ -14,9 +14,9 @@ abbrev pub share_at : {Y Z S : Type 0} → HashMap (String Y) (String Z) S → T
 share_at by_node node = option_map string_bytes (get_by_text by_node node)
 
 -- the share in the first line of a node
-abbrev pub told_share : List NodeLine → Text → Option Text
-told_share lines node = option_map (λ line. fraction_text line.weighted) (find (λ line. same_text (text_of line.path) node) lines)
+abbrev pub reported_share : List NodeLine → Text → Option Text
+reported_share lines node = option_map (λ line. fraction_text line.weighted) (find (λ line. same_text (text_of line.path) node) lines)
 
 -- each stored share is the one in the report's first line of the node
 abbrev pub AreSharesIn : Shares → Type 0
-AreSharesIn s = (node : Text) → share_at s.by_node node ≡ told_share s.report.now.nodes node
+AreSharesIn s = (node : Text) → share_at s.by_node node ≡ reported_share s.report.now.nodes node

@@ -20,7 +20,7 @@ use crate::shares::Shares;
 use crate::taking::{begins_with_grant, has_taker};
 use crate::turn::FoundTurn;
 use drf_bundle::Bundle;
-use drf_explain::{Finding, Outcome, TurnTold};
+use drf_explain::{Finding, Outcome, TurnReported};
 use drf_hash::HashKey;
 use drf_role::{ClientPath, NodePath};
 use drf_rows::{ClientRow, FrameworkRow, Report, Rows};
@@ -155,11 +155,11 @@ fn take_in_each(tallies: &mut [Tally], turn: &FoundTurn) -> Result<(), AllocErro
 }
 
 /// Counts a turn in each tally. Clients are found by hashes that begin with `key`. Returns an error if memory runs out.
-pub fn take_turn(tallies: &mut [Tally], key: HashKey, turn: &TurnTold) -> Result<(), AllocError>
+pub fn take_turn(tallies: &mut [Tally], key: HashKey, turn: &TurnReported) -> Result<(), AllocError>
     ensures { OnOk result ((rows : Rows) (turns : List Turn) → tallies.old ≡ tallies_of rows turns
-        → tallies.new ≡ tallies_of rows (turns ++ (turn.now.told.items, turn.now.untouched.items) ∷ [])) }
+        → tallies.new ≡ tallies_of rows (turns ++ (turn.now.reported.items, turn.now.untouched.items) ∷ [])) }
 {
-    let found = FoundTurn::of(*turn.told.allocator(), key, turn)?;
+    let found = FoundTurn::of(*turn.reported.allocator(), key, turn)?;
     take_in_each(tallies, &found)?;
     Ok(())
 }

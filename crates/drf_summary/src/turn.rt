@@ -11,7 +11,7 @@ use crate::pick::{is_inactive, is_nothing_free, own_at};
 use crate::places::Places;
 use crate::taking::bundle_in;
 use drf_bundle::Bundle;
-use drf_explain::{Finding, TurnTold};
+use drf_explain::{Finding, TurnReported};
 use drf_hash::HashKey;
 use drf_role::ClientPath;
 use std::alloc::{AllocError, Global};
@@ -19,8 +19,8 @@ use std::alloc::{AllocError, Global};
 /// The findings of a turn, the index of each client, and the grants.
 #[derive(Drop)]
 pub(crate) struct FoundTurn<'a> {
-    pub(crate) turn: &'a TurnTold,
-    pub(crate) told: Places,
+    pub(crate) turn: &'a TurnReported,
+    pub(crate) reported: Places,
     pub(crate) untouched: Places,
     pub(crate) grants: Grants<'a>,
     pub(crate) inactive: bool,
@@ -44,40 +44,40 @@ impl<'a> FoundTurn<'a> {
     pub(crate) fn of(
         alloc: Global,
         key: HashKey,
-        turn: &'a TurnTold,
+        turn: &'a TurnReported,
     ) -> Result<FoundTurn<'a>, AllocError>
         ensures found { IfOk result IsFound }
         ensures turn { IfOk result (λ found. found.turn.now ≡ turn.now) }
     {
-        let told = turn.told.as_slice();
-        let places = Places::of(alloc, key, told)?;
+        let reported = turn.reported.as_slice();
+        let places = Places::of(alloc, key, reported)?;
         let untouched = Places::of(alloc, key, turn.untouched.as_slice())?;
-        let grants = Grants::of(alloc, told)?;
+        let grants = Grants::of(alloc, reported)?;
         Ok(FoundTurn {
             turn,
-            told: places,
+            reported: places,
             untouched,
             grants,
-            inactive: has_inactive(told),
-            nothing_free: has_nothing_free(told),
+            inactive: has_inactive(reported),
+            nothing_free: has_nothing_free(reported),
         })
     }
 
     /// Returns the client's first finding in the turn, or an empty slice.
     pub(crate) fn own(&self, client: &ClientPath) -> &[Finding]
         requires { IsFound self.now }
-        ensures { result.now ≡ own_on client.now self.now.turn.now.told.items }
+        ensures { result.now ≡ own_on client.now self.now.turn.now.reported.items }
     {
-        own_at(self.turn.told.as_slice(), self.told.get(client))
+        own_at(self.turn.reported.as_slice(), self.reported.get(client))
     }
 
     /// Returns the grants before the client's first finding.
     pub(crate) fn grants_before(&self, client: &ClientPath) -> &[&'a Finding]
         requires { IsFound self.now }
-        ensures { findings_of result.now ≡ filter is_grant (earlier_on client.now self.now.turn.now.told.items) }
+        ensures { findings_of result.now ≡ filter is_grant (earlier_on client.now self.now.turn.now.reported.items) }
     {
         let all = self.grants.all.as_slice();
-        let Some(place) = self.told.get(client) else {
+        let Some(place) = self.reported.get(client) else {
             return &all[..0];
         };
         let before = self.grants.before[place];

@@ -3,7 +3,7 @@
 
 ghost use Rattle.std.specs.Prelude.{◌≡◌, true, false, find, filter, not, Some, IfOk};
 ghost use Rattle.drf_role.specs.Text.{same_text};
-ghost use Rattle.drf_rows.specs.Endings.{without_ended, all_on, all_of};
+ghost use Rattle.drf_rows.specs.Releases.{without_ended, all_on, all_of};
 ghost use Rattle.drf_rows.specs.Held.{cluster_total};
 ghost use Rattle.drf_rows.specs.Members.{has_framework, with_activity, with_suppression, revived, agent_removed, framework_removed};
 ghost use Rattle.drf_rows.specs.Step.{is_in_role};

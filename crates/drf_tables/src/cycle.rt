@@ -4,7 +4,7 @@ ghost use Rattle.std.specs.Global.{Vec};
 ghost use Rattle.std.specs.Option.{option_map};
 ghost use Rattle.drf_role.specs.Text.{Text};
 ghost use Rattle.drf_rows.specs.Cycle.{counted};
-ghost use Rattle.drf_rows.specs.Holdings.{of_offer};
+ghost use Rattle.drf_rows.specs.Holdings.{holding_of_offer};
 ghost use Rattle.drf_rows.specs.declared.rows.ClientRow.{ClientRow};
 ghost use Rattle.drf_tables.specs.cycle.Counting.{counting, counting_all, first_number, CanCount, CanCountAll};
 ghost use Rattle.drf_tables.specs.Inside.{agent_row, framework_rows, frees_in, known_after};
@@ -20,7 +20,7 @@ use drf_rows::{ClientRow, OfferRow};
 /// Adds one to the count of the offer's client, among the clients of its framework.
 fn count_at(clients: &mut [ClientRow], offer: &OfferRow)
     requires { CanCount 1 clients.old }
-    ensures { clients.new ≡ map (counted (of_offer offer.now).client) clients.old }
+    ensures { clients.new ≡ map (counted (holding_of_offer offer.now).client) clients.old }
 {
     for client in clients.iter_mut() {
         if client.role == offer.role {
@@ -32,7 +32,7 @@ fn count_at(clients: &mut [ClientRow], offer: &OfferRow)
 /// Adds one to the count of the offer's client, if the slot has its framework.
 fn count_in(slot: &mut Option<(Name, Vec<ClientRow>)>, offer: &OfferRow)
     requires { (e : Text × Vec ClientRow) → slot.old ≡ Some e → CanCount 1 e.1.items }
-    ensures { slot.new ≡ option_map (λ e. (e.0, with_each (counted (of_offer offer.now).client) e.1)) slot.old }
+    ensures { slot.new ≡ option_map (λ e. (e.0, with_each (counted (holding_of_offer offer.now).client) e.1)) slot.old }
 {
     if let Some(entry) = slot {
         count_at(&mut entry.1, offer);

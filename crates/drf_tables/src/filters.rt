@@ -3,11 +3,11 @@
 
 ghost use Rattle.std.specs.Prelude.{◌≡◌, ◌≤◌, ◌&&◌, ◌++◌, ◌∷◌, [], true, not, nat_le, nat_lt, length, Some, IfOk, OnOk, OnErr};
 ghost use Rattle.drf_rows.specs.Consistent.{IsConsistent, IsFilter};
-ghost use Rattle.drf_rows.specs.Cycle.{at_moment};
+ghost use Rattle.drf_rows.specs.Cycle.{at_timestamp};
 ghost use Rattle.drf_rows.specs.Filters.{is_held_back, number_in_force};
 ghost use Rattle.drf_rows.specs.Offers.{filter_of, filters_with, has_offer, is_empty, offer_at, filtered_until, filters_all};
 ghost use Rattle.drf_rows.specs.Step.{live_rows};
-ghost use Rattle.drf_rows.specs.declared.limits.TheConstants.{LATEST_MOMENT};
+ghost use Rattle.drf_rows.specs.declared.limits.TheConstants.{LATEST_TIMESTAMP};
 ghost use Rattle.drf_rows.specs.declared.rows.OfferRow.{OfferRow};
 ghost use Rattle.drf_tables.specs.offers.Ended.{filter_if};
 
@@ -26,18 +26,18 @@ use std::alloc::AllocError;
 fn filter_row(
     offer: &OfferRow,
     bundle: &Bundle,
-    moment: u64,
+    timestamp: u64,
     refuse_ms: u64,
 ) -> Result<FilterRow, AllocError>
-    requires { moment ≤ LATEST_MOMENT }
-    ensures { IfOk result (λ row. row ≡ filter_of offer.now bundle.now (filtered_until moment refuse_ms)) }
+    requires { timestamp ≤ LATEST_TIMESTAMP }
+    ensures { IfOk result (λ row. row ≡ filter_of offer.now bundle.now (filtered_until timestamp refuse_ms)) }
 {
     Ok(FilterRow {
         framework: offer.framework.copy()?,
         role: offer.role.copy()?,
         agent: offer.agent.copy()?,
         bundle: bundle.copy()?,
-        until: moment + refuse_ms.min(LONGEST_FILTER),
+        until: timestamp + refuse_ms.min(LONGEST_FILTER),
     })
 }
 
@@ -45,11 +45,11 @@ fn filter_row(
 pub(crate) fn filter_rest(
     offer: &OfferRow,
     rest: &Bundle,
-    moment: u64,
+    timestamp: u64,
     refuse_ms: u64,
 ) -> Result<Option<FilterRow>, AllocError>
-    requires { moment ≤ LATEST_MOMENT }
-    ensures { IfOk result (λ filter. filter ≡ filter_if (nat_lt 0 refuse_ms && not (is_empty rest.now)) (filter_of offer.now rest.now (filtered_until moment refuse_ms))) }
+    requires { timestamp ≤ LATEST_TIMESTAMP }
+    ensures { IfOk result (λ filter. filter ≡ filter_if (nat_lt 0 refuse_ms && not (is_empty rest.now)) (filter_of offer.now rest.now (filtered_until timestamp refuse_ms))) }
 {
     if refuse_ms == 0 {
         return Ok(None);
@@ -57,38 +57,38 @@ pub(crate) fn filter_rest(
     if rest.is_empty() {
         return Ok(None);
     }
-    Ok(Some(filter_row(offer, rest, moment, refuse_ms)?))
+    Ok(Some(filter_row(offer, rest, timestamp, refuse_ms)?))
 }
 
 /// Adds a filter of all resources of an offer, unless `refuse_ms` is 0. If memory runs out, no row changes.
 fn filter_offer(
     tables: &mut Tables,
     number: u64,
-    moment: u64,
+    timestamp: u64,
     refuse_ms: u64,
 ) -> Result<(), AllocError>
     requires consistent { IsConsistent tables.old.rows }
     requires offer { has_offer tables.old.rows number ≡ true }
-    requires early { moment ≤ LATEST_MOMENT }
+    requires early { timestamp ≤ LATEST_TIMESTAMP }
     ensures ok { OnOk result ((o : OfferRow) → offer_at tables.old.rows number ≡ Some o
-        → tables.new.rows ≡ record tables.old.rows { filters = filters_with (record tables.old.rows { clock = moment }) (filters_all refuse_ms) o o.bundle refuse_ms }) }
+        → tables.new.rows ≡ record tables.old.rows { filters = filters_with (record tables.old.rows { clock = timestamp }) (filters_all refuse_ms) o o.bundle refuse_ms }) }
     ensures err { OnErr result (tables.new.rows ≡ tables.old.rows) }
 {
     if refuse_ms == 0 {
         return Ok(());
     }
     let offer = tables.offer(number).unwrap();
-    let filter = filter_row(offer, &offer.bundle, moment, refuse_ms)?;
+    let filter = filter_row(offer, &offer.bundle, timestamp, refuse_ms)?;
     tables.add_filter(filter)
 }
 
 impl Tables {
     /// Returns whether at least `number` filters are in force at a timestamp, in milliseconds. Filters are read only if there are
     /// so many.
-    pub fn are_in_force(&self, number: u64, moment: u64) -> bool
-        ensures { result ≡ nat_le number (number_in_force moment self.now.rows.filters) }
+    pub fn are_in_force(&self, number: u64, timestamp: u64) -> bool
+        ensures { result ≡ nat_le number (number_in_force timestamp self.now.rows.filters) }
     {
-        number <= self.filters.len() as u64 && number <= self.filters.in_force(moment)
+        number <= self.filters.len() as u64 && number <= self.filters.in_force(timestamp)
     }
 
     /// Returns whether a filter in force covers the bundle for the client on the agent.
@@ -114,14 +114,14 @@ impl Tables {
     /// out, no row changes.
     pub fn filter_declined(&mut self, decline: &Decline) -> Result<(), AllocError>
         requires offer { has_offer self.old.rows decline.now.offer ≡ true }
-        requires early { decline.now.at ≤ LATEST_MOMENT }
+        requires early { decline.now.at ≤ LATEST_TIMESTAMP }
         ensures ok { OnOk result ((o : OfferRow) → offer_at self.old.rows decline.now.offer ≡ Some o
-            → self.new.rows ≡ record (at_moment self.old.rows decline.now.at) { filters = filters_with (at_moment self.old.rows decline.now.at) (filters_all decline.now.refuse_ms) o o.bundle decline.now.refuse_ms }) }
+            → self.new.rows ≡ record (at_timestamp self.old.rows decline.now.at) { filters = filters_with (at_timestamp self.old.rows decline.now.at) (filters_all decline.now.refuse_ms) o o.bundle decline.now.refuse_ms }) }
         ensures err { OnErr result (self.new.rows ≡ self.old.rows) }
     {
-        let moment = self.clock.max(decline.at);
-        filter_offer(self, decline.offer, moment, decline.refuse_ms)?;
-        self.set_clock(moment);
+        let timestamp = self.clock.max(decline.at);
+        filter_offer(self, decline.offer, timestamp, decline.refuse_ms)?;
+        self.set_clock(timestamp);
         Ok(())
     }
 

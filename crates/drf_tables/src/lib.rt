@@ -15,7 +15,7 @@ mod room;
 mod tables;
 
 pub use drf_holdings::Taken;
-pub use drf_rows::Ending;
+pub use drf_rows::Release;
 pub use registry::new_name::NewName;
 pub use room::is_too_large;
 pub use tables::restoring::offers_with;

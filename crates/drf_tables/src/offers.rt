@@ -6,14 +6,14 @@ ghost use Rattle.std.specs.List.{AllByRecursion};
 ghost use Rattle.std.specs.Option.{option_map_or};
 ghost use Rattle.drf_bundle.specs.Bundle.{IsBundle};
 ghost use Rattle.drf_rows.specs.Consistent.{IsConsistent, IsFilter};
-ghost use Rattle.drf_rows.specs.Cycle.{at_moment};
-ghost use Rattle.drf_rows.specs.Endings.{without_ended};
+ghost use Rattle.drf_rows.specs.Cycle.{at_timestamp};
+ghost use Rattle.drf_rows.specs.Releases.{without_ended};
 ghost use Rattle.drf_rows.specs.Offers.{CanAccept, left_of_offer, offer_accepted, offer_at, has_task};
 ghost use Rattle.drf_rows.specs.Tasks.{uses};
-ghost use Rattle.drf_rows.specs.declared.limits.TheConstants.{LATEST_MOMENT};
+ghost use Rattle.drf_rows.specs.declared.limits.TheConstants.{LATEST_TIMESTAMP};
 ghost use Rattle.drf_rows.specs.declared.rows.FilterRow.{FilterRow};
 ghost use Rattle.drf_rows.specs.declared.rows.OfferRow.{OfferRow};
-ghost use Rattle.drf_rows.specs.Ended.{ending_of};
+ghost use Rattle.drf_rows.specs.Ended.{release_of};
 ghost use Rattle.drf_tables.specs.offers.Ended.{HasEnded, rest_taken, with_accepted};
 
 use crate::filters::filter_rest;
@@ -24,7 +24,7 @@ use drf_bundle::Bundle;
 use drf_gates::FilterTable;
 use drf_holdings::Taken;
 use drf_role::Name;
-use drf_rows::{Accept, Ending, FilterRow, OfferRow, TaskList};
+use drf_rows::{Accept, FilterRow, OfferRow, Release, TaskList};
 use std::alloc::AllocError;
 
 /// Adds a filter, if there is one. If memory runs out, nothing changes.
@@ -61,15 +61,15 @@ impl Tables {
         settle_all(&mut self.agents, &self.holdings)
     }
 
-    /// Removes one offer or task that `ending` selects, and returns what it held, or `None` if there is none. It cannot fail: if
+    /// Removes one offer or task that `release` selects, and returns what it held, or `None` if there is none. It cannot fail: if
     /// memory runs out, the free resources of the agent become unknown.
-    pub fn end(&mut self, ending: Ending) -> Option<Taken>
-        ensures some { IfSome result (HasEnded self.old.rows self.new.rows (ending_of ending.entry)) }
-        ensures none { IfNone result ((self.new.rows ≡ self.old.rows) × (without_ended self.old.rows (ending_of ending.entry) ≡ self.old.rows)) }
+    pub fn end(&mut self, release: Release) -> Option<Taken>
+        ensures some { IfSome result (HasEnded self.old.rows self.new.rows (release_of release.entry)) }
+        ensures none { IfNone result ((self.new.rows ≡ self.old.rows) × (without_ended self.old.rows (release_of release.entry) ≡ self.old.rows)) }
         ensures consistent { IsConsistent self.new.rows }
         ensures counted { self.new.counted ≡ self.old.counted }
     {
-        let taken = self.holdings.take(ending)?;
+        let taken = self.holdings.take(release)?;
         self.agents.give_back(&taken.agent, &taken.bundle);
         release_held(&mut self.consumption, &taken.role, &taken.bundle);
         Some(taken)
@@ -83,15 +83,15 @@ impl Tables {
         tasks: TaskList,
         rest: Bundle,
         filter: Option<FilterRow>,
-        moment: u64,
+        timestamp: u64,
     ) -> Result<Taken, AllocError>
         requires bundles { AllByRecursion IsBundle (uses tasks) }
         requires can { CanAccept self.old.rows number tasks }
         requires filter { (f : FilterRow) → filter ≡ Some f → IsFilter self.old.rows.agents self.old.rows.frameworks f }
         requires rest { (o : OfferRow) → offer_at self.old.rows number ≡ Some o → rest ≡ left_of_offer o tasks }
-        requires early { moment ≤ LATEST_MOMENT }
+        requires early { timestamp ≤ LATEST_TIMESTAMP }
         ensures ok { OnOk result ((o : OfferRow) → offer_at self.old.rows number ≡ Some o
-            → self.new.rows ≡ record (with_accepted self.old.rows o tasks filter) { clock = moment }) }
+            → self.new.rows ≡ record (with_accepted self.old.rows o tasks filter) { clock = timestamp }) }
         ensures taken { IfOk result (λ taken. (o : OfferRow) → offer_at self.old.rows number ≡ Some o → taken ≡ rest_taken o tasks) }
         ensures err { OnErr result (self.new.rows ≡ self.old.rows) }
         ensures counted { self.new.counted ≡ self.old.counted }
@@ -102,7 +102,7 @@ impl Tables {
             Ok(offer) => {
                 self.agents.give_back(&offer.agent, &rest);
                 release_held(&mut self.consumption, &offer.role, &rest);
-                self.clock = moment;
+                self.clock = timestamp;
                 Ok(Taken {
                     agent: offer.agent,
                     role: offer.role,
@@ -121,21 +121,21 @@ impl Tables {
     /// Returns the rest, which becomes free. If memory runs out, no row changes.
     pub fn accept(&mut self, accept: Accept) -> Result<Taken, AllocError>
         requires can { CanAccept self.old.rows accept.offer accept.tasks }
-        requires early { accept.at ≤ LATEST_MOMENT }
+        requires early { accept.at ≤ LATEST_TIMESTAMP }
         ensures bundles { OnOk result (AllByRecursion IsBundle (uses accept.tasks)) }
         ensures ok { OnOk result ((o : OfferRow) → offer_at self.old.rows accept.offer ≡ Some o
-            → self.new.rows ≡ offer_accepted (at_moment self.old.rows accept.at) o accept.tasks accept.refuse_ms) }
+            → self.new.rows ≡ offer_accepted (at_timestamp self.old.rows accept.at) o accept.tasks accept.refuse_ms) }
         ensures taken { IfOk result (λ taken. (o : OfferRow) → offer_at self.old.rows accept.offer ≡ Some o → taken ≡ rest_taken o accept.tasks) }
         ensures err { OnErr result (self.new.rows ≡ self.old.rows) }
         ensures counted { self.new.counted ≡ self.old.counted }
     {
         // Only the contract of this call says that the tasks use bundles.
         let _ = accept.tasks.as_slice();
-        let moment = self.clock.max(accept.at);
+        let timestamp = self.clock.max(accept.at);
         let offer = self.offer(accept.offer).unwrap();
         let rest = accept.tasks.rest_of(&offer.bundle)?;
-        let filter = filter_rest(offer, &rest, moment, accept.refuse_ms)?;
-        let taken = self.start(accept.offer, accept.tasks, rest, filter, moment)?;
+        let filter = filter_rest(offer, &rest, timestamp, accept.refuse_ms)?;
+        let taken = self.start(accept.offer, accept.tasks, rest, filter, timestamp)?;
         Ok(taken)
     }
 }

@@ -8,14 +8,14 @@ ghost use Rattle.drf_hash.specs.Slots.{filled};
 ghost use Rattle.drf_role.specs.Text.{same_text};
 
 pub(crate) mod free_part;
-mod gaps;
+mod free_slots;
 pub(crate) mod members;
 pub(crate) mod new_name;
 pub(crate) mod settling;
 
-use crate::registry::gaps::ranked;
+use crate::registry::free_slots::ranked;
 use crate::registry::new_name::NewName;
-use drf_hash::{ByName, HashKey, close_gaps};
+use drf_hash::{ByName, HashKey, close_free_slots};
 use drf_role::Name;
 use indexmap::IndexMap;
 use std::alloc::{AllocError, Global};
@@ -120,7 +120,7 @@ impl<T: Drop> Registry<T> {
         ensures same { self.new.entries ≡ self.old.entries }
     {
         if self.live < self.slots.len() {
-            close_gaps(&mut self.slots, &mut self.places)?;
+            close_free_slots(&mut self.slots, &mut self.places)?;
         }
         Ok(())
     }

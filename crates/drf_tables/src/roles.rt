@@ -7,7 +7,7 @@ ghost use Rattle.drf_holdings.specs.Listed.{task_row};
 ghost use Rattle.drf_role.specs.Role.{IsRole};
 ghost use Rattle.drf_role.specs.Text.{same_text};
 ghost use Rattle.drf_rows.specs.Held.{clients_in};
-ghost use Rattle.drf_rows.specs.Holdings.{of_offer, of_task};
+ghost use Rattle.drf_rows.specs.Holdings.{holding_of_offer, holding_of_task};
 ghost use Rattle.drf_rows.specs.Members.{has_framework};
 ghost use Rattle.drf_rows.specs.Roles.{framework_set, is_left, is_role_in_use, with_framework_roles, with_roles};
 ghost use Rattle.drf_rows.specs.declared.rows.FrameworkRow.{FrameworkRow};
@@ -27,7 +27,7 @@ fn is_left(framework: &Name, roles: &[Role], holder: &Name, role: &Role) -> bool
 
 /// Returns whether a framework holds an offer in a role that is not among these.
 fn is_offer_left(offers: InOrder<'_, OfferRow>, framework: &Name, roles: &[Role]) -> bool
-    ensures { result ≡ list_any (λ h. is_left framework.now roles.now h.client) (map of_offer offers.entry) }
+    ensures { result ≡ list_any (λ h. is_left framework.now roles.now h.client) (map holding_of_offer offers.entry) }
 {
     for offer in offers {
         if is_left(framework, roles, &offer.framework, &offer.role) {
@@ -39,7 +39,7 @@ fn is_offer_left(offers: InOrder<'_, OfferRow>, framework: &Name, roles: &[Role]
 
 /// Returns whether a framework holds a task in a role that is not among these.
 fn is_task_left(tasks: InOrder<'_, Task>, framework: &Name, roles: &[Role]) -> bool
-    ensures { result ≡ list_any (λ h. is_left framework.now roles.now h.client) (map of_task (map task_row tasks.entry)) }
+    ensures { result ≡ list_any (λ h. is_left framework.now roles.now h.client) (map holding_of_task (map task_row tasks.entry)) }
 {
     for task in tasks {
         if is_left(framework, roles, &task.row.framework, &task.row.role) {

@@ -15,7 +15,7 @@ ghost use Rattle.drf_rows.specs.Totals.{agent_at};
 ghost use Rattle.drf_rows.specs.Members.{has_agent, has_framework, with_agent};
 ghost use Rattle.drf_rows.specs.Weights.{has_weight, is_weight, weights_with};
 ghost use Rattle.drf_rows.specs.Consistent.{IsConsistent, are_distinct_roles, offers_counted};
-ghost use Rattle.drf_rows.specs.declared.limits.TheConstants.{LARGEST_AMOUNT, LATEST_MOMENT};
+ghost use Rattle.drf_rows.specs.declared.limits.TheConstants.{LARGEST_AMOUNT, LATEST_TIMESTAMP};
 ghost use Rattle.drf_rows.specs.declared.rows.AgentRow.{AgentRow};
 ghost use Rattle.drf_tables.specs.cycle.Drafts.{with_offers, frees_of, frees_after};
 ghost use Rattle.drf_tables.specs.limits.Recounting.{CountsAll};
@@ -295,7 +295,7 @@ impl Tables {
 
     /// Sets the clock, in milliseconds.
     pub fn set_clock(&mut self, clock: u64)
-        requires { clock ≤ LATEST_MOMENT }
+        requires { clock ≤ LATEST_TIMESTAMP }
         ensures { self.new.rows ≡ record self.old.rows { clock = clock } }
     {
         self.clock = clock;

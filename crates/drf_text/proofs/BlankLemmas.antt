@@ -16,25 +16,25 @@ stays_first (b ∷ bs) space tab = rw (no_blank b (λ e. space bs (ap (λ (c : �
 
 -- ---- at the end
 
-not_all : (text : Text) → text ≢ [] → ((front : Text) → text ≢ front ++ 32 ∷ [])
-    → ((front : Text) → text ≢ front ++ 9 ∷ []) → list_all is_blank text ≡ false
+not_all : (text : Text) → text ≢ [] → ((prefix : Text) → text ≢ prefix ++ 32 ∷ [])
+    → ((prefix : Text) → text ≢ prefix ++ 9 ∷ []) → list_all is_blank text ≡ false
 not_all [] some space tab = absurd (some refl)
 not_all (b ∷ []) some space tab = rw (no_blank b (λ e. space [] (ap (λ (c : ℕ). c ∷ []) e)) (λ e. tab [] (ap (λ (c : ℕ). c ∷ []) e))) refl
 not_all (b ∷ c ∷ cs) some space tab =
-    let rest = not_all (c ∷ cs) (λ e. cc) (λ front e. space (b ∷ front) (ap (λ (t : Text). b ∷ t) e)) (λ front e. tab (b ∷ front) (ap (λ (t : Text). b ∷ t) e)) in
+    let rest = not_all (c ∷ cs) (λ e. cc) (λ prefix e. space (b ∷ prefix) (ap (λ (t : Text). b ∷ t) e)) (λ prefix e. tab (b ∷ prefix) (ap (λ (t : Text). b ∷ t) e)) in
     and_none (is_blank b) (list_all is_blank (c ∷ cs)) rest
   where
     and_none : (x y : Bool) → y ≡ false → (x && y) ≡ false
     and_none true y e = e
     and_none false y e = refl
 
-pub stays_last : (text : Text) → ((front : Text) → text ≢ front ++ 32 ∷ []) → ((front : Text) → text ≢ front ++ 9 ∷ [])
+pub stays_last : (text : Text) → ((prefix : Text) → text ≢ prefix ++ 32 ∷ []) → ((prefix : Text) → text ≢ prefix ++ 9 ∷ [])
     → without_last_blanks text ≡ text
 stays_last [] space tab = refl
 stays_last (b ∷ []) space tab = let none = not_all (b ∷ []) (λ e. cc) space tab in ap (λ (t : Bool). cond t [] (b ∷ [])) none
 stays_last (b ∷ c ∷ cs) space tab =
     let none = not_all (b ∷ c ∷ cs) (λ e. cc) space tab in
-    let rest = stays_last (c ∷ cs) (λ front e. space (b ∷ front) (ap (λ (t : Text). b ∷ t) e)) (λ front e. tab (b ∷ front) (ap (λ (t : Text). b ∷ t) e)) in
+    let rest = stays_last (c ∷ cs) (λ prefix e. space (b ∷ prefix) (ap (λ (t : Text). b ∷ t) e)) (λ prefix e. tab (b ∷ prefix) (ap (λ (t : Text). b ∷ t) e)) in
     ap (λ (t : Bool). cond t [] (b ∷ without_last_blanks (c ∷ cs))) none ∙ ap (λ (t : Text). b ∷ t) rest
 
 all_push : (text : Text) (b : ℕ) → IsTrue (is_blank b) → list_all is_blank (text ++ b ∷ []) ≡ list_all is_blank text

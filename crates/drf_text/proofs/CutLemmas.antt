@@ -26,21 +26,21 @@ trimmed_stays text none = ap without_last_blanks (first_stays text none) ∙ las
 
 -- ---- a text cut at the first byte that passes a test
 
-position_at : (p : ℕ → Bool) (front : Text) (c : ℕ) (rest : Text) → HasNone p front → p c ≡ true → position_or_len p (front ++ c ∷ rest) ≡ length front
+position_at : (p : ℕ → Bool) (prefix : Text) (c : ℕ) (rest : Text) → HasNone p prefix → p c ≡ true → position_or_len p (prefix ++ c ∷ rest) ≡ length prefix
 position_at p [] c rest none here = rw here refl
 position_at p (b ∷ bs) c rest none here =
     rw (All-head (λ x. p x ≡ false) b bs none) (omega (arith, position_at p bs c rest (All-tail (λ x. p x ≡ false) b bs none) here))
 
-pub before_at : (p : ℕ → Bool) (front : Text) (c : ℕ) (rest : Text) → HasNone p front → p c ≡ true → before_first p (front ++ c ∷ rest) ≡ front
-before_at p front c rest none here =
-    ap (λ n. take n (front ++ c ∷ rest)) (position_at p front c rest none here) ∙ take-append_seam front (c ∷ rest)
+pub before_at : (p : ℕ → Bool) (prefix : Text) (c : ℕ) (rest : Text) → HasNone p prefix → p c ≡ true → before_first p (prefix ++ c ∷ rest) ≡ prefix
+before_at p prefix c rest none here =
+    ap (λ n. take n (prefix ++ c ∷ rest)) (position_at p prefix c rest none here) ∙ take-append_seam prefix (c ∷ rest)
 
-pub after_at : (p : ℕ → Bool) (front : Text) (c : ℕ) (rest : Text) → HasNone p front → p c ≡ true → after_first p (front ++ c ∷ rest) ≡ rest
-after_at p front c rest none here =
-    ap (λ n. drop (n + 1) (front ++ c ∷ rest)) (position_at p front c rest none here) ∙ drop-append-add front (c ∷ rest) 1
+pub after_at : (p : ℕ → Bool) (prefix : Text) (c : ℕ) (rest : Text) → HasNone p prefix → p c ≡ true → after_first p (prefix ++ c ∷ rest) ≡ rest
+after_at p prefix c rest none here =
+    ap (λ n. drop (n + 1) (prefix ++ c ∷ rest)) (position_at p prefix c rest none here) ∙ drop-append-add prefix (c ∷ rest) 1
 
-pub any_at_mark : (p : ℕ → Bool) (front : Text) (c : ℕ) (rest : Text) → HasNone p front → p c ≡ true → list_any p (front ++ c ∷ rest) ≡ true
-any_at_mark p front c rest none here = list_any-append p front (c ∷ rest) ∙ rw (list_any_none p front none, here) refl
+pub any_at_mark : (p : ℕ → Bool) (prefix : Text) (c : ℕ) (rest : Text) → HasNone p prefix → p c ≡ true → list_any p (prefix ++ c ∷ rest) ≡ true
+any_at_mark p prefix c rest none here = list_any-append p prefix (c ∷ rest) ∙ rw (list_any_none p prefix none, here) refl
 
 pub position_none : (p : ℕ → Bool) (text : Text) → HasNone p text → position_or_len p text ≡ length text
 position_none p [] none = refl
@@ -96,16 +96,16 @@ pieces_found (x ∷ xs) are =
 
 -- ---- the text between brackets
 
-pub take_all_but_last : (front : Text) (c : ℕ) → take (length (front ++ c ∷ []) - 1) (front ++ c ∷ []) ≡ front
-take_all_but_last front c =
-    let long : length (front ++ c ∷ []) - 1 ≡ length front = omega (arith, length-append front (c ∷ [])) in
-    ap (λ n. take n (front ++ c ∷ [])) long ∙ take-append_seam front (c ∷ [])
+pub take_all_but_last : (prefix : Text) (c : ℕ) → take (length (prefix ++ c ∷ []) - 1) (prefix ++ c ∷ []) ≡ prefix
+take_all_but_last prefix c =
+    let long : length (prefix ++ c ∷ []) - 1 ≡ length prefix = omega (arith, length-append prefix (c ∷ [])) in
+    ap (λ n. take n (prefix ++ c ∷ [])) long ∙ take-append_seam prefix (c ∷ [])
 
-pub ends_closed : (c : ℕ) (front : Text) → ends c (front ++ c ∷ []) ≡ true
-ends_closed c front =
-    let long : length front + 1 ≡ length (front ++ c ∷ []) = omega (arith, length-append front (c ∷ [])) in
-    and_from _ _ (lt-ltb 0 (length (front ++ c ∷ [])) (omega arith))
-    (eq-eqb _ c (get_or_push front c 0 (length (front ++ c ∷ []) - 1) (omega arith)))
+pub ends_closed : (c : ℕ) (prefix : Text) → ends c (prefix ++ c ∷ []) ≡ true
+ends_closed c prefix =
+    let long : length prefix + 1 ≡ length (prefix ++ c ∷ []) = omega (arith, length-append prefix (c ∷ [])) in
+    and_from _ _ (lt-ltb 0 (length (prefix ++ c ∷ [])) (omega arith))
+    (eq-eqb _ c (get_or_push prefix c 0 (length (prefix ++ c ∷ []) - 1) (omega arith)))
 
 pub inside_of : (o c : ℕ) (text : Text) → inside (o ∷ text ++ c ∷ []) ≡ text
 inside_of o c text =

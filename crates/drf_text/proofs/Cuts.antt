@@ -17,17 +17,17 @@ ends_more c b d bs =
     let last : get_or (b ∷ d ∷ bs) (length (b ∷ d ∷ bs) - 1) 0 ≡ get_or (d ∷ bs) (length (d ∷ bs) - 1) 0 = rw (sub-one, sub-one) refl in
     λ i. some i && eqb (last i) c
 
-ends_behind : (c b : ℕ) (front bs : Text) → ends c (front ++ b ∷ bs) ≡ ends c (b ∷ bs)
+ends_behind : (c b : ℕ) (prefix bs : Text) → ends c (prefix ++ b ∷ bs) ≡ ends c (b ∷ bs)
 ends_behind c b [] bs = refl
 ends_behind c b (d ∷ []) bs = ends_more c d b bs
-ends_behind c b (d ∷ e ∷ front) bs = ends_more c d e (front ++ b ∷ bs) ∙ ends_behind c b (e ∷ front) bs
+ends_behind c b (d ∷ e ∷ prefix) bs = ends_more c d e (prefix ++ b ∷ bs) ∙ ends_behind c b (e ∷ prefix) bs
 
 -- a text ends with a byte only if it is another text followed by this byte
-ends_not : (c : ℕ) (text : Text) → ((front : Text) → text ≢ front ++ c ∷ []) → ends c text ≡ false
+ends_not : (c : ℕ) (text : Text) → ((prefix : Text) → text ≢ prefix ++ c ∷ []) → ends c text ≡ false
 ends_not c [] none = refl
 ends_not c (b ∷ []) none = ne_eqb b c (λ e. none [] (ap (λ (x : ℕ). x ∷ []) e))
 ends_not c (b ∷ d ∷ bs) none =
-    ends_more c b d bs ∙ ends_not c (d ∷ bs) (λ front e. none (b ∷ front) (ap (λ (t : Text). b ∷ t) e))
+    ends_more c b d bs ∙ ends_not c (d ∷ bs) (λ prefix e. none (b ∷ prefix) (ap (λ (t : Text). b ∷ t) e))
 
 -- ---- heads
 
@@ -80,12 +80,12 @@ head_with_role head rest role some is closed =
 head_same : (b c : ℕ) (bs cs : Text) → b ∷ bs ≡ c ∷ cs → b ≡ c
 head_same b c bs cs e = cc
 
-open_ends : (rest : Text) → ((front : Text) → rest ≢ front ++ 41 ∷ []) → (front : Text) → 40 ∷ rest ≢ front ++ 41 ∷ []
+open_ends : (rest : Text) → ((prefix : Text) → rest ≢ prefix ++ 41 ∷ []) → (prefix : Text) → 40 ∷ rest ≢ prefix ++ 41 ∷ []
 open_ends rest none [] e = absurd (omega (arith, head_same 40 41 rest [] e))
-open_ends rest none (b ∷ front) e = none front (cc)
+open_ends rest none (b ∷ prefix) e = none prefix (cc)
 
 pub head_open : (head rest : Text) → position_or_len is_open head < length head → rest ≡ after_first is_open head
-    → ((front : Text) → rest ≢ front ++ 41 ∷ []) → head_in head ≡ Err Syntax
+    → ((prefix : Text) → rest ≢ prefix ++ 41 ∷ []) → head_in head ≡ Err Syntax
 unfolding head_in
 head_open head rest some is none =
     let reserved : list_any is_open head ≡ true = any_at is_open head ∙ lt-ltb _ _ some in
@@ -95,12 +95,12 @@ head_open head rest some is none =
 -- ---- bodies
 
 -- an opening bracket that differs from the closing one is not the end
-bracket_ends : (o c : ℕ) (rest : Text) → o ≢ c → ((front : Text) → rest ≢ front ++ c ∷ []) → ends c (o ∷ rest) ≡ false
+bracket_ends : (o c : ℕ) (rest : Text) → o ≢ c → ((prefix : Text) → rest ≢ prefix ++ c ∷ []) → ends c (o ∷ rest) ≡ false
 bracket_ends o c rest apart none = ends_not c (o ∷ rest) by
   where
-    by : (front : Text) → o ∷ rest ≢ front ++ c ∷ []
+    by : (prefix : Text) → o ∷ rest ≢ prefix ++ c ∷ []
     by [] e = apart (cc)
-    by (b ∷ front) e = none front (cc)
+    by (b ∷ prefix) e = none prefix (cc)
 
 pub ranges_closed : (rest text : Text) → rest ≡ text ++ 93 ∷ [] → list_all has_one_dash (parts_between text) ≡ true → body_in (91 ∷ rest) ≡ Ok (Ranges, text)
 unfolding body_in
@@ -112,7 +112,7 @@ unfolding body_in
 ranges_without_dash rest text closed dashes =
     ap (λ (t : Text). body_in (91 ∷ t)) closed ∙ rw (ends_closed 93 (91 ∷ text), inside_of 91 93 text, dashes) refl
 
-pub ranges_open : (rest : Text) → ((front : Text) → rest ≢ front ++ 93 ∷ []) → body_in (91 ∷ rest) ≡ Err Syntax
+pub ranges_open : (rest : Text) → ((prefix : Text) → rest ≢ prefix ++ 93 ∷ []) → body_in (91 ∷ rest) ≡ Err Syntax
 unfolding body_in
 ranges_open rest none = rw (bracket_ends 91 93 rest (λ e. absurd (omega (arith, e))) none) refl
 
@@ -121,7 +121,7 @@ unfolding body_in
 items_closed rest text closed =
     ap (λ (t : Text). body_in (123 ∷ t)) closed ∙ rw (ends_closed 125 (123 ∷ text), inside_of 123 125 text) refl
 
-pub items_open : (rest : Text) → ((front : Text) → rest ≢ front ++ 125 ∷ []) → body_in (123 ∷ rest) ≡ Err Syntax
+pub items_open : (rest : Text) → ((prefix : Text) → rest ≢ prefix ++ 125 ∷ []) → body_in (123 ∷ rest) ≡ Err Syntax
 unfolding body_in
 items_open rest none = rw (bracket_ends 123 125 rest (λ e. absurd (omega (arith, e))) none) refl
 

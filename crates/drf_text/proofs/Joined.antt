@@ -24,25 +24,25 @@ join_more c (x ∷ xs) y =
     ∙ ap (λ (m : List ℕ). (join_with_byte c (x ∷ xs) ++ m) ++ y) (sym (mark_some (length (x ∷ xs)) c (omega arith)))
 
 -- one more text is added to the joined texts
-joined_more : (front : List ℕ) (c : ℕ) (xs : List (List ℕ)) (y : List ℕ) (i : ℕ) (before now : List ℕ) → length xs ≡ i
-    → before ≡ front ++ join_with_byte c xs
-    → now ≡ (before ++ mark_before i c) ++ y → now ≡ front ++ join_with_byte c (xs ++ y ∷ [])
-joined_more front c xs y i before now long known is =
+joined_more : (prefix : List ℕ) (c : ℕ) (xs : List (List ℕ)) (y : List ℕ) (i : ℕ) (before now : List ℕ) → length xs ≡ i
+    → before ≡ prefix ++ join_with_byte c xs
+    → now ≡ (before ++ mark_before i c) ++ y → now ≡ prefix ++ join_with_byte c (xs ++ y ∷ [])
+joined_more prefix c xs y i before now long known is =
     is
     ∙ ap (λ (b : List ℕ). (b ++ mark_before i c) ++ y) known
-    ∙ ap (λ (b : List ℕ). b ++ y) (append_assoc front (join_with_byte c xs) (mark_before i c))
-    ∙ append_assoc front (join_with_byte c xs ++ mark_before i c) y
-    ∙ ap (λ (n : ℕ). front ++ ((join_with_byte c xs ++ mark_before n c) ++ y)) (sym long)
-    ∙ ap (λ (b : List ℕ). front ++ b) (sym (join_more c xs y))
+    ∙ ap (λ (b : List ℕ). b ++ y) (append_assoc prefix (join_with_byte c xs) (mark_before i c))
+    ∙ append_assoc prefix (join_with_byte c xs ++ mark_before i c) y
+    ∙ ap (λ (n : ℕ). prefix ++ ((join_with_byte c xs ++ mark_before n c) ++ y)) (sym long)
+    ∙ ap (λ (b : List ℕ). prefix ++ b) (sym (join_more c xs y))
 
-pub mapped_more : {A : Type 0} (f : A → List ℕ) (front : List ℕ) (c : ℕ) (es : List A) (i : ℕ) (e : A) (before now : List ℕ)
+pub mapped_more : {A : Type 0} (f : A → List ℕ) (prefix : List ℕ) (c : ℕ) (es : List A) (i : ℕ) (e : A) (before now : List ℕ)
     → i < length es → e ≡ get_or es i e
-    → before ≡ front ++ join_with_byte c (map f (take i es)) → now ≡ (before ++ mark_before i c) ++ f e → now ≡ front ++ join_with_byte c (map f (take (i + 1) es))
-mapped_more {A} f front c es i e before now within read known is =
+    → before ≡ prefix ++ join_with_byte c (map f (take i es)) → now ≡ (before ++ mark_before i c) ++ f e → now ≡ prefix ++ join_with_byte c (map f (take (i + 1) es))
+mapped_more {A} f prefix c es i e before now within read known is =
     let more : take (i + 1) es ≡ take i es ++ e ∷ [] = take_more es i e within ∙ ap (λ (x : A). take i es ++ x ∷ []) (sym read) in
     let long : length (map f (take i es)) ≡ i = simp (length-map, length-take) (omega arith) in
-    joined_more front c (map f (take i es)) (f e) i before now long known is
-    ∙ ap (λ (ts : List (List ℕ)). front ++ join_with_byte c ts) (sym (ap (map f) more ∙ map-append f (take i es) (e ∷ [])))
+    joined_more prefix c (map f (take i es)) (f e) i before now long known is
+    ∙ ap (λ (ts : List (List ℕ)). prefix ++ join_with_byte c ts) (sym (ap (map f) more ∙ map-append f (take i es) (e ∷ [])))
 
 pub map_same : (xs : List (List ℕ)) → map (λ x. x) xs ≡ xs
 map_same [] = refl

@@ -16,13 +16,13 @@ use Rattle.drf_text.proofs.Parts.{pair_of, each_tested, flat_map-map}
 use Rattle.drf_text.proofs.RangeLemmas.{pairs_tested}
 
 -- the error, or the value if there is no error
-abbrev pub told : {A : Type 0} → Option TextFault → A → Result A TextFault
-told (Some fault) x = Err fault
-told None x = Ok x
+abbrev pub reported : {A : Type 0} → Option TextFault → A → Result A TextFault
+reported (Some fault) x = Err fault
+reported None x = Ok x
 
-told_next : {A B : Type 0} (fault : Option TextFault) (x : A) (next : A → Result B TextFault) → (told fault x >>= next) ≡ (told fault x >>= λ _. next x)
-told_next (Some fault) x next = refl
-told_next None x next = refl
+reported_next : {A B : Type 0} (fault : Option TextFault) (x : A) (next : A → Result B TextFault) → (reported fault x >>= next) ≡ (reported fault x >>= λ _. next x)
+reported_next (Some fault) x next = refl
+reported_next None x next = refl
 
 -- ---- the three kinds of a body
 
@@ -110,7 +110,7 @@ bind_at false x fault next = refl
 
 nested : (colon head body label members : Bool) (draft : DraftOf)
     → cond {A = Result DraftOf TextFault} colon (cond head (cond body (cond label (cond members (Ok draft) (Err BadName)) (Err BadName)) (Err Syntax)) (Err Syntax)) (Err Syntax)
-    ≡ told (cond (not (colon && head && body)) (Some Syntax) (cond (not (label && members)) (Some BadName) None)) draft
+    ≡ reported (cond (not (colon && head && body)) (Some Syntax) (cond (not (label && members)) (Some BadName) None)) draft
 nested false head body label members draft = refl
 nested true false body label members draft = refl
 nested true true false label members draft = refl
@@ -118,7 +118,7 @@ nested true true true false members draft = refl
 nested true true true true false draft = refl
 nested true true true true true draft = refl
 
-draft_tested : (piece : Text) → draft_in piece ≡ told (draft_fault piece) (draft_of piece)
+draft_tested : (piece : Text) → draft_in piece ≡ reported (draft_fault piece) (draft_of piece)
 unfolding draft_in cut_in head_in body_in label_in
 draft_tested piece =
     let head = head_of piece in
@@ -167,9 +167,9 @@ no_role_tested head = by (is_reserved head)
 
 -- the role and the value, which are read after the draft
 behind : {D R V S : Type 0} (syntax name role number : Bool) (draft : D) (r : R) (v : V) (make : R → V → S)
-    → (told (cond syntax (Some Syntax) (cond name (Some BadName) None)) draft >>= λ _.
+    → (reported (cond syntax (Some Syntax) (cond name (Some BadName) None)) draft >>= λ _.
     cond {A = Result R TextFault} role (Err BadRole) (Ok r) >>= λ r. cond {A = Result V TextFault} number (Ok v) (Err BadNumber) >>= λ v. Ok (make r v))
-    ≡ told (cond syntax (Some Syntax) (cond name (Some BadName) (cond role (Some BadRole) (cond (not number) (Some BadNumber) None)))) (make r v)
+    ≡ reported (cond syntax (Some Syntax) (cond name (Some BadName) (cond role (Some BadRole) (cond (not number) (Some BadNumber) None)))) (make r v)
 behind true name role number draft r v make = refl
 behind false true role number draft r v make = refl
 behind false false true number draft r v make = refl
@@ -180,7 +180,7 @@ behind false false false false draft r v make = refl
 abbrev pub said_of : Text → Said
 said_of piece = record { label = name_of (head_of piece); role = role_of (head_of piece); value = fitting (value_of (body_of piece)) }
 
-pub said_tested : (piece : Text) → said_in piece ≡ told (fault_of piece) (said_of piece)
+pub said_tested : (piece : Text) → said_in piece ≡ reported (fault_of piece) (said_of piece)
 unfolding said_in
 said_tested piece =
     let head = head_of piece in
@@ -189,15 +189,15 @@ said_tested piece =
     let make : Path → Option Value → Said = λ role value. record { label = name_of head; role = role; value = value } in
     ap (λ (r : Result DraftOf TextFault). r >>= λ d. role_in d.role >>= λ role. value_in d.body d.members >>= λ value.
     Ok (record { label = d.label; role = role; value = value })) (draft_tested piece)
-    ∙ told_next (draft_fault piece) draft (λ d. role_in d.role >>= λ role. value_in d.body d.members >>= λ value.
+    ∙ reported_next (draft_fault piece) draft (λ d. role_in d.role >>= λ role. value_in d.body d.members >>= λ value.
     Ok (record { label = d.label; role = role; value = value }))
-    ∙ (λ i. told (draft_fault piece) draft >>= λ _. role_tested head i >>= λ role. value_tested body i >>= λ value. Ok (make role value))
+    ∙ (λ i. reported (draft_fault piece) draft >>= λ _. role_tested head i >>= λ role. value_tested body i >>= λ value. Ok (make role value))
     ∙ behind (not (has_form piece)) (not (has_labels piece)) (has_bad_role head) (has_numbers body) draft (role_of head) (fitting (value_of body)) make
 
 abbrev pub counted_of : Text → Counted
 counted_of piece = record { label = name_of (head_of piece); value = fitting (value_of (body_of piece)) }
 
-pub counted_tested : (piece : Text) → counted_in piece ≡ told (quantity_fault_of piece) (counted_of piece)
+pub counted_tested : (piece : Text) → counted_in piece ≡ reported (quantity_fault_of piece) (counted_of piece)
 unfolding counted_in
 counted_tested piece =
     let head = head_of piece in
@@ -206,7 +206,7 @@ counted_tested piece =
     let make : Unit {0} → Option Value → Counted = λ _ value. record { label = name_of head; value = value } in
     ap (λ (r : Result DraftOf TextFault). r >>= λ d. no_role d.role >>= λ _. value_in d.body d.members >>= λ value.
     Ok (record { label = d.label; value = value })) (draft_tested piece)
-    ∙ told_next (draft_fault piece) draft (λ d. no_role d.role >>= λ _. value_in d.body d.members >>= λ value.
+    ∙ reported_next (draft_fault piece) draft (λ d. no_role d.role >>= λ _. value_in d.body d.members >>= λ value.
     Ok (record { label = d.label; value = value }))
-    ∙ (λ i. told (draft_fault piece) draft >>= λ _. no_role_tested head i >>= λ none. value_tested body i >>= λ value. Ok (make none value))
+    ∙ (λ i. reported (draft_fault piece) draft >>= λ _. no_role_tested head i >>= λ none. value_tested body i >>= λ value. Ok (make none value))
     ∙ behind (not (has_form piece)) (not (has_labels piece)) (is_reserved head) (has_numbers body) draft tt (fitting (value_of body)) make

@@ -15,7 +15,7 @@ use Rattle.drf_text.specs.Meaning.{after, text_fault_of, put, put_or, meaning_fr
 use Rattle.drf_text.specs.Steps.{◌>>=◌, fitting, said_in, counted_in, put_said, put_counted, bundle_step, quantities_step}
 use Rattle.drf_text.specs.declared.said.Said.{Said}
 use Rattle.drf_text.specs.declared.said.Counted.{Counted}
-use Rattle.drf_text.proofs.Readings.{told, said_of, counted_of, said_tested, counted_tested}
+use Rattle.drf_text.proofs.Readings.{reported, said_of, counted_of, said_tested, counted_tested}
 
 -- steps from the left, each on the result of the one before
 abbrev pub steps_of : {T : Type 0} → (Text → T → Result T TextFault) → T → List Text → Result T TextFault
@@ -121,7 +121,7 @@ piece_put piece earlier next =
     by (fault_of piece) ∙ sym (ap (λ (r : Result Said TextFault). (r >>= put_said earlier) >>= next) (said_tested piece))
   where
     by : (fault : Option TextFault) → after fault (ltb 0 (amount_in (value_of (body_of piece)))) (put earlier (resource_of piece)) earlier next
-        ≡ ((told fault (said_of piece) >>= put_said earlier) >>= next)
+        ≡ ((reported fault (said_of piece) >>= put_said earlier) >>= next)
     by (Some fault) = refl
     by None = value_put (value_of (body_of piece)) (resource_of piece).label (resource_of piece).role earlier next
 
@@ -167,7 +167,7 @@ piece_count piece earlier next =
     by (quantity_fault_of piece) ∙ sym (ap (λ (r : Result Counted TextFault). (r >>= put_counted earlier) >>= next) (counted_tested piece))
   where
     by : (fault : Option TextFault) → after fault true (counted earlier (name_of (head_of piece)) (value_of (body_of piece))) earlier next
-        ≡ ((told fault (counted_of piece) >>= put_counted earlier) >>= next)
+        ≡ ((reported fault (counted_of piece) >>= put_counted earlier) >>= next)
     by (Some fault) = refl
     by None = value_count (value_of (body_of piece)) (name_of (head_of piece)) earlier next
 

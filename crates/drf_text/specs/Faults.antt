@@ -10,13 +10,13 @@ use Rattle.drf_text.specs.declared.fault.TextFault.{TextFault}
 use Rattle.drf_text.specs.declared.fault.TextFault.TheVariants.{Syntax, BadName, BadRole, BadNumber, Memory}
 
 -- a reader returned the error that the text has; if memory ran out, nothing is claimed
-abbrev pub IsTold : {A : Type 0} → Result A TextFault → TextFault → Type 0
-IsTold meaning fault = fault ≢ Memory → meaning ≡ Err fault
+abbrev pub IsReported : {A : Type 0} → Result A TextFault → TextFault → Type 0
+IsReported meaning fault = fault ≢ Memory → meaning ≡ Err fault
 
 -- a reader returned the meaning of a text, seen by `view`, or an error
 abbrev pub IsReadAs : {A B : Type 0} → (A → B) → Result A TextFault → Result B TextFault → Type 0
 IsReadAs view (Ok x) meaning = meaning ≡ Ok (view x)
-IsReadAs view (Err fault) meaning = IsTold meaning fault
+IsReadAs view (Err fault) meaning = IsReported meaning fault
 
 abbrev pub IsMeaning : {A : Type 0} → Result A TextFault → Result A TextFault → Type 0
 IsMeaning = IsReadAs (λ x. x)

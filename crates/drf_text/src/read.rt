@@ -3,7 +3,7 @@ ghost use Rattle.std.specs.Prelude.{◌≡◌, if◌then◌else◌, OnOk, IfErr,
 ghost use Rattle.drf_role.specs.Role.{default_role};
 ghost use Rattle.drf_bundle.specs.Union.{has_other_kind};
 ghost use Rattle.drf_text.specs.Blanks.{trimmed};
-ghost use Rattle.drf_text.specs.Faults.{IsTold, IsMeaning};
+ghost use Rattle.drf_text.specs.Faults.{IsReported, IsMeaning};
 ghost use Rattle.drf_text.specs.Meaning.{counted, meaning_of, quantities_meant};
 ghost use Rattle.drf_text.specs.Pieces.{pieces_of};
 ghost use Rattle.drf_text.specs.Steps.{IsFirstNamed, named_in, put_said, put_counted, bundle_step, quantities_step};
@@ -30,7 +30,7 @@ fn fault_of_too_large(bundle: &Parts, label: &Label) -> TextFault
 /// Adds the resource of a piece to the bundle. An empty value changes nothing.
 fn put_said(bundle: &mut Parts, said: Said) -> Result<(), TextFault>
     ensures ok { OnOk result (put_said bundle.old said ≡ Ok bundle.new) }
-    ensures fault { IfErr result (IsTold (put_said bundle.old said)) }
+    ensures fault { IfErr result (IsReported (put_said bundle.old said)) }
     ensures memory { IsErrOf result TextFault.Memory → IsOk (put_said bundle.old said) }
 {
     let Said { label, role, value } = said;
@@ -54,7 +54,7 @@ fn add_piece(
 ) -> Result<(), TextFault>
     requires { unreserved.now ≡ default_role }
     ensures ok { OnOk result (bundle_step text.now bundle.old ≡ Ok bundle.new) }
-    ensures fault { IfErr result (IsTold (bundle_step text.now bundle.old)) }
+    ensures fault { IfErr result (IsReported (bundle_step text.now bundle.old)) }
     ensures memory { IsErrOf result TextFault.Memory → IsOk (named_in (trimmed text.now)) }
 {
     let piece = trim(text);
@@ -83,7 +83,7 @@ pub fn read_bundle(alloc: Global, text: &str) -> Result<Bundle, TextFault>
 /// thousandths or more.
 fn add_amount(quantities: &mut Quantities, label: Label, thousandths: u64) -> Result<(), TextFault>
     ensures ok { OnOk result (counted quantities.old label (Value.Scalar thousandths) ≡ Ok quantities.new) }
-    ensures fault { IfErr result (IsTold (counted quantities.old label (Value.Scalar thousandths))) }
+    ensures fault { IfErr result (IsReported (counted quantities.old label (Value.Scalar thousandths))) }
     ensures memory { IsErrOf result TextFault.Memory → IsOk (counted quantities.old label (Value.Scalar thousandths)) }
 {
     match quantities.get(label.text()).checked_add(thousandths) {
@@ -95,7 +95,7 @@ fn add_amount(quantities: &mut Quantities, label: Label, thousandths: u64) -> Re
 /// Adds the amount of a piece to the quantities. Fails with `Kind` if its value is not a scalar.
 fn put_counted(quantities: &mut Quantities, said: Counted) -> Result<(), TextFault>
     ensures ok { OnOk result (put_counted quantities.old said ≡ Ok quantities.new) }
-    ensures fault { IfErr result (IsTold (put_counted quantities.old said)) }
+    ensures fault { IfErr result (IsReported (put_counted quantities.old said)) }
     ensures memory { IsErrOf result TextFault.Memory → IsOk (put_counted quantities.old said) }
 {
     let Counted { label, value } = said;
@@ -111,7 +111,7 @@ fn put_counted(quantities: &mut Quantities, said: Counted) -> Result<(), TextFau
 /// Reads one piece and adds its amount to the quantities. A blank piece changes nothing.
 fn count_piece(alloc: Global, quantities: &mut Quantities, text: &str) -> Result<(), TextFault>
     ensures ok { OnOk result (quantities_step text.now quantities.old ≡ Ok quantities.new) }
-    ensures fault { IfErr result (IsTold (quantities_step text.now quantities.old)) }
+    ensures fault { IfErr result (IsReported (quantities_step text.now quantities.old)) }
     ensures memory { IsErrOf result TextFault.Memory → IsOk (named_in (trimmed text.now)) }
 {
     let piece = trim(text);

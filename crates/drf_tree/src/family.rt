@@ -219,9 +219,9 @@ fn rank_of(children: &[Child], at: usize) -> usize
     ensures after { (d : Child) → list_all (λ c. not (is_before c.key (slice_index_or children.now at d).key)) (drop result (without_place at children.now)) ≡ true }
 {
     let key = &children[at].key;
-    let front = place_for(&children[..at], key);
-    if front < at {
-        return front;
+    let prefix = place_for(&children[..at], key);
+    if prefix < at {
+        return prefix;
     }
     at + place_for(&children[at + 1..], key)
 }

@@ -10,7 +10,7 @@ mod changes;
 use crate::booked::{Booked, leaf_in};
 use crate::tree::ROOT;
 use drf_bundle::Quantities;
-use drf_hash::{HashKey, close_gaps};
+use drf_hash::{HashKey, close_free_slots};
 use drf_role::{ClientPath, NodePath, Role};
 use drf_sorter::{Client, Weights};
 use indexmap::IndexMap;
@@ -109,7 +109,7 @@ impl Ledger {
         ensures same { ledger_content self.new ≡ ledger_content self.old }
     {
         if self.live <= self.slots.len() / 2 {
-            close_gaps(&mut self.slots, &mut self.places)?;
+            close_free_slots(&mut self.slots, &mut self.places)?;
         }
         Ok(())
     }

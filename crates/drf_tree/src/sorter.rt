@@ -171,8 +171,8 @@ impl Sorter for TreeSorter {
         self.walk.pass(&self.tree);
     }
 
-    fn pass_front(&mut self, len: usize) {
-        self.walk.pass_front(&self.tree, len);
+    fn pass_prefix(&mut self, len: usize) {
+        self.walk.pass_prefix(&self.tree, len);
     }
 
     fn keys_made(&self) -> u64 {

@@ -3,7 +3,7 @@ ghost use Rattle.std.specs.Prelude.{◌≡◌, ◌<◌, ◌≤◌, ◌++◌, ◌
 ghost use Rattle.std.specs.Option.{is_some};
 ghost use Rattle.std.specs.Vec.{vec_capacity};
 ghost use Rattle.drf_sorter.specs.Content.{Content};
-ghost use Rattle.drf_sorter.specs.Passed.{IsPassedFront};
+ghost use Rattle.drf_sorter.specs.Passed.{IsPassedPrefix};
 ghost use Rattle.drf_tree.specs.Changes.{IsShapeOf};
 ghost use Rattle.drf_tree.specs.Nodes.{client_at, is_node};
 ghost use Rattle.drf_tree.specs.Queue.{AreFrames, IsNext, IsSettled, frames_queue, onward, order_in};
@@ -112,12 +112,12 @@ impl Walk {
     }
 
     /// Moves past the current client and the clients after it that are below the node of the first `len` parts of its path.
-    pub(crate) fn pass_front(&mut self, tree: &Tree, len: usize)
+    pub(crate) fn pass_prefix(&mut self, tree: &Tree, len: usize)
         requires shape { IsShapeOf tree.now }
         requires frames { AreFrames tree.now.places.items self.old.frames.items }
         ensures frames { AreFrames tree.now.places.items self.new.frames.items }
         ensures settled { (content : Content) → IsTreeOf content tree.now → IsSettled content tree.now.places.items tree.now.families.items self.new.frames.items }
-        ensures queue { (content : Content) → IsTreeOf content tree.now → IsSettled content tree.now.places.items tree.now.families.items self.old.frames.items → IsPassedFront len (frames_queue content tree.now self.old.frames.items) (frames_queue content tree.now self.new.frames.items) }
+        ensures queue { (content : Content) → IsTreeOf content tree.now → IsSettled content tree.now.places.items tree.now.families.items self.old.frames.items → IsPassedPrefix len (frames_queue content tree.now self.old.frames.items) (frames_queue content tree.now self.new.frames.items) }
     {
         if len < self.frames.len() {
             self.frames.truncate(len);

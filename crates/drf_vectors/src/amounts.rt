@@ -12,7 +12,7 @@ const NONE: &str = "none";
 /// An amount that a question can be about.
 pub trait Amount: Subject + Algebra {
     /// Appends an amount that is not empty.
-    fn tell(&self, answer: &mut Answer);
+    fn append(&self, answer: &mut Answer);
 }
 
 impl Subject for Scalar {
@@ -26,7 +26,7 @@ impl Subject for Scalar {
 }
 
 impl Amount for Scalar {
-    fn tell(&self, answer: &mut Answer) {
+    fn append(&self, answer: &mut Answer) {
         answer.show(&self.thousandths());
     }
 }
@@ -53,7 +53,7 @@ impl Subject for Ranges {
 }
 
 impl Amount for Ranges {
-    fn tell(&self, answer: &mut Answer) {
+    fn append(&self, answer: &mut Answer) {
         for interval in self.intervals() {
             answer.show(&interval.first);
             answer.say("-");
@@ -77,7 +77,7 @@ impl Subject for Items {
 }
 
 impl Amount for Items {
-    fn tell(&self, answer: &mut Answer) {
+    fn append(&self, answer: &mut Answer) {
         for name in self.names() {
             answer.say(name.text());
             answer.say(",");
@@ -87,18 +87,18 @@ impl Amount for Items {
 }
 
 /// Appends an amount.
-pub fn tell<A: Amount>(answer: &mut Answer, amount: &A) {
+pub fn append<A: Amount>(answer: &mut Answer, amount: &A) {
     if amount.is_empty() {
         answer.say(NONE);
     } else {
-        amount.tell(answer);
+        amount.append(answer);
     }
 }
 
 /// Appends an amount, or the error.
-pub fn told<A: Amount, F: Display + Drop>(answer: &mut Answer, sought: Result<A, F>) {
+pub fn reported<A: Amount, F: Display + Drop>(answer: &mut Answer, sought: Result<A, F>) {
     if let Some(amount) = answer.found(sought) {
-        tell(answer, &amount);
+        append(answer, &amount);
     }
 }
 
@@ -106,9 +106,9 @@ pub fn told<A: Amount, F: Display + Drop>(answer: &mut Answer, sought: Result<A,
 fn compared<A: Amount>(answer: &mut Answer, amounts: &(A, A)) {
     let (one, other) = amounts;
     answer.say("join ");
-    told(answer, one.try_join(other));
+    reported(answer, one.try_join(other));
     answer.say("; rest ");
-    told(answer, one.try_minus(other));
+    reported(answer, one.try_minus(other));
     answer.say("; covers ");
     answer.show(&one.covers(other));
     answer.say("; disjoint ");
@@ -117,7 +117,7 @@ fn compared<A: Amount>(answer: &mut Answer, amounts: &(A, A)) {
 
 /// Appends a copy of an amount, and how much it is.
 fn copied<A: Amount>(answer: &mut Answer, amount: &A) {
-    told(answer, amount.copy());
+    reported(answer, amount.copy());
     answer.say("; amount ");
     answer.show(&amount.amount());
 }

@@ -42,7 +42,7 @@ fn answer_of_words(answer: &mut Answer, kind: &str, text: &str) {
 /// Answers a question about texts.
 fn answer_of_texts(answer: &mut Answer, kind: &str, text: &str) {
     match kind {
-        "bundle" => asked(answer, text, amounts::tell::<Bundle>),
+        "bundle" => asked(answer, text, amounts::append::<Bundle>),
         "quantity_text" => asked(answer, text, texts::quantities),
         "weight" => texts::weight(answer, text),
         "part_for" => asked(answer, text, texts::part),
@@ -77,7 +77,7 @@ fn ask<R: Runtime + AllocGlobal>(rt: &R, question: &str) -> io::Result<()> {
     let (kind, text) = question.split_once(' ').unwrap_or((question, ""));
     let mut answer = Answer::new(rt.alloc());
     answer_to(&mut answer, kind, text);
-    let told = answer.text();
+    let reported = answer.text();
     println!(rt; "{question} -> {told}")
 }
 

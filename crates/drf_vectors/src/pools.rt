@@ -1,14 +1,14 @@
 //! Questions about a pool of one kind of amounts: its total, and then calls, each after `; `.
-use crate::amounts::{Amount, tell, told};
+use crate::amounts::{Amount, append, reported};
 use crate::answer::Answer;
 use crate::subject::{Subject, read_all};
 use drf_amount::{Pool, PoolFault};
 
 /// Appends the free amount and the total.
 fn state<A: Amount>(answer: &mut Answer, pool: &Pool<A>) {
-    tell(answer, pool.free());
+    append(answer, pool.free());
     answer.say(" of ");
-    tell(answer, pool.total());
+    append(answer, pool.total());
 }
 
 /// Appends that a call succeeded, or its error.
@@ -37,7 +37,7 @@ fn split(answer: &mut Answer, called: Result<Vec<u64>, PoolFault>) {
 /// Appends a part.
 fn part<A: Amount>(answer: &mut Answer, pool: &Pool<A>, number: u64) {
     match pool.part(number) {
-        Some(part) => tell(answer, part),
+        Some(part) => append(answer, part),
         None => answer.say("no part"),
     }
 }
@@ -66,7 +66,7 @@ fn call<A: Amount>(
         ("shrink", [smaller]) => done(answer, pool.shrink(number, smaller)),
         ("replace_free", [old, new]) => done(answer, pool.replace_free(old, new)),
         ("split", parts) => split(answer, pool.split(number, parts)),
-        ("give_back", []) => told(answer, pool.give_back(number)),
+        ("give_back", []) => reported(answer, pool.give_back(number)),
         ("part", []) => part(answer, pool, number),
         ("copy", []) => copied(answer, pool, number),
         _ => answer.say("no call"),

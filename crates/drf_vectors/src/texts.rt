@@ -1,5 +1,5 @@
 //! Questions about bundles, quantities and weights, which are written as texts.
-use crate::amounts::{Amount, told};
+use crate::amounts::{Amount, reported};
 use crate::answer::Answer;
 use crate::subject::Subject;
 use drf_amount::Algebra;
@@ -18,7 +18,7 @@ impl Subject for Bundle {
 }
 
 impl Amount for Bundle {
-    fn tell(&self, answer: &mut Answer) {
+    fn append(&self, answer: &mut Answer) {
         if let Some(text) = answer.found(write_bundle(answer.alloc(), self)) {
             answer.say(text.as_str());
         }
@@ -47,24 +47,24 @@ pub fn weight(answer: &mut Answer, text: &str) {
 
 /// Appends the part of a bundle that a role can use.
 pub fn part(answer: &mut Answer, of: &(Role, Bundle)) {
-    told(answer, of.1.part_for(&of.0));
+    reported(answer, of.1.part_for(&of.0));
 }
 
 /// Appends a bundle that is cut to limits.
 pub fn clipped(answer: &mut Answer, of: &(Quantities, Bundle)) {
-    told(answer, of.1.clip(&of.0));
+    reported(answer, of.1.clip(&of.0));
 }
 
 /// Appends a bundle without another.
 pub fn rest(answer: &mut Answer, of: &(Bundle, Bundle)) {
-    told(answer, of.0.rest(&of.1));
+    reported(answer, of.0.rest(&of.1));
 }
 
 /// Appends an unreserved bundle after it is reserved for a role.
 pub fn moved(answer: &mut Answer, of: &(Role, Bundle)) {
     let (role, bundle) = of;
     if bundle.is_unreserved() {
-        told(answer, bundle.relabel(role));
+        reported(answer, bundle.relabel(role));
     } else {
         answer.say("reserved");
     }
@@ -79,7 +79,7 @@ fn one_of(alloc: Global, label: &Label, role: &Role, value: &Value) -> Result<Bu
 pub fn found(answer: &mut Answer, of: &(Label, (Role, Bundle))) {
     let (label, (role, bundle)) = of;
     match bundle.get(label, role) {
-        Some(value) => told(answer, one_of(answer.alloc(), label, role, value)),
+        Some(value) => reported(answer, one_of(answer.alloc(), label, role, value)),
         None => return answer.say("nothing there"),
     }
     answer.say("; sums ");

@@ -61,7 +61,7 @@ pub fn copied<W: Word>(answer: &mut Answer, word: &W) {
 }
 
 /// Appends the values, with spaces between them.
-fn tell_all<W: Word>(answer: &mut Answer, words: &[W]) {
+fn append_all<W: Word>(answer: &mut Answer, words: &[W]) {
     for word in words {
         answer.say(word.text());
         answer.say(" ");
@@ -70,10 +70,10 @@ fn tell_all<W: Word>(answer: &mut Answer, words: &[W]) {
 }
 
 /// Sorts the values and appends them.
-fn tell_sorted<W: Word + Ord>(answer: &mut Answer, words: &mut Vec<W>) {
+fn append_sorted<W: Word + Ord>(answer: &mut Answer, words: &mut Vec<W>) {
     let sorted = words.sort();
     if answer.found(sorted).is_some() {
-        tell_all(answer, words.as_slice());
+        append_all(answer, words.as_slice());
     }
 }
 
@@ -81,6 +81,6 @@ fn tell_sorted<W: Word + Ord>(answer: &mut Answer, words: &mut Vec<W>) {
 pub fn sorted<W: Word + Ord>(answer: &mut Answer, texts: &str) {
     let mut words = Vec::<W>::new(answer.alloc());
     if read_all(answer, &mut words, texts, ' ').is_some() {
-        tell_sorted(answer, &mut words);
+        append_sorted(answer, &mut words);
     }
 }

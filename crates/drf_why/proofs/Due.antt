@@ -6,13 +6,13 @@ use Rattle.std.specs.Io.KnownBytes.{Consumes, IsAtEnd}
 use Rattle.std.proofs.KnownBytes.{Appends-nil}
 use Rattle.std.proofs.lemmas.Bool.{false≢true}
 use Rattle.drf_core.specs.Machine.{Machine, Engine, live}
-use Rattle.drf_explain.proofs.EachLaws.{live_rows_are_told, live_turns_are_told}
+use Rattle.drf_explain.proofs.EachLaws.{live_rows_are_reported, live_turns_are_reported}
 use Rattle.drf_explain.specs.Explained.{suppressed_of}
 use Rattle.drf_explain.specs.ExplainedText.{explained_text}
 use Rattle.drf_rows.specs.Step.{live_rows}
 use Rattle.drf_rows.specs.declared.rows.Rows.{Rows}
 use Rattle.drf_row_laws.proofs.LiveLaws.{report_of-live}
-use Rattle.drf_journal.specs.Audited.{HasToldOfRows, rows_after_lines, told_of_lines}
+use Rattle.drf_journal.specs.Audited.{HasReportedOfRows, rows_after_lines, reported_of_lines}
 use Rattle.drf_journal.specs.Ended.{HasCause}
 use Rattle.drf_journal.specs.Lines.{lines_of}
 use Rattle.drf_journal.specs.Resumed.{resumed}
@@ -29,7 +29,7 @@ use Rattle.drf_why.specs.declared.whom.Whom.TheVariants as whom
 -- ---- expired filters change nothing
 
 picked_live : (pick : Pick) (at : ℕ) (rows : Rows) → picked_of pick (live_rows rows) at ≡ picked_of pick rows at
-picked_live pick at rows = ap (λ lists. flat_map (picked pick) (suppressed_of rows ∷ lists)) (live_rows_are_told rows at)
+picked_live pick at rows = ap (λ lists. flat_map (picked pick) (suppressed_of rows ∷ lists)) (live_rows_are_reported rows at)
 
 asked_by_pick : (asked : Whom) (at : ℕ) (rows : Rows)
     → pick_of (live_rows rows) asked ≡ pick_of rows asked → absent_text (live_rows rows) asked ≡ absent_text rows asked
@@ -61,40 +61,40 @@ module _ (asked : Whom) (at : ℕ) (rows live_ones : Rows) (same : rows ≡ live
 pub summed_live : (at : ℕ) (rows : Rows) → summed_text at (live_rows rows) ≡ summed_text at rows
 unfolding summed_text
 summed_live at rows =
-    λ i. explained_text (suppressed_of rows) ++ flat_map (tally_lines (report_of-live rows i)) (tallies_of rows (live_turns_are_told rows at i))
+    λ i. explained_text (suppressed_of rows) ++ flat_map (tally_lines (report_of-live rows i)) (tallies_of rows (live_turns_are_reported rows at i))
 
 -- ---- the result
 
 module _ (tell : Rows → List ℕ) (tell_live : (rows : Rows) → tell (live_rows rows) ≡ tell rows) where
   -- the text for an allocator that has taken all lines
   pub due : (old new : Engine) (read : List ℕ) → live new ≡ resumed (live old) (lines_of read)
-      → tell (live_rows new.rows) ≡ told_of_lines tell (live old) (lines_of read)
-  unfolding live told_of_lines
+      → tell (live_rows new.rows) ≡ reported_of_lines tell (live old) (lines_of read)
+  unfolding live reported_of_lines
   due old new read is =
       ap (λ (m : Machine). tell m.rows) is ∙ tell_live (rows_after_lines old.limits (live_rows old.rows) (lines_of read))
 
 module _ (tell : Rows → List ℕ) (machine : Machine) (unread_before unread_after : Option (List ℕ)) where
   -- nothing was written if not all lines were taken
-  pub told_unread : (T : Type 0) (written : Option (List ℕ)) (fault : RunFault) (reads : ℕ) (reader_failed : Bool) (read : List ℕ)
+  pub reported_unread : (T : Type 0) (written : Option (List ℕ)) (fault : RunFault) (reads : ℕ) (reader_failed : Bool) (read : List ℕ)
       → HasCause {T = T} (Err fault) reader_failed reads false → Consumes unread_before unread_after read
-      → HasToldOfRows tell machine unread_before unread_after written written (Err fault)
-  told_unread T written Read reads reader_failed read cause consumed =
-      record { read = read; written = []; consumed = consumed; appended = Appends-nil written; told = refl; whole = tt; late = λ some. absurd (omega arith) }
-  told_unread T written Write reads reader_failed read cause consumed = absurd (false≢true cause.1)
-  told_unread T written Memory reads reader_failed read cause consumed =
-      record { read = read; written = []; consumed = consumed; appended = Appends-nil written; told = (0, refl); whole = tt; late = λ some. absurd (omega arith) }
+      → HasReportedOfRows tell machine unread_before unread_after written written (Err fault)
+  reported_unread T written Read reads reader_failed read cause consumed =
+      record { read = read; written = []; consumed = consumed; appended = Appends-nil written; reported = refl; whole = tt; late = λ some. absurd (omega arith) }
+  reported_unread T written Write reads reader_failed read cause consumed = absurd (false≢true cause.1)
+  reported_unread T written Memory reads reader_failed read cause consumed =
+      record { read = read; written = []; consumed = consumed; appended = Appends-nil written; reported = (0, refl); whole = tt; late = λ some. absurd (omega arith) }
 
   -- the text was written, or a prefix of it
-  pub told_ends : (old new : Output) (read text : List ℕ) (result : Result (Unit {0}) RunFault)
+  pub reported_ends : (old new : Output) (read text : List ℕ) (result : Result (Unit {0}) RunFault)
       → Consumes unread_before unread_after read → IsAtEnd unread_after
-      → text ≡ told_of_lines tell machine (lines_of read)
+      → text ≡ reported_of_lines tell machine (lines_of read)
       → old.failed ≡ false → HasWritten text old new result
-      → HasToldOfRows tell machine unread_before unread_after old.bytes new.bytes result
-  told_ends old new read text (Ok done) consumed whole told sound wrote =
-      record { read = read; written = text; consumed = consumed; appended = wrote.whole; told = told; whole = whole; late = λ some. whole }
-  told_ends old new read text (Err Read) consumed whole told sound wrote =
+      → HasReportedOfRows tell machine unread_before unread_after old.bytes new.bytes result
+  reported_ends old new read text (Ok done) consumed whole reported sound wrote =
+      record { read = read; written = text; consumed = consumed; appended = wrote.whole; reported = reported; whole = whole; late = λ some. whole }
+  reported_ends old new read text (Err Read) consumed whole reported sound wrote =
       absurd (⊎_elim (λ e. false≢true e) (λ e. omega arith) (wrote.cause sound).0)
-  told_ends old new read text (Err Write) consumed whole told sound wrote =
-      record { read = read; written = take wrote.front.0 text; consumed = consumed; appended = wrote.front.1; told = (wrote.front.0, ap (take wrote.front.0) told); whole = tt; late = λ some. whole }
-  told_ends old new read text (Err Memory) consumed whole told sound wrote =
-      record { read = read; written = take wrote.front.0 text; consumed = consumed; appended = wrote.front.1; told = (wrote.front.0, ap (take wrote.front.0) told); whole = tt; late = λ some. whole }
+  reported_ends old new read text (Err Write) consumed whole reported sound wrote =
+      record { read = read; written = take wrote.prefix.0 text; consumed = consumed; appended = wrote.prefix.1; reported = (wrote.prefix.0, ap (take wrote.prefix.0) reported); whole = tt; late = λ some. whole }
+  reported_ends old new read text (Err Memory) consumed whole reported sound wrote =
+      record { read = read; written = take wrote.prefix.0 text; consumed = consumed; appended = wrote.prefix.1; reported = (wrote.prefix.0, ap (take wrote.prefix.0) reported); whole = tt; late = λ some. whole }

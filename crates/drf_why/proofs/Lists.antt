@@ -19,17 +19,17 @@ use Rattle.drf_why.specs.Written.{Output, HasWritten}
 use Rattle.drf_why.proofs.Writes.{and_then, nothing_written, stopped, unwritten}
 
 -- the lists of findings of some turns
-abbrev pub told_in : List Turn → List (List Finding)
-told_in turns = map (λ turn. turn.0) turns
+abbrev pub reported_in : List Turn → List (List Finding)
+reported_in turns = map (λ turn. turn.0) turns
 
 -- the text of the selected findings of some lists
 abbrev pub text_of : Pick → List (List Finding) → List ℕ
 text_of pick lists = explained_text (flat_map (picked pick) lists)
 
 -- the text of the first list, followed by that of the others
-pub text_of_lists : (pick : Pick) (told : List Finding) (lists : List (List Finding))
-    → text_of pick (told ∷ lists) ≡ explained_text (picked pick told) ++ text_of pick lists
-text_of_lists pick told lists = flat_map-append finding_text (picked pick told) (flat_map (picked pick) lists)
+pub text_of_lists : (pick : Pick) (reported : List Finding) (lists : List (List Finding))
+    → text_of pick (reported ∷ lists) ≡ explained_text (picked pick reported) ++ text_of pick lists
+text_of_lists pick reported lists = flat_map-append finding_text (picked pick reported) (flat_map (picked pick) lists)
 
 -- ---- lists that are written
 
@@ -44,30 +44,30 @@ written_none pick whole old = record { before = []; wrote = nothing_written old;
 
 module _ (pick : Pick) (whole left : List (List Finding)) (old now : Output) (so_far : IsWrittenTo pick whole left old now) where
   -- the next list is written
-  module _ (told : List Finding) (next : List (List Finding)) (is : left ≡ told ∷ next) where
-    parted : text_of pick whole ≡ (so_far.before ++ explained_text (picked pick told)) ++ text_of pick next
+  module _ (reported : List Finding) (next : List (List Finding)) (is : left ≡ reported ∷ next) where
+    parted : text_of pick whole ≡ (so_far.before ++ explained_text (picked pick reported)) ++ text_of pick next
     parted =
         so_far.rest
-        ∙ ap (λ text. so_far.before ++ text) (ap (text_of pick) is ∙ text_of_lists pick told next)
-        ∙ sym (append_assoc so_far.before (explained_text (picked pick told)) (text_of pick next))
+        ∙ ap (λ text. so_far.before ++ text) (ap (text_of pick) is ∙ text_of_lists pick reported next)
+        ∙ sym (append_assoc so_far.before (explained_text (picked pick reported)) (text_of pick next))
 
-    pub written_more : (new : Output) → HasWritten (explained_text (picked pick told)) now new (Ok tt) → IsWrittenTo pick whole next old new
+    pub written_more : (new : Output) → HasWritten (explained_text (picked pick reported)) now new (Ok tt) → IsWrittenTo pick whole next old new
     written_more new wrote = record {
-      before = so_far.before ++ explained_text (picked pick told);
-      wrote = and_then so_far.before (explained_text (picked pick told)) old now new (Ok tt) so_far.wrote wrote;
+      before = so_far.before ++ explained_text (picked pick reported);
+      wrote = and_then so_far.before (explained_text (picked pick reported)) old now new (Ok tt) so_far.wrote wrote;
       rest = parted;
     }
 
     -- writing it fails
-    pub written_front : (new : Output) (fault : RunFault) → HasWritten (explained_text (picked pick told)) now new (Err fault)
+    pub written_prefix : (new : Output) (fault : RunFault) → HasWritten (explained_text (picked pick reported)) now new (Err fault)
         → HasWritten (text_of pick whole) old new (Err fault)
-    written_front new fault wrote =
+    written_prefix new fault wrote =
         subst (λ (text : List ℕ). HasWritten text old new (Err fault)) (sym parted)
-        (stopped (so_far.before ++ explained_text (picked pick told)) (text_of pick next) old new fault
-        (and_then so_far.before (explained_text (picked pick told)) old now new (Err fault) so_far.wrote wrote))
+        (stopped (so_far.before ++ explained_text (picked pick reported)) (text_of pick next) old new fault
+        (and_then so_far.before (explained_text (picked pick reported)) old now new (Err fault) so_far.wrote wrote))
 
   -- the list as a slice
-  module _ (told shown : List Finding) (next : List (List Finding)) (is : left ≡ told ∷ next) (same : shown ≡ told) where
+  module _ (reported shown : List Finding) (next : List (List Finding)) (is : left ≡ reported ∷ next) (same : shown ≡ reported) where
     shown_first : left ≡ shown ∷ next
     shown_first = is ∙ ap (λ (t : List Finding). t ∷ next) (sym same)
 
@@ -76,7 +76,7 @@ module _ (pick : Pick) (whole left : List (List Finding)) (old now : Output) (so
 
     pub written_part : (new : Output) (fault : RunFault) → HasWritten (explained_text (picked pick shown)) now new (Err fault)
         → HasWritten (text_of pick whole) old new (Err fault)
-    written_part new fault wrote = written_front shown next shown_first new fault wrote
+    written_part new fault wrote = written_prefix shown next shown_first new fault wrote
 
   -- no list remains
   pub written_all : left ≡ [] → HasWritten (text_of pick whole) old now (Ok tt)

@@ -1,7 +1,7 @@
 -- The result of writing a text in several parts.
 use Rattle.std.specs.Prelude.{◌≡◌, ℕ, Bool, false, true, List, Option, Result, OnOk, OnErr}
 use Rattle.std.specs.Io.KnownBytes.{Appends}
-use Rattle.drf_journal.specs.Device.{AppendsFrontOf}
+use Rattle.drf_journal.specs.Device.{AppendsPrefixOf}
 use Rattle.drf_journal.specs.Ended.{HasCause, HasFlushed}
 use Rattle.drf_journal.specs.declared.device.Device.{Device}
 use Rattle.drf_journal.specs.declared.fault.RunFault.{RunFault}
@@ -18,6 +18,6 @@ output_of bytes device = record { bytes = bytes device.inner; failed = device.fa
 -- on success the whole text was written, otherwise a prefix of it
 pub record HasWritten (text : List ℕ) (old new : Output) (result : Result (Unit {0}) RunFault) : Type 0 where
   pub whole : OnOk result (Appends old.bytes new.bytes text)
-  pub front : OnErr result (AppendsFrontOf old.bytes new.bytes text)
+  pub prefix : OnErr result (AppendsPrefixOf old.bytes new.bytes text)
   pub cause : old.failed ≡ false → HasCause result false 0 new.failed
   pub sent : old.flushed ≡ true → HasFlushed result new.flushed

@@ -2,18 +2,18 @@
 ghost use Rattle.std.specs.Prelude.{◌≡◌, ◌++◌, ◌≤◌, ◌^◌, true, List, IfOk, OnOk};
 ghost use Rattle.drf_core.specs.Machine.{live};
 ghost use Rattle.drf_explain.specs.Each.{turns_by_agent};
-ghost use Rattle.drf_journal.specs.Audited.{HasToldOfRows};
+ghost use Rattle.drf_journal.specs.Audited.{HasReportedOfRows};
 ghost use Rattle.drf_journal.specs.Device.{IsNew};
 ghost use Rattle.drf_journal.specs.Ended.{HasCause, HasFlushed};
 ghost use Rattle.drf_rows.specs.Step.{live_rows};
-ghost use Rattle.drf_rows.specs.declared.limits.TheConstants.{LATEST_MOMENT};
+ghost use Rattle.drf_rows.specs.declared.limits.TheConstants.{LATEST_TIMESTAMP};
 ghost use Rattle.drf_rows.specs.declared.rows.Rows.{Rows};
 ghost use Rattle.drf_summary.specs.Passers.{Turn};
 ghost use Rattle.drf_summary.specs.Tally.{tallies_of};
 ghost use Rattle.drf_why.specs.Asked.{summed_text};
 ghost use Rattle.drf_why.specs.Written.{HasWritten, output_of};
 
-use drf_core::{Core, Telling};
+use drf_core::{Core, Explanations};
 use drf_explain::{suppressed, write_explained_lines};
 use drf_hash::HashKey;
 use drf_journal::{Device, ProgramSorter, RunFault, advance, write_whole};
@@ -24,13 +24,13 @@ use std::io::{Read, Write};
 
 /// Counts all turns in the tallies.
 fn count_agents(
-    telling: &mut Telling<ProgramSorter>,
+    explanations: &mut Explanations<ProgramSorter>,
     key: HashKey,
     tallies: &mut [Tally],
 ) -> Result<(), AllocError>
-    ensures { OnOk result ((rows : Rows) (turns : List Turn) → tallies.old ≡ tallies_of rows turns → tallies.new ≡ tallies_of rows (turns ++ telling.old)) }
+    ensures { OnOk result ((rows : Rows) (turns : List Turn) → tallies.old ≡ tallies_of rows turns → tallies.new ≡ tallies_of rows (turns ++ explanations.old)) }
 {
-    while let Some(turn) = telling.next_turn()? {
+    while let Some(turn) = explanations.next_turn()? {
         take_turn(tallies, key, &turn)?;
     }
     Ok(())
@@ -44,18 +44,18 @@ fn tallies_at(
     at: u64,
 ) -> Result<Vec<Tally>, AllocError>
     requires rows { rows.now ≡ live_rows core.now.rows }
-    requires early { at ≤ LATEST_MOMENT }
+    requires early { at ≤ LATEST_TIMESTAMP }
     ensures { IfOk result (λ tallies. tallies.items ≡ tallies_of rows.now (turns_by_agent rows.now at)) }
 {
     let mut found = tallies(alloc, core.key(), rows)?;
-    let mut telling = core.telling(at)?;
-    count_agents(&mut telling, core.key(), found.as_mut_slice())?;
+    let mut explanations = core.explanations(at)?;
+    count_agents(&mut explanations, core.key(), found.as_mut_slice())?;
     Ok(found)
 }
 
 /// Returns the summary of the cycle at a timestamp in milliseconds.
 fn summary(alloc: Global, core: &Core<ProgramSorter>, at: u64) -> Result<Vec<u8>, AllocError>
-    requires { at ≤ LATEST_MOMENT }
+    requires { at ≤ LATEST_TIMESTAMP }
     ensures { IfOk result (λ text. text.items ≡ summed_text at (live_rows core.now.rows)) }
 {
     let rows = core.rows()?;
@@ -74,7 +74,7 @@ fn write_summary<W: Write>(
     at: u64,
     writer: &mut Device<W>,
 ) -> Result<(), RunFault>
-    requires { at ≤ LATEST_MOMENT }
+    requires { at ≤ LATEST_TIMESTAMP }
     ensures { HasWritten (summed_text at (live_rows core.now.rows)) (output_of W.contents writer.old) (output_of W.contents writer.new) result }
 {
     let text = summary(alloc, core, at)?;
@@ -85,17 +85,17 @@ fn write_summary<W: Write>(
 /// over all agents, and the clients that pass it over. Shares are those at the beginning of the cycle, not those of the turn. The clock
 /// never goes back; if `at` is 0, the cycle is at the time of the clock. Lines that are not events are skipped.
 /// Returns an error if a read or a write fails, or if memory runs out.
-pub fn tell_summary<R: Read, W: Write>(
+pub fn write_cycle_summary<R: Read, W: Write>(
     alloc: Global,
     core: Core<ProgramSorter>,
     at: u64,
     reader: &mut Device<R>,
     writer: &mut Device<W>,
 ) -> Result<(), RunFault>
-    requires early { at ≤ LATEST_MOMENT }
+    requires early { at ≤ LATEST_TIMESTAMP }
     requires reader { IsNew reader.old.calls reader.old.failed }
     requires writer { IsNew writer.old.calls writer.old.failed }
-    ensures told { HasToldOfRows (summed_text at) (live core) (R.remaining reader.old.inner) (R.remaining reader.new.inner)
+    ensures reported { HasReportedOfRows (summed_text at) (live core) (R.remaining reader.old.inner) (R.remaining reader.new.inner)
         (W.contents writer.old.inner) (W.contents writer.new.inner) result }
     ensures cause { HasCause result reader.new.failed reader.new.calls writer.new.failed }
     ensures flushed { writer.old.flushed ≡ true → HasFlushed result writer.new.flushed }

@@ -16,7 +16,7 @@ use Rattle.drf_rows.specs.Cycle.{free_of, with_offer, turn, cycle}
 use Rattle.drf_rows.specs.Step.{opening, refusal_of, effect, rows_after, reply_to, replies_to}
 use Rattle.drf_worked.specs.Examples.{cpus, mem, framework_in, offer}
 use Rattle.drf_worked.specs.OrderExamples.{eng, eng_web, role_a}
-use Rattle.drf_worked.specs.ReportExamples.{told_cpus}
+use Rattle.drf_worked.specs.ReportExamples.{reported_cpus}
 use Rattle.drf_worked.specs.LifeExamples.{one, accept, accept_for, decline}
 use Rattle.drf_worked.specs.QuotaExamples.{cpus_in, offer_in}
 use Rattle.drf_rows.specs.declared.rows.FrameworkRow.{FrameworkRow}
@@ -77,7 +77,7 @@ module _ (all : Numbers) (some : IsSome all) (none : nat_lt 0 (set.len (set.diff
   whole = cpus 6000 ∷ cpus_in eng_web 2000 ∷ mem 64000 ∷ ports all ∷ []
 
   abbrev its_limit : List LimitRow
-  its_limit = record { role = eng; limit = told_cpus 5000 ++ record { label = codes "ports"; amount = 0 } ∷ [] } ∷ []
+  its_limit = record { role = eng; limit = reported_cpus 5000 ++ record { label = codes "ports"; amount = 0 } ∷ [] } ∷ []
 
   abbrev both : ℕ → Bool → ℕ → List FrameworkRow
   both count suppressed other = in_role (codes "f1") eng count suppressed ∷ in_role (codes "f2") eng_web other false ∷ []
@@ -149,32 +149,32 @@ module _ (all : Numbers) (some : IsSome all) (none : nat_lt 0 (set.len (set.diff
   abbrev from_first : List Event
   from_first = Cycle 0 ∷ accept (codes "f1") 1 (codes "t") (cpus 2000 ∷ []) ∷ from_second
 
-  abbrev told_first : Reply
-  told_first =
+  abbrev reported_first : Reply
+  reported_first =
       Offers (
       offer 1 (codes "f1") (codes "eng") (codes "n1") (left_of 3000)
       ∷ offer_in 2 (codes "f2") eng_web (codes "n1") (cpus_in eng_web 2000 ∷ [])
       ∷ [])
 
-  abbrev told_second : Reply
-  told_second = one (offer 3 (codes "f1") (codes "eng") (codes "n1") (left_of 1000))
+  abbrev reported_second : Reply
+  reported_second = one (offer 3 (codes "f1") (codes "eng") (codes "n1") (left_of 1000))
 
-  abbrev told_third : Reply
-  told_third = one (offer_in 4 (codes "f2") eng_web (codes "n1") (left_of 1000))
+  abbrev reported_third : Reply
+  reported_third = one (offer_in 4 (codes "f2") eng_web (codes "n1") (left_of 1000))
 
   begins : (later : List Event)
       → replies_to ceilings opening
       (AddAgent (codes "n1") whole ∷ framework_in (codes "f1") (codes "eng") ∷ AddFramework (codes "f2") (eng_web ∷ [])
-      ∷ SetLimit eng (told_cpus 5000 ++ record { label = codes "ports"; amount = 0 } ∷ []) ∷ later)
+      ∷ SetLimit eng (reported_cpus 5000 ++ record { label = codes "ports"; amount = 0 } ∷ []) ∷ later)
       ≡ Done ∷ Done ∷ Done ∷ Done ∷ replies_to ceilings before_first later
   unfolding refusal_of effect rows_after reply_to
   begins later = refl
 
-  first_told : (later : List Event)
+  first_reported : (later : List Event)
       → replies_to ceilings before_first (Cycle 0 ∷ later)
-      ≡ told_first ∷ replies_to ceilings after_first later
+      ≡ reported_first ∷ replies_to ceilings after_first later
   unfolding refusal_of effect rows_after reply_to
-  first_told later = rw first_cycle refl
+  first_reported later = rw first_cycle refl
 
   then_accepted : (later : List Event)
       → replies_to ceilings after_first (accept (codes "f1") 1 (codes "t") (cpus 2000 ∷ []) ∷ later)
@@ -182,11 +182,11 @@ module _ (all : Numbers) (some : IsSome all) (none : nat_lt 0 (set.len (set.diff
   unfolding refusal_of effect rows_after reply_to
   then_accepted later = refl
 
-  second_told : (later : List Event)
+  second_reported : (later : List Event)
       → replies_to ceilings before_second (Cycle 0 ∷ later)
-      ≡ told_second ∷ replies_to ceilings after_second later
+      ≡ reported_second ∷ replies_to ceilings after_second later
   unfolding refusal_of effect rows_after reply_to
-  second_told later = rw second_cycle refl
+  second_reported later = rw second_cycle refl
 
   then_suppressed : (later : List Event)
       → replies_to ceilings after_second (decline (codes "f1") 3 ∷ Suppress (codes "f1") eng ∷ later)
@@ -194,11 +194,11 @@ module _ (all : Numbers) (some : IsSome all) (none : nat_lt 0 (set.len (set.diff
   unfolding refusal_of effect rows_after reply_to
   then_suppressed later = refl
 
-  third_told : (later : List Event)
+  third_reported : (later : List Event)
       → replies_to ceilings before_third (Cycle 0 ∷ later)
-      ≡ told_third ∷ replies_to ceilings after_third later
+      ≡ reported_third ∷ replies_to ceilings after_third later
   unfolding refusal_of effect rows_after reply_to
-  third_told later = rw third_cycle refl
+  third_reported later = rw third_cycle refl
 
   then_revived : (later : List Event)
       → replies_to ceilings after_third (accept (codes "f2") 4 (codes "t") (cpus 1000 ∷ []) ∷ Revive (codes "f1") eng ∷ later)
@@ -206,25 +206,25 @@ module _ (all : Numbers) (some : IsSome all) (none : nat_lt 0 (set.len (set.diff
   unfolding refusal_of effect rows_after reply_to
   then_revived later = refl
 
-  last_told : replies_to ceilings before_last (Cycle 0 ∷ [])
+  last_reported : replies_to ceilings before_last (Cycle 0 ∷ [])
       ≡ one (offer 5 (codes "f1") (codes "eng") (codes "n1") (mem 64000 ∷ ports all ∷ [])) ∷ []
   unfolding refusal_of effect rows_after reply_to
-  last_told = rw last_cycle refl
+  last_reported = rw last_cycle refl
 
   used_up_run : replies_to ceilings opening (used_up all) ≡ used_up_replies all
   used_up_run =
       begins from_first
       ∙ ap (λ rs. Done ∷ Done ∷ Done ∷ Done ∷ rs) (
-      first_told (accept (codes "f1") 1 (codes "t") (cpus 2000 ∷ []) ∷ from_second)
-      ∙ ap (λ rs. told_first ∷ rs) (
+      first_reported (accept (codes "f1") 1 (codes "t") (cpus 2000 ∷ []) ∷ from_second)
+      ∙ ap (λ rs. reported_first ∷ rs) (
       then_accepted from_second
       ∙ ap (λ rs. Done ∷ rs) (
-      second_told (decline (codes "f1") 3 ∷ Suppress (codes "f1") eng ∷ from_third)
-      ∙ ap (λ rs. told_second ∷ rs) (
+      second_reported (decline (codes "f1") 3 ∷ Suppress (codes "f1") eng ∷ from_third)
+      ∙ ap (λ rs. reported_second ∷ rs) (
       then_suppressed from_third
       ∙ ap (λ rs. Done ∷ Done ∷ rs) (
-      third_told (accept (codes "f2") 4 (codes "t") (cpus 1000 ∷ []) ∷ Revive (codes "f1") eng ∷ from_last)
-      ∙ ap (λ rs. told_third ∷ rs) (then_revived from_last ∙ ap (λ rs. Done ∷ Done ∷ rs) last_told))))))
+      third_reported (accept (codes "f2") 4 (codes "t") (cpus 1000 ∷ []) ∷ Revive (codes "f1") eng ∷ from_last)
+      ∙ ap (λ rs. reported_third ∷ rs) (then_revived from_last ∙ ap (λ rs. Done ∷ Done ∷ rs) last_reported))))))
 
 module _ (all part others : Numbers) (its : IsSome part) (left_some : IsSome others) (left : set.difference all part ≡ others)
     (within : set.is_subset part all ≡ true) (itself : set.is_subset part part ≡ true)
@@ -280,13 +280,13 @@ module _ (all part others : Numbers) (its : IsSome part) (left_some : IsSome oth
   unfolding refusal_of effect rows_after reply_to
   joins later = refl
 
-  abbrev others_told : Reply
-  others_told = one (offer 1 (codes "f1") (codes "ops") (codes "n1") (cpus 1000 ∷ mem 64000 ∷ ports others ∷ []))
+  abbrev others_reported : Reply
+  others_reported = one (offer 1 (codes "f1") (codes "ops") (codes "n1") (cpus 1000 ∷ mem 64000 ∷ ports others ∷ []))
 
-  are_told : (later : List Event)
-      → replies_to ceilings (standing parted (to_ops 0) [] [] [] 1 3) (Cycle 0 ∷ later) ≡ others_told ∷ replies_to ceilings all_offered later
+  are_reported : (later : List Event)
+      → replies_to ceilings (standing parted (to_ops 0) [] [] [] 1 3) (Cycle 0 ∷ later) ≡ others_reported ∷ replies_to ceilings all_offered later
   unfolding refusal_of effect rows_after reply_to
-  are_told later = rw others_offered refl
+  are_reported later = rw others_offered refl
 
   abbrev ends_here : List Event
   ends_here = Unreserve (codes "n1") eng_web (ports part ∷ []) ∷ Unreserve (codes "n1") eng (ports part ∷ []) ∷ []
@@ -298,9 +298,9 @@ module _ (all part others : Numbers) (its : IsSome part) (left_some : IsSome oth
       ∙ ap (λ rs. Done ∷ Done ∷ rs) (
       joins (Cycle 0 ∷ ends_here)
       ∙ ap (λ rs. Done ∷ rs) (
-      are_told ends_here
-      ∙ (λ i. others_told ∷ not_below i ∷ reply_to ceilings (not_below_rows i) (Unreserve (codes "n1") eng (ports part ∷ [])) ∷ [])
-      ∙ (λ i. others_told ∷ Refused NotCovered ∷ given_back i ∷ [])))
+      are_reported ends_here
+      ∙ (λ i. others_reported ∷ not_below i ∷ reply_to ceilings (not_below_rows i) (Unreserve (codes "n1") eng (ports part ∷ [])) ∷ [])
+      ∙ (λ i. others_reported ∷ Refused NotCovered ∷ given_back i ∷ [])))
 
 module _ (all first second others : Numbers) (some : IsSome all) (left_some : IsSome others)
     (within : set.is_subset first all ≡ true) (less : set.difference all first ≡ others)
@@ -335,8 +335,8 @@ module _ (all first second others : Numbers) (some : IsSome all) (left_some : Is
   unfolding is_ahead standing_of free_of with_offer turn cycle
   all_at_last = simp some refl
 
-  abbrev other_told : OfferLine
-  other_told = offer 2 (codes "f1") (codes "a") (codes "n1") (cpus 1000 ∷ mem 256000 ∷ ports others ∷ [])
+  abbrev other_reported : OfferLine
+  other_reported = offer 2 (codes "f1") (codes "a") (codes "n1") (cpus 1000 ∷ mem 256000 ∷ ports others ∷ [])
 
   abbrev first_left : Rows
   first_left = standing three (to_f1 1) (offered 1 (codes "f1") role_a three ∷ []) [] [] 2 3
@@ -352,11 +352,11 @@ module _ (all first second others : Numbers) (some : IsSome all) (left_some : Is
   unfolding refusal_of effect rows_after reply_to
   both_register later = refl
 
-  all_told : (later : List Event)
+  all_reported : (later : List Event)
       → replies_to ceilings (standing three (to_f1 0) [] [] [] 1 2) (Cycle 0 ∷ later)
       ≡ one (offer 1 (codes "f1") (codes "a") (codes "n1") three) ∷ replies_to ceilings first_left later
   unfolding refusal_of effect rows_after reply_to
-  all_told later = rw all_at_first refl
+  all_reported later = rw all_at_first refl
 
   both_use : (later : List Event)
       → replies_to ceilings first_left (accept_two (cpus 1000 ∷ ports first ∷ []) (cpus 2000 ∷ ports second ∷ []) ∷ later)
@@ -380,11 +380,11 @@ module _ (all first second others : Numbers) (some : IsSome all) (left_some : Is
   unfolding refusal_of effect rows_after reply_to
   both_start later = rw within refl
 
-  rest_told : (later : List Event)
+  rest_reported : (later : List Event)
       → replies_to ceilings (standing three (to_f1 1) [] (of_one ∷ of_two ∷ []) [] 2 4) (Cycle 0 ∷ later)
-      ≡ one other_told ∷ replies_to ceilings second_left later
+      ≡ one other_reported ∷ replies_to ceilings second_left later
   unfolding refusal_of effect rows_after reply_to
-  rest_told later = rw others_later refl
+  rest_reported later = rw others_later refl
 
   one_ends : (later : List Event)
       → replies_to ceilings second_left (Finish (codes "f1") (codes "t1") ∷ decline (codes "f1") 2 ∷ later)
@@ -392,10 +392,10 @@ module _ (all first second others : Numbers) (some : IsSome all) (left_some : Is
   unfolding refusal_of effect rows_after reply_to
   one_ends later = refl
 
-  back_told : replies_to ceilings (standing three (to_f1 2) [] (of_two ∷ []) [] 3 7) (Cycle 0 ∷ [])
+  back_reported : replies_to ceilings (standing three (to_f1 2) [] (of_two ∷ []) [] 3 7) (Cycle 0 ∷ [])
       ≡ one (offer 3 (codes "f1") (codes "a") (codes "n1") (cpus 2000 ∷ mem 256000 ∷ ports all ∷ [])) ∷ []
   unfolding refusal_of effect rows_after reply_to
-  back_told = rw all_at_last refl
+  back_reported = rw all_at_last refl
 
   abbrev at_end : List Event
   at_end = Finish (codes "f1") (codes "t1") ∷ decline (codes "f1") 2 ∷ Cycle 0 ∷ []
@@ -417,7 +417,7 @@ module _ (all first second others : Numbers) (some : IsSome all) (left_some : Is
   ports_shared_run =
       both_register (Cycle 0 ∷ from_both)
       ∙ ap (λ rs. Done ∷ Done ∷ rs) (
-      all_told from_both
+      all_reported from_both
       ∙ ap (λ rs. one (offer 1 (codes "f1") (codes "a") (codes "n1") three) ∷ rs) (
       both_use from_refused
       ∙ ap (λ rs. Refused NotCovered ∷ rs) (
@@ -425,8 +425,8 @@ module _ (all first second others : Numbers) (some : IsSome all) (left_some : Is
       ∙ ap (λ rs. Refused NotCovered ∷ Refused KnownTask ∷ Refused Empty ∷ rs) (
       both_start (Cycle 0 ∷ at_end)
       ∙ ap (λ rs. Done ∷ rs) (
-      rest_told at_end
-      ∙ ap (λ rs. one other_told ∷ rs) (one_ends (Cycle 0 ∷ []) ∙ ap (λ rs. Done ∷ Done ∷ rs) back_told))))))
+      rest_reported at_end
+      ∙ ap (λ rs. one other_reported ∷ rs) (one_ends (Cycle 0 ∷ []) ∙ ap (λ rs. Done ∷ Done ∷ rs) back_reported))))))
 
 -- ---- facts about sets of numbers
 

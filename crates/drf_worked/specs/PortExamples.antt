@@ -10,7 +10,7 @@ use Rattle.drf_rows.specs.LimitNumbers.{ceilings}
 use Rattle.drf_rows.specs.Step.{opening, replies_to}
 use Rattle.drf_worked.specs.Examples.{cpus, mem, framework_in, offer}
 use Rattle.drf_worked.specs.OrderExamples.{eng, eng_web, role_a}
-use Rattle.drf_worked.specs.ReportExamples.{told_cpus}
+use Rattle.drf_worked.specs.ReportExamples.{reported_cpus}
 use Rattle.drf_worked.specs.LifeExamples.{one, accept, accept_for, decline}
 use Rattle.drf_worked.specs.QuotaExamples.{cpus_limit, cpus_in, offer_in}
 use Rattle.drf_rows.specs.declared.event.Event.{Event}
@@ -53,7 +53,7 @@ used_up all =
     AddAgent (codes "n1") (cpus 6000 ∷ cpus_in eng_web 2000 ∷ mem 64000 ∷ ports all ∷ [])
     ∷ framework_in (codes "f1") (codes "eng")
     ∷ AddFramework (codes "f2") (eng_web ∷ [])
-    ∷ SetLimit eng (told_cpus 5000 ++ record { label = codes "ports"; amount = 0 } ∷ [])
+    ∷ SetLimit eng (reported_cpus 5000 ++ record { label = codes "ports"; amount = 0 } ∷ [])
     ∷ Cycle 0
     ∷ accept (codes "f1") 1 (codes "t") (cpus 2000 ∷ [])
     ∷ Cycle 0

@@ -9,7 +9,7 @@ use Rattle.drf_bundle.specs.declared.value.Value.TheVariants.{Scalar}
 use Rattle.drf_rows.specs.LimitNumbers.{LimitNumbers, ceilings}
 use Rattle.drf_worked.specs.Examples.{cpus, cpus_for, mem, gpus, framework_in, offer}
 use Rattle.drf_worked.specs.OrderExamples.{eng, eng_web, role_a, role_b}
-use Rattle.drf_worked.specs.ReportExamples.{told_cpus, line, dot}
+use Rattle.drf_worked.specs.ReportExamples.{reported_cpus, line, dot}
 use Rattle.drf_worked.specs.LifeExamples.{one, none, accept, decline, decline_for, offer_of_n1}
 use Rattle.drf_rows.specs.declared.event.Event.{Event}
 use Rattle.drf_rows.specs.declared.event.Event.TheVariants as event
@@ -23,7 +23,7 @@ use Rattle.drf_rows.specs.declared.reply.Reply.TheVariants.{Done, Offers, Refuse
 
 -- a limit of so many thousandths of `cpus`
 abbrev pub cpus_limit : Path → ℕ → Event
-cpus_limit role amount = SetLimit role (told_cpus amount)
+cpus_limit role amount = SetLimit role (reported_cpus amount)
 
 -- an offer to a framework in any role
 abbrev pub offer_in : ℕ → Text → Path → Text → List Resource → OfferLine
@@ -246,8 +246,8 @@ other_totals =
     ∷ []
 
 -- a report about two frameworks
-abbrev pub two_told : List Entry → List Entry → ℕ × ℕ → List Entry → ℕ × ℕ → ℕ → Report
-two_told total held_a share_a held_b share_b count_b = record {
+abbrev pub two_reported : List Entry → List Entry → ℕ × ℕ → List Entry → ℕ × ℕ → ℕ → Report
+two_reported total held_a share_a held_b share_b count_b = record {
   total = total;
   nodes =
       line role_a held_a share_a 1
@@ -259,8 +259,8 @@ two_told total held_a share_a held_b share_b count_b = record {
       ∷ [];
 }
 
-abbrev pub told_mem : ℕ → List Entry
-told_mem amount = record { label = codes "mem"; amount = amount } ∷ []
+abbrev pub reported_mem : ℕ → List Entry
+reported_mem amount = record { label = codes "mem"; amount = amount } ∷ []
 
 abbrev pub other_totals_replies : List Reply
 other_totals_replies =
@@ -272,10 +272,10 @@ other_totals_replies =
     ∷ Refused UnknownAgent
     ∷ Refused NotCovered
     ∷ Done
-    ∷ reply.Report (two_told (told_cpus 2000) (told_cpus 2000) (1, 1) [] (0, 1) 0)
+    ∷ reply.Report (two_reported (reported_cpus 2000) (reported_cpus 2000) (1, 1) [] (0, 1) 0)
     ∷ Done
     ∷ one (offer 2 (codes "fb") (codes "b") (codes "n1") (cpus 6000 ∷ cpus_for (codes "b") 1000 ∷ mem 64000 ∷ []))
-    ∷ reply.Report (two_told (told_cpus 9000 ++ told_mem 64000) (told_cpus 2000) (2, 9) (told_cpus 7000 ++ told_mem 64000) (1, 1) 1)
+    ∷ reply.Report (two_reported (reported_cpus 9000 ++ reported_mem 64000) (reported_cpus 2000) (2, 9) (reported_cpus 7000 ++ reported_mem 64000) (1, 1) 1)
     ∷ Done
     ∷ Refused TooLarge
     ∷ []
@@ -323,8 +323,8 @@ more_limits =
     ∷ cpus_limit role_b 1000
     ∷ cpus_limit role_a 2000
     ∷ SetLimit role_b []
-    ∷ SetLimit role_a (told_cpus 0 ++ record { label = codes "gpus"; amount = 0 } ∷ told_mem 0)
-    ∷ SetLimit role_a (told_cpus 1000 ++ told_mem 1000)
+    ∷ SetLimit role_a (reported_cpus 0 ++ record { label = codes "gpus"; amount = 0 } ∷ reported_mem 0)
+    ∷ SetLimit role_a (reported_cpus 1000 ++ reported_mem 1000)
     ∷ SetLimit role_a []
     ∷ cpus_limit role_b 1000
     ∷ AddAgent (codes "n1") (cpus 1000 ∷ mem 1000 ∷ [])

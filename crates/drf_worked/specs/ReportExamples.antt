@@ -17,8 +17,8 @@ use Rattle.drf_rows.specs.declared.rows.TaskRow.{TaskRow}
 use Rattle.drf_rows.specs.declared.rows.Rows.{Rows}
 
 -- so many thousandths of `cpus`, as a list of quantities
-abbrev pub told_cpus : ℕ → List Entry
-told_cpus amount = record { label = codes "cpus"; amount = amount } ∷ []
+abbrev pub reported_cpus : ℕ → List Entry
+reported_cpus amount = record { label = codes "cpus"; amount = amount } ∷ []
 
 -- the line of a node with weight 1
 abbrev pub line : Path → List Entry → ℕ × ℕ → ℕ → NodeLine
@@ -52,17 +52,17 @@ tree_at_work =
 -- what a role holds includes what the roles below it hold
 abbrev pub tree_report : Report
 tree_report = record {
-  total = told_cpus 8000;
+  total = reported_cpus 8000;
   nodes =
-      line eng (told_cpus 4000) (1, 2) 3
-      ∷ line (eng ++ dot) (told_cpus 2000) (1, 4) 2
-      ∷ line (eng ++ dot ++ codes "f1" ∷ []) (told_cpus 2000) (1, 4) 2
-      ∷ line eng_web (told_cpus 2000) (1, 4) 1
-      ∷ line (eng_web ++ dot) (told_cpus 2000) (1, 4) 1
-      ∷ line (eng_web ++ dot ++ codes "f2" ∷ []) (told_cpus 2000) (1, 4) 1
-      ∷ line ops (told_cpus 4000) (1, 2) 2
-      ∷ line (ops ++ dot) (told_cpus 4000) (1, 2) 2
-      ∷ line (ops ++ dot ++ codes "f3" ∷ []) (told_cpus 4000) (1, 2) 2
+      line eng (reported_cpus 4000) (1, 2) 3
+      ∷ line (eng ++ dot) (reported_cpus 2000) (1, 4) 2
+      ∷ line (eng ++ dot ++ codes "f1" ∷ []) (reported_cpus 2000) (1, 4) 2
+      ∷ line eng_web (reported_cpus 2000) (1, 4) 1
+      ∷ line (eng_web ++ dot) (reported_cpus 2000) (1, 4) 1
+      ∷ line (eng_web ++ dot ++ codes "f2" ∷ []) (reported_cpus 2000) (1, 4) 1
+      ∷ line ops (reported_cpus 4000) (1, 2) 2
+      ∷ line (ops ++ dot) (reported_cpus 4000) (1, 2) 2
+      ∷ line (ops ++ dot ++ codes "f3" ∷ []) (reported_cpus 4000) (1, 2) 2
       ∷ [];
 }
 
@@ -76,14 +76,14 @@ one_weighted = rows_with
 
 abbrev pub weighted_report : Report
 weighted_report = record {
-  total = told_cpus 9000;
+  total = reported_cpus 9000;
   nodes =
-      line role_a (told_cpus 1000) (1, 9) 1
-      ∷ line (role_a ++ dot) (told_cpus 1000) (1, 9) 1
-      ∷ line (role_a ++ dot ++ codes "fa" ∷ []) (told_cpus 1000) (1, 9) 1
-      ∷ record (line role_b (told_cpus 3000) (1, 3) 1) { weighted = (1, 9) }
-      ∷ line (role_b ++ dot) (told_cpus 3000) (1, 3) 1
-      ∷ line (role_b ++ dot ++ codes "fb" ∷ []) (told_cpus 3000) (1, 3) 1
+      line role_a (reported_cpus 1000) (1, 9) 1
+      ∷ line (role_a ++ dot) (reported_cpus 1000) (1, 9) 1
+      ∷ line (role_a ++ dot ++ codes "fa" ∷ []) (reported_cpus 1000) (1, 9) 1
+      ∷ record (line role_b (reported_cpus 3000) (1, 3) 1) { weighted = (1, 9) }
+      ∷ line (role_b ++ dot) (reported_cpus 3000) (1, 3) 1
+      ∷ line (role_b ++ dot ++ codes "fb" ∷ []) (reported_cpus 3000) (1, 3) 1
       ∷ [];
 }
 
@@ -117,11 +117,11 @@ reserved_held = rows_with
 
 abbrev pub reserved_report : Report
 reserved_report = record {
-  total = told_cpus 8000 ++ record { label = codes "mem"; amount = 1000 } ∷ [];
+  total = reported_cpus 8000 ++ record { label = codes "mem"; amount = 1000 } ∷ [];
   nodes =
-      line role_a (told_cpus 3000) (3, 8) 1
-      ∷ line (role_a ++ dot) (told_cpus 3000) (3, 8) 1
-      ∷ line (role_a ++ dot ++ codes "fa" ∷ []) (told_cpus 3000) (3, 8) 1
+      line role_a (reported_cpus 3000) (3, 8) 1
+      ∷ line (role_a ++ dot) (reported_cpus 3000) (3, 8) 1
+      ∷ line (role_a ++ dot ++ codes "fa" ∷ []) (reported_cpus 3000) (3, 8) 1
       ∷ [];
 }
 
@@ -133,7 +133,7 @@ abbrev pub none_reported : Report
 none_reported = record { total = []; nodes = [] }
 
 abbrev pub all_held : List Entry
-all_held = told_cpus 4000 ++ record { label = codes "mem"; amount = 1024000 } ∷ []
+all_held = reported_cpus 4000 ++ record { label = codes "mem"; amount = 1024000 } ∷ []
 
 abbrev pub all_reported : Report
 all_reported = record {

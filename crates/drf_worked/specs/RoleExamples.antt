@@ -7,7 +7,7 @@ use Rattle.drf_rows.specs.Step.{opening, rows_after_all}
 use Rattle.drf_worked.specs.Examples.{cpus_for, mem, offer}
 use Rattle.drf_worked.specs.LifeExamples.{one, none, accept, decline, decline_for}
 use Rattle.drf_worked.specs.OrderExamples.{eng, ops, role_a, role_b}
-use Rattle.drf_worked.specs.ReportExamples.{told_cpus, line, dot}
+use Rattle.drf_worked.specs.ReportExamples.{reported_cpus, line, dot}
 use Rattle.drf_rows.specs.declared.event.Event.{Event}
 use Rattle.drf_rows.specs.declared.event.Event.TheVariants as event
 use Rattle.drf_rows.specs.declared.event.Event.TheVariants.{AddAgent, AddFramework, SetFramework, Suppress, Cycle}
@@ -47,8 +47,8 @@ roles_change =
     ∷ event.Report
     ∷ []
 
-abbrev told_mem : ℕ → List Entry
-told_mem amount = record { label = codes "mem"; amount = amount } ∷ []
+abbrev reported_mem : ℕ → List Entry
+reported_mem amount = record { label = codes "mem"; amount = amount } ∷ []
 
 -- the lines of the nodes of a framework's client
 abbrev nodes_of : Path → List Entry → ℕ → List NodeLine
@@ -58,8 +58,8 @@ nodes_of role held count =
     ∷ line (role ++ dot ++ codes "f1" ∷ []) held (1, 1) count
     ∷ []
 
-abbrev told_when : List NodeLine → Reply
-told_when nodes = reply.Report (record { total = told_cpus 4000 ++ told_mem 64000; nodes = nodes })
+abbrev reported_when : List NodeLine → Reply
+reported_when nodes = reply.Report (record { total = reported_cpus 4000 ++ reported_mem 64000; nodes = nodes })
 
 abbrev pub roles_change_replies : List Reply
 roles_change_replies =
@@ -80,10 +80,10 @@ roles_change_replies =
     offer 3 (codes "f1") (codes "ops") (codes "n1") (mem 64000 ∷ [])
     ∷ offer 4 (codes "f1") (codes "eng") (codes "n1") (cpus_for (codes "eng") 3000 ∷ [])
     ∷ [])
-    ∷ told_when (nodes_of eng (told_cpus 4000) 2 ++ nodes_of ops (told_mem 64000) 1)
+    ∷ reported_when (nodes_of eng (reported_cpus 4000) 2 ++ nodes_of ops (reported_mem 64000) 1)
     ∷ Done
     ∷ Done
-    ∷ told_when (nodes_of eng (told_cpus 4000) 2)
+    ∷ reported_when (nodes_of eng (reported_cpus 4000) 2)
     ∷ []
 
 -- clients whose roles stay come first, in the old order and with their suppression; those of new roles follow, in the

@@ -272,9 +272,9 @@ plus_comm a b first second = same_quantities (plus a b) (plus b a) (no_zeros-plu
 
 pub plus_assoc : (a b c : List Entry) → HasNoZeros a → HasNoZeros b → HasNoZeros c → plus (plus a b) c ≡ plus a (plus b c)
 plus_assoc a b c first second third =
-    let front = no_zeros-plus a b first second in
+    let prefix = no_zeros-plus a b first second in
     let back = no_zeros-plus b c second third in
-    same_quantities (plus (plus a b) c) (plus a (plus b c)) (no_zeros-plus (plus a b) c front third) (no_zeros-plus a (plus b c) first back)
+    same_quantities (plus (plus a b) c) (plus a (plus b c)) (no_zeros-plus (plus a b) c prefix third) (no_zeros-plus a (plus b c) first back)
     (λ n. omega (arith, amount-plus (plus a b) c n third.in_order, amount-plus a b n second.in_order, amount-plus a (plus b c) n back.in_order, amount-plus b c n third.in_order))
 
 -- ---- which labels are named

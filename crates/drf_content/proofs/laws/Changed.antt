@@ -6,7 +6,7 @@ use Rattle.drf_rows.specs.Client.{Client, path_of}
 use Rattle.drf_rows.specs.Holdings.{Holding, holdings_of}
 use Rattle.drf_rows.specs.Held.{cluster_total}
 use Rattle.drf_rows.specs.Members.{with_activity, with_suppression, agent_removed}
-use Rattle.drf_rows.specs.Endings.{without_ended, all_on}
+use Rattle.drf_rows.specs.Releases.{without_ended, all_on}
 use Rattle.drf_rows.specs.declared.rows.FilterRow.{FilterRow}
 use Rattle.drf_rows.specs.declared.rows.Rows.{Rows}
 use Rattle.drf_sorter.specs.Content.{with_change}

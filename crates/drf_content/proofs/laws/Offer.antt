@@ -10,7 +10,7 @@ use Rattle.drf_bundle.specs.Quantities.{amount_of}
 use Rattle.drf_bundle.specs.Bundle.{quantities_of}
 use Rattle.drf_bundle.specs.declared.quantities.Entry.{Entry}
 use Rattle.drf_rows.specs.Client.{Client, path_of}
-use Rattle.drf_rows.specs.Holdings.{Holding, of_offer, holdings_of, held_where, amount_in, is_of}
+use Rattle.drf_rows.specs.Holdings.{Holding, holding_of_offer, holdings_of, held_where, amount_in, is_of}
 use Rattle.drf_row_laws.proofs.HoldingsLaws.{held_where-with_offer}
 use Rattle.drf_rows.specs.Held.{client_of, cluster_total}
 use Rattle.drf_rows.specs.Cycle.{with_offer}
@@ -30,7 +30,7 @@ charged_at path quantities c = if same_path c.path path then charged quantities 
 
 module _ (rows : Rows) (offer : OfferRow) where
   abbrev client : Client
-  client = (of_offer offer).client
+  client = (holding_of_offer offer).client
 
   abbrev before : List Holding
   before = holdings_of rows
@@ -47,7 +47,7 @@ module _ (rows : Rows) (offer : OfferRow) where
       let past : same_path (path_of client) path ≡ false = same_path-swap (path_of client) path ∙ other in
       let holds : (label : Text) → held_where (is_of path) after label ≡ held_where (is_of path) before label
       = λ label. held_where-with_offer (is_of path) rows offer label
-      ∙ ap (λ (b : Bool). held_where (is_of path) before label + cond b (amount_in label (of_offer offer)) 0) past
+      ∙ ap (λ (b : Bool). held_where (is_of path) before label + cond b (amount_in label (holding_of_offer offer)) 0) past
       ∙ omega arith in
       λ i. record { path = path; active = not c.suppressed; held = λ label. holds label i; count = c.count }
 
@@ -62,13 +62,13 @@ module _ (rows : Rows) (offer : OfferRow) where
       let holds : (label : Text)
       → held_where (is_of path) after label ≡ held_where (is_of path) before label + more label
       = λ label. held_where-with_offer (is_of path) rows offer label
-      ∙ ap (λ (b : Bool). held_where (is_of path) before label + cond b (amount_in label (of_offer offer)) 0) here in
+      ∙ ap (λ (b : Bool). held_where (is_of path) before label + cond b (amount_in label (holding_of_offer offer)) 0) here in
       λ i. record { path = path; active = not c.suppressed; held = λ label. holds label i; count = c.count + 1 }
 
 -- the content after an offer is added: its client is charged
 pub content_of-with_offer : (rows : Rows) (offer : OfferRow)
     → content_of (with_offer rows offer)
-    ≡ with_change (content_of rows) (path_of (of_offer offer).client) (charged (quantities_of offer.bundle) 1)
+    ≡ with_change (content_of rows) (path_of (holding_of_offer offer).client) (charged (quantities_of offer.bundle) 1)
 unfolding content_of with_offer
 content_of-with_offer rows offer =
     λ i. record {

@@ -15,7 +15,7 @@ use Rattle.drf_rows.specs.Client.{path_of}
 use Rattle.drf_rows.specs.Consistent.{IsConsistent}
 use Rattle.drf_rows.specs.Cycle.{with_offer}
 use Rattle.drf_rows.specs.Held.{client_of, cluster_total}
-use Rattle.drf_rows.specs.Holdings.{Holding, amount_in, held_where, holdings_of, is_of, of_offer, of_task}
+use Rattle.drf_rows.specs.Holdings.{Holding, amount_in, held_where, holdings_of, is_of, holding_of_offer, holding_of_task}
 use Rattle.drf_rows.specs.Members.{has_framework}
 use Rattle.drf_rows.specs.Weights.{weights_with}
 use Rattle.drf_row_laws.proofs.HoldingsLaws.{held_where-append, held_where-cons, held_where-with_offer}
@@ -130,24 +130,24 @@ module _ (old new : Rows) (h : Holding) (more : HoldsMore old new h) where
         weights = more.weights i;
       }
 
-offer_more : (rows : Rows) (o : OfferRow) → HoldsMore rows (with_row rows (Offer o)) (of_offer o)
+offer_more : (rows : Rows) (o : OfferRow) → HoldsMore rows (with_row rows (Offer o)) (holding_of_offer o)
 unfolding with_offer
 offer_more rows o =
     record { agents = refl; frameworks = refl; weights = refl; held = λ test label. held_where-with_offer test rows o label }
 
-task_more : (rows : Rows) (t : TaskRow) → HoldsMore rows (with_row rows (Task t)) (of_task t)
+task_more : (rows : Rows) (t : TaskRow) → HoldsMore rows (with_row rows (Task t)) (holding_of_task t)
 task_more rows t = record { agents = refl; frameworks = refl; weights = refl; held = held }
   where
     held : (test : Holding → Bool) (label : Text)
         → held_where test (holdings_of (with_row rows (Task t))) label
-        ≡ held_where test (holdings_of rows) label + cond (test (of_task t)) (amount_in label (of_task t)) 0
+        ≡ held_where test (holdings_of rows) label + cond (test (holding_of_task t)) (amount_in label (holding_of_task t)) 0
     held test label =
-        let last : holdings_of (with_row rows (Task t)) ≡ holdings_of rows ++ of_task t ∷ []
-        = ap (λ (hs : List Holding). map of_offer rows.offers ++ hs) (map-append of_task rows.tasks (t ∷ []))
-        ∙ sym (append_assoc (map of_offer rows.offers) (map of_task rows.tasks) (of_task t ∷ [])) in
+        let last : holdings_of (with_row rows (Task t)) ≡ holdings_of rows ++ holding_of_task t ∷ []
+        = ap (λ (hs : List Holding). map holding_of_offer rows.offers ++ hs) (map-append holding_of_task rows.tasks (t ∷ []))
+        ∙ sym (append_assoc (map holding_of_offer rows.offers) (map holding_of_task rows.tasks) (holding_of_task t ∷ [])) in
         ap (λ (hs : List Holding). held_where test hs label) last
-        ∙ held_where-append test (holdings_of rows) (of_task t ∷ []) label
-        ∙ omega (arith, held_where-cons test (of_task t) [] label)
+        ∙ held_where-append test (holdings_of rows) (holding_of_task t ∷ []) label
+        ∙ omega (arith, held_where-cons test (holding_of_task t) [] label)
 
 -- ---- a framework is added
 
@@ -202,6 +202,6 @@ content_of-with_row rows (Weight w) consistent new =
       weights = weights_more rows.weights w new i;
     }
 content_of-with_row rows (Limit l) consistent new = refl
-content_of-with_row rows (Offer o) consistent new = content_of-holds_more rows (with_row rows (Offer o)) (of_offer o) (offer_more rows o)
-content_of-with_row rows (Task t) consistent new = content_of-holds_more rows (with_row rows (Task t)) (of_task t) (task_more rows t)
+content_of-with_row rows (Offer o) consistent new = content_of-holds_more rows (with_row rows (Offer o)) (holding_of_offer o) (offer_more rows o)
+content_of-with_row rows (Task t) consistent new = content_of-holds_more rows (with_row rows (Task t)) (holding_of_task t) (task_more rows t)
 content_of-with_row rows (Filter f) consistent new = refl

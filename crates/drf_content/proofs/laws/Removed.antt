@@ -14,7 +14,7 @@ use Rattle.drf_rows.specs.Client.{path_of}
 use Rattle.drf_rows.specs.Holdings.{Holding, holdings_of}
 use Rattle.drf_rows.specs.Held.{client_of, cluster_total}
 use Rattle.drf_rows.specs.Members.{framework_removed}
-use Rattle.drf_rows.specs.Endings.{without_ended, all_of}
+use Rattle.drf_rows.specs.Releases.{without_ended, all_of}
 use Rattle.drf_rows.specs.Consistent.{AreFrameworks, are_distinct_roles}
 use Rattle.drf_bundle.proofs.ListLaws.{list_any-both, each_from, each_find, each_found}
 use Rattle.drf_rows.specs.declared.rows.ClientRow.{ClientRow}

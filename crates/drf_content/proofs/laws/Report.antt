@@ -16,7 +16,7 @@ use Rattle.drf_rows.specs.Consistent.{IsConsistent}
 use Rattle.drf_row_laws.proofs.ConsistentLaws.{bundles-consistent}
 use Rattle.drf_rows.specs.Held.{client_of, clients_in, clients_of, cluster_total, held_by, standing_of}
 use Rattle.drf_rows.specs.Holdings.{Holding, holdings_of, is_under}
-use Rattle.drf_row_laws.specs.Laws.{paths_told}
+use Rattle.drf_row_laws.specs.Laws.{paths_reported}
 use Rattle.drf_rows.specs.Offers.{is_empty}
 use Rattle.drf_rows.specs.Report.{held_under, node_line, nodes_of, report_of, terms_of}
 use Rattle.drf_row_laws.proofs.ReportLaws.{amount-held_under, nodes_begin_paths, nodes_rise}
@@ -92,14 +92,14 @@ module _ (rows : Rows) (lines : List NodeLine) (are : AreLinesOf (content_of row
   with_parts [] b is = absurd (false≢true is)
   with_parts (p ∷ ps) b is = (omega arith, is)
 
-  same_nodes : paths_of lines ≡ paths_told rows
+  same_nodes : paths_of lines ≡ paths_reported rows
   same_nodes =
-      same_in_order (paths_of lines) (paths_told rows) are.in_order (nodes_rise rows) (λ node.
+      same_in_order (paths_of lines) (paths_reported rows) are.in_order (nodes_rise rows) (λ node.
       same_tests (has_line lines node)
       (not (is_empty node) && list_any (λ c. begins_with (path_of c) node) (clients_of rows))
       (λ had. let node_is = of_node lines are.each node had in
       not_empty node _ node_is.0 (sym (has_node-content_of rows node) ∙ node_is.1))
-      (λ told. let parts = with_parts node _ told in
+      (λ reported. let parts = with_parts node _ reported in
       are.every node parts.0 (has_node-content_of rows node ∙ parts.1))
       ∙ sym (nodes_begin_paths rows node))
 

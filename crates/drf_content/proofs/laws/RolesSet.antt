@@ -26,7 +26,7 @@ use Rattle.drf_rows.specs.declared.rows.AgentRow.{AgentRow}
 use Rattle.drf_rows.specs.declared.rows.ClientRow.{ClientRow}
 use Rattle.drf_rows.specs.declared.rows.FrameworkRow.{FrameworkRow}
 use Rattle.drf_rows.specs.declared.rows.Rows.{Rows}
-use Rattle.drf_row_laws.proofs.EndingLaws.{find-place}
+use Rattle.drf_row_laws.proofs.ReleaseLaws.{find-place}
 use Rattle.drf_row_laws.proofs.HoldingsLaws.{held_where-cons}
 use Rattle.drf_laws.proofs.laws.Clients.{named, one_named, path_of-injective, role_registered}
 use Rattle.drf_laws.proofs.laws.RoleChanges.{map-filter, roles_of}

@@ -7,7 +7,7 @@ use Rattle.std.proofs.Math.Seq.{drop-append_seam}
 use Rattle.drf_rows.specs.Cycle.{turn, turns, cycle}
 use Rattle.drf_rows.specs.LimitNumbers.{LimitNumbers}
 use Rattle.drf_rows.specs.Step.{new_offers, effect}
-use Rattle.drf_rows.specs.declared.limits.TheConstants.{LATEST_MOMENT}
+use Rattle.drf_rows.specs.declared.limits.TheConstants.{LATEST_TIMESTAMP}
 use Rattle.drf_rows.specs.declared.event.Event.TheVariants.{Cycle}
 use Rattle.drf_rows.specs.declared.rows.AgentRow.{AgentRow}
 use Rattle.drf_rows.specs.declared.rows.LimitRow.{LimitRow}
@@ -81,13 +81,13 @@ content_of-clock rows clock = refl
 
 -- a cycle begins without drafts
 pub drafting-begins : (content : Content) (limits : LimitNumbers) (rows tables : Rows) (clock : ℕ) (offers : List OfferRow) → IsSame content (content_of rows)
-    → IsKept limits rows → clock ≤ LATEST_MOMENT → tables ≡ record rows { clock = clock } → offers ≡ [] → IsDrafting content tables offers
-drafting-begins content limits rows tables clock offers sorted kept moment same none =
+    → IsKept limits rows → clock ≤ LATEST_TIMESTAMP → tables ≡ record rows { clock = clock } → offers ≡ [] → IsDrafting content tables offers
+drafting-begins content limits rows tables clock offers sorted kept timestamp same none =
     let events : rows.events ≤ 4294967295 = omega (arith, kept.few.events, kept.few.ceilings.events.1) in
     let numbered : rows.next_offer ≤ 1 + rows.events * 2 ^ 24 = kept.numbered in
     rw (same, none) (record {
       sorted = subst (IsSame content) (sym (content_of-clock rows clock)) sorted;
-      consistent = consistent-clock rows clock kept.consistent moment;
+      consistent = consistent-clock rows clock kept.consistent timestamp;
       clients = tt;
       few_agents = omega (arith, kept.few.agents, kept.few.ceilings.agents.1);
       low_number = omega (arith, numbered, events);
@@ -105,7 +105,7 @@ cycle-begins content tables rows drafts same drafting settled none nothing count
 -- the rows after all turns are those after the cycle
 pub turns_of-cycle : (rows tables : Rows) (at clock : ℕ) → clock ≡ max rows.clock at → tables ≡ record rows { clock = clock } → turns_of tables ≡ effect rows (Cycle at)
 unfolding effect cycle
-turns_of-cycle rows tables at clock moment same = ap turns_of same ∙ ap (λ n. turns_of (record rows { clock = n })) moment
+turns_of-cycle rows tables at clock timestamp same = ap turns_of same ∙ ap (λ n. turns_of (record rows { clock = n })) timestamp
 
 pub new_offers-cycle : (rows tables : Rows) (clock : ℕ) (after : Rows) → tables ≡ record rows { clock = clock } → new_offers tables after ≡ new_offers rows after
 new_offers-cycle rows tables clock after same = ap (λ (r : Rows). new_offers r after) same
@@ -124,10 +124,10 @@ is_counting rows limits None none some = absurd (some none)
 is_counting rows limits (Some used) is some = refl
 
 -- borrowed consumption is right; if there is none, no role has a limit
-pub quota-lent : (rows : Rows) (consumption : Option (List Usage)) (counted : Bool) → CountsAll rows consumption → is_some consumption ≡ counted
+pub quota-borrowed : (rows : Rows) (consumption : Option (List Usage)) (counted : Bool) → CountsAll rows consumption → is_some consumption ≡ counted
     → (rows.limits ≢ [] → counted ≡ true) → IsQuotaOf rows (quota_under rows.limits consumption)
-quota-lent rows (Some used) counted counts is told = record { limits = refl; used = counts.each }
-quota-lent rows None counted counts is told = unlimited rows.limits told
+quota-borrowed rows (Some used) counted counts is reported = record { limits = refl; used = counts.each }
+quota-borrowed rows None counted counts is reported = unlimited rows.limits reported
   where
     unlimited : (limits : List LimitRow) → (limits ≢ [] → counted ≡ true) → limits ≡ []
     unlimited [] so = refl

@@ -5,7 +5,7 @@ use Rattle.std.proofs.lemmas.Grind.{fold-append}
 use Rattle.drf_role.specs.Path.{Path}
 use Rattle.drf_bundle.specs.Bundle.{quantities_of}
 use Rattle.drf_rows.specs.Client.{Client, path_of}
-use Rattle.drf_rows.specs.Holdings.{of_offer}
+use Rattle.drf_rows.specs.Holdings.{holding_of_offer}
 use Rattle.drf_rows.specs.Cycle.{with_offer}
 use Rattle.drf_rows.specs.Held.{is_registered}
 use Rattle.drf_row_laws.proofs.ConsistentLaws.{is_registered-counted}
@@ -27,7 +27,7 @@ with_offers-push rows offers offer = fold-append with_offer rows offers (offer �
 pub is_registered-with_offer : (rows : Rows) (offer : OfferRow) (client : Client)
     → is_registered (with_offer rows offer).frameworks client ≡ is_registered rows.frameworks client
 unfolding with_offer
-is_registered-with_offer rows offer client = is_registered-counted (of_offer offer).client client rows.frameworks
+is_registered-with_offer rows offer client = is_registered-counted (holding_of_offer offer).client client rows.frameworks
 
 pub is_registered-with_offers : (rows : Rows) (offers : List OfferRow) (client : Client)
     → is_registered (with_offers rows offers).frameworks client ≡ is_registered rows.frameworks client
@@ -38,44 +38,44 @@ is_registered-with_offers rows (o ∷ os) client = is_registered-with_offers (wi
 
 module _ (content : Content) (rows : Rows) (offers drafts : List OfferRow) (offer : OfferRow) (is : offers ≡ drafts ++ offer ∷ [])
     (sorted : IsSame content (content_of (with_offers rows offers)))
-    (clients : AllByRecursion (λ o. is_registered rows.frameworks (of_offer o).client ≡ true) offers) where
+    (clients : AllByRecursion (λ o. is_registered rows.frameworks (holding_of_offer o).client ≡ true) offers) where
   sorted_last : IsSame content (content_of (with_offer (with_offers rows drafts) offer))
   sorted_last =
       subst (IsSame content)
       (ap (λ (os : List OfferRow). content_of (with_offers rows os)) is ∙ ap content_of (with_offers-push rows drafts offer)) sorted
 
-  charged_last : IsSame content (with_change (content_of (with_offers rows drafts)) (path_of (of_offer offer).client) (charged (quantities_of offer.bundle) 1))
+  charged_last : IsSame content (with_change (content_of (with_offers rows drafts)) (path_of (holding_of_offer offer).client) (charged (quantities_of offer.bundle) 1))
   charged_last = subst (IsSame content) (content_of-with_offer (with_offers rows drafts) offer) sorted_last
 
-  each_front : (P : OfferRow → Type 0) (xs : List OfferRow) (x : OfferRow) → AllByRecursion P (xs ++ x ∷ []) → AllByRecursion P xs × P x
-  each_front P [] x all = (tt, all.0)
-  each_front P (y ∷ xs) x all = let rest = each_front P xs x all.1 in ((all.0, rest.0), rest.1)
+  each_prefix : (P : OfferRow → Type 0) (xs : List OfferRow) (x : OfferRow) → AllByRecursion P (xs ++ x ∷ []) → AllByRecursion P xs × P x
+  each_prefix P [] x all = (tt, all.0)
+  each_prefix P (y ∷ xs) x all = let rest = each_prefix P xs x all.1 in ((all.0, rest.0), rest.1)
 
-  pub clients_front : AllByRecursion (λ o. is_registered rows.frameworks (of_offer o).client ≡ true) drafts
-      × (is_registered rows.frameworks (of_offer offer).client ≡ true)
-  clients_front =
-      let P : OfferRow → Type 0 = λ o. is_registered rows.frameworks (of_offer o).client ≡ true in
-      each_front P drafts offer (subst (AllByRecursion P) is clients)
+  pub clients_prefix : AllByRecursion (λ o. is_registered rows.frameworks (holding_of_offer o).client ≡ true) drafts
+      × (is_registered rows.frameworks (holding_of_offer offer).client ≡ true)
+  clients_prefix =
+      let P : OfferRow → Type 0 = λ o. is_registered rows.frameworks (holding_of_offer o).client ≡ true in
+      each_prefix P drafts offer (subst (AllByRecursion P) is clients)
 
-  pub has_client-last : has_client content (path_of (of_offer offer).client) ≡ true
+  pub has_client-last : has_client content (path_of (holding_of_offer offer).client) ≡ true
   has_client-last =
-      let client : Client = (of_offer offer).client in
-      let known = is_registered-with_offer (with_offers rows drafts) offer client ∙ is_registered-with_offers rows drafts client ∙ clients_front.1 in
+      let client : Client = (holding_of_offer offer).client in
+      let known = is_registered-with_offer (with_offers rows drafts) offer client ∙ is_registered-with_offers rows drafts client ∙ clients_prefix.1 in
       has_client-same content (content_of (with_offer (with_offers rows drafts) offer)) sorted_last (path_of client) ∙ has_client-registered (with_offer (with_offers rows drafts) offer) client known
 
-  pub HasChargeAt-last : HasChargeAt content (path_of (of_offer offer).client) (quantities_of offer.bundle)
+  pub HasChargeAt-last : HasChargeAt content (path_of (holding_of_offer offer).client) (quantities_of offer.bundle)
   HasChargeAt-last =
-      let path : Path = path_of (of_offer offer).client in
-      let told : Content = with_change (content_of (with_offers rows drafts)) path (charged (quantities_of offer.bundle) 1) in
-      HasChargeAt-same told content (IsSame-sym content told charged_last) path (quantities_of offer.bundle)
+      let path : Path = path_of (holding_of_offer offer).client in
+      let reported : Content = with_change (content_of (with_offers rows drafts)) path (charged (quantities_of offer.bundle) 1) in
+      HasChargeAt-same reported content (IsSame-sym content reported charged_last) path (quantities_of offer.bundle)
       (HasChargeAt-charged (content_of (with_offers rows drafts)) path (quantities_of offer.bundle))
 
-  pub sorted-taken_back : (after : Content) → after ≡ with_change content (path_of (of_offer offer).client) (discharged (quantities_of offer.bundle))
+  pub sorted-taken_back : (after : Content) → after ≡ with_change content (path_of (holding_of_offer offer).client) (discharged (quantities_of offer.bundle))
       → IsSame after (content_of (with_offers rows drafts))
   sorted-taken_back after changed =
-      let path : Path = path_of (of_offer offer).client in
+      let path : Path = path_of (holding_of_offer offer).client in
       let back = discharged (quantities_of offer.bundle) in
-      let told : Content = with_change (content_of (with_offers rows drafts)) path (charged (quantities_of offer.bundle) 1) in
-      IsSame-between after (with_change content path back) (with_change told path back) (content_of (with_offers rows drafts))
-      changed (IsSame-with_change content told charged_last path back)
+      let reported : Content = with_change (content_of (with_offers rows drafts)) path (charged (quantities_of offer.bundle) 1) in
+      IsSame-between after (with_change content path back) (with_change reported path back) (content_of (with_offers rows drafts))
+      changed (IsSame-with_change content reported charged_last path back)
       (discharged-with_change (content_of (with_offers rows drafts)) path (quantities_of offer.bundle))

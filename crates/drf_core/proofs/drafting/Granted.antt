@@ -64,20 +64,20 @@ entitled-cut a free role room part bundle left found cut rows client counted sam
 
 pub offered-is : (quota : Option Allowance) (free : List Resource) (role : Path) (part : List Resource) (worth : Bool)
     → IsEntitlement quota free role part → worth ≡ is_allocatable part → IsOffered quota free role (cond worth (Some part) None)
-offered-is quota free role part worth entitled told rows client counted same =
-    ap (λ b. cond b (Some part) None) told ∙ ap if_allocatable (entitled rows client counted same)
+offered-is quota free role part worth entitled reported rows client counted same =
+    ap (λ b. cond b (Some part) None) reported ∙ ap if_allocatable (entitled rows client counted same)
 
 -- what is known about a role is what it can have
 pub offered-known : (quota : Option Allowance) (free : List Resource) (known : Known) (role : Path) → IsKnownOf quota free known → known_role known ≡ Some role
     → IsOffered quota free role (known_part known)
 offered-known quota free Nothing role right named = absurd cc
 offered-known quota free (Part of part) role right named = let same : of ≡ role = cc in subst (λ r. IsOffered quota free r (Some part)) same right
-offered-known quota free (Barred of front) role right named = let same : of ≡ role = cc in subst (λ r. IsOffered quota free r None) same right.offered
+offered-known quota free (Barred of prefix) role right named = let same : of ≡ role = cc in subst (λ r. IsOffered quota free r None) same right.offered
 
 pub no_part : (known : Known) → ((role : Path) (part : List Resource) → known ≡ Part role part → ⊥) → known_part known ≡ None
 no_part Nothing none = refl
 no_part (Part role part) none = absurd (none role part refl)
-no_part (Barred role front) none = refl
+no_part (Barred role prefix) none = refl
 
 -- what is known for any later quota is known in either case of a grant
 pub known_each : (granted : Option (List Resource)) (quota : Option Allowance) (free : Free) → ((later : Option Allowance) → IsKnown later free)
@@ -261,9 +261,9 @@ module _ (path : Path) (quota : Option Allowance) (free : List Resource) where
 
 -- the test whether any role has a limit
 pub no_limits : (limits : List LimitRow) (some : Bool) → IsTrue some ↔ (limits ≢ []) → some ≡ false → limits ≡ []
-no_limits [] some told none = refl
-no_limits (l ∷ ls) some told none =
-    let limited : some ≡ true = told.1 (λ (same : l ∷ ls ≡ []). cc) in
+no_limits [] some reported none = refl
+no_limits (l ∷ ls) some reported none =
+    let limited : some ≡ true = reported.1 (λ (same : l ∷ ls ≡ []). cc) in
     absurd cc
 
 -- one more offer is counted

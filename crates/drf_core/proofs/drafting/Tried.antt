@@ -12,7 +12,7 @@ use Rattle.drf_bundle.specs.declared.resource.Resource.{Resource}
 use Rattle.drf_gates.specs.quota.Allowance.{Allowance, Usage, quota_under}
 use Rattle.drf_bundle.proofs.ListLaws.{each_at}
 use Rattle.drf_rows.specs.Client.{Client, path_of}
-use Rattle.drf_rows.specs.Holdings.{of_offer}
+use Rattle.drf_rows.specs.Holdings.{holding_of_offer}
 use Rattle.drf_rows.specs.Cycle.{free_of, grant, new_offer, with_offer, tried}
 use Rattle.drf_row_laws.proofs.CycleLaws.{free_of-with_offer}
 use Rattle.drf_rows.specs.Consistent.{IsAgent, IsConsistent, are_distinct}
@@ -65,10 +65,10 @@ module _ (content : Content) (rows : Rows) (offers : List OfferRow) (drafting : 
   abbrev more : Content
   more = with_change content (path_of client) (charged (quantities_of bundle) 1)
 
-  abbrev told_after : Content
-  told_after = content_of (with_offer (with_offers rows offers) (next_draft rows offers agent client bundle))
+  abbrev reported_after : Content
+  reported_after = content_of (with_offer (with_offers rows offers) (next_draft rows offers agent client bundle))
 
-  charged_after : IsSame more told_after
+  charged_after : IsSame more reported_after
   charged_after =
       subst (IsSame more) (sym (content_of-with_offer (with_offers rows offers) (next_draft rows offers agent client bundle)))
       (IsSame-with_change content (content_of (with_offers rows offers)) drafting.sorted (path_of client) (charged (quantities_of bundle) 1))
@@ -92,7 +92,7 @@ module _ (content : Content) (rows : Rows) (offers : List OfferRow) (drafting : 
 
   pub sound_after : IsSound (with_change content (path_of client) (charged (quantities_of bundle) 1))
   sound_after =
-      IsSound-same told_after more (IsSame-sym more told_after charged_after)
+      IsSound-same reported_after more (IsSame-sym more reported_after charged_after)
       (IsSound-content_of (with_offer (with_offers rows offers) (next_draft rows offers agent client bundle)) consistent_after few_after early_after)
 
   each_push : (P : OfferRow → Type 0) (xs : List OfferRow) (x : OfferRow) → AllByRecursion P xs → P x → AllByRecursion P (xs ++ x ∷ [])
@@ -105,9 +105,9 @@ module _ (content : Content) (rows : Rows) (offers : List OfferRow) (drafting : 
       let offer : OfferRow = next_draft rows offers agent client bundle in
       let push = with_offers-push rows offers offer in
       record {
-        sorted = IsSame-between after more told_after (content_of (with_offers rows (offers ++ offer ∷ []))) charge charged_after (ap content_of (sym push));
+        sorted = IsSame-between after more reported_after (content_of (with_offers rows (offers ++ offer ∷ []))) charge charged_after (ap content_of (sym push));
         consistent = subst IsConsistent (sym push) consistent_after;
-        clients = each_push (λ o. is_registered rows.frameworks (of_offer o).client ≡ true) offers offer drafting.clients known;
+        clients = each_push (λ o. is_registered rows.frameworks (holding_of_offer o).client ≡ true) offers offer drafting.clients known;
         few_agents = drafting.few_agents;
         low_number = drafting.low_number;
       }

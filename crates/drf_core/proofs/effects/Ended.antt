@@ -10,7 +10,7 @@ use Rattle.drf_bundle.specs.declared.quantities.Entry.{Entry}
 use Rattle.drf_rows.specs.Client.{Client}
 use Rattle.drf_rows.specs.Held.{cluster_total, is_registered}
 use Rattle.drf_rows.specs.Holdings.{is_of}
-use Rattle.drf_rows.specs.Endings.{Ending, without_ended, offers_on, all_on, all_of}
+use Rattle.drf_rows.specs.Releases.{Release, without_ended, offers_on, all_on, all_of}
 use Rattle.drf_rows.specs.Members.{with_activity, with_suppression, revived, agent_removed, framework_removed}
 use Rattle.drf_rows.specs.Filters.{filters_without_agent, filters_without_client, filters_without_framework}
 use Rattle.drf_rows.specs.Consistent.{AreFrameworks}
@@ -32,11 +32,11 @@ use Rattle.drf_content.proofs.laws.Changed.{content_of-filters, content_of-activ
 use Rattle.drf_content.proofs.laws.Members.{has_client-registered}
 use Rattle.drf_content.proofs.laws.Removed.{AreKnown-removing, content_of-framework_removed}
 use Rattle.drf_content.proofs.laws.Same.{AreKnown-same, IsSame-without_all}
-use Rattle.drf_laws.proofs.laws.Endings.{ended_twice}
+use Rattle.drf_laws.proofs.laws.Releases.{ended_twice}
 
 -- ---- one offer or task ended
 
-module _ (old new : Rows) (ending : Ending) (taken : Taken) (ended : HasEnded old new ending taken) (content : Content) (sorted : IsSame content (content_of old)) where
+module _ (old new : Rows) (release : Release) (taken : Taken) (ended : HasEnded old new release taken) (content : Content) (sorted : IsSame content (content_of old)) where
   abbrev its_path : Path
   its_path = path_of (holding_of taken).client
 
@@ -66,9 +66,9 @@ module _ (old new : Rows) (ending : Ending) (taken : Taken) (ended : HasEnded ol
 -- ---- all selected offers and tasks have ended
 
 -- no selected offer or task is left
-pub nothing_left : (rows middle : Rows) (ending : Ending) → middle ≡ without_ended rows ending → without_ended middle ending ≡ middle
-nothing_left rows middle ending same =
-    ap (λ (r : Rows). without_ended r ending) same ∙ ended_twice rows ending ∙ sym same
+pub nothing_left : (rows middle : Rows) (release : Release) → middle ≡ without_ended rows release → without_ended middle release ≡ middle
+nothing_left rows middle release same =
+    ap (λ (r : Rows). without_ended r release) same ∙ ended_twice rows release ∙ sym same
 
 -- ---- agents
 
@@ -141,10 +141,10 @@ pub sorted-left : (middle tables : Rows) (name : Text) (f : FrameworkRow) (conte
     → after ≡ without_all content paths
     → paths ≡ client_paths name f.clients
     → IsSame after (content_of tables)
-sorted-left middle tables name f content after paths right found sorted nothing removed taken told =
+sorted-left middle tables name f content after paths right found sorted nothing removed taken reported =
     IsSame-between after (without_all content paths) (without_all (content_of middle) paths) (content_of tables)
     taken (IsSame-without_all content (content_of middle) paths sorted)
-    (ap (without_all (content_of middle)) told
+    (ap (without_all (content_of middle)) reported
     ∙ content_of-framework_removed middle name f right found nothing
     ∙ sym (ap content_of removed))
 

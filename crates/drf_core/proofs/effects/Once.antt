@@ -7,11 +7,11 @@ use Rattle.drf_role.specs.Text.{Text, same_text}
 use Rattle.drf_role.specs.TextLaws.{same_from_test}
 use Rattle.drf_bundle.proofs.ListLaws.{count_by-cons, count_by-any, each_fails}
 use Rattle.drf_rows.specs.Consistent.{IsConsistent, are_distinct_tasks, are_rising}
-use Rattle.drf_rows.specs.Endings.{Ending, one_offer, one_task, ends_offer, ends_task, is_task, without_ended}
+use Rattle.drf_rows.specs.Releases.{Release, one_offer, one_task, ends_offer, ends_task, is_task, without_ended}
 use Rattle.drf_rows.specs.declared.rows.OfferRow.{OfferRow}
 use Rattle.drf_rows.specs.declared.rows.TaskRow.{TaskRow}
 use Rattle.drf_rows.specs.declared.rows.Rows.{Rows}
-use Rattle.drf_row_laws.proofs.EndingLaws.{others_of_number, without_ended-none}
+use Rattle.drf_row_laws.proofs.ReleaseLaws.{others_of_number, without_ended-none}
 use Rattle.drf_tables.specs.offers.Ended.{HasEnded, left_to_end}
 use Rattle.drf_holdings.specs.declared.holdings.Taken.{Taken}
 
@@ -62,8 +62,8 @@ pub task_once : (framework name : Text) (rows : Rows) → IsConsistent rows → 
 task_once framework name rows consistent = omega (arith, tasks_once framework name rows.tasks consistent.tasks, never_counted rows.offers)
 
 -- if at most one offer or task is selected, none is left after one is removed
-pub all_ended : (old new : Rows) (ending : Ending) (taken : Taken) → HasEnded old new ending taken → left_to_end old ending ≤ 1 → without_ended new ending ≡ new
-all_ended old new ending taken ended once =
-    without_ended-none new ending
-    (counted_none (ends_offer ending) new.offers (omega (arith, ended.fewer, once)))
-    (counted_none (ends_task ending) new.tasks (omega (arith, ended.fewer, once)))
+pub all_ended : (old new : Rows) (release : Release) (taken : Taken) → HasEnded old new release taken → left_to_end old release ≤ 1 → without_ended new release ≡ new
+all_ended old new release taken ended once =
+    without_ended-none new release
+    (counted_none (ends_offer release) new.offers (omega (arith, ended.fewer, once)))
+    (counted_none (ends_task release) new.tasks (omega (arith, ended.fewer, once)))

@@ -134,8 +134,8 @@ nodes_of-left framework roles f (g ∷ gs) found =
           let one : Some g ≡ Some f = rw here at found in
           let same : g ≡ f = cc in
           let mine = left_of g framework roles g.clients here in
-          let told = ap (λ (h : FrameworkRow). sum_by length (paths_left framework roles h.clients)) same in
-          omega (arith, both, mine, told)
+          let reported = ap (λ (h : FrameworkRow). sum_by length (paths_left framework roles h.clients)) same in
+          omega (arith, both, mine, reported)
       | inr past ↦ omega (arith, both, nodes_of-left framework roles f gs (rw past at found))
     ]
 

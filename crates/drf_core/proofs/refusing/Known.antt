@@ -7,14 +7,14 @@ use Rattle.drf_role.specs.Text.{Text, same_text}
 use Rattle.drf_role.specs.TextLaws.{same_from_test}
 use Rattle.drf_bundle.proofs.ListLaws.{each_parts}
 use Rattle.drf_rows.specs.Consistent.{IsConsistent, IsHeld}
-use Rattle.drf_rows.specs.Endings.{is_task}
-use Rattle.drf_rows.specs.Holdings.{Holding, of_offer, of_task}
+use Rattle.drf_rows.specs.Releases.{is_task}
+use Rattle.drf_rows.specs.Holdings.{Holding, holding_of_offer, holding_of_task}
 use Rattle.drf_rows.specs.Members.{has_framework}
 use Rattle.drf_rows.specs.Offers.{has_task, offer_at}
 use Rattle.drf_rows.specs.declared.rows.OfferRow.{OfferRow}
 use Rattle.drf_rows.specs.declared.rows.Rows.{Rows}
 use Rattle.drf_rows.specs.declared.rows.TaskRow.{TaskRow}
-use Rattle.drf_row_laws.proofs.EndingLaws.{held-offer_at}
+use Rattle.drf_row_laws.proofs.ReleaseLaws.{held-offer_at}
 use Rattle.drf_laws.proofs.laws.Clients.{unregistered}
 
 known_holder : (rows : Rows) (h : Holding) → IsHeld rows.agents rows.frameworks h → has_framework rows h.client.framework ≡ true
@@ -31,20 +31,20 @@ known_offer rows number framework consistent its = by (offer_at rows number) ref
         → has_framework rows framework ≡ true
     by (Some o) at its =
         sym (ap (has_framework rows) (same_from_test o.framework framework its))
-        ∙ known_holder rows (of_offer o) (held-offer_at rows number o consistent at)
+        ∙ known_holder rows (holding_of_offer o) (held-offer_at rows number o consistent at)
     by None at its = cc
 
 pub known_task : (rows : Rows) (framework name : Text) → IsConsistent rows → has_task rows framework name ≡ true
     → has_framework rows framework ≡ true
 known_task rows framework name consistent has =
-    by rows.tasks (each_parts (IsHeld rows.agents rows.frameworks) (map of_offer rows.offers) (map of_task rows.tasks) consistent.holdings).1 has
+    by rows.tasks (each_parts (IsHeld rows.agents rows.frameworks) (map holding_of_offer rows.offers) (map holding_of_task rows.tasks) consistent.holdings).1 has
   where
-    by : (ts : List TaskRow) → AllByRecursion (IsHeld rows.agents rows.frameworks) (map of_task ts) → list_any (is_task framework name) ts ≡ true
+    by : (ts : List TaskRow) → AllByRecursion (IsHeld rows.agents rows.frameworks) (map holding_of_task ts) → list_any (is_task framework name) ts ≡ true
         → has_framework rows framework ≡ true
     by [] held has = cc
     by (t ∷ ts) held has = elim (cases_Bool (is_task framework name t)) [
       | inl its ↦
           let named = (and_parts (same_text t.framework framework) (same_text t.name name) its).0 in
-          sym (ap (has_framework rows) (same_from_test t.framework framework named)) ∙ known_holder rows (of_task t) held.0
+          sym (ap (has_framework rows) (same_from_test t.framework framework named)) ∙ known_holder rows (holding_of_task t) held.0
       | inr other ↦ by ts held.1 (rw other at has)
     ]

@@ -25,8 +25,8 @@ use Rattle.drf_laws.proofs.laws.Welcome.{no_case, small_amounts}
 
 -- a stronger statement about a result implies a weaker one
 pub if_ok : {T F : Type 0} (P Q : T → Type 0) (r : Result T F) → ((x : T) → P x → Q x) → IfOk r P → IfOk r Q
-if_ok P Q (Ok x) more told = more x told
-if_ok P Q (Err fault) more told = tt
+if_ok P Q (Ok x) more reported = more x reported
+if_ok P Q (Err fault) more reported = tt
 
 -- ---- free resources
 

@@ -33,30 +33,30 @@ any_not p (x ∷ xs) = ap (λ (b : Bool). p x || b) (any_not p xs) ∙ by (p x) 
     by false b = refl
 
 -- the first case that holds in a prefix is the first case of the whole list
-pub first_front : (front rest : List (Bool × Refusal)) (refusal : Refusal) → first_case front ≡ Some refusal
-    → first_case (front ++ rest) ≡ Some refusal
-first_front [] rest refusal holds = cc
-first_front ((true, r) ∷ front) rest refusal holds = holds
-first_front ((false, r) ∷ front) rest refusal holds = first_front front rest refusal holds
+pub first_prefix : (prefix rest : List (Bool × Refusal)) (refusal : Refusal) → first_case prefix ≡ Some refusal
+    → first_case (prefix ++ rest) ≡ Some refusal
+first_prefix [] rest refusal holds = cc
+first_prefix ((true, r) ∷ prefix) rest refusal holds = holds
+first_prefix ((false, r) ∷ prefix) rest refusal holds = first_prefix prefix rest refusal holds
 
-pub first_rest : (front rest : List (Bool × Refusal)) → first_case front ≡ None → first_case (front ++ rest) ≡ first_case rest
+pub first_rest : (prefix rest : List (Bool × Refusal)) → first_case prefix ≡ None → first_case (prefix ++ rest) ≡ first_case rest
 first_rest [] rest none = refl
-first_rest ((true, r) ∷ front) rest none = cc
-first_rest ((false, r) ∷ front) rest none = first_rest front rest none
+first_rest ((true, r) ∷ prefix) rest none = cc
+first_rest ((false, r) ∷ prefix) rest none = first_rest prefix rest none
 
 -- an early refusal is the refusal
-pub told_early : (limits : LimitNumbers) (rows : Rows) (event : Event) (refusal : Refusal) → early_refusal_of limits rows event ≡ Some refusal
+pub reported_early : (limits : LimitNumbers) (rows : Rows) (event : Event) (refusal : Refusal) → early_refusal_of limits rows event ≡ Some refusal
     → refusal_of limits rows event ≡ Some refusal
 unfolding early_refusal_of refusal_of
-told_early limits rows event refusal holds =
+reported_early limits rows event refusal holds =
     ap first_case (early_and_late limits rows event)
-    ∙ first_front (early_cases_of limits rows event) (late_cases_of limits rows event) refusal holds
+    ∙ first_prefix (early_cases_of limits rows event) (late_cases_of limits rows event) refusal holds
 
 -- without an early refusal, the refusal is the first late case that holds
-pub told_late : (limits : LimitNumbers) (rows : Rows) (event : Event) → early_refusal_of limits rows event ≡ None
+pub reported_late : (limits : LimitNumbers) (rows : Rows) (event : Event) → early_refusal_of limits rows event ≡ None
     → first_case (late_cases_of limits rows event) ≡ refusal_of limits rows event
 unfolding early_refusal_of refusal_of
-told_late limits rows event none =
+reported_late limits rows event none =
     sym (ap first_case (early_and_late limits rows event)
     ∙ first_rest (early_cases_of limits rows event) (late_cases_of limits rows event) none)
 
@@ -67,9 +67,9 @@ no_length (x ∷ xs) = eqb-suc-zero (length xs)
 
 -- the test whether a role is `*`
 pub default_from : (role : Path) (b : Bool) → IsTrue b ↔ (role ≡ default_role) → b ≡ is_default role
-default_from role b told =
+default_from role b reported =
     both_ways b (is_default role)
-    (λ yes. (path_decides role default_role).1 (told.0 yes)) (λ yes. told.1 ((path_decides role default_role).0 yes))
+    (λ yes. (path_decides role default_role).1 (reported.0 yes)) (λ yes. reported.1 ((path_decides role default_role).0 yes))
 
 -- one more row would be too many, by the number of rows before
 pub too_many_rows : (empty known more : Bool) (most count : ℕ)

@@ -6,7 +6,7 @@ use Rattle.std.proofs.lemmas.Bool.{cases_Bool, leb-true, leb-false}
 use Rattle.std.proofs.lemmas.List.{length-append}
 use Rattle.drf_role.specs.Text.{same_text}
 use Rattle.drf_bundle.specs.declared.resource.Resource.{Resource}
-use Rattle.drf_rows.specs.Cycle.{at_moment}
+use Rattle.drf_rows.specs.Cycle.{at_timestamp}
 use Rattle.drf_rows.specs.Filters.{is_of_client, is_on_agent, number_in_force}
 use Rattle.drf_rows.specs.LimitNumbers.{LimitNumbers, IsWithinCeilings}
 use Rattle.drf_rows.specs.Offers.{filters_all, filters_rest, filter_of, filtered_until, filters_with, left_of_offer, offer_accepted, offer_at, offer_declined}
@@ -54,14 +54,14 @@ module _ (rows : Rows) where
   one_more false o bundle refuse_ms = no_more (length rows.filters)
 
 filters-accepted : (rows : Rows) (a : accepting.Accept) (found : Option OfferRow)
-    → length (option_map_or (λ o. offer_accepted (at_moment rows a.at) o a.tasks a.refuse_ms) found rows).filters ≤ length rows.filters + 1
+    → length (option_map_or (λ o. offer_accepted (at_timestamp rows a.at) o a.tasks a.refuse_ms) found rows).filters ≤ length rows.filters + 1
 filters-accepted rows a None = no_more (length rows.filters)
-filters-accepted rows a (Some o) = one_more (at_moment rows a.at) (filters_rest o a.tasks a.refuse_ms) o (left_of_offer o a.tasks) a.refuse_ms
+filters-accepted rows a (Some o) = one_more (at_timestamp rows a.at) (filters_rest o a.tasks a.refuse_ms) o (left_of_offer o a.tasks) a.refuse_ms
 
 filters-declined : (rows : Rows) (d : declining.Decline) (found : Option OfferRow)
-    → length (option_map_or (λ o. offer_declined (at_moment rows d.at) o d.refuse_ms) found rows).filters ≤ length rows.filters + 1
+    → length (option_map_or (λ o. offer_declined (at_timestamp rows d.at) o d.refuse_ms) found rows).filters ≤ length rows.filters + 1
 filters-declined rows d None = no_more (length rows.filters)
-filters-declined rows d (Some o) = one_more (at_moment rows d.at) (filters_all d.refuse_ms) o o.bundle d.refuse_ms
+filters-declined rows d (Some o) = one_more (at_timestamp rows d.at) (filters_all d.refuse_ms) o o.bundle d.refuse_ms
 
 -- an event adds at most one filter
 pub one_filter_more : (rows : Rows) (event : Event) → length (effect rows event).filters ≤ length rows.filters + 1

@@ -17,7 +17,7 @@ use Rattle.drf_core.specs.Machine.{Engine, IsSame, IsAfter, IsAfterAll, HasStopp
 use Rattle.drf_laws.specs.Kept.{AreFew, IsKept, IsCountable}
 use Rattle.drf_core.specs.refusal.Cases.{early_cases_of, early_refusal_of}
 use Rattle.drf_laws.proofs.laws.Kept.{countable_after}
-use Rattle.drf_core.proofs.refusing.Tests.{told_early}
+use Rattle.drf_core.proofs.refusing.Tests.{reported_early}
 use Rattle.drf_laws.proofs.laws.SameLive.{welcome_from}
 
 -- what always holds after a call holds if it fails
@@ -48,8 +48,8 @@ early_none limits rows event none = by (early_refusal_of limits rows event) refl
     by : (found : Option Refusal) → early_refusal_of limits rows event ≡ found → early_refusal_of limits rows event ≡ None
     by None case = case
     by (Some refusal) case =
-        let told : Some refusal ≡ None = sym (told_early limits rows event refusal case) ∙ none in
-        case ∙ told
+        let reported : Some refusal ≡ None = sym (reported_early limits rows event refusal case) ∙ none in
+        case ∙ reported
 
 -- an event that was applied and counted
 module _ (limits : LimitNumbers) (rows tables counted : Rows) (event : Event) (kept : IsKept limits rows)
@@ -92,19 +92,19 @@ IsAfterAll-more old middle new events event before next = record {
 -- one more reply was appended
 pub reply-more : (old middle : Engine) (events : List Event) (event : Event) (reply : Reply) → IsAfterAll old middle events → reply ≡ reply_to middle.limits middle.rows event
     → replies_to old.limits old.rows events ++ reply ∷ [] ≡ replies_to old.limits old.rows (events ++ event ∷ [])
-reply-more old middle events event reply before told =
+reply-more old middle events event reply before reported =
     let same : reply ≡ reply_to old.limits (rows_after_all old.limits old.rows events) event =
-    told ∙ ap (λ (l : LimitNumbers). reply_to l middle.rows event) before.limits
+    reported ∙ ap (λ (l : LimitNumbers). reply_to l middle.rows event) before.limits
     ∙ reply_to-same_live old.limits middle.rows (rows_after_all old.limits old.rows events) before.rows event in
     ap (λ (r : Reply). replies_to old.limits old.rows events ++ r ∷ []) same
     ∙ sym (replies_to-append old.limits old.rows events (event ∷ []))
 
 -- the run stopped at the next event, which changed nothing
-pub HasStopped-at : (old middle new : Engine) (events : List Event) (number : ℕ) (event : Event) (before told : List Reply) (room : ℕ)
+pub HasStopped-at : (old middle new : Engine) (events : List Event) (number : ℕ) (event : Event) (before reported : List Reply) (room : ℕ)
     → slice_get events number ≡ Some event → IsAfterAll old middle (take number events) → IsSame middle new
-    → told ≡ before ++ replies_to old.limits old.rows (take number events)
-    → (0 < room → early_refusal_of middle.limits middle.rows event ≡ None) → HasStopped old new events before told room
-HasStopped-at old middle new events number event before told room at taken same replies early = record {
+    → reported ≡ before ++ replies_to old.limits old.rows (take number events)
+    → (0 < room → early_refusal_of middle.limits middle.rows event ≡ None) → HasStopped old new events before reported room
+HasStopped-at old middle new events number event before reported room at taken same replies early = record {
   number = number;
   event = event;
   at = at;

@@ -9,9 +9,9 @@ use Rattle.std.proofs.lemmas.List.Sums.{sum_by-cons, sum_by-append}
 use Rattle.drf_role.specs.Text.{Text, same_text}
 use Rattle.drf_role.specs.Path.{Path, client_path}
 use Rattle.drf_rows.specs.Client.{Client, path_of}
-use Rattle.drf_rows.specs.Endings.{Ending, one_offer, ends_offer, ends_task}
+use Rattle.drf_rows.specs.Releases.{Release, one_offer, ends_offer, ends_task}
 use Rattle.drf_rows.specs.Held.{client_of}
-use Rattle.drf_rows.specs.Holdings.{of_offer, of_task}
+use Rattle.drf_rows.specs.Holdings.{holding_of_offer, holding_of_task}
 use Rattle.drf_rows.specs.Members.{new_client}
 use Rattle.drf_rows.specs.Offers.{offer_at}
 use Rattle.drf_rows.specs.Report as report
@@ -38,11 +38,11 @@ nodes_of-cons c cs = sum_by-cons (λ (c : Client). length (path_of c)) c cs
 
 -- a draft adds the nodes on the path of its client
 pub nodes_of-drafted : (offers : List OfferRow) (offer : OfferRow)
-    → nodes_of (offered_to (offers ++ offer ∷ [])) ≡ nodes_of (offered_to offers) + length (path_of (of_offer offer).client)
+    → nodes_of (offered_to (offers ++ offer ∷ [])) ≡ nodes_of (offered_to offers) + length (path_of (holding_of_offer offer).client)
 nodes_of-drafted offers offer =
-    ap nodes_of (map-append (λ (o : OfferRow). (of_offer o).client) offers (offer ∷ []))
+    ap nodes_of (map-append (λ (o : OfferRow). (holding_of_offer o).client) offers (offer ∷ []))
     ∙ nodes_of-append (offered_to offers) (offered_to (offer ∷ []))
-    ∙ ap (λ n. nodes_of (offered_to offers) + n) (nodes_of-cons (of_offer offer).client [] ∙ (omega arith))
+    ∙ ap (λ n. nodes_of (offered_to offers) + n) (nodes_of-cons (holding_of_offer offer).client [] ∙ (omega arith))
 
 -- an element that passes a test is removed
 module _ {X : Type 0} (test : X → Bool) (client : X → Client) where
@@ -61,39 +61,39 @@ module _ {X : Type 0} (test : X → Bool) (client : X → Client) where
   ]
 
 -- after one offer or task ended, the nodes of its client no longer count
-pub losers-ended : (old new : Rows) (ending : Ending) (taken : Taken) → HasEnded old new ending taken
-    → nodes_of (losers old ending) ≡ nodes_of (losers new ending) + length (path_of (holding_of taken).client)
-losers-ended old new ending taken ended =
+pub losers-ended : (old new : Rows) (release : Release) (taken : Taken) → HasEnded old new release taken
+    → nodes_of (losers old release) ≡ nodes_of (losers new release) + length (path_of (holding_of taken).client)
+losers-ended old new release taken ended =
     elim ended.taken [
       | inl out ↦
-          let whole : nodes_of (offered_to (filter (ends_offer ending) old.offers)) ≡ nodes_of (offered_to (filter (ends_offer ending) new.offers)) + length (path_of (of_offer out.offer).client) =
-          ap (λ (os : List OfferRow). nodes_of (offered_to (filter (ends_offer ending) os))) out.taken.whole
-          ∙ nodes_out (ends_offer ending) (λ (o : OfferRow). (of_offer o).client) out.taken.before out.taken.after out.offer out.taken.passes
-          ∙ ap (λ (os : List OfferRow). nodes_of (offered_to (filter (ends_offer ending) os)) + length (path_of (of_offer out.offer).client)) (sym out.taken.left) in
-          let tasks = ap (λ (ts : List TaskRow). nodes_of (map (λ t. (of_task t).client) (filter (ends_task ending) ts))) out.same in
-          let told : length (path_of (holding_of taken).client) ≡ length (path_of (of_offer out.offer).client) = ap (λ h. length (path_of h.client)) out.told in
+          let whole : nodes_of (offered_to (filter (ends_offer release) old.offers)) ≡ nodes_of (offered_to (filter (ends_offer release) new.offers)) + length (path_of (holding_of_offer out.offer).client) =
+          ap (λ (os : List OfferRow). nodes_of (offered_to (filter (ends_offer release) os))) out.taken.whole
+          ∙ nodes_out (ends_offer release) (λ (o : OfferRow). (holding_of_offer o).client) out.taken.before out.taken.after out.offer out.taken.passes
+          ∙ ap (λ (os : List OfferRow). nodes_of (offered_to (filter (ends_offer release) os)) + length (path_of (holding_of_offer out.offer).client)) (sym out.taken.left) in
+          let tasks = ap (λ (ts : List TaskRow). nodes_of (map (λ t. (holding_of_task t).client) (filter (ends_task release) ts))) out.same in
+          let reported : length (path_of (holding_of taken).client) ≡ length (path_of (holding_of_offer out.offer).client) = ap (λ h. length (path_of h.client)) out.reported in
           omega (
             arith,
             whole,
             tasks,
-            told,
-            nodes_of-append (offered_to (filter (ends_offer ending) old.offers)) (map (λ t. (of_task t).client) (filter (ends_task ending) old.tasks)),
-            nodes_of-append (offered_to (filter (ends_offer ending) new.offers)) (map (λ t. (of_task t).client) (filter (ends_task ending) new.tasks)),
+            reported,
+            nodes_of-append (offered_to (filter (ends_offer release) old.offers)) (map (λ t. (holding_of_task t).client) (filter (ends_task release) old.tasks)),
+            nodes_of-append (offered_to (filter (ends_offer release) new.offers)) (map (λ t. (holding_of_task t).client) (filter (ends_task release) new.tasks)),
           )
       | inr out ↦
-          let whole : nodes_of (map (λ t. (of_task t).client) (filter (ends_task ending) old.tasks)) ≡ nodes_of (map (λ t. (of_task t).client) (filter (ends_task ending) new.tasks)) + length (path_of (of_task out.task).client) =
-          ap (λ (ts : List TaskRow). nodes_of (map (λ t. (of_task t).client) (filter (ends_task ending) ts))) out.taken.whole
-          ∙ nodes_out (ends_task ending) (λ (t : TaskRow). (of_task t).client) out.taken.before out.taken.after out.task out.taken.passes
-          ∙ ap (λ (ts : List TaskRow). nodes_of (map (λ t. (of_task t).client) (filter (ends_task ending) ts)) + length (path_of (of_task out.task).client)) (sym out.taken.left) in
-          let offers = ap (λ (os : List OfferRow). nodes_of (offered_to (filter (ends_offer ending) os))) out.same in
-          let told : length (path_of (holding_of taken).client) ≡ length (path_of (of_task out.task).client) = ap (λ h. length (path_of h.client)) out.told in
+          let whole : nodes_of (map (λ t. (holding_of_task t).client) (filter (ends_task release) old.tasks)) ≡ nodes_of (map (λ t. (holding_of_task t).client) (filter (ends_task release) new.tasks)) + length (path_of (holding_of_task out.task).client) =
+          ap (λ (ts : List TaskRow). nodes_of (map (λ t. (holding_of_task t).client) (filter (ends_task release) ts))) out.taken.whole
+          ∙ nodes_out (ends_task release) (λ (t : TaskRow). (holding_of_task t).client) out.taken.before out.taken.after out.task out.taken.passes
+          ∙ ap (λ (ts : List TaskRow). nodes_of (map (λ t. (holding_of_task t).client) (filter (ends_task release) ts)) + length (path_of (holding_of_task out.task).client)) (sym out.taken.left) in
+          let offers = ap (λ (os : List OfferRow). nodes_of (offered_to (filter (ends_offer release) os))) out.same in
+          let reported : length (path_of (holding_of taken).client) ≡ length (path_of (holding_of_task out.task).client) = ap (λ h. length (path_of h.client)) out.reported in
           omega (
             arith,
             whole,
             offers,
-            told,
-            nodes_of-append (offered_to (filter (ends_offer ending) old.offers)) (map (λ t. (of_task t).client) (filter (ends_task ending) old.tasks)),
-            nodes_of-append (offered_to (filter (ends_offer ending) new.offers)) (map (λ t. (of_task t).client) (filter (ends_task ending) new.tasks)),
+            reported,
+            nodes_of-append (offered_to (filter (ends_offer release) old.offers)) (map (λ t. (holding_of_task t).client) (filter (ends_task release) old.tasks)),
+            nodes_of-append (offered_to (filter (ends_offer release) new.offers)) (map (λ t. (holding_of_task t).client) (filter (ends_task release) new.tasks)),
           )
     ]
 
@@ -147,8 +147,8 @@ nodes_of-leaving name f (g ∷ gs) found =
           let one : Some g ≡ Some f = rw here at found in
           let same : g ≡ f = cc in
           let mine = kept_clients g name g.clients here in
-          let told = ap (λ (h : FrameworkRow). sum_by length (client_paths name h.clients)) same in
-          omega (arith, both, mine, told)
+          let reported = ap (λ (h : FrameworkRow). sum_by length (client_paths name h.clients)) same in
+          omega (arith, both, mine, reported)
       | inr past ↦ omega (arith, both, nodes_of-leaving name f gs (rw past at found))
     ]
 
@@ -166,10 +166,10 @@ found_nodes test client (y ∷ ys) x found = elim (cases_Bool (test y)) [
 ]
 
 pub nodes_of-offer : (rows : Rows) (number : ℕ) (o : OfferRow) → offer_at rows number ≡ Some o
-    → length (path_of (of_offer o).client) ≤ nodes_of (losers rows (one_offer number))
+    → length (path_of (holding_of_offer o).client) ≤ nodes_of (losers rows (one_offer number))
 nodes_of-offer rows number o found =
-    let first = found_nodes (ends_offer (one_offer number)) (λ (o : OfferRow). (of_offer o).client) rows.offers o found in
-    let both = nodes_of-append (offered_to (filter (ends_offer (one_offer number)) rows.offers)) (map (λ t. (of_task t).client) (filter (ends_task (one_offer number)) rows.tasks)) in
+    let first = found_nodes (ends_offer (one_offer number)) (λ (o : OfferRow). (holding_of_offer o).client) rows.offers o found in
+    let both = nodes_of-append (offered_to (filter (ends_offer (one_offer number)) rows.offers)) (map (λ t. (holding_of_task t).client) (filter (ends_task (one_offer number)) rows.tasks)) in
     omega (arith, first, both)
 
 -- ---- the cluster's total changes

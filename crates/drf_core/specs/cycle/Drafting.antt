@@ -7,7 +7,7 @@ use Rattle.drf_role.specs.Path.{Path, IsClientPath}
 use Rattle.drf_gates.specs.quota.Allowance.{Usage, quota_under, used_where}
 use Rattle.drf_bundle.specs.declared.resource.Resource.{Resource}
 use Rattle.drf_rows.specs.Client.{Client, path_of}
-use Rattle.drf_rows.specs.Holdings.{of_offer}
+use Rattle.drf_rows.specs.Holdings.{holding_of_offer}
 use Rattle.drf_rows.specs.Cycle.{free_of, is_allocatable, tried, turn, turns}
 use Rattle.drf_rows.specs.Consistent.{IsConsistent}
 use Rattle.drf_rows.specs.Held.{is_registered}
@@ -28,7 +28,7 @@ use Rattle.drf_core.specs.declared.cycle.free.Free.{Free}
 pub record IsDrafting (content : Content) (rows : Rows) (offers : List OfferRow) : Type 0 where
   pub sorted : IsSame content (content_of (with_offers rows offers))
   pub consistent : IsConsistent (with_offers rows offers)
-  pub clients : AllByRecursion (λ o. is_registered rows.frameworks (of_offer o).client ≡ true) offers
+  pub clients : AllByRecursion (λ o. is_registered rows.frameworks (holding_of_offer o).client ≡ true) offers
   pub few_agents : length rows.agents ≤ 4096
   pub low_number : rows.next_offer ≤ 2 ^ 57
 

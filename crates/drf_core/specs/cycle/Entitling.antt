@@ -11,7 +11,7 @@ use Rattle.drf_rows.specs.Client.{Client, path_of}
 use Rattle.drf_rows.specs.Cycle.{is_allocatable}
 use Rattle.drf_rows.specs.Quota.{entitlement, headroom_at, unreserved_in}
 use Rattle.drf_rows.specs.declared.rows.Rows.{Rows}
-use Rattle.drf_sorter.specs.Passed.{IsPassedFront}
+use Rattle.drf_sorter.specs.Passed.{IsPassedPrefix}
 use Rattle.drf_core.specs.declared.cycle.free.ForEveryone.{ForEveryone}
 use Rattle.drf_core.specs.declared.cycle.free.Free.{Free}
 use Rattle.drf_core.specs.declared.cycle.free.Known.{Known}
@@ -57,23 +57,23 @@ IsOffered quota free role part =
     (rows : Rows) (client : Client) → IsQuotaOf rows quota → client.role ≡ role → part ≡ if_allocatable (entitlement rows free client)
 
 -- in all rows with this quota, clients of the role can have nothing that is enough for an offer, nor can any client whose path begins with the first
--- `front` parts of their paths
-pub record IsBarred (quota : Option Allowance) (free : List Resource) (role : Path) (front : ℕ) : Type 0 where
+-- `prefix` parts of their paths
+pub record IsBarred (quota : Option Allowance) (free : List Resource) (role : Path) (prefix : ℕ) : Type 0 where
   pub offered : IsOffered quota free role None
   pub alike : (rows : Rows) (client : Client) (framework : Text) → IsQuotaOf rows quota → IsRole client.role
-      → take front (path_of client) ≡ take front (client_path role framework) → None ≡ if_allocatable (entitlement rows free client)
+      → take prefix (path_of client) ≡ take prefix (client_path role framework) → None ≡ if_allocatable (entitlement rows free client)
 
 -- what is known about a role holds in all rows with this quota
 abbrev pub IsKnownOf : Option Allowance → List Resource → Known → Type 0
 IsKnownOf quota free Nothing = Unit {0}
 IsKnownOf quota free (Part role part) = IsOffered quota free role (Some part)
-IsKnownOf quota free (Barred role front) = IsBarred quota free role front
+IsKnownOf quota free (Barred role prefix) = IsBarred quota free role prefix
 
 -- the role about which something is known
 abbrev pub known_role : Known → Option Path
 known_role Nothing = None
 known_role (Part role part) = Some role
-known_role (Barred role front) = Some role
+known_role (Barred role prefix) = Some role
 
 -- the part that the role can have
 abbrev pub known_part : Known → Option (List Resource)
@@ -98,5 +98,5 @@ pub record IsKnown (quota : Option Allowance) (free : Free) : Type 0 where
 
 -- the client that was tried is removed from the queue, and possibly barred clients directly after it
 abbrev pub IsPassedOver : Known → List Path → List Path → Type 0
-IsPassedOver (Barred role front) old new = IsPassedFront front old new
+IsPassedOver (Barred role prefix) old new = IsPassedPrefix prefix old new
 IsPassedOver known old new = new ≡ drop 1 old

@@ -3,22 +3,22 @@ ghost use Rattle.std.specs.Prelude.{◌≡◌, true, false, ◌+◌, ◌<◌, �
 ghost use Rattle.std.specs.Option.{option_copied};
 ghost use Rattle.drf_role.specs.Path.{Path};
 ghost use Rattle.drf_rows.specs.Client.{Client, path_of};
-ghost use Rattle.drf_rows.specs.Cycle.{at_moment, free_of, is_allocatable};
+ghost use Rattle.drf_rows.specs.Cycle.{at_timestamp, free_of, is_allocatable};
 ghost use Rattle.drf_rows.specs.Step.{live_rows};
-ghost use Rattle.drf_rows.specs.declared.limits.TheConstants.{LATEST_MOMENT};
+ghost use Rattle.drf_rows.specs.declared.limits.TheConstants.{LATEST_TIMESTAMP};
 ghost use Rattle.drf_rows.specs.declared.rows.AgentRow.{AgentRow};
 ghost use Rattle.drf_rows.specs.declared.rows.Rows.{Rows};
 ghost use Rattle.drf_sorter.specs.Content.{IsOrderOf, IsSound};
-ghost use Rattle.drf_explain.specs.Each.{told_here, turns_by_agent};
+ghost use Rattle.drf_explain.specs.Each.{reported_here, turns_by_agent};
 ghost use Rattle.drf_explain.specs.declared.finding.Finding.{Finding};
-ghost use Rattle.drf_explain.specs.Explained.{explained, told_of_agents};
+ghost use Rattle.drf_explain.specs.Explained.{explained, reported_of_agents};
 ghost use Rattle.drf_explain.specs.Gates.{AreGatesOf};
 ghost use Rattle.drf_tables.specs.cycle.Drafts.{with_offers};
 ghost use Rattle.drf_sorter.specs.Content.{IsSame};
 ghost use Rattle.drf_content.specs.Content.{content_of};
 ghost use Rattle.drf_core.specs.cycle.Drafting.{IsCycleAt, turn_at};
 ghost use Rattle.drf_core.specs.cycle.Entitling.{IsQuotaOf};
-ghost use Rattle.drf_core.specs.cycle.Explaining.{AreToldAt, AreTried, IsOutcomeOf, left_told, told_at, told_by, untouched_at};
+ghost use Rattle.drf_core.specs.cycle.Explaining.{AreReportedAt, AreTried, IsOutcomeOf, left_reported, reported_at, reported_by, untouched_at};
 ghost use Rattle.drf_laws.specs.Kept.{IsKept};
 
 use crate::cluster::Cluster;
@@ -26,7 +26,7 @@ use crate::cycle::free::part_within;
 use crate::cycle::{Drafts, begin_turn, end_turn, goes_on, has_next, lend_consumption, try_first};
 use drf_amount::Algebra;
 use drf_bundle::Bundle;
-use drf_explain::{Finding, Gates, TurnTold, suppressed};
+use drf_explain::{Finding, Gates, TurnReported, suppressed};
 use drf_gates::Quota;
 use drf_role::{ClientPath, Name};
 use drf_rows::{Limits, Rows};
@@ -69,7 +69,7 @@ fn outcome_of(
 }
 
 /// Appends the outcome for the first client in the queue.
-fn tell_first<S: Sorter>(
+fn explain_first<S: Sorter>(
     sorter: &S,
     gates: &Gates,
     quota: Option<&Quota<'_>>,
@@ -90,13 +90,13 @@ fn tell_first<S: Sorter>(
 }
 
 /// Appends how many clients are not tried, if there are any.
-fn tell_left(
+fn count_untried(
     agent: &Name,
     left: &Bundle,
     clients: u64,
     findings: &mut Vec<Finding>,
 ) -> Result<(), AllocError>
-    ensures { OnOk result (findings.new.items ≡ findings.old.items ++ left_told agent.now left.now clients) }
+    ensures { OnOk result (findings.new.items ≡ findings.old.items ++ left_reported agent.now left.now clients) }
 {
     if clients == 0 {
         return Ok(());
@@ -112,7 +112,7 @@ fn tell_left(
 }
 
 /// Appends the outcome for each client in the queue. Nothing is granted meanwhile.
-fn tell_behind<S: Sorter>(
+fn explain_queue<S: Sorter>(
     sorter: &mut S,
     gates: &Gates,
     quota: Option<&Quota<'_>>,
@@ -121,12 +121,12 @@ fn tell_behind<S: Sorter>(
     findings: &mut Vec<Finding>,
 ) -> Result<(), AllocError>
     ensures content { S.content sorter.new ≡ S.content sorter.old }
-    ensures told { OnOk result ((clients : List Client) (rows : Rows) (a : AgentRow) → S.queue sorter.old ≡ map path_of clients → AreGatesOf rows a gates.now
+    ensures reported { OnOk result ((clients : List Client) (rows : Rows) (a : AgentRow) → S.queue sorter.old ≡ map path_of clients → AreGatesOf rows a gates.now
         → IsQuotaOf rows (option_copied quota.entry) → free.now ≡ free_of rows a → agent.now ≡ a.name
-        → findings.new.items ≡ findings.old.items ++ map (told_here rows a) clients) }
+        → findings.new.items ≡ findings.old.items ++ map (reported_here rows a) clients) }
 {
     while has_next(sorter) {
-        tell_first(sorter, gates, quota, free, agent, findings)?;
+        explain_first(sorter, gates, quota, free, agent, findings)?;
         sorter.pass();
     }
     Ok(())
@@ -134,7 +134,7 @@ fn tell_behind<S: Sorter>(
 
 /// Appends what is reported of the clients that remain when too little is left for an offer: the outcome for each (`each`), or
 /// their number.
-fn tell_rest<S: Sorter>(
+fn explain_remaining<S: Sorter>(
     each: bool,
     sorter: &mut S,
     gates: &Gates,
@@ -146,20 +146,20 @@ fn tell_rest<S: Sorter>(
 ) -> Result<(), AllocError>
     requires { waiting ≡ length (S.queue sorter.old) }
     ensures content { S.content sorter.new ≡ S.content sorter.old }
-    ensures told { OnOk result ((clients : List Client) (rows : Rows) (a : AgentRow) → S.queue sorter.old ≡ map path_of clients → AreGatesOf rows a gates.now
+    ensures reported { OnOk result ((clients : List Client) (rows : Rows) (a : AgentRow) → S.queue sorter.old ≡ map path_of clients → AreGatesOf rows a gates.now
         → IsQuotaOf rows (option_copied quota.entry) → free.now ≡ free_of rows a → agent.now ≡ a.name
         → (is_some (slice_get (S.queue sorter.old) 0) && is_allocatable free.now) ≡ false
-        → findings.new.items ≡ findings.old.items ++ told_by each rows a clients) }
+        → findings.new.items ≡ findings.old.items ++ reported_by each rows a clients) }
 {
     if each {
-        return tell_behind(sorter, gates, quota, free, agent, findings);
+        return explain_queue(sorter, gates, quota, free, agent, findings);
     }
-    tell_left(agent, free, waiting, findings)
+    count_untried(agent, free, waiting, findings)
 }
 
 /// Tries the clients in order on an agent until too little is left for an offer, and appends the outcomes. Then appends what is
 /// reported of the remaining clients.
-fn tell_clients<S: Sorter>(
+fn explain_clients<S: Sorter>(
     each: bool,
     gates: &Gates,
     tables: &Tables,
@@ -172,7 +172,7 @@ fn tell_clients<S: Sorter>(
     requires place { place < length tables.now.rows.agents }
     requires gates { (agent : AgentRow) → slice_get tables.now.rows.agents place ≡ Some agent → AreGatesOf tables.now.rows agent gates.now }
     ensures tried { OnOk result (AreTried (with_offers tables.now.rows drafts.old.offers.items) (with_offers tables.now.rows drafts.new.offers.items) place) }
-    ensures told { OnOk result (AreToldAt each (with_offers tables.now.rows drafts.old.offers.items) place findings.old.items findings.new.items) }
+    ensures reported { OnOk result (AreReportedAt each (with_offers tables.now.rows drafts.old.offers.items) place findings.old.items findings.new.items) }
     ensures cycle { OnOk result (IsCycleAt (S.content sorter.new) tables.now drafts.new (place + 1)) }
 {
     let agent = tables.agent_name(place);
@@ -180,13 +180,13 @@ fn tell_clients<S: Sorter>(
     let mut free = begin_turn(tables, sorter, place, drafts)?;
     while goes_on(sorter, &free) {
         let quota = tables.quota_under(drafts.consumption.as_ref());
-        tell_first(sorter, gates, quota.as_ref(), &free.bundle, agent, findings)?;
+        explain_first(sorter, gates, quota.as_ref(), &free.bundle, agent, findings)?;
         try_first(tables, sorter, place, &mut free, drafts)?;
         sorter.pass();
         waiting -= 1;
     }
     let quota = tables.quota_under(drafts.consumption.as_ref());
-    tell_rest(
+    explain_remaining(
         each,
         sorter,
         gates,
@@ -200,7 +200,7 @@ fn tell_clients<S: Sorter>(
 }
 
 /// Appends the findings of the turn of an agent: for each client (`each`), or for those that are tried before too little is left.
-fn tell_turn<S: Sorter>(
+fn explain_turn<S: Sorter>(
     alloc: Global,
     each: bool,
     rows: &Rows,
@@ -215,7 +215,7 @@ fn tell_turn<S: Sorter>(
     requires place { place < length tables.now.rows.agents }
     ensures turn { OnOk result (with_offers tables.now.rows drafts.new.offers.items
         ≡ turn_at (with_offers tables.now.rows drafts.old.offers.items) place) }
-    ensures told { OnOk result (findings.new.items ≡ findings.old.items ++ told_at each (with_offers tables.now.rows drafts.old.offers.items) place) }
+    ensures reported { OnOk result (findings.new.items ≡ findings.old.items ++ reported_at each (with_offers tables.now.rows drafts.old.offers.items) place) }
     ensures cycle { OnOk result (IsCycleAt (S.content sorter.new) tables.now drafts.new (place + 1)) }
 {
     let agent = tables.agent_name(place);
@@ -230,12 +230,12 @@ fn tell_turn<S: Sorter>(
         return Ok(());
     }
     let gates = Gates::on(alloc, rows, agent)?;
-    tell_clients(each, &gates, tables, sorter, place, drafts, findings)?;
+    explain_clients(each, &gates, tables, sorter, place, drafts, findings)?;
     Ok(())
 }
 
 /// Appends, for each client in the turn of an agent, what its outcome would be if it were tried first. Nothing is granted.
-fn tell_untouched<S: Sorter>(
+fn explain_untouched<S: Sorter>(
     alloc: Global,
     rows: &Rows,
     tables: &Tables,
@@ -248,7 +248,7 @@ fn tell_untouched<S: Sorter>(
     requires cycle { IsCycleAt (S.content sorter.old) tables.now drafts.now place }
     requires place { place < length tables.now.rows.agents }
     ensures content { S.content sorter.new ≡ S.content sorter.old }
-    ensures told { OnOk result (findings.new.items ≡ findings.old.items ++ untouched_at (with_offers tables.now.rows drafts.now.offers.items) place) }
+    ensures reported { OnOk result (findings.new.items ≡ findings.old.items ++ untouched_at (with_offers tables.now.rows drafts.now.offers.items) place) }
 {
     let agent = tables.agent_name(place);
     if !tables.is_active(place) {
@@ -260,7 +260,7 @@ fn tell_untouched<S: Sorter>(
     let gates = Gates::on(alloc, rows, agent)?;
     let free = begin_turn(tables, sorter, place, drafts)?;
     let quota = tables.quota_under(drafts.consumption.as_ref());
-    tell_behind(
+    explain_queue(
         sorter,
         &gates,
         quota.as_ref(),
@@ -271,7 +271,7 @@ fn tell_untouched<S: Sorter>(
 }
 
 /// Appends the findings of the turns of all agents.
-fn tell_turns<S: Sorter>(
+fn explain_turns<S: Sorter>(
     alloc: Global,
     rows: &Rows,
     tables: &Tables,
@@ -282,10 +282,10 @@ fn tell_turns<S: Sorter>(
     requires rows { rows.now ≡ live_rows tables.now.rows }
     requires cycle { IsCycleAt (S.content sorter.old) tables.now drafts.old 0 }
     requires none { drafts.old.offers.items ≡ [] }
-    ensures { OnOk result (findings.new.items ≡ findings.old.items ++ told_of_agents tables.now.rows tables.now.rows.agents) }
+    ensures { OnOk result (findings.new.items ≡ findings.old.items ++ reported_of_agents tables.now.rows tables.now.rows.agents) }
 {
     for place in 0..tables.agent_count() {
-        tell_turn(alloc, false, rows, tables, sorter, place, drafts, findings)?;
+        explain_turn(alloc, false, rows, tables, sorter, place, drafts, findings)?;
     }
     Ok(())
 }
@@ -300,14 +300,14 @@ fn begin<S: Sorter>(
 ) -> Result<(Rows, Drafts), AllocError>
     requires sorted { IsSame (S.content sorter.now) (content_of tables.old.rows) }
     requires kept { IsKept limits.now tables.old.rows }
-    requires early { at ≤ LATEST_MOMENT }
-    ensures moment { OnOk result (tables.new.rows ≡ at_moment tables.old.rows at) }
+    requires early { at ≤ LATEST_TIMESTAMP }
+    ensures timestamp { OnOk result (tables.new.rows ≡ at_timestamp tables.old.rows at) }
     ensures rows { IfOk result (λ begun. begun.0 ≡ live_rows tables.new.rows) }
     ensures none { IfOk result (λ begun. begun.1.offers.items ≡ []) }
     ensures cycle { IfOk result (λ begun. IsCycleAt (S.content sorter.now) tables.new begun.1 0) }
 {
-    let moment = tables.clock().max(at);
-    tables.set_clock(moment);
+    let timestamp = tables.clock().max(at);
+    tables.set_clock(timestamp);
     tables.settle()?;
     let consumption = lend_consumption(tables)?;
     let rows = tables.rows()?;
@@ -330,19 +330,19 @@ fn explain<S: Sorter>(
 ) -> Result<Vec<Finding>, AllocError>
     requires sorted { IsSame (S.content sorter.old) (content_of tables.old.rows) }
     requires kept { IsKept limits.now tables.old.rows }
-    requires early { at ≤ LATEST_MOMENT }
+    requires early { at ≤ LATEST_TIMESTAMP }
     ensures { IfOk result (λ findings. findings.items ≡ explained tables.old.rows at) }
 {
     let (rows, mut drafts) = begin(alloc, limits, tables, sorter, at)?;
     let mut findings = suppressed(alloc, &rows)?;
-    tell_turns(alloc, &rows, tables, sorter, &mut drafts, &mut findings)?;
+    explain_turns(alloc, &rows, tables, sorter, &mut drafts, &mut findings)?;
     Ok(findings)
 }
 
 /// An explanation of a cycle that is computed agent by agent, with an outcome for each client. Of the agents already reported,
 /// only the drafts are kept.
 #[derive(Drop)]
-pub struct Telling<S: Sorter> {
+pub struct Explanations<S: Sorter> {
     alloc: Global,
     rows: Rows,
     tables: Tables,
@@ -353,7 +353,7 @@ pub struct Telling<S: Sorter> {
     is_over: bool,
 }
 
-impl<S: Sorter> Model for Telling<S> {
+impl<S: Sorter> Model for Explanations<S> {
     ghost use Rattle.std.specs.Prelude.{◌≡◌, List, false};
     ghost use Rattle.std.specs.Coded.{coded_list, coded×};
     ghost use Rattle.drf_explain.specs.contracts.finding.Finding as finding;
@@ -366,28 +366,28 @@ impl<S: Sorter> Model for Telling<S> {
 
     ghost use Rattle.drf_rows.specs.Step.{live_rows};
     ghost use Rattle.drf_core.specs.cycle.Drafting.{IsCycleAt};
-    ghost use Rattle.drf_core.specs.cycle.Explaining.{left_to_tell};
+    ghost use Rattle.drf_core.specs.cycle.Explaining.{left_to_explain};
 
-    ghost view = { λ t. left_to_tell t.is_over t.tables.rows t.drafts.offers.items t.place };
+    ghost view = { λ t. left_to_explain t.is_over t.tables.rows t.drafts.offers.items t.place };
 
     ghost invariant = { λ t. t.is_over ≡ false → (t.rows ≡ live_rows t.tables.rows) × IsCycleAt (S.content t.sorter) t.tables t.drafts t.place };
 }
 
 /// Returns an explanation of the cycle at a timestamp, in milliseconds, that owns these tables and this sorter.
-fn begin_telling<S: Sorter>(
+fn begin_explanations<S: Sorter>(
     alloc: Global,
     limits: &Limits,
     mut tables: Tables,
     sorter: S,
     at: u64,
-) -> Result<Telling<S>, AllocError>
+) -> Result<Explanations<S>, AllocError>
     requires sorted { IsSame (S.content sorter) (content_of tables.rows) }
     requires kept { IsKept limits.now tables.rows }
-    requires early { at ≤ LATEST_MOMENT }
-    ensures { IfOk result (λ telling. telling ≡ turns_by_agent tables.rows at) }
+    requires early { at ≤ LATEST_TIMESTAMP }
+    ensures { IfOk result (λ explanations. explanations ≡ turns_by_agent tables.rows at) }
 {
     let (rows, drafts) = begin(alloc, limits, &mut tables, &sorter, at)?;
-    Ok(Telling {
+    Ok(Explanations {
         alloc,
         rows,
         tables,
@@ -398,21 +398,21 @@ fn begin_telling<S: Sorter>(
     })
 }
 
-impl<S: Sorter> Telling<S> {
+impl<S: Sorter> Explanations<S> {
     /// Returns the findings of the next agent, in order of registration, or `None` after the last one. If memory runs out, the
     /// explanation ends.
     #[tactic(auto, using(crate::proofs::drafting::Told::none_left))]
     pub fn next_agent(&mut self) -> Result<Option<Vec<Finding>>, AllocError>
-        ensures told { IfOk result (λ next. MatchOption next ((self.old ≡ []) × (self.new ≡ []))
-            (λ told. (untouched : List Finding) × (self.old ≡ (told.items, untouched) ∷ self.new))) }
+        ensures reported { IfOk result (λ next. MatchOption next ((self.old ≡ []) × (self.new ≡ []))
+            (λ reported. (untouched : List Finding) × (self.old ≡ (reported.items, untouched) ∷ self.new))) }
         ensures err { OnErr result (self.new ≡ []) }
     {
         if self.is_over || self.place >= self.tables.agent_count() {
             return Ok(None);
         }
-        let mut told = Vec::new(self.alloc);
+        let mut reported = Vec::new(self.alloc);
         self.is_over = true;
-        tell_turn(
+        explain_turn(
             self.alloc,
             true,
             &self.rows,
@@ -420,17 +420,17 @@ impl<S: Sorter> Telling<S> {
             &mut self.sorter,
             self.place,
             &mut self.drafts,
-            &mut told,
+            &mut reported,
         )?;
         self.place += 1;
         self.is_over = false;
-        Ok(Some(told))
+        Ok(Some(reported))
     }
 
     /// Returns, for each client in the turn of the next agent, what its outcome would be if it were tried first. If memory runs
     /// out, the explanation ends.
     fn untouched(&mut self) -> Result<Vec<Finding>, AllocError>
-        ensures told { IfOk result (λ untouched. (turn : List Finding × List Finding) (turns : List (List Finding × List Finding))
+        ensures reported { IfOk result (λ untouched. (turn : List Finding × List Finding) (turns : List (List Finding × List Finding))
             → self.old ≡ turn ∷ turns → untouched.items ≡ turn.1) }
         ensures same { OnOk result (self.new ≡ self.old) }
         ensures err { OnErr result (self.new ≡ []) }
@@ -440,7 +440,7 @@ impl<S: Sorter> Telling<S> {
             return Ok(untouched);
         }
         self.is_over = true;
-        tell_untouched(
+        explain_untouched(
             self.alloc,
             &self.rows,
             &self.tables,
@@ -455,16 +455,19 @@ impl<S: Sorter> Telling<S> {
 
     /// Returns the findings of the next agent, and the outcome for each client if it were tried first, or `None` after the last
     /// agent. It takes twice the time of `next_agent`, and one more list. If memory runs out, the explanation ends.
-    pub fn next_turn(&mut self) -> Result<Option<TurnTold>, AllocError>
-        ensures told { IfOk result (λ next. MatchOption next ((self.old ≡ []) × (self.new ≡ []))
-            (λ turn. self.old ≡ (turn.told.items, turn.untouched.items) ∷ self.new)) }
+    pub fn next_turn(&mut self) -> Result<Option<TurnReported>, AllocError>
+        ensures reported { IfOk result (λ next. MatchOption next ((self.old ≡ []) × (self.new ≡ []))
+            (λ turn. self.old ≡ (turn.reported.items, turn.untouched.items) ∷ self.new)) }
         ensures err { OnErr result (self.new ≡ []) }
     {
         let untouched = self.untouched()?;
-        let Some(told) = self.next_agent()? else {
+        let Some(reported) = self.next_agent()? else {
             return Ok(None);
         };
-        Ok(Some(TurnTold { told, untouched }))
+        Ok(Some(TurnReported {
+            reported,
+            untouched,
+        }))
     }
 }
 
@@ -477,7 +480,7 @@ impl<S: Sorter> Cluster<S> {
         at: u64,
     ) -> Result<Vec<Finding>, AllocError>
         requires kept { IsKept limits.now self.now.rows }
-        requires early { at ≤ LATEST_MOMENT }
+        requires early { at ≤ LATEST_TIMESTAMP }
         ensures { IfOk result (λ findings. findings.items ≡ explained self.now.rows at) }
     {
         let mut tables = self.tables.copy()?;
@@ -486,18 +489,18 @@ impl<S: Sorter> Cluster<S> {
     }
 
     /// Returns an explanation of the cycle at a timestamp (in milliseconds), agent by agent, with an outcome for each client.
-    pub(crate) fn telling(
+    pub(crate) fn explanations(
         &self,
         alloc: Global,
         limits: &Limits,
         at: u64,
-    ) -> Result<Telling<S>, AllocError>
+    ) -> Result<Explanations<S>, AllocError>
         requires kept { IsKept limits.now self.now.rows }
-        requires early { at ≤ LATEST_MOMENT }
-        ensures { IfOk result (λ telling. telling ≡ turns_by_agent self.now.rows at) }
+        requires early { at ≤ LATEST_TIMESTAMP }
+        ensures { IfOk result (λ explanations. explanations ≡ turns_by_agent self.now.rows at) }
     {
         let tables = self.tables.copy()?;
         let sorter = self.sorter.copy()?;
-        begin_telling(alloc, limits, tables, sorter, at)
+        begin_explanations(alloc, limits, tables, sorter, at)
     }
 }

@@ -36,9 +36,9 @@ pub enum Known {
     Nothing,
     /// Clients of the role can have this part of the free resources, and it is enough for an offer.
     Part { role: Role, part: Bundle },
-    /// Clients of the role can have nothing that is enough for an offer, nor can any client whose path begins with the first `front` parts
+    /// Clients of the role can have nothing that is enough for an offer, nor can any client whose path begins with the first `prefix` parts
     /// of their paths.
-    Barred { role: Role, front: usize },
+    Barred { role: Role, prefix: usize },
 }
 
 /// The free resources of an agent in its turn, whether they are enough for an offer, and whether it is known that none of them
@@ -101,7 +101,7 @@ fn is_of_worth(resource: &Resource) -> bool
 }
 
 /// Returns the smallest number of first parts in which two roles differ, or `None` if `outer` is `role` or a role above it.
-fn parted_front(outer: &Role, role: &Role) -> Option<usize>
+fn parted_prefix(outer: &Role, role: &Role) -> Option<usize>
     ensures within { IfSome result (λ len. len ≤ length role.now + 1) }
     ensures parted { IfSome result (λ len. same_path (take len outer.now) (take len role.now) ≡ false) }
     ensures some { IfSome result (λ _. begins_with role.now outer.now ≡ false) }
@@ -115,46 +115,46 @@ fn parted_front(outer: &Role, role: &Role) -> Option<usize>
     None
 }
 
-/// Returns the prefix length `front`, or a greater one, such that the resource is not reserved for a role with as many first
+/// Returns the prefix length `prefix`, or a greater one, such that the resource is not reserved for a role with as many first
 /// parts in common with `role`. Returns `None` if the resource is reserved for `role` or for a role above it. Only `cpus` and
 /// `mem` count.
-fn raised_front(front: usize, resource: &Resource, role: &Role) -> Option<usize>
-    ensures no_less { IfSome result (λ len. front ≤ len) }
-    ensures within { IfSome result (λ len. front ≤ length role.now + 1 → len ≤ length role.now + 1) }
+fn raised_prefix(prefix: usize, resource: &Resource, role: &Role) -> Option<usize>
+    ensures no_less { IfSome result (λ len. prefix ≤ len) }
+    ensures within { IfSome result (λ len. prefix ≤ length role.now + 1 → len ≤ length role.now + 1) }
     ensures none { IfSome result (λ _. is_reserved_for role.now resource.now ≡ false) }
     ensures near { IfSome result (λ len. is_reserved_near role.now len resource.now ≡ false) }
     ensures some { result ≡ None → is_reserved_for role.now resource.now ≡ true }
 {
     if resource.is_unreserved() {
-        return Some(front);
+        return Some(prefix);
     }
-    let parted = parted_front(&resource.role, role);
+    let parted = parted_prefix(&resource.role, role);
     // This avoids most comparisons of labels, because sibling roles differ at the same part.
     if let Some(len) = parted {
-        if len <= front {
-            return Some(front);
+        if len <= prefix {
+            return Some(prefix);
         }
     }
     if is_of_worth(resource) {
         parted
     } else {
-        Some(front)
+        Some(prefix)
     }
 }
 
 /// Returns a prefix length such that no free `cpus` or `mem` are reserved for a role with as many first parts in common with
 /// `role`. Returns `None` if some are reserved for `role` or for a role above it.
-fn reserved_front(free: &Bundle, role: &Role) -> Option<usize>
+fn reserved_prefix(free: &Bundle, role: &Role) -> Option<usize>
     ensures within { IfSome result (λ len. len ≤ length role.now + 1) }
     ensures none { IfSome result (λ _. list_any (is_reserved_for role.now) free.now ≡ false) }
     ensures near { IfSome result (λ len. list_any (is_reserved_near role.now len) free.now ≡ false) }
     ensures some { result ≡ None → list_any (is_reserved_for role.now) free.now ≡ true }
 {
-    let mut front = 0;
+    let mut prefix = 0;
     for resource in free.entries() {
-        front = raised_front(front, resource, role)?;
+        prefix = raised_prefix(prefix, resource, role)?;
     }
-    Some(front)
+    Some(prefix)
 }
 
 /// Returns how much of a scalar a resource has unreserved, in thousandths.
@@ -185,7 +185,7 @@ fn unreserved(free: &Bundle, label: &str) -> u64
 /// Returns a prefix length if less than `least` (in thousandths) of a scalar is available to a role, because too little is free
 /// and unreserved (then it is 0) or because limits leave too little. All roles with that many first parts in common have as
 /// little. Returns `None` if enough is available.
-fn short_front(
+fn short_prefix(
     quota: Option<&Quota<'_>>,
     free: &Bundle,
     for_everyone: u64,
@@ -202,13 +202,13 @@ fn short_front(
     if for_everyone < least {
         return Some(0);
     }
-    quota?.short_front(role, label, least)
+    quota?.short_prefix(role, label, least)
 }
 
 /// Returns a prefix length if amounts alone show that clients of the role can have nothing that is enough for an offer: too
 /// little is free and unreserved or within the limits, and nothing is reserved for the role. All clients whose paths have that
 /// many first parts in common with those of the role can have as little. It needs no memory.
-fn spent_front(
+fn spent_prefix(
     quota: Option<&Quota<'_>>,
     free: &Bundle,
     for_everyone: ForEveryone,
@@ -219,9 +219,9 @@ fn spent_front(
 {
     free.recall();
     role.recall();
-    let cpus = short_front(quota, free, for_everyone.cpus, role, "cpus", 10)?;
-    let mem = short_front(quota, free, for_everyone.mem, role, "mem", 32000)?;
-    let reserved = reserved_front(free, role)?;
+    let cpus = short_prefix(quota, free, for_everyone.cpus, role, "cpus", 10)?;
+    let mem = short_prefix(quota, free, for_everyone.mem, role, "mem", 32000)?;
+    let reserved = reserved_prefix(free, role)?;
     Some(cpus.max(mem).max(reserved))
 }
 
@@ -237,16 +237,22 @@ fn known_of(
     ensures role { IfOk result (λ known. known_role known ≡ Some role.now) }
 {
     let named = role.copy()?;
-    if let Some(front) = spent_front(quota, free, for_everyone, role) {
-        return Ok(Known::Barred { role: named, front });
+    if let Some(prefix) = spent_prefix(quota, free, for_everyone, role) {
+        return Ok(Known::Barred {
+            role: named,
+            prefix,
+        });
     }
     role.recall();
     let part = part_within(quota, free, role)?;
     if is_worth_an_offer(&part) {
         return Ok(Known::Part { role: named, part });
     }
-    let front = role.len() + 1;
-    Ok(Known::Barred { role: named, front })
+    let prefix = role.len() + 1;
+    Ok(Known::Barred {
+        role: named,
+        prefix,
+    })
 }
 
 /// Returns whether `known` is about this role.

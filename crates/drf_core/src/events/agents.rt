@@ -11,7 +11,7 @@ use drf_bundle::Bundle;
 use drf_role::Name;
 use drf_rows::Limits;
 use drf_sorter::Sorter;
-use drf_tables::Ending;
+use drf_tables::Release;
 use std::alloc::AllocError;
 
 impl<S: Sorter> Cluster<S> {
@@ -42,7 +42,7 @@ impl<S: Sorter> Cluster<S> {
     {
         let total = self.tables.total_without(agent)?;
         let sum = total.copy()?;
-        self.end(Ending::AllOn(agent));
+        self.end(Release::AllOn(agent));
         self.tables.remove_agent(agent, total);
         self.sorter.set_total(sum);
         Ok(())
@@ -61,7 +61,7 @@ impl<S: Sorter> Cluster<S> {
         ensures rows { self.new.rows ≡ effect self.old.rows (DeactivateAgent agent.now) }
         ensures spends { Defers S.COUNTED self.old.work self.new.work (nodes_of (touched self.old.rows (DeactivateAgent agent.now))) }
     {
-        self.end(Ending::OffersOn(agent));
+        self.end(Release::OffersOn(agent));
         self.tables.set_active(agent, false);
     }
 

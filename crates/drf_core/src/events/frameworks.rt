@@ -13,7 +13,7 @@ use crate::cluster::Cluster;
 use drf_role::{ClientPath, Name, Role};
 use drf_rows::{ClientRow, Copied, Limits, Table, copy_all, is_among};
 use drf_sorter::Sorter;
-use drf_tables::Ending;
+use drf_tables::Release;
 use std::alloc::{AllocError, Global};
 
 /// Returns the roles of a list without duplicates, in the order of their first occurrences.
@@ -311,7 +311,7 @@ impl<S: Sorter> Cluster<S> {
         ensures err { OnErr result (self.new.rows ≡ self.old.rows) }
     {
         let paths = client_paths(alloc, framework, self.tables.clients(framework))?;
-        self.end(Ending::AllOf(framework));
+        self.end(Release::AllOf(framework));
         remove_clients(&mut self.sorter, &paths);
         self.tables.remove_framework(framework);
         Ok(())

@@ -80,9 +80,9 @@ chained-more buckets heads links bucket next below is_next is =
     }
 
 -- one more place in no bucket
-pub chained-gap : (buckets heads links : List ℕ) (bucket next : ℕ) → length heads ≤ bucket → IsChained buckets heads links
+pub chained-free_slot : (buckets heads links : List ℕ) (bucket next : ℕ) → length heads ≤ bucket → IsChained buckets heads links
     → IsChained (buckets ++ bucket ∷ []) heads (links ++ next ∷ [])
-chained-gap buckets heads links bucket next none is =
+chained-free_slot buckets heads links bucket next none is =
     let more : List ℕ = buckets ++ bucket ∷ [] in
     let longer : length more ≡ length buckets + 1 = length-append buckets (bucket ∷ []) in
     record {
@@ -276,13 +276,13 @@ chained-next buckets heads links place bucket next head small number own known i
     subst (λ (q : List ℕ × List ℕ). IsChained q.0 (set heads bucket next) q.1) (λ i. (own_last i, its_last i))
     (chained-more (take place buckets) heads (take place links) bucket next known (omega (arith, is_next, long)) is)
 
-pub chained-next_gap : (buckets heads links : List ℕ) (place : ℕ) → place < length buckets → length links ≡ length buckets
+pub chained-next_free_slot : (buckets heads links : List ℕ) (place : ℕ) → place < length buckets → length links ≡ length buckets
     → length heads ≤ get_or buckets place 0 → IsChained (take place buckets) heads (take place links)
     → IsChained (take (place + 1) buckets) heads (take (place + 1) links)
-chained-next_gap buckets heads links place small number none is =
+chained-next_free_slot buckets heads links place small number none is =
     subst (λ (q : List ℕ × List ℕ). IsChained q.0 heads q.1)
     (λ i. (sym (take_more buckets place 0 small) i, sym (take_more links place 0 (omega (arith, small, number))) i))
-    (chained-gap (take place buckets) heads (take place links) (get_or buckets place 0) (get_or links place 0) none is)
+    (chained-free_slot (take place buckets) heads (take place links) (get_or buckets place 0) (get_or links place 0) none is)
 
 -- what lies behind the last place of a bucket does not pass a test that others of the bucket alone pass
 pub passed-last : {X : Type 0} (test : X → Bool) (buckets : List ℕ) (xs : List X) (bucket end last : ℕ)

@@ -21,7 +21,7 @@ use Rattle.drf_rows.specs.declared.rows.FilterRow.{FilterRow}
 use Rattle.drf_gates.specs.filters.Laws.{LessIsHeldBack, HeldBackIsRefused}
 use Rattle.drf_gates.specs.filters.Chains.{IsLast, IsChained}
 use Rattle.drf_gates.specs.filters.Index.{client_hash, pair_hash, row_hash, slot_hash, link_hash, hashes_in, befores, hash_bucket, bucket_of, buckets_in, IsTidy, IsTidyTo, IsLedTo, IsMarked, IsIndexed, IsLeft, HasRoom, NoneEndsBefore}
-use Rattle.drf_hash.proofs.GapLaws.{filled-all, filled-more}
+use Rattle.drf_hash.proofs.FreeSlotLaws.{filled-all, filled-more}
 use Rattle.drf_hash.specs.Slots.{filled}
 use Rattle.drf_gates.specs.filters.Slots.{slot_passes, without_one, filters_in, AreMarked, AreTidy, IsSlots, IsClosed, IsFilterTable}
 use Rattle.drf_gates.specs.declared.filters.index.Index.{Index}
@@ -29,8 +29,8 @@ use Rattle.drf_gates.specs.declared.filters.index.Link.{Link}
 use Rattle.drf_gates.specs.declared.filters.index.Key.{Key}
 use Rattle.drf_gates.specs.declared.filters.index.Key.TheVariants.{Client as ByClient, ClientAndAgent}
 use Rattle.drf_gates.specs.declared.filters.slots.Slots.{Slots}
-use Rattle.drf_gates.proofs.filters.Chains.{chained-more, chained-gap, chained-any, chained-next, chained-next_gap, chained-drop_head, chained-drop_link, passed-last, passed-more}
-use Rattle.drf_gates.proofs.filters.Gaps.{any-filled, no_slot, without-length, without-other, without-here, without-others, without-if, IsLess, all-less, take-less}
+use Rattle.drf_gates.proofs.filters.Chains.{chained-more, chained-free_slot, chained-any, chained-next, chained-next_free_slot, chained-drop_head, chained-drop_link, passed-last, passed-more}
+use Rattle.drf_gates.proofs.filters.FreeSlots.{any-filled, no_slot, without-length, without-other, without-here, without-others, without-if, IsLess, all-less, take-less}
 
 pub less_is_held_back : LessIsHeldBack
 less_is_held_back filters f clock bundle is_there before is_bundle is_part below =
@@ -144,8 +144,8 @@ pub hashed : (index : Index) (place bucket : ℕ) → place < length index.links
 hashed index place bucket small own known =
     hashed-cases (length index.heads.items) bucket (get_or (hashes_in index) place None) (sym (bucket-at index place small) ∙ own) known
 
-pub gap-hash : (link : Link) → (link.before == 18446744073709551615) ≡ true → link_hash link ≡ None
-gap-hash link is = rw is refl
+pub free_slot-hash : (link : Link) → (link.before == 18446744073709551615) ≡ true → link_hash link ≡ None
+free_slot-hash link is = rw is refl
 
 pub chained-hash : (link : Link) → (link.before == 18446744073709551615) ≡ false → link_hash link ≡ Some link.mark
 chained-hash link is = rw is refl
@@ -155,14 +155,14 @@ IsTidyBy heads links = IsChained (map (bucket_of (length heads)) (map link_hash 
 
 -- ---- chains are made anew
 
-pub tidy-gap : (index : Index) (place : ℕ) (link : Link) → IsTidyTo place index → place < length index.links.items
+pub tidy-free_slot : (index : Index) (place : ℕ) (link : Link) → IsTidyTo place index → place < length index.links.items
     → link_hash link ≡ get_or (hashes_in index) place None → (link.before == 18446744073709551615) ≡ true → IsTidyTo (place + 1) index
-tidy-gap index place link tidy small hash none =
-    let gap : get_or (buckets_in index) place 0 ≡ length index.heads.items =
-    bucket-at index place small ∙ ap (λ (h : Option ℕ). bucket_of (length index.heads.items) h) (sym hash ∙ gap-hash link none)
+tidy-free_slot index place link tidy small hash none =
+    let free_slot : get_or (buckets_in index) place 0 ≡ length index.heads.items =
+    bucket-at index place small ∙ ap (λ (h : Option ℕ). bucket_of (length index.heads.items) h) (sym hash ∙ free_slot-hash link none)
     in
-    chained-next_gap (buckets_in index) index.heads.items (befores index) place (omega (arith, small, buckets-long index))
-    (befores-long index ∙ sym (buckets-long index)) (omega (arith, gap)) tidy
+    chained-next_free_slot (buckets_in index) index.heads.items (befores index) place (omega (arith, small, buckets-long index))
+    (befores-long index ∙ sym (buckets-long index)) (omega (arith, free_slot)) tidy
 
 pub tidy-next : (index : Index) (all : List ℕ) (links : List Link) (place bucket head : ℕ) (link : Link) → IsTidyTo place index → place < length index.links.items
     → link_hash link ≡ get_or (hashes_in index) place None → (link.before == 18446744073709551615) ≡ false
@@ -218,15 +218,15 @@ tidy-push index all links mark bucket head next tidy is_bucket known is_next is_
     subst (λ (q : List ℕ × (List ℕ × List ℕ)). IsChained q.0 q.1.0 q.1.1) (λ i. (buckets i, (sym heads i, goes_on i)))
     (chained-more (buckets_in index) index.heads.items (befores index) bucket next known (omega (arith, is_next, buckets-long index)) tidy)
 
-pub tidy-push_gap : (index : Index) (links : List Link) (next : ℕ) → IsTidy index → map link_hash links ≡ hashes_in index ++ None ∷ []
+pub tidy-push_free_slot : (index : Index) (links : List Link) (next : ℕ) → IsTidy index → map link_hash links ≡ hashes_in index ++ None ∷ []
     → map (λ (l : Link). l.before) links ≡ befores index ++ next ∷ [] → IsTidyBy index.heads.items links
-tidy-push_gap index links next tidy hashes goes =
+tidy-push_free_slot index links next tidy hashes goes =
     let n = length index.heads.items in
     let buckets : buckets_in index ++ n ∷ [] ≡ map (bucket_of n) (map link_hash links) =
     sym (map-append (bucket_of n) (hashes_in index) (None ∷ [])) ∙ (λ i. map (bucket_of n) (sym hashes i))
     in
     subst (λ (q : List ℕ × List ℕ). IsChained q.0 index.heads.items q.1) (λ i. (buckets i, sym goes i))
-    (chained-gap (buckets_in index) index.heads.items (befores index) n next (omega arith) tidy)
+    (chained-free_slot (buckets_in index) index.heads.items (befores index) n next (omega arith) tidy)
 
 pub hashes-push : (links more : List Link) (link : Link) (hash : Option ℕ) → more ≡ links ++ link ∷ [] → link_hash link ≡ hash
     → map link_hash more ≡ map link_hash links ++ hash ∷ []
@@ -760,15 +760,15 @@ all_in_force now soonest (f ∷ fs) before none =
     let here : nat_lt now f.until ≡ true = lt-ltb now f.until (omega (arith, before, first)) in
     rw here (ap (λ (gs : List FilterRow). f ∷ gs) (all_in_force now soonest fs before (λ k d below. none (suc k) d (omega (arith, below)))))
 
-pub none_before-less : (moment earlier : ℕ) (rows : List FilterRow) → earlier ≤ moment → NoneEndsBefore moment rows → NoneEndsBefore earlier rows
-none_before-less moment earlier rows le none = λ k d below. omega (arith, le, none k d below)
+pub none_before-less : (timestamp earlier : ℕ) (rows : List FilterRow) → earlier ≤ timestamp → NoneEndsBefore timestamp rows → NoneEndsBefore earlier rows
+none_before-less timestamp earlier rows le none = λ k d below. omega (arith, le, none k d below)
 
-pub none_before-slot : (moment next : ℕ) (slots : List (Option FilterRow)) (i : ℕ) (slot : Option FilterRow) → i < length slots → slot ≡ get_or slots i slot
-    → next ≤ moment → ((f : FilterRow) → slot ≡ Some f → next ≤ f.until)
-    → NoneEndsBefore moment (filled (take i slots)) → NoneEndsBefore next (filled (take (i + 1) slots))
-none_before-slot moment next slots i slot below read less its none =
+pub none_before-slot : (timestamp next : ℕ) (slots : List (Option FilterRow)) (i : ℕ) (slot : Option FilterRow) → i < length slots → slot ≡ get_or slots i slot
+    → next ≤ timestamp → ((f : FilterRow) → slot ≡ Some f → next ≤ f.until)
+    → NoneEndsBefore timestamp (filled (take i slots)) → NoneEndsBefore next (filled (take (i + 1) slots))
+none_before-slot timestamp next slots i slot below read less its none =
     subst (λ (fs : List FilterRow). NoneEndsBefore next fs) (sym (filled-more slots i slot below read))
-    (All-append (λ f. next ≤ f.until) (filled (take i slots)) (filled (slot ∷ [])) (none_before-less moment next (filled (take i slots)) less none) (one slot its))
+    (All-append (λ f. next ≤ f.until) (filled (take i slots)) (filled (slot ∷ [])) (none_before-less timestamp next (filled (take i slots)) less none) (one slot its))
   where
     one : (s : Option FilterRow) → ((f : FilterRow) → s ≡ Some f → next ≤ f.until) → NoneEndsBefore next (filled (s ∷ []))
     one None ends = All-nil (λ (f : FilterRow). next ≤ f.until)

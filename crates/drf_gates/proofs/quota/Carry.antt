@@ -17,37 +17,37 @@ use Rattle.drf_bundle.specs.Quantities.{amount_of}
 use Rattle.drf_bundle.specs.declared.quantities.Entry.{Entry}
 use Rattle.drf_rows.specs.Quota.{is_within}
 use Rattle.drf_gates.specs.quota.Allowance.{Usage, AreRaised, counted, used_at}
-use Rattle.drf_gates.specs.quota.Totals.{AreCarried, AreExact, IsExact, is_front_before}
+use Rattle.drf_gates.specs.quota.Totals.{AreCarried, AreExact, IsExact, is_prefix_before}
 use Rattle.drf_gates.specs.declared.quota.totals.Total.{Total}
-use Rattle.drf_gates.proofs.quota.Leave.{front_few, front_there, front_within}
+use Rattle.drf_gates.proofs.quota.Leave.{prefix_few, prefix_there, prefix_within}
 use Rattle.drf_gates.proofs.quota.Gone.{no_role}
 use Rattle.drf_gates.proofs.quota.Swapped.{swapped}
 
 -- ---- which roles are prefixes
 
 -- the prefix with `n` parts
-here_before : (role outer : Path) (n : ℕ) → n ≤ length role → same_path (take n role) outer ≡ true → is_front_before role n outer ≡ false
+here_before : (role outer : Path) (n : ℕ) → n ≤ length role → same_path (take n role) outer ≡ true → is_prefix_before role n outer ≡ false
 here_before role outer n few here =
     let size : length outer ≡ n = sym (ap (λ (p : Path). length p) (same_path-true (take n role) outer here)) ∙ length-take-le n role few in
     let past : nat_lt (length outer) n ≡ false = grind (arith, nat_tests) in
     ap (λ (b : Bool). b && is_within outer role) past
 
-here_after : (role outer : Path) (n : ℕ) → n ≤ length role → same_path (take n role) outer ≡ true → is_front_before role (n + 1) outer ≡ true
+here_after : (role outer : Path) (n : ℕ) → n ≤ length role → same_path (take n role) outer ≡ true → is_prefix_before role (n + 1) outer ≡ true
 here_after role outer n few here =
     let size : length outer ≡ n = sym (ap (λ (p : Path). length p) (same_path-true (take n role) outer here)) ∙ length-take-le n role few in
     let below : nat_lt (length outer) (n + 1) ≡ true = grind (arith, nat_tests) in
-    λ i. below i && front_within outer role n few here i
+    λ i. below i && prefix_within outer role n few here i
 
 -- whether another role is one of the prefixes does not change when `n` grows by one
 and_none : (b : Bool) → (b && false) ≡ false
 and_none true = refl
 and_none false = refl
 
-front_past : (role outer : Path) (n : ℕ) → same_path (take n role) outer ≡ false → is_front_before role n outer ≡ is_front_before role (n + 1) outer
-front_past role outer n other = elim (cases_Bool (is_within outer role)) [
+prefix_past : (role outer : Path) (n : ℕ) → same_path (take n role) outer ≡ false → is_prefix_before role n outer ≡ is_prefix_before role (n + 1) outer
+prefix_past role outer n other = elim (cases_Bool (is_within outer role)) [
   | inl within ↦
       let apart : length outer ≡ n → ⊥ =
-      (λ e. true≢false (sym (subst (λ (m : ℕ). same_path (take m role) outer ≡ true) e (front_there outer role within)) ∙ other)) in
+      (λ e. true≢false (sym (subst (λ (m : ℕ). same_path (take m role) outer ≡ true) e (prefix_there outer role within)) ∙ other)) in
       let same : nat_lt (length outer) n ≡ nat_lt (length outer) (n + 1) = grind (arith, nat_tests) in
       ap (λ (b : Bool). b && is_within outer role) same
   | inr past ↦
@@ -60,10 +60,10 @@ Exact used e = IsExact used e.0 e.1
 
 module _ (old new : List Usage) (role : Path) where
   abbrev At : ℕ → Path × Total → Type 0
-  At n e = IsExact (cond (is_front_before role n e.0) new old) e.0 e.1
+  At n e = IsExact (cond (is_prefix_before role n e.0) new old) e.0 e.1
 
   one_past : (n : ℕ) (e : Path × Total) → same_path (take n role) e.0 ≡ false → At n e → At (n + 1) e
-  one_past n e other = subst (λ (b : Bool). IsExact (cond b new old) e.0 e.1) (front_past role e.0 n other)
+  one_past n e other = subst (λ (b : Bool). IsExact (cond b new old) e.0 e.1) (prefix_past role e.0 n other)
 
   -- there is no total of the prefix
   carried_past : (n : ℕ) (totals : List (Path × Total)) → AllByRecursion (λ y. same_path (take n role) y ≡ false) (keys_of totals)
@@ -94,7 +94,7 @@ module _ (old new : List Usage) (role : Path) where
         subst (λ (x : Total). IsExact old e.0 x) its
         (subst (λ (b : Bool). IsExact (cond b new old) e.0 e.1) (here_before role e.0 n few here) (All-head (At n) e es all)) in
         let is : At (n + 1) (e.0, u) =
-        subst (λ (b : Bool). IsExact (cond b new old) e.0 u) (sym (here_after role e.0 n few here)) (step e.0 (front_within e.0 role n few here) was) in
+        subst (λ (b : Bool). IsExact (cond b new old) e.0 u) (sym (here_after role e.0 n few here)) (step e.0 (prefix_within e.0 role n few here) was) in
         let others = subst (λ (p : Path). AllByRecursion (λ y. same_path p y ≡ false) (keys_of es)) (sym (same_path-true (take n role) e.0 here))
         (IsDistinct-head same_path e.0 (keys_of es) apart) in
         rw here (All-cons (At (n + 1)) (e.0, u) es is (carried_past n es others (All-tail (At n) e es all)))
@@ -144,12 +144,12 @@ module _ (old new : List Usage) (role : Path) where
     few = kept.few;
     exact = All-weaker (At n) (Exact new) (λ e its. elim (cases_Bool (is_within e.0 role)) [
       | inl within ↦
-          let few = front_few e.0 role within in
+          let few = prefix_few e.0 role within in
           let below : nat_lt (length e.0) n ≡ true = grind (arith, nat_tests) in
-          let is : is_front_before role n e.0 ≡ true = (λ i. below i && within i) in
+          let is : is_prefix_before role n e.0 ≡ true = (λ i. below i && within i) in
           subst (λ (b : Bool). IsExact (cond b new old) e.0 e.1) is its
       | inr past ↦
-          let is : is_front_before role n e.0 ≡ false = ap (λ (b : Bool). nat_lt (length e.0) n && b) past ∙ and_none (nat_lt (length e.0) n) in
+          let is : is_prefix_before role n e.0 ≡ false = ap (λ (b : Bool). nat_lt (length e.0) n && b) past ∙ and_none (nat_lt (length e.0) n) in
           let was = subst (λ (b : Bool). IsExact (cond b new old) e.0 e.1) is its in
           record { known = λ known right label. was.known known right label ∙ sym (same e.0 past label) }
     ]) totals kept.exact;

@@ -9,9 +9,9 @@ use Rattle.drf_role.specs.PathLaws.{same_path-true}
 use Rattle.drf_bundle.specs.Quantities.{is_named}
 use Rattle.drf_rows.specs.Quota.{Consumed, is_within, binds, room_under, headroom_under}
 use Rattle.drf_rows.specs.declared.rows.LimitRow.{LimitRow}
-use Rattle.drf_gates.specs.quota.Front.{limits_at, least_at}
+use Rattle.drf_gates.specs.quota.Prefix.{limits_at, least_at}
 use Rattle.drf_gates.specs.quota.Allowance.{least_with}
-use Rattle.drf_gates.proofs.quota.Leave.{front_few, front_there, front_within}
+use Rattle.drf_gates.proofs.quota.Leave.{prefix_few, prefix_there, prefix_within}
 
 -- ---- the lesser of two numbers that may be unknown
 
@@ -106,7 +106,7 @@ module _ (consumed : Consumed) (role : Path) (label : Text) where
       let size : length l.role ≡ n = sym (ap (λ (p : Path). length p) (same_path-true (take n role) l.role here)) ∙ length-take-le n role few in
       let past : nat_lt (length l.role) n ≡ false = grind (arith, nat_tests) in
       let below : nat_lt (length l.role) (n + 1) ≡ true = grind (arith, nat_tests) in
-      let outer = front_within l.role role n few here in
+      let outer = prefix_within l.role role n few here in
       (λ i. cond (below i && (outer i && is_named l.limit label)) (Some (room_under consumed label l)) None)
       ∙ (λ i. lesser_of (cond (sym past i && binds role label l) (Some (room_under consumed label l)) None)
       (cond (sym here i && is_named l.limit label) (Some (room_under consumed label l)) None))
@@ -115,7 +115,7 @@ module _ (consumed : Consumed) (role : Path) (label : Text) where
   until_past n l other = elim (cases_Bool (is_within l.role role)) [
     | inl within ↦
         let apart : length l.role ≡ n → ⊥ =
-        (λ e. true≢false (sym (subst (λ (m : ℕ). same_path (take m role) l.role ≡ true) e (front_there l.role role within)) ∙ other)) in
+        (λ e. true≢false (sym (subst (λ (m : ℕ). same_path (take m role) l.role ≡ true) e (prefix_there l.role role within)) ∙ other)) in
         let same : nat_lt (length l.role) (n + 1) ≡ nat_lt (length l.role) n = grind (arith, nat_tests) in
         ap (λ (b : Bool). b && binds role label l) same
     | inr past ↦
@@ -134,10 +134,10 @@ module _ (consumed : Consumed) (role : Path) (label : Text) where
         ∙ (λ i. lesser_of (one_of (is_until n) l) (cond (sym other i && is_named l.limit label) (Some (room_under consumed label l)) None))
   ]
 
-  least_front : (n : ℕ) (ls : List LimitRow)
+  least_prefix : (n : ℕ) (ls : List LimitRow)
       → reduce min (map (room_under consumed label) (filter (λ l. is_named l.limit label) (limits_at (take n role) ls))) ≡ least_of (is_at n) ls
-  least_front n [] = refl
-  least_front n (l ∷ ls) = by (same_path (take n role) l.role) (is_named l.limit label) refl (least_front n ls)
+  least_prefix n [] = refl
+  least_prefix n (l ∷ ls) = by (same_path (take n role) l.role) (is_named l.limit label) refl (least_prefix n ls)
     where
       by : (here named : Bool) → is_named l.limit label ≡ named
           → reduce min (map (room_under consumed label) (filter (λ m. is_named m.limit label) (limits_at (take n role) ls))) ≡ least_of (is_at n) ls
@@ -160,7 +160,7 @@ module _ (consumed : Consumed) (role : Path) (label : Text) where
   least_next n ls known new few so_far next =
       next
       ∙ least_with-lesser known (map (room_under consumed label) (filter (λ l. is_named l.limit label) (limits_at (take n role) ls)))
-      ∙ (λ i. lesser_of (so_far i) (least_front n ls i))
+      ∙ (λ i. lesser_of (so_far i) (least_prefix n ls i))
       ∙ sym (least_both (is_until n) (is_at n) (is_until (n + 1)) (until_one n few) ls)
 
   least_start : (ls : List LimitRow) → None ≡ least_until 0 ls
@@ -178,7 +178,7 @@ module _ (consumed : Consumed) (role : Path) (label : Text) where
   until_end : (n : ℕ) → length role < n → (l : LimitRow) → is_until n l ≡ binds role label l
   until_end n all l = elim (cases_Bool (is_within l.role role)) [
     | inl within ↦
-        let few = front_few l.role role within in
+        let few = prefix_few l.role role within in
         let below : nat_lt (length l.role) n ≡ true = grind (arith, nat_tests) in
         ap (λ (b : Bool). b && binds role label l) below
     | inr past ↦

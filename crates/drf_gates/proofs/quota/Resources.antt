@@ -251,8 +251,8 @@ nothing_by false = refl
 
 module _ (bundle : List Resource) (old mid : List Usage) (i : ℕ) (consumed : IsConsumed bundle old mid (drop i bundle)) where
   -- it is part of what is consumed
-  pub front_fits : (test : Path → Bool) (label : Text) → reserved_in test label (take i bundle) ≤ used_where test mid label
-  front_fits test label = omega (arith, consumed test label, reserved_parts test label bundle i)
+  pub prefix_fits : (test : Path → Bool) (label : Text) → reserved_in test label (take i bundle) ≤ used_where test mid label
+  prefix_fits test label = omega (arith, consumed test label, reserved_parts test label bundle i)
 
-  pub front_back : (new : List Usage) → IsRaisedBy new mid (λ test label. reserved_in test label (take i bundle)) → IsSame old new
-  front_back new raised = λ test label. omega (arith, raised test label, consumed test label, reserved_parts test label bundle i)
+  pub prefix_back : (new : List Usage) → IsRaisedBy new mid (λ test label. reserved_in test label (take i bundle)) → IsSame old new
+  prefix_back new raised = λ test label. omega (arith, raised test label, consumed test label, reserved_parts test label bundle i)

@@ -98,4 +98,4 @@ pub record HasRoom (index : Index) : Type 0 where
 
 -- no filter ends before the moment
 abbrev pub NoneEndsBefore : ℕ → List FilterRow → Type 0
-NoneEndsBefore moment rows = All (λ f. moment ≤ f.until) rows
+NoneEndsBefore timestamp rows = All (λ f. timestamp ≤ f.until) rows

@@ -28,9 +28,9 @@ pub record IsCounted (used : List Usage) (totals : List (Path × Total)) : Type 
   pub exact : AreExact used totals
 
 -- `outer` is one of the role's prefixes with fewer than `n` parts
-abbrev pub is_front_before : Path → ℕ → Path → Bool
-is_front_before role n outer = nat_lt (length outer) n && is_within outer role
+abbrev pub is_prefix_before : Path → ℕ → Path → Bool
+is_prefix_before role n outer = nat_lt (length outer) n && is_within outer role
 
 -- while a role's consumption changes: the totals of its prefixes with fewer than `n` parts are new, and the others are old
 abbrev pub AreCarried : List Usage → List Usage → Path → ℕ → List (Path × Total) → Type 0
-AreCarried old new role n totals = AreKept (λ outer. if is_front_before role n outer then new else old) totals
+AreCarried old new role n totals = AreKept (λ outer. if is_prefix_before role n outer then new else old) totals

@@ -189,7 +189,7 @@ impl Index {
         self.heads[bucket] = self.links.len();
     }
 
-    fn push_gap(&mut self)
+    fn push_free_slot(&mut self)
         requires chained { IsTidy self.old }
         requires links { length self.old.links.items < vec_capacity self.old.links }
         ensures chained { IsTidy self.new }
@@ -216,7 +216,7 @@ impl Index {
     {
         match slot {
             Some(row) => self.push(key, row),
-            None => self.push_gap(),
+            None => self.push_free_slot(),
         }
     }
 

@@ -117,13 +117,13 @@ pub(crate) fn slot_holds_back(
 }
 
 /// The earlier of a moment and the end of a filter, if there is one.
-fn earlier(moment: u64, slot: &Option<FilterRow>) -> u64
-    ensures at_most { result ≤ moment }
+fn earlier(timestamp: u64, slot: &Option<FilterRow>) -> u64
+    ensures at_most { result ≤ timestamp }
     ensures none { (f : FilterRow) → slot.now ≡ Some f → result ≤ f.until }
 {
     match slot {
-        Some(row) => moment.min(row.until),
-        None => moment,
+        Some(row) => timestamp.min(row.until),
+        None => timestamp,
     }
 }
 

@@ -58,7 +58,7 @@ impl Slots {
     }
 
     /// Closes the gaps where a quarter of all are gaps.
-    fn close_gaps_if_many(&mut self)
+    fn close_free_slots_if_many(&mut self)
         requires { IsSlots self.old }
         ensures slots { IsSlots self.new }
         ensures same { filters_in self.new ≡ filters_in self.old }
@@ -70,13 +70,13 @@ impl Slots {
     }
 
     /// Closes many gaps where one more filter needs more buckets.
-    fn close_gaps_if_full(&mut self)
+    fn close_free_slots_if_full(&mut self)
         requires { IsSlots self.old }
         ensures slots { IsSlots self.new }
         ensures same { filters_in self.new ≡ filters_in self.old }
     {
         if self.clients.is_full() {
-            self.close_gaps_if_many();
+            self.close_free_slots_if_many();
         }
     }
 
@@ -87,7 +87,7 @@ impl Slots {
         ensures ok { OnOk result (filters_in self.new ≡ filters_in self.old ++ row ∷ []) }
         ensures err { OnErr result (filters_in self.new ≡ filters_in self.old) }
     {
-        self.close_gaps_if_full();
+        self.close_free_slots_if_full();
         self.rows.reserve(1)?;
         self.pairs.make_room()?;
         self.clients.make_room()?;
@@ -193,7 +193,7 @@ impl Slots {
             }
         }
         self.chain_if_many(few);
-        self.close_gaps_if_many();
+        self.close_free_slots_if_many();
     }
 
     /// Takes the filters of a framework out in all its roles.
@@ -209,7 +209,7 @@ impl Slots {
             }
         }
         self.chain_if_many(few);
-        self.close_gaps_if_many();
+        self.close_free_slots_if_many();
     }
 
     /// Takes out the filters of a framework in roles that are not among these.
@@ -225,7 +225,7 @@ impl Slots {
             }
         }
         self.chain_if_many(few);
-        self.close_gaps_if_many();
+        self.close_free_slots_if_many();
     }
 
     /// Takes the filters out that are not in force at `now`, in milliseconds.
@@ -241,7 +241,7 @@ impl Slots {
             }
         }
         self.chain_if_many(few);
-        self.close_gaps_if_many();
+        self.close_free_slots_if_many();
     }
 
     /// Whether a filter of the client on the agent that is in force at `now`, in milliseconds, covers the bundle. Looks at

@@ -4,10 +4,10 @@ ghost use Rattle.std.specs.Option.{option_copied, option_map, option_to_list};
 ghost use Rattle.drf_role.specs.Path.{same_path};
 ghost use Rattle.indexmap.specs.IndexMap.{insert_entry};
 ghost use Rattle.drf_rows.specs.Quota.{limit_of, limits_with};
-ghost use Rattle.drf_gates.specs.quota.Front.{limits_at};
+ghost use Rattle.drf_gates.specs.quota.Prefix.{limits_at};
 ghost use Rattle.drf_gates.specs.quota.Allowance.{limit_row, limit_rows};
 
-use crate::quota::fronts::limit_above;
+use crate::quota::prefixes::limit_above;
 use drf_bundle::Quantities;
 use drf_hash::{ByRole, HashKey};
 use drf_role::Role;

@@ -7,8 +7,8 @@ ghost use Rattle.drf_rows.specs.Quota.{is_within};
 ghost use Rattle.drf_gates.specs.quota.Allowance.{Usage, AreRaised, counted, one_entry, used_at};
 ghost use Rattle.drf_gates.specs.quota.Totals.{IsExact, AreExact, AreCarried};
 
-use crate::quota::fronts::first_parts;
 use crate::quota::limits::QuotaLimits;
+use crate::quota::prefixes::first_parts;
 use drf_bundle::{Entry, Quantities};
 use drf_hash::ByRole;
 use drf_role::{Label, Role};
@@ -120,7 +120,7 @@ fn reduce_total(total: &mut Total, label: &Label, thousandths: u64)
 }
 
 /// Adds amounts to the total of the role's first `len` parts, if it is stored.
-fn raise_front(totals: &mut ByRole<Total>, role: &Role, len: usize, amounts: &Quantities)
+fn raise_prefix(totals: &mut ByRole<Total>, role: &Role, len: usize, amounts: &Quantities)
     requires { len ≤ length role.now }
     ensures { (old new : List Usage) → AreRaised old new role.now amounts.now
         → AreCarried old new role.now len totals.old.entries → AreCarried old new role.now (len + 1) totals.new.entries }
@@ -132,7 +132,7 @@ fn raise_front(totals: &mut ByRole<Total>, role: &Role, len: usize, amounts: &Qu
 }
 
 /// Subtracts amounts from the total of the role's first `len` parts, if it is stored.
-fn lower_front(totals: &mut ByRole<Total>, role: &Role, len: usize, amounts: &Quantities)
+fn lower_prefix(totals: &mut ByRole<Total>, role: &Role, len: usize, amounts: &Quantities)
     requires { len ≤ length role.now }
     ensures { (old new : List Usage) → AreRaised new old role.now amounts.now
         → AreCarried old new role.now len totals.old.entries → AreCarried old new role.now (len + 1) totals.new.entries }
@@ -144,7 +144,7 @@ fn lower_front(totals: &mut ByRole<Total>, role: &Role, len: usize, amounts: &Qu
 }
 
 /// Subtracts from the amount of one label of the total of the role's first `len` parts, if it is stored.
-fn reduce_front(
+fn reduce_prefix(
     totals: &mut ByRole<Total>,
     role: &Role,
     len: usize,
@@ -165,9 +165,9 @@ fn reduce_front(
 pub(crate) fn raise_totals(totals: &mut ByRole<Total>, role: &Role, amounts: &Quantities)
     ensures { (old new : List Usage) → AreRaised old new role.now amounts.now → AreExact old totals.old.entries → AreExact new totals.new.entries }
 {
-    let fronts = role.len() + 1;
-    for len in 1..fronts {
-        raise_front(totals, role, len, amounts);
+    let prefixes = role.len() + 1;
+    for len in 1..prefixes {
+        raise_prefix(totals, role, len, amounts);
     }
 }
 
@@ -175,9 +175,9 @@ pub(crate) fn raise_totals(totals: &mut ByRole<Total>, role: &Role, amounts: &Qu
 pub(crate) fn lower_totals(totals: &mut ByRole<Total>, role: &Role, amounts: &Quantities)
     ensures { (old new : List Usage) → AreRaised new old role.now amounts.now → AreExact old totals.old.entries → AreExact new totals.new.entries }
 {
-    let fronts = role.len() + 1;
-    for len in 1..fronts {
-        lower_front(totals, role, len, amounts);
+    let prefixes = role.len() + 1;
+    for len in 1..prefixes {
+        lower_prefix(totals, role, len, amounts);
     }
 }
 
@@ -191,9 +191,9 @@ pub(crate) fn reduce_totals(
     ensures { (old new : List Usage) → AreRaised new old role.now (one_entry label.now thousandths)
         → AreExact old totals.old.entries → AreExact new totals.new.entries }
 {
-    let fronts = role.len() + 1;
-    for len in 1..fronts {
-        reduce_front(totals, role, len, label, thousandths);
+    let prefixes = role.len() + 1;
+    for len in 1..prefixes {
+        reduce_prefix(totals, role, len, label, thousandths);
     }
 }
 

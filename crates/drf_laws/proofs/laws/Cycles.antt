@@ -6,13 +6,13 @@ use Rattle.drf_bundle.specs.Bundle.{IsBundle}
 use Rattle.drf_bundle.specs.declared.resource.Resource.{Resource}
 use Rattle.drf_rows.specs.Client.{Client}
 use Rattle.drf_rows.specs.Consistent.{IsAgent, IsConsistent}
-use Rattle.drf_rows.specs.Cycle.{is_grantable, new_offer, with_offer, tried, turn_order, turn, turns, cycle, at_moment}
+use Rattle.drf_rows.specs.Cycle.{is_grantable, new_offer, with_offer, tried, turn_order, turn, turns, cycle, at_timestamp}
 use Rattle.drf_rows.specs.Held.{active_clients, is_registered}
 use Rattle.drf_row_laws.proofs.CycleLaws.{active_clients-with_offer}
 use Rattle.drf_row_laws.proofs.FrameLaws.{its_part, tried_keeps, turn_keeps, turns_keep}
 use Rattle.drf_row_laws.proofs.ConsistentLaws.{IsConsistent-with_offer, is_registered-counted}
 use Rattle.drf_bundle.proofs.ListLaws.{each_at, each_filter, each_from}
-use Rattle.drf_rows.specs.declared.limits.TheConstants.{LATEST_MOMENT}
+use Rattle.drf_rows.specs.declared.limits.TheConstants.{LATEST_TIMESTAMP}
 use Rattle.drf_rows.specs.declared.rows.AgentRow.{AgentRow}
 use Rattle.drf_rows.specs.declared.rows.Rows.{Rows}
 use Rattle.drf_laws.proofs.laws.Turns.{turn_order-registered, entitled_part}
@@ -75,9 +75,9 @@ module _ (start : Rows) where
       → IsMidway start (turns rows agents)
   midway-turns = turns_keep (IsMidway start) (IsAt start.agents) IsKnown known_served midway-offer
 
-pub IsConsistent-cycle : (rows : Rows) (at : ℕ) → IsConsistent rows → max rows.clock at ≤ LATEST_MOMENT → IsConsistent (cycle rows at)
+pub IsConsistent-cycle : (rows : Rows) (at : ℕ) → IsConsistent rows → max rows.clock at ≤ LATEST_TIMESTAMP → IsConsistent (cycle rows at)
 unfolding cycle
 IsConsistent-cycle rows at consistent early =
-    let start : Rows = at_moment rows at in
+    let start : Rows = at_timestamp rows at in
     (midway-turns start start (filter (λ a. a.active) rows.agents) (each_filter (IsAt rows.agents) (λ a. a.active) rows.agents (each_is_at rows.agents))
     (itself_midway start (consistent-clock rows (max rows.clock at) consistent early))).consistent

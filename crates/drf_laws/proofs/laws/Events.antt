@@ -13,13 +13,13 @@ use Rattle.drf_bundle.proofs.laws.TakenLaws.{bundle-rest_of_all}
 use Rattle.drf_bundle.specs.declared.resource.Resource.{Resource}
 use Rattle.drf_rows.specs.LimitNumbers.{LimitNumbers}
 use Rattle.drf_rows.specs.Consistent.{are_distinct_roles, IsFilter, IsConsistent}
-use Rattle.drf_rows.specs.Cycle.{at_moment}
-use Rattle.drf_rows.specs.Endings.{without_ended, one_offer, one_task, offers_on}
+use Rattle.drf_rows.specs.Cycle.{at_timestamp}
+use Rattle.drf_rows.specs.Releases.{without_ended, one_offer, one_task, offers_on}
 use Rattle.drf_rows.specs.Members.{distinct, has_agent, new_client}
 use Rattle.drf_rows.specs.Offers.{offer_at, filter_of, filters_with, left_of_offer, offer_accepted, offer_declined, filtered_until, filters_all, filters_rest, CanStart}
 use Rattle.drf_rows.specs.Step.{refusal_of, effect}
 use Rattle.drf_rows.specs.Tasks.{uses}
-use Rattle.drf_row_laws.proofs.EndingLaws.{accepted_in, held-offer_at, IsConsistent-accepted, IsConsistent-filters}
+use Rattle.drf_row_laws.proofs.ReleaseLaws.{accepted_in, held-offer_at, IsConsistent-accepted, IsConsistent-filters}
 use Rattle.drf_row_laws.proofs.LimitLaws.{IsConsistent-limit_set}
 use Rattle.drf_bundle.proofs.ListLaws.{each_append}
 use Rattle.drf_row_laws.proofs.MemberLaws.{IsConsistent-with_activity, IsConsistent-with_suppression, IsConsistent-revived}
@@ -31,7 +31,7 @@ use Rattle.drf_rows.specs.declared.event.Accept as accepting
 use Rattle.drf_rows.specs.declared.event.Decline as declining
 use Rattle.drf_rows.specs.declared.event.Event.{Event}
 use Rattle.drf_rows.specs.declared.event.Event.TheVariants.{AddAgent, RemoveAgent, ActivateAgent, DeactivateAgent, SetAgent, AddFramework, SetFramework, RemoveFramework, Accept, Decline, Rescind, Finish, Suppress, Revive, Reserve, Unreserve, SetWeight, SetLimit, Cycle, Report}
-use Rattle.drf_rows.specs.declared.limits.TheConstants.{LARGEST_AMOUNT, LATEST_MOMENT}
+use Rattle.drf_rows.specs.declared.limits.TheConstants.{LARGEST_AMOUNT, LATEST_TIMESTAMP}
 use Rattle.drf_rows.specs.declared.rows.FilterRow.{FilterRow}
 use Rattle.drf_rows.specs.declared.rows.OfferRow.{OfferRow}
 use Rattle.drf_rows.specs.declared.rows.Rows.{Rows}
@@ -39,10 +39,10 @@ use Rattle.drf_laws.specs.RunLaws.{IsGiven}
 use Rattle.drf_laws.proofs.laws.Roles.{distinct_apart, each-distinct, roles_of_new, uncounted_new}
 use Rattle.drf_laws.proofs.laws.RoleChanges.{IsConsistent-roles_set}
 use Rattle.drf_laws.proofs.laws.Kept.{consistent-clock}
-use Rattle.drf_row_laws.proofs.OfferLaws.{offer_filter, same_offer, moment_early}
+use Rattle.drf_row_laws.proofs.OfferLaws.{offer_filter, same_offer, timestamp_early}
 use Rattle.drf_laws.proofs.laws.Offers.{can_accept}
 use Rattle.drf_laws.proofs.laws.Welcome.{no_case_of, welcome_agent, welcome_framework, welcome_weight, welcome_decline, early_accept, early_cycle, small_amounts}
-use Rattle.drf_laws.proofs.laws.Endings.{IsConsistent-ended, IsConsistent-agent_left, IsConsistent-framework_left}
+use Rattle.drf_laws.proofs.laws.Releases.{IsConsistent-ended, IsConsistent-agent_left, IsConsistent-framework_left}
 use Rattle.drf_laws.proofs.laws.Cycles.{IsConsistent-cycle}
 
 -- ---- agents
@@ -81,21 +81,21 @@ module _ (limits : LimitNumbers) (rows : Rows) (consistent : IsConsistent rows) 
 
   -- the filters after an accept or a decline are valid, whether it sets a filter or not
   are_filters : (number : ℕ) (o : OfferRow) (bundle : List Resource) (at refuse_ms : ℕ) → offer_at rows number ≡ Some o → IsBundle bundle
-      → max rows.clock at ≤ LATEST_MOMENT → (refused : Bool)
-      → AllByRecursion (IsFilter rows.agents rows.frameworks) (filters_with (at_moment rows at) refused o bundle refuse_ms)
+      → max rows.clock at ≤ LATEST_TIMESTAMP → (refused : Bool)
+      → AllByRecursion (IsFilter rows.agents rows.frameworks) (filters_with (at_timestamp rows at) refused o bundle refuse_ms)
   are_filters number o bundle at refuse_ms found is early true =
       each_append (IsFilter rows.agents rows.frameworks) rows.filters (filter_of o bundle (filtered_until (max rows.clock at) refuse_ms) ∷ [])
       consistent.filters (offer_filter rows number o bundle (max rows.clock at) refuse_ms consistent found is early, tt)
   are_filters number o bundle at refuse_ms found is early false = consistent.filters
 
   offer_taken : (a : accepting.Accept) → AllByRecursion IsBundle (uses a.tasks) → refusal_of limits rows (Accept a) ≡ None
-      → (o : OfferRow) → offer_at rows a.offer ≡ Some o → IsConsistent (offer_accepted (at_moment rows a.at) o a.tasks a.refuse_ms)
+      → (o : OfferRow) → offer_at rows a.offer ≡ Some o → IsConsistent (offer_accepted (at_timestamp rows a.at) o a.tasks a.refuse_ms)
   offer_taken a bundles accepted o found =
       let may = can_accept limits rows a accepted in
       let can = subst (λ (p : OfferRow). CanStart rows p a.tasks) (same_offer rows a.offer may.offer o may.at found) may.can in
-      let early = moment_early rows a.at (max rows.clock a.at) consistent (early_accept limits rows a accepted) refl in
+      let early = timestamp_early rows a.at (max rows.clock a.at) consistent (early_accept limits rows a accepted) refl in
       let left = bundle-rest_of_all o.bundle (uses a.tasks) (held-offer_at rows a.offer o consistent found).bundle in
-      let filters : List FilterRow = filters_with (at_moment rows a.at) (filters_rest o a.tasks a.refuse_ms) o (left_of_offer o a.tasks) a.refuse_ms in
+      let filters : List FilterRow = filters_with (at_timestamp rows a.at) (filters_rest o a.tasks a.refuse_ms) o (left_of_offer o a.tasks) a.refuse_ms in
       let started : Rows = accepted_in rows o a.tasks [] in
       consistent-clock (record started { filters = filters }) (max rows.clock a.at)
       (IsConsistent-filters started filters
@@ -104,10 +104,10 @@ module _ (limits : LimitNumbers) (rows : Rows) (consistent : IsConsistent rows) 
       early
 
   offer_given_back : (d : declining.Decline) → refusal_of limits rows (Decline d) ≡ None
-      → (o : OfferRow) → offer_at rows d.offer ≡ Some o → IsConsistent (offer_declined (at_moment rows d.at) o d.refuse_ms)
+      → (o : OfferRow) → offer_at rows d.offer ≡ Some o → IsConsistent (offer_declined (at_timestamp rows d.at) o d.refuse_ms)
   offer_given_back d accepted o found =
-      let early = moment_early rows d.at (max rows.clock d.at) consistent (welcome_decline limits rows d accepted).0 refl in
-      let filters : List FilterRow = filters_with (at_moment rows d.at) (filters_all d.refuse_ms) o o.bundle d.refuse_ms in
+      let early = timestamp_early rows d.at (max rows.clock d.at) consistent (welcome_decline limits rows d accepted).0 refl in
+      let filters : List FilterRow = filters_with (at_timestamp rows d.at) (filters_all d.refuse_ms) o o.bundle d.refuse_ms in
       let ended : Rows = without_ended rows (one_offer o.number) in
       consistent-clock (record ended { filters = filters }) (max rows.clock d.at)
       (IsConsistent-filters ended filters
@@ -139,9 +139,9 @@ module _ (limits : LimitNumbers) (rows : Rows) (consistent : IsConsistent rows) 
       IsConsistent-roles_set rows framework roles consistent given (no_case_of limits rows (SetFramework framework roles) accepted).1.1.1.1.0
   IsConsistent-effect (RemoveFramework framework) given accepted = IsConsistent-framework_left rows framework consistent
   IsConsistent-effect (Accept a) given accepted =
-      at_offer a.offer (λ o. offer_accepted (at_moment rows a.at) o a.tasks a.refuse_ms) (offer_taken a given accepted)
+      at_offer a.offer (λ o. offer_accepted (at_timestamp rows a.at) o a.tasks a.refuse_ms) (offer_taken a given accepted)
   IsConsistent-effect (Decline d) given accepted =
-      at_offer d.offer (λ o. offer_declined (at_moment rows d.at) o d.refuse_ms) (offer_given_back d accepted)
+      at_offer d.offer (λ o. offer_declined (at_timestamp rows d.at) o d.refuse_ms) (offer_given_back d accepted)
   IsConsistent-effect (Rescind offer) given accepted = IsConsistent-ended rows (one_offer offer) consistent
   IsConsistent-effect (Finish framework task) given accepted = IsConsistent-ended rows (one_task framework task) consistent
   IsConsistent-effect (Suppress framework role) given accepted =
@@ -161,5 +161,5 @@ module _ (limits : LimitNumbers) (rows : Rows) (consistent : IsConsistent rows) 
   IsConsistent-effect (SetLimit role limit) given accepted =
       IsConsistent-limit_set rows role limit (no_case_of limits rows (SetLimit role limit) accepted).1.0 given consistent
   IsConsistent-effect (Cycle at) given accepted =
-      IsConsistent-cycle rows at consistent (moment_early rows at (max rows.clock at) consistent (early_cycle limits rows at accepted) refl)
+      IsConsistent-cycle rows at consistent (timestamp_early rows at (max rows.clock at) consistent (early_cycle limits rows at accepted) refl)
   IsConsistent-effect Report given accepted = consistent

@@ -11,7 +11,7 @@ use Rattle.drf_bundle.specs.declared.resource.Resource.{Resource}
 use Rattle.drf_rows.specs.LimitNumbers.{LimitNumbers, IsWithinCeilings}
 use Rattle.drf_rows.specs.Client.{Client}
 use Rattle.drf_rows.specs.Held.{client_of, clients_in, clients_of, cluster_total}
-use Rattle.drf_rows.specs.Cycle.{at_moment, cycle}
+use Rattle.drf_rows.specs.Cycle.{at_timestamp, cycle}
 use Rattle.drf_rows.specs.Step.{live_rows, refusal_of, effect, opening}
 use Rattle.drf_rows.specs.Members.{active_at, suppressed_at, suppressed_in, with_agent, with_framework, with_suppression, new_client, distinct}
 use Rattle.drf_rows.specs.Roles.{roles_set_in, with_framework_roles}
@@ -34,7 +34,7 @@ use Rattle.drf_laws.specs.Kept.{AreFew, IsKept, IsCountable}
 use Rattle.drf_laws.proofs.laws.Turns.{turns-clients, turns-next_offer}
 use Rattle.drf_laws.proofs.laws.Bounds.{few_weights}
 use Rattle.drf_laws.proofs.laws.Welcome.{no_case_of, room_for, welcome_agent, welcome_framework, welcome_weight}
-use Rattle.drf_rows.specs.declared.limits.TheConstants.{LATEST_MOMENT}
+use Rattle.drf_rows.specs.declared.limits.TheConstants.{LATEST_TIMESTAMP}
 use Rattle.drf_bundle.specs.Quantities.{amount_of}
 use Rattle.drf_row_laws.proofs.ReportedShares.{small_total}
 
@@ -135,7 +135,7 @@ module _ (limits : LimitNumbers) (rows : Rows) (few : AreFew limits rows) (numbe
   frameworks_after (Suppress framework role) none = suppressed_fit (record { role = role; framework = framework }) true
   frameworks_after (Revive framework role) none = suppressed_fit (record { role = role; framework = framework }) false
   frameworks_after (Cycle at) none =
-      let same = turns-clients (at_moment rows at) (filter (λ a. a.active) rows.agents) in
+      let same = turns-clients (at_timestamp rows at) (filter (λ a. a.active) rows.agents) in
       (omega (arith, few.frameworks, same.1), omega (arith, few.clients, ap length same.0))
   frameworks_after event none = (
     omega (arith, few.frameworks, ap (λ (r : Rows). length r.frameworks) (only_changed rows event)),
@@ -154,7 +154,7 @@ module _ (limits : LimitNumbers) (rows : Rows) (few : AreFew limits rows) (numbe
   unfolding effect cycle
   numbered_after (Cycle at) =
       let agents : List AgentRow = filter (λ a. a.active) rows.agents in
-      let made = turns-next_offer (at_moment rows at) agents in
+      let made = turns-next_offer (at_timestamp rows at) agents in
       let few_agents : length agents ≤ 4096 = omega (arith, length-filter_le (λ (a : AgentRow). a.active) rows.agents, few.agents, few.ceilings.agents.1) in
       let few_clients : length (clients_of rows) ≤ 4096 = omega (arith, few.clients, few.ceilings.clients.1) in
       let first : length agents * length (clients_of rows) ≤ 4096 * length (clients_of rows) = mul-le-mul_right (length (clients_of rows)) few_agents in
@@ -226,7 +226,7 @@ pub consistent-live : (rows : Rows) → IsConsistent rows → IsConsistent (live
 consistent-live rows consistent = IsConsistent-filters_kept rows (is_in_force rows.clock) consistent
 
 -- a consistent state stays consistent when the clock moves
-pub consistent-clock : (rows : Rows) (clock : ℕ) → IsConsistent rows → clock ≤ LATEST_MOMENT → IsConsistent (record rows { clock = clock })
+pub consistent-clock : (rows : Rows) (clock : ℕ) → IsConsistent rows → clock ≤ LATEST_TIMESTAMP → IsConsistent (record rows { clock = clock })
 consistent-clock rows clock right early = record {
   agents = right.agents;
   frameworks = right.frameworks;

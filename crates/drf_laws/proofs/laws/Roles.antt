@@ -11,7 +11,7 @@ use Rattle.drf_role.specs.PathLaws.{same_path-true}
 use Rattle.drf_rows.specs.Members.{distinct, new_client}
 use Rattle.drf_rows.specs.Consistent.{are_distinct_roles}
 use Rattle.drf_bundle.proofs.ListLaws.{each_filter}
-use Rattle.drf_laws.proofs.laws.Endings.{all_kept}
+use Rattle.drf_laws.proofs.laws.Releases.{all_kept}
 
 -- ---- a list without repetitions
 

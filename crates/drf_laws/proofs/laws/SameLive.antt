@@ -13,9 +13,9 @@ use Rattle.drf_rows.specs.declared.rows.Rows.{Rows}
 use Rattle.std.specs.Prelude.{drop}
 
 -- the reply to an accepted event is not a refusal
-answer_told : (before after : Rows) (event : Event) (refusal : Refusal) → answer before after event ≡ Refused refusal → Some refusal ≡ None
-answer_told before after (Cycle at) refusal told = cc
-answer_told before after event refusal told = cc
+answer_reported : (before after : Rows) (event : Event) (refusal : Refusal) → answer before after event ≡ Refused refusal → Some refusal ≡ None
+answer_reported before after (Cycle at) refusal reported = cc
+answer_reported before after event refusal reported = cc
 
 -- from two states with the same current state
 module _ (limits : LimitNumbers) (rows old : Rows) (event : Event) (live : live_rows rows ≡ live_rows old) where
@@ -32,10 +32,10 @@ module _ (limits : LimitNumbers) (rows old : Rows) (event : Event) (live : live_
       by : (found : Option Refusal) → refusal_of limits old event ≡ found → refusal_of limits old event ≡ None
       by None case = case
       by (Some refusal) case =
-          let told : answer rows (effect rows event) event ≡ Refused refusal
+          let reported : answer rows (effect rows event) event ≡ Refused refusal
           = sym (reply_to-accepted limits rows event none) ∙ reply_to-same_live limits rows old live event
           ∙ reply_to-refused limits old event refusal case in
-          case ∙ answer_told rows (effect rows event) event refusal told
+          case ∙ answer_reported rows (effect rows event) event refusal reported
 
   pub accepted_from : refusal_of limits rows event ≡ None
       → (answer rows (effect rows event) event ≡ reply_to limits old event)

@@ -8,13 +8,13 @@ use Rattle.drf_bundle.proofs.laws.TakenLaws.{only_rest_of_all, bundle-rest_of_al
 use Rattle.drf_bundle.specs.declared.resource.Resource.{Resource}
 use Rattle.drf_rows.specs.Client.{Client}
 use Rattle.drf_rows.specs.Consistent.{IsConsistent}
-use Rattle.drf_rows.specs.Cycle.{at_moment}
+use Rattle.drf_rows.specs.Cycle.{at_timestamp}
 use Rattle.drf_rows.specs.Filters.{holds_back, is_held_back}
 use Rattle.drf_rows.specs.Offers.{offer_at, is_empty, left_of_offer, offer_accepted, offer_declined}
 use Rattle.drf_rows.specs.Step.{effect}
 use Rattle.drf_rows.specs.Tasks.{uses}
 use Rattle.drf_laws.proofs.ConsumptionLaws.{covered-accept}
-use Rattle.drf_row_laws.proofs.EndingLaws.{held-offer_at}
+use Rattle.drf_row_laws.proofs.ReleaseLaws.{held-offer_at}
 use Rattle.drf_laws.specs.KeptLimitLaws.{IsGivenBundles}
 use Rattle.drf_rows.proofs.TaskLaws.{units-covers_all}
 use Rattle.drf_rows.specs.declared.event.Accept as accepting
@@ -32,7 +32,7 @@ filters-declined : (rows : Rows) (d : declining.Decline) (o : OfferRow) → offe
     ≡ (if nat_lt 0 d.refuse_ms then one_more rows o o.bundle (end_of rows d.at d.refuse_ms) else rows.filters)
 unfolding effect
 filters-declined rows d o found =
-    ap (λ (f : Option OfferRow). (option_map_or (λ o. offer_declined (at_moment rows d.at) o d.refuse_ms) f rows).filters) found
+    ap (λ (f : Option OfferRow). (option_map_or (λ o. offer_declined (at_timestamp rows d.at) o d.refuse_ms) f rows).filters) found
 
 -- the bundle of `IsLeft` is what the definition computes
 left_is : (rows : Rows) (a : accepting.Accept) (o : OfferRow) (left : List Resource) → IsConsistent rows → IsGivenBundles (Accept a)
@@ -59,7 +59,7 @@ filters-accepted : (rows : Rows) (a : accepting.Accept) (o : OfferRow) (left : L
 unfolding effect
 filters-accepted rows a o left consistent given is =
     let same = sym (left_is rows a o left consistent given is) in
-    ap (λ (f : Option OfferRow). (option_map_or (λ o. offer_accepted (at_moment rows a.at) o a.tasks a.refuse_ms) f rows).filters) is.at
+    ap (λ (f : Option OfferRow). (option_map_or (λ o. offer_accepted (at_timestamp rows a.at) o a.tasks a.refuse_ms) f rows).filters) is.at
     ∙ (λ i. if nat_lt 0 a.refuse_ms && not (is_empty (same i)) then one_more rows o (same i) (end_of rows a.at a.refuse_ms) else rows.filters)
 
 -- ---- the filter that is set
@@ -92,31 +92,31 @@ or_none : (b : Bool) → b ≡ (b || false)
 or_none true = refl
 or_none false = refl
 
-module _ (rows : Rows) (o : OfferRow) (refused : List Resource) (at refuse_ms moment : ℕ) (client : Client) (agent : Text) (bundle : List Resource)
-    (late : max rows.clock at ≤ moment) where
+module _ (rows : Rows) (o : OfferRow) (refused : List Resource) (at refuse_ms timestamp : ℕ) (client : Client) (agent : Text) (bundle : List Resource)
+    (late : max rows.clock at ≤ timestamp) where
   abbrev until : ℕ
   until = end_of rows at refuse_ms
 
   abbrev before : Bool
-  before = is_held_back rows.filters moment client agent bundle
+  before = is_held_back rows.filters timestamp client agent bundle
 
   -- with one more filter
-  held_back-more : is_held_back (one_more rows o refused until) moment client agent bundle
-      ≡ (before || is_filtered o refused until moment client agent bundle)
+  held_back-more : is_held_back (one_more rows o refused until) timestamp client agent bundle
+      ≡ (before || is_filtered o refused until timestamp client agent bundle)
   held_back-more =
       let f : FilterRow = record { framework = o.framework; role = o.role; agent = o.agent; bundle = refused; until = until } in
-      list_any-append (holds_back moment client agent bundle) rows.filters (f ∷ [])
-      ∙ ap (λ (b : Bool). before || b) (sym (or_none (is_filtered o refused until moment client agent bundle)))
+      list_any-append (holds_back timestamp client agent bundle) rows.filters (f ∷ [])
+      ∙ ap (λ (b : Bool). before || b) (sym (or_none (is_filtered o refused until timestamp client agent bundle)))
 
   -- a filter with `refuse_ms` 0 covers nothing
-  over : nat_lt 0 refuse_ms ≡ false → is_filtered o refused until moment client agent bundle ≡ false
+  over : nat_lt 0 refuse_ms ≡ false → is_filtered o refused until timestamp client agent bundle ≡ false
   over none =
       let zero : refuse_ms ≤ 0 = ltb-false 0 refuse_ms none in
-      let past : nat_lt moment until ≡ false = le-ltb moment until (omega (arith, zero, late)) in
+      let past : nat_lt timestamp until ≡ false = le-ltb timestamp until (omega (arith, zero, late)) in
       rw past
 
-  held_back_then : (set : Bool) → is_held_back (if nat_lt 0 refuse_ms && set then one_more rows o refused until else rows.filters) moment client agent bundle
-      ≡ (before || (set && is_filtered o refused until moment client agent bundle))
+  held_back_then : (set : Bool) → is_held_back (if nat_lt 0 refuse_ms && set then one_more rows o refused until else rows.filters) timestamp client agent bundle
+      ≡ (before || (set && is_filtered o refused until timestamp client agent bundle))
   held_back_then false = elim (cases_Bool (nat_lt 0 refuse_ms)) [
     | inl some ↦ rw some (or_none before)
     | inr none ↦ rw none (or_none before)
@@ -127,9 +127,9 @@ module _ (rows : Rows) (o : OfferRow) (refused : List Resource) (at refuse_ms mo
   ]
 
 pub declined_is_held_back : DeclinedIsHeldBack
-declined_is_held_back rows d o moment client agent bundle found late =
-    ap (λ (fs : List FilterRow). is_held_back fs moment client agent bundle) (filters-declined rows d o found ∙ by (nat_lt 0 d.refuse_ms))
-    ∙ held_back_then rows o o.bundle d.at d.refuse_ms moment client agent bundle late true
+declined_is_held_back rows d o timestamp client agent bundle found late =
+    ap (λ (fs : List FilterRow). is_held_back fs timestamp client agent bundle) (filters-declined rows d o found ∙ by (nat_lt 0 d.refuse_ms))
+    ∙ held_back_then rows o o.bundle d.at d.refuse_ms timestamp client agent bundle late true
   where
     by : (b : Bool) → (if b then one_more rows o o.bundle (end_of rows d.at d.refuse_ms) else rows.filters)
         ≡ (if b && true then one_more rows o o.bundle (end_of rows d.at d.refuse_ms) else rows.filters)
@@ -137,6 +137,6 @@ declined_is_held_back rows d o moment client agent bundle found late =
     by false = refl
 
 pub left_is_held_back : LeftIsHeldBack
-left_is_held_back rows a o left moment client agent bundle consistent given is late =
-    ap (λ (fs : List FilterRow). is_held_back fs moment client agent bundle) (filters-accepted rows a o left consistent given is)
-    ∙ held_back_then rows o left a.at a.refuse_ms moment client agent bundle late (not (is_empty left))
+left_is_held_back rows a o left timestamp client agent bundle consistent given is late =
+    ap (λ (fs : List FilterRow). is_held_back fs timestamp client agent bundle) (filters-accepted rows a o left consistent given is)
+    ∙ held_back_then rows o left a.at a.refuse_ms timestamp client agent bundle late (not (is_empty left))

@@ -13,8 +13,8 @@ use Rattle.drf_role.specs.PathLaws.{same_path_itself}
 use Rattle.drf_rows.specs.Client.{Client}
 use Rattle.drf_rows.specs.Held.{client_of, clients_of, active_clients, is_registered}
 use Rattle.drf_rows.specs.Share.{Standing}
-use Rattle.drf_rows.specs.Cycle.{first_of, without, serving_order, turn_order, free_of, grant, is_grantable, new_offer, with_offer, tried, count_offer, all_tried, turn, turns, cycle, at_moment}
-use Rattle.drf_rows.specs.Holdings.{of_offer}
+use Rattle.drf_rows.specs.Cycle.{first_of, without, serving_order, turn_order, free_of, grant, is_grantable, new_offer, with_offer, tried, count_offer, all_tried, turn, turns, cycle, at_timestamp}
+use Rattle.drf_rows.specs.Holdings.{holding_of_offer}
 use Rattle.drf_row_laws.proofs.ConsistentLaws.{has_its_role}
 use Rattle.drf_row_laws.proofs.FrameLaws.{its_part, Any, all_tried_keeps, any_all_tried, any_turns}
 use Rattle.drf_laws.proofs.OfferedLaws.{each_served}
@@ -137,7 +137,7 @@ SameClients start rows = (clients_of rows ≡ clients_of start) × (length rows.
 same_clients : (start rows : Rows) (offer : OfferRow) → SameClients start rows → SameClients start (with_offer rows offer)
 unfolding with_offer
 same_clients start rows offer same =
-    (clients_of-with_offer rows offer ∙ same.0, length-map rows.frameworks (count_offer (of_offer offer).client) ∙ same.1)
+    (clients_of-with_offer rows offer ∙ same.0, length-map rows.frameworks (count_offer (holding_of_offer offer).client) ∙ same.1)
 
 turn-clients : (rows : Rows) (agent : AgentRow) → SameClients rows (turn rows agent)
 unfolding turn
@@ -161,7 +161,7 @@ turns-next_offer rows (agent ∷ agents) =
 -- so a cycle makes at most as many offers as there are active agents, times the number of clients
 pub cycles_make_few_offers : CyclesMakeFewOffers
 unfolding cycle
-cycles_make_few_offers rows at = turns-next_offer (at_moment rows at) (filter (λ a. a.active) rows.agents)
+cycles_make_few_offers rows at = turns-next_offer (at_timestamp rows at) (filter (λ a. a.active) rows.agents)
 
 -- ---- other agents
 

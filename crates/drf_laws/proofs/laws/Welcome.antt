@@ -14,7 +14,7 @@ pub use Rattle.drf_row_laws.proofs.StepLaws.{no_case, no_case_of}
 use Rattle.drf_rows.specs.Members.{has_agent, has_framework, with_agent}
 use Rattle.drf_rows.specs.Offers.{has_offer}
 use Rattle.drf_rows.specs.Weights.{is_weight, too_many_weights}
-use Rattle.drf_rows.specs.declared.limits.TheConstants.{LARGEST_AMOUNT, LATEST_MOMENT}
+use Rattle.drf_rows.specs.declared.limits.TheConstants.{LARGEST_AMOUNT, LATEST_TIMESTAMP}
 use Rattle.drf_rows.specs.declared.event.Accept as accepting
 use Rattle.drf_rows.specs.declared.event.Decline as declining
 use Rattle.drf_rows.specs.declared.event.Event.{Event}
@@ -62,8 +62,8 @@ welcome_weight limits rows role weight none =
     record { right = not-false (is_weight weight) no.1.0; few = no.1.1.0 }
 
 -- the timestamp of an accepted cycle is not too late
-pub early_cycle : (limits : LimitNumbers) (rows : Rows) (at : ℕ) → refusal_of limits rows (Cycle at) ≡ None → at ≤ LATEST_MOMENT
-early_cycle limits rows at none = ltb-false LATEST_MOMENT at (no_case_of limits rows (Cycle at) none).1.0
+pub early_cycle : (limits : LimitNumbers) (rows : Rows) (at : ℕ) → refusal_of limits rows (Cycle at) ≡ None → at ≤ LATEST_TIMESTAMP
+early_cycle limits rows at none = ltb-false LATEST_TIMESTAMP at (no_case_of limits rows (Cycle at) none).1.0
 
 -- a framework that is removed is registered
 pub known_framework : (limits : LimitNumbers) (rows : Rows) (framework : Text) → refusal_of limits rows (RemoveFramework framework) ≡ None
@@ -82,15 +82,15 @@ known_reviving limits rows framework role none =
     not-false (is_in_role rows framework role) (no_case_of limits rows (Revive framework role) none).1.1.0
 
 -- the timestamp of an accepted `accept` is not too late
-pub early_accept : (limits : LimitNumbers) (rows : Rows) (a : accepting.Accept) → refusal_of limits rows (Accept a) ≡ None → a.at ≤ LATEST_MOMENT
-early_accept limits rows a none = ltb-false LATEST_MOMENT a.at (no_case_of limits rows (Accept a) none).1.0
+pub early_accept : (limits : LimitNumbers) (rows : Rows) (a : accepting.Accept) → refusal_of limits rows (Accept a) ≡ None → a.at ≤ LATEST_TIMESTAMP
+early_accept limits rows a none = ltb-false LATEST_TIMESTAMP a.at (no_case_of limits rows (Accept a) none).1.0
 
 -- an offer that is declined is outstanding
 pub welcome_decline : (limits : LimitNumbers) (rows : Rows) (d : declining.Decline)
-    → refusal_of limits rows (Decline d) ≡ None → (d.at ≤ LATEST_MOMENT) × (has_offer rows d.offer ≡ true)
+    → refusal_of limits rows (Decline d) ≡ None → (d.at ≤ LATEST_TIMESTAMP) × (has_offer rows d.offer ≡ true)
 welcome_decline limits rows d none =
     let no = no_case_of limits rows (Decline d) none in
-    (ltb-false LATEST_MOMENT d.at no.1.0, not-false (has_offer rows d.offer) no.1.1.1.0)
+    (ltb-false LATEST_TIMESTAMP d.at no.1.0, not-false (has_offer rows d.offer) no.1.1.1.0)
 
 -- ---- small amounts
 

@@ -11,7 +11,7 @@ use Rattle.drf_bundle.specs.declared.quantities.Entry.{Entry}
 use Rattle.drf_bundle.specs.declared.resource.Resource.{Resource}
 use Rattle.drf_rows.specs.LimitNumbers.{LimitNumbers}
 use Rattle.drf_rows.specs.Consistent.{IsConsistent, IsNumberedByEvents}
-use Rattle.drf_rows.specs.Cycle.{at_moment, cycle}
+use Rattle.drf_rows.specs.Cycle.{at_timestamp, cycle}
 use Rattle.drf_rows.specs.Filters.{is_of_client, is_on_agent, number_in_force}
 use Rattle.drf_rows.specs.Held.{cluster_total}
 use Rattle.drf_rows.specs.Members.{distinct, has_agent, new_client, with_agent}
@@ -83,7 +83,7 @@ module _ (most : LimitNumbers) (rows : Rows) (consistent : IsConsistent rows) (b
 
   filters_then : (at : ℕ) (refused : Bool) (o : OfferRow) (bundle : List Resource) (refuse_ms : ℕ)
       → (refused && are_many_filters most rows at) ≡ false
-      → number_in_force (max rows.clock at) (filters_with (at_moment rows at) refused o bundle refuse_ms) ≤ most.filters
+      → number_in_force (max rows.clock at) (filters_with (at_timestamp rows at) refused o bundle refuse_ms) ≤ most.filters
   filters_then at true o bundle refuse_ms few =
       one_more_in_force most.filters (max rows.clock at) rows.filters (filter_of o bundle (filtered_until (max rows.clock at) refuse_ms)) few
   filters_then at false o bundle refuse_ms few =
@@ -94,12 +94,12 @@ module _ (most : LimitNumbers) (rows : Rows) (consistent : IsConsistent rows) (b
 
   filters-accepted : (a : accepting.Accept) (found : Option OfferRow)
       → (option_map_or (λ o. filters_rest o a.tasks a.refuse_ms) found false && are_many_filters most rows a.at) ≡ false
-      → FewFilters (option_map_or (λ o. offer_accepted (at_moment rows a.at) o a.tasks a.refuse_ms) found rows)
+      → FewFilters (option_map_or (λ o. offer_accepted (at_timestamp rows a.at) o a.tasks a.refuse_ms) found rows)
   filters-accepted a None few = bounded.filters
   filters-accepted a (Some o) few = filters_then a.at (filters_rest o a.tasks a.refuse_ms) o (left_of_offer o a.tasks) a.refuse_ms few
 
   filters-declined : (d : declining.Decline) (found : Option OfferRow) → (filters_all d.refuse_ms && are_many_filters most rows d.at) ≡ false
-      → FewFilters (option_map_or (λ o. offer_declined (at_moment rows d.at) o d.refuse_ms) found rows)
+      → FewFilters (option_map_or (λ o. offer_declined (at_timestamp rows d.at) o d.refuse_ms) found rows)
   filters-declined d None few = bounded.filters
   filters-declined d (Some o) few = filters_then d.at (filters_all d.refuse_ms) o o.bundle d.refuse_ms few
 

@@ -13,11 +13,11 @@ use Rattle.drf_bundle.specs.declared.quantities.Entry.{Entry}
 use Rattle.drf_bundle.specs.declared.resource.Resource.{Resource}
 use Rattle.drf_rows.specs.Client.{Client, path_of}
 use Rattle.drf_rows.specs.Consistent.{IsAgent, IsConsistent}
-use Rattle.drf_rows.specs.Cycle.{free_of, new_offer, with_offer, turn, turns, turn_order, at_moment, cycle}
+use Rattle.drf_rows.specs.Cycle.{free_of, new_offer, with_offer, turn, turns, turn_order, at_timestamp, cycle}
 use Rattle.drf_rows.specs.Filters.{in_force}
 use Rattle.drf_rows.specs.Held.{held_by, cluster_total, weight_of}
 use Rattle.drf_rows.specs.Held as rows_word
-use Rattle.drf_rows.specs.Holdings.{of_offer, of_task, held_where, is_under}
+use Rattle.drf_rows.specs.Holdings.{holding_of_offer, holding_of_task, held_where, is_under}
 use Rattle.drf_rows.specs.Share.{Fraction, is_less}
 use Rattle.drf_row_laws.proofs.ConsistentLaws.{bundles-consistent}
 use Rattle.drf_row_laws.proofs.CycleLaws.{active_clients-with_offer, bundle-free_of, units-free_of}
@@ -34,7 +34,7 @@ use Rattle.drf_promises.specs.Cycles.{active_agents, IsOpen}
 use Rattle.drf_promises.specs.Runs.{Has}
 use Rattle.drf_laws.proofs.laws.Cycles.{IsMidway, itself_midway, midway-turn, total_of}
 use Rattle.drf_promises.proofs.laws.Cycles.{begin, all_at}
-use Rattle.drf_rows.specs.declared.limits.TheConstants.{LATEST_MOMENT}
+use Rattle.drf_rows.specs.declared.limits.TheConstants.{LATEST_TIMESTAMP}
 use Rattle.std.proofs.Math.Nat.{one-le-mul}
 use Rattle.drf_promises.proofs.laws.First.{first_is_ahead}
 use Rattle.drf_promises.proofs.laws.Less.{amount_falls}
@@ -162,11 +162,11 @@ module _ (start : Rows) where
       turns_apart (turn rows agent) agents at.1 (midway-turn start rows agent at.0 mid)
       (stays_open rows agent here mid.consistent is_open) (turn_apart rows agent here mid.consistent is_open apart)
 
-pub cycle_apart : (rows : Rows) (at : ℕ) → IsConsistent rows → at ≤ LATEST_MOMENT → IsOpen (at_moment rows at) → AreOneAgentApart rows
+pub cycle_apart : (rows : Rows) (at : ℕ) → IsConsistent rows → at ≤ LATEST_TIMESTAMP → IsOpen (at_timestamp rows at) → AreOneAgentApart rows
     → IsOpen (cycle rows at) × AreOneAgentApart (cycle rows at)
 unfolding cycle rows_word.standing_of
 cycle_apart rows at consistent early is_open apart =
-    turns_apart (at_moment rows at) (at_moment rows at) (active_agents rows) (all_at rows at consistent early) (begin rows at consistent early)
+    turns_apart (at_timestamp rows at) (at_timestamp rows at) (active_agents rows) (all_at rows at consistent early) (begin rows at consistent early)
     is_open (λ parent a b takes. apart parent a b takes)
 
 -- ---- states in which nothing is held
@@ -190,7 +190,7 @@ unfolding rows_word.standing_of
 nothing_held_is_apart rows offers tasks parent a b takes =
     let A : Path = child parent a in
     let none : (label : Text) → held_by rows A label ≡ 0 =
-    λ label. λ i. held_where (is_under A) (map of_offer (offers i) ++ map of_task (tasks i)) label in
+    λ label. λ i. held_where (is_under A) (map holding_of_offer (offers i) ++ map holding_of_task (tasks i)) label in
     let part : (weighted_share_at rows A).part ≡ 0 =
     ap (λ n. n * 1000) ((λ i. (dominant_of (λ label. none label i) (cluster_total rows.agents)).part) ∙ none_held (cluster_total rows.agents)) in
     nothing_at_most (weighted_share_at rows A) (weighted_share_at rows (child parent b)) (weigh (largest_agent rows) (weight_of rows.weights A)) part

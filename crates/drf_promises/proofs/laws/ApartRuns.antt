@@ -11,11 +11,11 @@ use Rattle.drf_bundle.specs.Quantities.{amount_of}
 use Rattle.drf_bundle.specs.declared.resource.Resource.{Resource}
 use Rattle.drf_rows.specs.Client.{path_of}
 use Rattle.drf_rows.specs.Consistent.{IsConsistent}
-use Rattle.drf_rows.specs.Cycle.{at_moment}
+use Rattle.drf_rows.specs.Cycle.{at_timestamp}
 use Rattle.drf_rows.specs.Filters.{in_force}
 use Rattle.drf_rows.specs.Held.{active_clients, held_by, cluster_total, weight_of}
 use Rattle.drf_rows.specs.Held as rows_word
-use Rattle.drf_rows.specs.Holdings.{of_offer, is_under}
+use Rattle.drf_rows.specs.Holdings.{holding_of_offer, is_under}
 use Rattle.drf_rows.specs.LimitNumbers.{LimitNumbers}
 use Rattle.drf_rows.specs.Members.{active_at, with_activity}
 use Rattle.drf_rows.specs.Offers.{is_empty, filter_of, filtered_until, left_of_offer, offer_accepted, offer_at}
@@ -23,7 +23,7 @@ use Rattle.drf_rows.specs.Share.{Fraction, greatest}
 use Rattle.drf_rows.specs.Step.{refusal_of, effect, rows_after}
 use Rattle.drf_rows.specs.Tasks.{uses}
 use Rattle.drf_laws.proofs.ConsumptionLaws.{covered-accept}
-use Rattle.drf_row_laws.proofs.EndingLaws.{held_where-accepted, offer_held}
+use Rattle.drf_row_laws.proofs.ReleaseLaws.{held_where-accepted, offer_held}
 use Rattle.drf_bundle.proofs.ListLaws.{each_from, each_map}
 use Rattle.drf_row_laws.proofs.MemberLaws.{cluster_total-with_activity}
 use Rattle.drf_row_laws.proofs.StepLaws.{rows_after-accepted, rows_after-refused}
@@ -68,7 +68,7 @@ module _ (limits : LimitNumbers) (rows : Rows) (consistent : IsConsistent rows) 
     (accepted : refusal_of limits rows (Accept a) ≡ None) (o : OfferRow) (found : offer_at rows a.offer ≡ Some o)
     (whole : left_of_offer o a.tasks ≡ []) where
   abbrev after : Rows
-  after = offer_accepted (at_moment rows a.at) o a.tasks a.refuse_ms
+  after = offer_accepted (at_timestamp rows a.at) o a.tasks a.refuse_ms
 
   pub held-accepted : (node : Path) (label : Text) → held_by after node label ≡ held_by rows node label
   held-accepted node label =
@@ -78,8 +78,8 @@ module _ (limits : LimitNumbers) (rows : Rows) (consistent : IsConsistent rows) 
       omega (
         arith,
         sums,
-        ap (λ (left : List Resource). cond (is_under node (of_offer o)) (amount_of (quantities_of left) label) 0) whole,
-        nothing (is_under node (of_offer o)),
+        ap (λ (left : List Resource). cond (is_under node (holding_of_offer o)) (amount_of (quantities_of left) label) 0) whole,
+        nothing (is_under node (holding_of_offer o)),
       )
     where
       nothing : (b : Bool) → ◌≡◌ {A = ℕ} (cond b 0 0) 0
@@ -90,7 +90,7 @@ module _ (limits : LimitNumbers) (rows : Rows) (consistent : IsConsistent rows) 
   filters-accepted = by (nat_lt 0 a.refuse_ms) (left_of_offer o a.tasks) whole
     where
       by : (some : Bool) (left : List Resource) → left ≡ []
-          → (if some && not (is_empty left) then rows.filters ++ filter_of o (left_of_offer o a.tasks) (filtered_until (at_moment rows a.at).clock a.refuse_ms) ∷ [] else rows.filters)
+          → (if some && not (is_empty left) then rows.filters ++ filter_of o (left_of_offer o a.tasks) (filtered_until (at_timestamp rows a.at).clock a.refuse_ms) ∷ [] else rows.filters)
           ≡ rows.filters
       by false left none = refl
       by true [] none = refl
@@ -130,7 +130,7 @@ abbrev Shared : Rows → Type 0
 Shared rows = IsOpen rows × AreOneAgentApart rows
 
 module _ (limits : LimitNumbers) (rows : Rows) (consistent : IsConsistent rows) (is_open : IsOpen rows) (apart : AreOneAgentApart rows) where
-  open_later : (at : ℕ) → IsOpen (at_moment rows at)
+  open_later : (at : ℕ) → IsOpen (at_timestamp rows at)
   open_later at = record {
     unreserved = is_open.unreserved;
     limits = is_open.limits;
@@ -139,7 +139,7 @@ module _ (limits : LimitNumbers) (rows : Rows) (consistent : IsConsistent rows) 
 
   shared-accept : (a : accepting.Accept) → AllByRecursion IsBundle (uses a.tasks) → KeepsAll rows (Accept a) → refusal_of limits rows (Accept a) ≡ None
       → (found : Option OfferRow) → offer_at rows a.offer ≡ found
-      → Shared (option_map_or (λ o. offer_accepted (at_moment rows a.at) o a.tasks a.refuse_ms) found rows)
+      → Shared (option_map_or (λ o. offer_accepted (at_timestamp rows a.at) o a.tasks a.refuse_ms) found rows)
   shared-accept a given keeps accepted None found = (is_open, apart)
   shared-accept a given keeps accepted (Some o) found = (
     record {
@@ -149,7 +149,7 @@ module _ (limits : LimitNumbers) (rows : Rows) (consistent : IsConsistent rows) 
           ap (in_force (max rows.clock a.at)) (filters-accepted limits rows consistent a given accepted o found (keeps o found))
           ∙ (open_later a.at).filters;
     },
-    stays_apart rows (offer_accepted (at_moment rows a.at) o a.tasks a.refuse_ms)
+    stays_apart rows (offer_accepted (at_timestamp rows a.at) o a.tasks a.refuse_ms)
         (held-accepted limits rows consistent a given accepted o found (keeps o found)) refl refl refl refl apart,
   )
 

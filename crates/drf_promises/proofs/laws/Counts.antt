@@ -9,7 +9,7 @@ use Rattle.drf_role.specs.TextLaws.{same_from_test}
 use Rattle.drf_rows.specs.Client.{Client, path_of}
 use Rattle.drf_rows.specs.Cycle.{counted, count_offer, with_offer}
 use Rattle.drf_rows.specs.Held.{client_of, count_of}
-use Rattle.drf_rows.specs.Holdings.{of_offer}
+use Rattle.drf_rows.specs.Holdings.{holding_of_offer}
 use Rattle.drf_row_laws.proofs.ConsistentLaws.{has_its_role, times_in, times_registered}
 use Rattle.drf_bundle.proofs.ListLaws.{sum_by-filter, sum_by-map, sum_by-plus, sum_by_none}
 use Rattle.drf_rows.specs.declared.rows.ClientRow.{ClientRow}
@@ -68,10 +68,10 @@ module _ (node : Path) (client : Client) where
 
 pub count-with_offer : (rows : Rows) (offer : OfferRow) (node : Path)
     → count_of (with_offer rows offer) node
-    ≡ count_of rows node + cond (begins_with (path_of (of_offer offer).client) node) (times_registered rows.frameworks (of_offer offer).client) 0
+    ≡ count_of rows node + cond (begins_with (path_of (holding_of_offer offer).client) node) (times_registered rows.frameworks (holding_of_offer offer).client) 0
 unfolding with_offer
 count-with_offer rows offer node =
-    let client : Client = (of_offer offer).client in
+    let client : Client = (holding_of_offer offer).client in
     sum_by-map (count_in node client) (count_offer client) rows.frameworks
     ∙ (λ i. sum_by (λ f. framework-counted node client f i) rows.frameworks)
     ∙ sum_by-plus (count_in node client) (λ f. cond (begins_with (path_of client) node) (times_in client f) 0) rows.frameworks

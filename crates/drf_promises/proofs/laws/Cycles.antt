@@ -13,13 +13,13 @@ use Rattle.drf_rows.specs.Client.{Client}
 use Rattle.drf_rows.specs.Consistent.{IsFilter, IsConsistent}
 use Rattle.drf_rows.specs.Held.{active_clients}
 use Rattle.drf_rows.specs.Held as rows_word
-use Rattle.drf_rows.specs.Cycle.{new_offer, with_offer, all_tried, turn_order, turn, turns, at_moment, cycle}
+use Rattle.drf_rows.specs.Cycle.{new_offer, with_offer, all_tried, turn_order, turn, turns, at_timestamp, cycle}
 use Rattle.drf_rows.specs.Step.{new_offers}
 use Rattle.drf_row_laws.proofs.ConsistentLaws.{bundles-consistent}
 use Rattle.drf_bundle.proofs.ListLaws.{each_from, each_filter}
 use Rattle.drf_row_laws.proofs.LiveLaws.{kept-turns}
 use Rattle.drf_laws.proofs.OfferedLaws.{each_served}
-use Rattle.drf_rows.specs.declared.limits.TheConstants.{LATEST_MOMENT}
+use Rattle.drf_rows.specs.declared.limits.TheConstants.{LATEST_TIMESTAMP}
 use Rattle.drf_rows.specs.declared.rows.AgentRow.{AgentRow}
 use Rattle.drf_rows.specs.declared.rows.Rows.{Rows}
 use Rattle.drf_laws.proofs.laws.Kept.{consistent-clock}
@@ -79,9 +79,9 @@ module _ (start : Rows) where
 
 -- ---- the cycle
 
-module _ (rows : Rows) (at : ℕ) (consistent : IsConsistent rows) (early : at ≤ LATEST_MOMENT) where
+module _ (rows : Rows) (at : ℕ) (consistent : IsConsistent rows) (early : at ≤ LATEST_TIMESTAMP) where
   abbrev start : Rows
-  start = at_moment rows at
+  start = at_timestamp rows at
 
   pub begin : IsMidway start start
   begin = record {
@@ -135,7 +135,7 @@ unfolding cycle
 second_cycles_are_idle rows at later consistent early before =
     let after : Rows = cycle rows at in
     let stays : max after.clock later ≡ after.clock = omega (arith, clock-cycle rows at consistent early, before) in
-    let still : at_moment after later ≡ after = λ i. record after { clock = stays i } in
+    let still : at_timestamp after later ≡ after = λ i. record after { clock = stays i } in
     ap (λ (r : Rows). turns r (active_agents after)) still ∙ idle_turns after (active_agents after) (nothing_is_left rows at consistent early)
 
 -- so an explanation reports no grant

@@ -14,10 +14,10 @@ use Rattle.drf_bundle.proofs.laws.QuantitiesLaws.{amount_head}
 use Rattle.drf_bundle.specs.declared.quantities.Entry.{Entry}
 use Rattle.drf_bundle.specs.declared.resource.Resource.{Resource}
 use Rattle.drf_rows.specs.Consistent.{IsConsistent}
-use Rattle.drf_rows.specs.Cycle.{is_allocatable, at_moment, cycle}
+use Rattle.drf_rows.specs.Cycle.{is_allocatable, at_timestamp, cycle}
 use Rattle.drf_rows.specs.Held.{cluster_total, held_by}
 use Rattle.drf_rows.specs.Held as rows_word
-use Rattle.drf_rows.specs.Holdings.{Holding, amount_in, held_where, is_under, of_offer, of_task}
+use Rattle.drf_rows.specs.Holdings.{Holding, amount_in, held_where, is_under, holding_of_offer, holding_of_task}
 use Rattle.drf_rows.specs.Share.{Fraction, greatest, is_less}
 use Rattle.drf_row_laws.proofs.HoldingsLaws.{held_where-cons}
 use Rattle.drf_bundle.proofs.ListLaws.{each_from, each_map}
@@ -26,7 +26,7 @@ use Rattle.drf_row_laws.proofs.OthersLaws.{cycle_only_offers}
 use Rattle.drf_row_laws.proofs.ReportedShares.{in_order-cluster_total}
 use Rattle.drf_rows.specs.declared.rows.AgentRow.{AgentRow}
 use Rattle.drf_rows.specs.declared.rows.OfferRow.{OfferRow}
-use Rattle.drf_rows.specs.declared.limits.TheConstants.{LATEST_MOMENT}
+use Rattle.drf_rows.specs.declared.limits.TheConstants.{LATEST_TIMESTAMP}
 use Rattle.drf_rows.specs.declared.rows.Rows.{Rows}
 use Rattle.drf_rows.specs.declared.rows.TaskRow.{TaskRow}
 use Rattle.drf_sorter.specs.Fractions.{dominant_of}
@@ -86,22 +86,22 @@ multiple_within held a k m all holds there es own = greatest_within k m _ (each 
 -- ---- equal bundles
 
 equal_held : (test : Holding → Bool) (total : List Resource) (label : Text) (os : List OfferRow) → AllByRecursion (λ o. o.bundle ≡ total) os
-    → held_where test (map of_offer os) label ≡ length (filter (λ o. test (of_offer o)) os) * amount_of (quantities_of total) label
+    → held_where test (map holding_of_offer os) label ≡ length (filter (λ o. test (holding_of_offer o)) os) * amount_of (quantities_of total) label
 equal_held test total label [] each = omega arith
 equal_held test total label (o ∷ os) each =
-    held_where-cons test (of_offer o) (map of_offer os) label ∙ by (test (of_offer o)) (equal_held test total label os each.1)
+    held_where-cons test (holding_of_offer o) (map holding_of_offer os) label ∙ by (test (holding_of_offer o)) (equal_held test total label os each.1)
   where
     left : List OfferRow
-    left = filter (λ p. test (of_offer p)) os
+    left = filter (λ p. test (holding_of_offer p)) os
 
     a : ℕ
     a = amount_of (quantities_of total) label
 
-    bundle : amount_in label (of_offer o) ≡ a
+    bundle : amount_in label (holding_of_offer o) ≡ a
     bundle = ap (λ (b : List Resource). amount_of (quantities_of b) label) each.0
 
-    by : (b : Bool) → held_where test (map of_offer os) label ≡ length left * a
-        → cond b (amount_in label (of_offer o)) 0 + held_where test (map of_offer os) label ≡ length (if b then o ∷ left else left) * a
+    by : (b : Bool) → held_where test (map holding_of_offer os) label ≡ length left * a
+        → cond b (amount_in label (holding_of_offer o)) 0 + held_where test (map holding_of_offer os) label ≡ length (if b then o ∷ left else left) * a
     by true rest = omega (arith, bundle, rest)
     by false rest = omega (arith, rest)
 
@@ -133,8 +133,8 @@ whole_agents w all n m k s most one two first second fair =
     ))
     (one-le-mul one two)
 
-module _ (rows : Rows) (at : ℕ) (one : Text) (others : List Text) (total : List Resource) (consistent : IsConsistent rows) (early : at ≤ LATEST_MOMENT)
-    (is_open : IsOpen (at_moment rows at)) (offers : rows.offers ≡ []) (tasks : rows.tasks ≡ []) (equal : AllByRecursion (λ a. (a.active ≡ true) × (a.total ≡ total)) rows.agents)
+module _ (rows : Rows) (at : ℕ) (one : Text) (others : List Text) (total : List Resource) (consistent : IsConsistent rows) (early : at ≤ LATEST_TIMESTAMP)
+    (is_open : IsOpen (at_timestamp rows at)) (offers : rows.offers ≡ []) (tasks : rows.tasks ≡ []) (equal : AllByRecursion (λ a. (a.active ≡ true) × (a.total ≡ total)) rows.agents)
     (worth : is_allocatable total ≡ true) (clients : AreClientsOf rows [] (one ∷ others)) (takes : TakesPart rows (child [] one)) where
   abbrev after : Rows
   after = cycle rows at
@@ -182,8 +182,8 @@ module _ (rows : Rows) (at : ℕ) (one : Text) (others : List Text) (total : Lis
   held : (label : Text) → held_by after node label ≡ k * each_has label
   held label =
       let none : after.tasks ≡ [] = ap (λ (r : Rows). r.tasks) (cycle_only_offers rows at).nothing_else ∙ tasks in
-      ap (λ (ts : List TaskRow). held_where (is_under node) (map of_offer after.offers ++ map of_task ts) label) none
-      ∙ ap (λ (hs : List Holding). held_where (is_under node) hs label) (append-nil (map of_offer after.offers))
+      ap (λ (ts : List TaskRow). held_where (is_under node) (map holding_of_offer after.offers ++ map holding_of_task ts) label) none
+      ∙ ap (λ (hs : List Holding). held_where (is_under node) hs label) (append-nil (map holding_of_offer after.offers))
       ∙ equal_held (is_under node) total label after.offers bundles
 
   own : AllByRecursion (λ e. amount_of (cluster_total after.agents) e.label ≡ e.amount) (cluster_total after.agents)

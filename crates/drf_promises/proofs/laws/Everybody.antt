@@ -13,10 +13,10 @@ use Rattle.drf_rows.specs.Client.{Client}
 use Rattle.drf_rows.specs.Consistent.{IsConsistent}
 use Rattle.drf_rows.specs.Cycle.{free_of, is_allocatable}
 use Rattle.drf_rows.specs.Held.{active_clients}
-use Rattle.drf_rows.specs.Holdings.{of_offer}
+use Rattle.drf_rows.specs.Holdings.{holding_of_offer}
 use Rattle.drf_row_laws.specs.LifeLaws.{is_same_client}
 use Rattle.drf_bundle.proofs.ListLaws.{count_by-cons, each_at, each_filter, each_from}
-use Rattle.drf_rows.specs.declared.limits.TheConstants.{LATEST_MOMENT, LONGEST_FILTER}
+use Rattle.drf_rows.specs.declared.limits.TheConstants.{LATEST_TIMESTAMP, LONGEST_FILTER}
 use Rattle.drf_rows.specs.declared.rows.AgentRow.{AgentRow}
 use Rattle.drf_rows.specs.declared.rows.OfferRow.{OfferRow}
 use Rattle.drf_rows.specs.declared.rows.Rows.{Rows}
@@ -76,7 +76,7 @@ module _ {X : Type 0} (old new more : X → Bool) (is_more : (x : X) → new x �
 -- ---- all rounds
 
 module _ (start : Rows) (agent : AgentRow) (first last ms : ℕ) (right : IsConsistent start) (one : active_agents start ≡ agent ∷ [])
-    (unreserved : is_unreserved agent.total ≡ true) (worth : is_allocatable (free_of start agent) ≡ true) (late : last ≤ LATEST_MOMENT)
+    (unreserved : is_unreserved agent.total ≡ true) (worth : is_allocatable (free_of start agent) ≡ true) (late : last ≤ LATEST_TIMESTAMP)
     (long : last < first + min ms LONGEST_FILTER) where
   abbrev held : Rows → Client → Bool
   held = is_held start agent first last ms right one unreserved worth late long
@@ -84,22 +84,22 @@ module _ (start : Rows) (agent : AgentRow) (first last ms : ℕ) (right : IsCons
   abbrev Waiting : Rows → Type 0
   Waiting = Waits start agent first last ms right one unreserved worth late long
 
-  offered_in : (moments : List ℕ) (rows : Rows) → Waiting rows → AllByRecursion (λ at. (first ≤ at) × (at ≤ last)) moments
-      → count_by (λ c. not (held rows c)) (active_clients start) ≤ length moments
-      → (client : Client) → Has (active_clients start) client → held rows client ≡ false → IsOffered (made_in ms rows moments) client
+  offered_in : (timestamps : List ℕ) (rows : Rows) → Waiting rows → AllByRecursion (λ at. (first ≤ at) × (at ≤ last)) timestamps
+      → count_by (λ c. not (held rows c)) (active_clients start) ≤ length timestamps
+      → (client : Client) → Has (active_clients start) client → held rows client ≡ false → IsOffered (made_in ms rows timestamps) client
   offered_in [] rows waits times few client has past =
       absurd (omega (arith, few, some_count (λ c. not (held rows c)) (active_clients start) client has (ap not past)))
-  offered_in (at ∷ moments) rows waits times few client has past =
+  offered_in (at ∷ timestamps) rows waits times few client has past =
       elim (next start agent first last ms right one unreserved worth late long rows at waits times.0.0 times.0.1) [
         | inl all ↦ absurd (true≢false (sym (each_at (λ c. held rows c ≡ true) (active_clients start) has.0 client all has.1) ∙ past))
         | inr round_made ↦
-            let to : Client = (of_offer round_made.offer).client in
+            let to : Client = (holding_of_offer round_made.offer).client in
             let itself : is_same_client to to ≡ true = and_from (same_path to.role to.role) _ (same_path_itself to.role) (same_itself to.framework) in
             let fewer = one_less (held rows) (held (round ms rows at)) (λ c. is_same_client c to) round_made.held (active_clients start) to round_made.has
             round_made.past itself in
-            let later = offered_in moments (round ms rows at) round_made.waits times.1 (omega (arith, fewer, few)) client has in
-            let rest : List OfferRow = made_in ms (round ms rows at) moments in
-            ap (λ (os : List OfferRow). list_any (λ o. is_same_client client (of_offer o).client) (os ++ rest)) round_made.made
+            let later = offered_in timestamps (round ms rows at) round_made.waits times.1 (omega (arith, fewer, few)) client has in
+            let rest : List OfferRow = made_in ms (round ms rows at) timestamps in
+            ap (λ (os : List OfferRow). list_any (λ o. is_same_client client (holding_of_offer o).client) (os ++ rest)) round_made.made
             ∙ elim (cases_Bool (is_same_client client to)) [
               | inl same ↦ or_left (is_same_client client to) _ same
               | inr other ↦
@@ -113,7 +113,7 @@ nobody_waits (client ∷ clients) offers none = absurd (omega (arith, none))
 
 pub everybody_is_offered : EverybodyIsOffered
 everybody_is_offered rows agent [] first last ms right is_open one worth clock late times long enough = nobody_waits (active_clients rows) [] enough
-everybody_is_offered rows agent (at ∷ moments) first last ms right is_open one worth clock late times long enough =
+everybody_is_offered rows agent (at ∷ timestamps) first last ms right is_open one worth clock late times long enough =
     let none = (subst (AllByRecursion (λ a. is_unreserved a.total ≡ true)) one
     (each_filter (λ a. is_unreserved a.total ≡ true) (λ a. a.active) rows.agents is_open.unreserved)).0 in
     let held : Client → Bool = is_held rows agent first last ms right one none worth late long rows in
@@ -131,8 +131,8 @@ everybody_is_offered rows agent (at ∷ moments) first last ms right is_open one
       clock = clock;
       lasting = each_from (λ f. f.until ≤ begin) (OutOrLasts begin last) rows.filters (λ f out. inl out) (ran_out begin rows.filters is_open.filters);
     } in
-    let few : count_by (λ c. not (held c)) (active_clients rows) ≤ length (at ∷ moments) =
+    let few : count_by (λ c. not (held c)) (active_clients rows) ≤ length (at ∷ timestamps) =
     omega (arith, count_by-le-length (λ c. not (held c)) (active_clients rows), enough) in
-    each_from (Has (active_clients rows)) (IsOffered (made_in ms rows (at ∷ moments))) (active_clients rows)
-    (λ client has. offered_in rows agent first last ms right one none worth late long (at ∷ moments) rows waits times few client has (nobody client))
+    each_from (Has (active_clients rows)) (IsOffered (made_in ms rows (at ∷ timestamps))) (active_clients rows)
+    (λ client has. offered_in rows agent first last ms right one none worth late long (at ∷ timestamps) rows waits times few client has (nobody client))
     (each_is_at (active_clients rows))

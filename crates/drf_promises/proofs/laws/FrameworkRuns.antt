@@ -16,19 +16,19 @@ use Rattle.drf_bundle.specs.Bundle.{relabel}
 use Rattle.drf_bundle.specs.Taken.{rest_of_all}
 use Rattle.drf_rows.specs.Client.{Client, path_of}
 use Rattle.drf_rows.specs.Consistent.{IsConsistent}
-use Rattle.drf_rows.specs.Cycle.{at_moment}
-use Rattle.drf_rows.specs.Endings.{Ending, ends_offer, ends_task, without_ended, one_offer, one_task, offers_on, all_on}
+use Rattle.drf_rows.specs.Cycle.{at_timestamp}
+use Rattle.drf_rows.specs.Releases.{Release, ends_offer, ends_task, without_ended, one_offer, one_task, offers_on, all_on}
 use Rattle.drf_rows.specs.Filters.{in_force, is_on_agent}
 use Rattle.drf_rows.specs.Held.{active_clients, client_of, count_of}
 use Rattle.drf_rows.specs.LimitNumbers.{LimitNumbers}
 use Rattle.drf_rows.specs.Members.{active_at, distinct, new_client}
 use Rattle.drf_rows.specs.Offers.{filters_all, filters_rest, is_empty, offer_accepted, offer_at, offer_declined, task_of}
-use Rattle.drf_rows.specs.Step.{refusal_of, effect, answer, line_told, replies_to, reply_to, rows_after}
+use Rattle.drf_rows.specs.Step.{refusal_of, effect, answer, line_reported, replies_to, reply_to, rows_after}
 use Rattle.drf_rows.specs.Quota.{limits_with}
 use Rattle.drf_rows.specs.Tasks.{Start, uses}
 use Rattle.drf_rows.specs.Totals.{exchanged, total_at}
 use Rattle.drf_rows.specs.Weights.{weights_with}
-use Rattle.drf_row_laws.specs.LifeLaws.{lines_told}
+use Rattle.drf_row_laws.specs.LifeLaws.{lines_reported}
 use Rattle.drf_bundle.proofs.ListLaws.{each_filter}
 use Rattle.drf_row_laws.proofs.StepLaws.{reply_to-accepted, reply_to-refused, rows_after-accepted, rows_after-refused}
 use Rattle.drf_rows.specs.declared.event.Event.{Event}
@@ -213,15 +213,15 @@ module _ {X Y : Type 0} (u : X → Y) where
 
 -- the same offers and tasks end
 module _ (rows other : Rows) (alike : StandAlike rows other) where
-  ended-alike : (ending same : Ending) → map (ends_offer same) other.offers ≡ map (ends_offer ending) rows.offers
-      → map (ends_task same) other.tasks ≡ map (ends_task ending) rows.tasks → StandAlike (without_ended rows ending) (without_ended other same)
-  ended-alike ending same offers tasks = record {
+  ended-alike : (release same : Release) → map (ends_offer same) other.offers ≡ map (ends_offer release) rows.offers
+      → map (ends_task same) other.tasks ≡ map (ends_task release) rows.tasks → StandAlike (without_ended rows release) (without_ended other same)
+  ended-alike release same offers tasks = record {
     agents = alike.agents;
     weights = alike.weights;
     limits = alike.limits;
     next_offer = alike.next_offer;
-    offers = left-alike unnamed_offer (ends_offer ending) (ends_offer same) rows.offers other.offers alike.offers offers;
-    tasks = left-alike unnamed_task (ends_task ending) (ends_task same) rows.tasks other.tasks alike.tasks tasks;
+    offers = left-alike unnamed_offer (ends_offer release) (ends_offer same) rows.offers other.offers alike.offers offers;
+    tasks = left-alike unnamed_task (ends_task release) (ends_task same) rows.tasks other.tasks alike.tasks tasks;
     parts = alike.parts;
     counts = alike.counts;
     unfiltered = alike.unfiltered;
@@ -245,9 +245,9 @@ module _ (rows other : Rows) (alike : StandAlike rows other) where
       ∙ map-map p unnamed_task rows.tasks
       ∙ (λ i. map (λ t. blind t i) rows.tasks)
 
-  same_ended : (ending : Ending) → ((o : OfferRow) → ends_offer ending (unnamed_offer o) ≡ ends_offer ending o)
-      → ((t : TaskRow) → ends_task ending (unnamed_task t) ≡ ends_task ending t) → StandAlike (without_ended rows ending) (without_ended other ending)
-  same_ended ending offers tasks = ended-alike ending ending (tests-offers (ends_offer ending) offers) (tests-tasks (ends_task ending) tasks)
+  same_ended : (release : Release) → ((o : OfferRow) → ends_offer release (unnamed_offer o) ≡ ends_offer release o)
+      → ((t : TaskRow) → ends_task release (unnamed_task t) ≡ ends_task release t) → StandAlike (without_ended rows release) (without_ended other release)
+  same_ended release offers tasks = ended-alike release release (tests-offers (ends_offer release) offers) (tests-tasks (ends_task release) tasks)
 
   offer_at-alike : (number : ℕ) → option_map unnamed_offer (offer_at other number) ≡ option_map unnamed_offer (offer_at rows number)
   offer_at-alike number =
@@ -334,14 +334,14 @@ module _ (rows other : Rows) (alike : StandAlike rows other) (at refuse_ms : ℕ
         ∙ tests-offers rows other alike (ends_offer (one_offer o.number)) (λ q. refl))
         (tests-tasks rows other alike (ends_task (one_offer o.number)) (λ t. refl))
 
-    declined-alike : IsUnfiltered (offer_declined (at_moment rows at) o refuse_ms)
-        → StandAlike (offer_declined (at_moment rows at) o refuse_ms) (offer_declined (at_moment other at) p refuse_ms)
+    declined-alike : IsUnfiltered (offer_declined (at_timestamp rows at) o refuse_ms)
+        → StandAlike (offer_declined (at_timestamp rows at) o refuse_ms) (offer_declined (at_timestamp other at) p refuse_ms)
     declined-alike none =
         let never : filters_all refuse_ms ≡ false =
         no_filter (max rows.clock at) (filters_all refuse_ms) rows.filters _ (set_in_force (max rows.clock at) refuse_ms) none in
         settled (without_ended rows (one_offer o.number)) (without_ended other (one_offer p.number)) closed
-        (offer_declined (at_moment rows at) o refuse_ms).filters (offer_declined (at_moment other at) p refuse_ms).filters
-        (at_moment rows at).clock (at_moment other at).clock rows.events other.events none
+        (offer_declined (at_timestamp rows at) o refuse_ms).filters (offer_declined (at_timestamp other at) p refuse_ms).filters
+        (at_timestamp rows at).clock (at_timestamp other at).clock rows.events other.events none
         (unfiltered_still (max other.clock at) (filters_all refuse_ms) other.filters _ never unfiltered_then)
 
     module _ (names : Names) (starts : List Start) where
@@ -358,8 +358,8 @@ module _ (rows other : Rows) (alike : StandAlike rows other) (at refuse_ms : ℕ
       rest-alike : filters_rest p too refuse_ms ≡ filters_rest o starts refuse_ms
       rest-alike = λ i. nat_lt 0 refuse_ms && not (is_empty (rest_of_all (same i).bundle (uses-renamed names starts i)))
 
-      accepted-alike : IsUnfiltered (offer_accepted (at_moment rows at) o starts refuse_ms)
-          → StandAlike (offer_accepted (at_moment rows at) o starts refuse_ms) (offer_accepted (at_moment other at) p too refuse_ms)
+      accepted-alike : IsUnfiltered (offer_accepted (at_timestamp rows at) o starts refuse_ms)
+          → StandAlike (offer_accepted (at_timestamp rows at) o starts refuse_ms) (offer_accepted (at_timestamp other at) p too refuse_ms)
       accepted-alike none =
           let never : filters_rest o starts refuse_ms ≡ false =
           no_filter (max rows.clock at) (filters_rest o starts refuse_ms) rows.filters _
@@ -381,18 +381,18 @@ module _ (rows other : Rows) (alike : StandAlike rows other) (at refuse_ms : ℕ
           }
 
   after_decline : (found too : Option OfferRow) → option_map unnamed_offer too ≡ option_map unnamed_offer found
-      → IsUnfiltered (option_map_or (λ o. offer_declined (at_moment rows at) o refuse_ms) found rows)
-      → StandAlike (option_map_or (λ o. offer_declined (at_moment rows at) o refuse_ms) found rows)
-      (option_map_or (λ o. offer_declined (at_moment other at) o refuse_ms) too other)
+      → IsUnfiltered (option_map_or (λ o. offer_declined (at_timestamp rows at) o refuse_ms) found rows)
+      → StandAlike (option_map_or (λ o. offer_declined (at_timestamp rows at) o refuse_ms) found rows)
+      (option_map_or (λ o. offer_declined (at_timestamp other at) o refuse_ms) too other)
   after_decline None None same none = alike
   after_decline None (Some p) same none = cc
   after_decline (Some o) None same none = cc
   after_decline (Some o) (Some p) same none = let one : unnamed_offer p ≡ unnamed_offer o = cc in declined-alike o p one none
 
   after_accept : (names : Names) (starts : List Start) (found too : Option OfferRow) → option_map unnamed_offer too ≡ option_map unnamed_offer found
-      → IsUnfiltered (option_map_or (λ o. offer_accepted (at_moment rows at) o starts refuse_ms) found rows)
-      → StandAlike (option_map_or (λ o. offer_accepted (at_moment rows at) o starts refuse_ms) found rows)
-      (option_map_or (λ o. offer_accepted (at_moment other at) o (renamed names starts) refuse_ms) too other)
+      → IsUnfiltered (option_map_or (λ o. offer_accepted (at_timestamp rows at) o starts refuse_ms) found rows)
+      → StandAlike (option_map_or (λ o. offer_accepted (at_timestamp rows at) o starts refuse_ms) found rows)
+      (option_map_or (λ o. offer_accepted (at_timestamp other at) o (renamed names starts) refuse_ms) too other)
   after_accept names starts None None same none = alike
   after_accept names starts None (Some p) same none = cc
   after_accept names starts (Some o) None same none = cc
@@ -455,24 +455,24 @@ module _ (limits : LimitNumbers) (rows other : Rows) (consistent : IsConsistent 
 
 -- ---- replies
 
-abbrev told_to_roles : Reply → List OfferLine
-told_to_roles reply = map to_role (lines_told reply)
+abbrev reported_to_roles : Reply → List OfferLine
+reported_to_roles reply = map to_role (lines_reported reply)
 
-told_by_offers : (n : ℕ) (os : List OfferRow) → map to_role (map line_told (drop n os)) ≡ map line_told (drop n (map unnamed_offer os))
-told_by_offers n os =
-    map-map to_role line_told (drop n os)
-    ∙ sym (map-map line_told unnamed_offer (drop n os))
-    ∙ ap (map line_told) (sym (drop-map unnamed_offer n os))
+reported_by_offers : (n : ℕ) (os : List OfferRow) → map to_role (map line_reported (drop n os)) ≡ map line_reported (drop n (map unnamed_offer os))
+reported_by_offers n os =
+    map-map to_role line_reported (drop n os)
+    ∙ sym (map-map line_reported unnamed_offer (drop n os))
+    ∙ ap (map line_reported) (sym (drop-map unnamed_offer n os))
 
 answer-alike : (rows other : Rows) (event : Event) (names : Names) → StandAlike rows other
     → StandAlike (effect rows event) (effect other (with_names names event))
-    → told_to_roles (answer other (effect other (with_names names event)) (with_names names event)) ≡ told_to_roles (answer rows (effect rows event) event)
+    → reported_to_roles (answer other (effect other (with_names names event)) (with_names names event)) ≡ reported_to_roles (answer rows (effect rows event) event)
 answer-alike rows other (Cycle at) names before after =
     let length_same : length other.offers ≡ length rows.offers =
     sym (length-map other.offers unnamed_offer) ∙ ap length before.offers ∙ length-map rows.offers unnamed_offer in
-    told_by_offers (length other.offers) (effect other (Cycle at)).offers
-    ∙ (λ i. map line_told (drop (length_same i) (after.offers i)))
-    ∙ sym (told_by_offers (length rows.offers) (effect rows (Cycle at)).offers)
+    reported_by_offers (length other.offers) (effect other (Cycle at)).offers
+    ∙ (λ i. map line_reported (drop (length_same i) (after.offers i)))
+    ∙ sym (reported_by_offers (length rows.offers) (effect rows (Cycle at)).offers)
 answer-alike rows other event names before after = refl
 
 -- ---- a step
@@ -484,7 +484,7 @@ module _ (limits : LimitNumbers) (rows other : Rows) (consistent : IsConsistent 
 
   pub record GoesOn : Type 0 where
     pub stand : StandAlike (rows_after limits rows event) (rows_after limits other renamed_event)
-    pub told : told_to_roles (reply_to limits other renamed_event) ≡ told_to_roles (reply_to limits rows event)
+    pub reported : reported_to_roles (reply_to limits other renamed_event) ≡ reported_to_roles (reply_to limits rows event)
 
   step-alike : GoesOn
   step-alike = by (refusal_of limits rows event) (refusal_of limits other renamed_event) refl refl
@@ -500,19 +500,19 @@ module _ (limits : LimitNumbers) (rows other : Rows) (consistent : IsConsistent 
                 (λ i. (sym (rows_after-accepted limits rows event accepted) i, sym (rows_after-accepted limits other renamed_event welcome) i))
                 (settled (effect rows event) (effect other renamed_event) after (effect rows event).filters (effect other renamed_event).filters
                 (effect rows event).clock (effect other renamed_event).clock (rows.events + 1) (other.events + 1) after.unfiltered after.unfiltered_too);
-            told =
-                ap told_to_roles (reply_to-accepted limits other renamed_event welcome)
+            reported =
+                ap reported_to_roles (reply_to-accepted limits other renamed_event welcome)
                 ∙ answer-alike rows other event names alike after
-                ∙ sym (ap told_to_roles (reply_to-accepted limits rows event accepted));
+                ∙ sym (ap reported_to_roles (reply_to-accepted limits rows event accepted));
           }
       by (Some refusal) (Some other_refusal) refused refused_too = record {
         stand =
             subst (λ (p : Rows × Rows). StandAlike p.0 p.1)
             (λ i. (sym (rows_after-refused limits rows event refusal refused) i, sym (rows_after-refused limits other renamed_event other_refusal refused_too) i))
             alike;
-        told =
-            ap told_to_roles (reply_to-refused limits other renamed_event other_refusal refused_too)
-            ∙ sym (ap told_to_roles (reply_to-refused limits rows event refusal refused));
+        reported =
+            ap reported_to_roles (reply_to-refused limits other renamed_event other_refusal refused_too)
+            ∙ sym (ap reported_to_roles (reply_to-refused limits rows event refusal refused));
       }
       by None (Some refusal) accepted refused =
           absurd (true≢false (sym (ap (is_some {T = Refusal}) refused) ∙ comes.refused ∙ ap (is_some {T = Refusal}) accepted))
@@ -537,15 +537,15 @@ comes-alike limits rows other framework roles alike have = by (refusal_of limits
 
 -- the reply to it makes no offer
 comes_untold : (limits : LimitNumbers) (other : Rows) (framework : Text) (roles : List Path)
-    → told_to_roles (reply_to limits other (AddFramework framework roles)) ≡ []
+    → reported_to_roles (reply_to limits other (AddFramework framework roles)) ≡ []
 comes_untold limits other framework roles = by (refusal_of limits other event) refl
   where
     event : Event
     event = AddFramework framework roles
 
-    by : (found : Option Refusal) → refusal_of limits other event ≡ found → told_to_roles (reply_to limits other event) ≡ []
-    by None accepted = ap told_to_roles (reply_to-accepted limits other event accepted)
-    by (Some refusal) refused = ap told_to_roles (reply_to-refused limits other event refusal refused)
+    by : (found : Option Refusal) → refusal_of limits other event ≡ found → reported_to_roles (reply_to limits other event) ≡ []
+    by None accepted = ap reported_to_roles (reply_to-accepted limits other event accepted)
+    by (Some refusal) refused = ap reported_to_roles (reply_to-refused limits other event refusal refused)
 
 -- ---- a run
 
@@ -558,10 +558,10 @@ more_frameworks_gain_nothing limits rows other (in_both event names ∷ steps) c
     (IsConsistent-after limits rows event consistent given.0) (IsConsistent-after limits other too right given_too.0)
     given.1 given_too.1 keep.1 step.stand come.1 in (
       later.0,
-      map-append to_role (lines_told (reply_to limits other too)) (flat_map lines_told (replies_to limits (rows_after limits other too) (events_of_other steps)))
-          ∙ (λ i. step.told i ++ later.1 i)
-          ∙ sym (map-append to_role (lines_told (reply_to limits rows event))
-          (flat_map lines_told (replies_to limits (rows_after limits rows event) (events_of_one steps)))),
+      map-append to_role (lines_reported (reply_to limits other too)) (flat_map lines_reported (replies_to limits (rows_after limits other too) (events_of_other steps)))
+          ∙ (λ i. step.reported i ++ later.1 i)
+          ∙ sym (map-append to_role (lines_reported (reply_to limits rows event))
+          (flat_map lines_reported (replies_to limits (rows_after limits rows event) (events_of_one steps)))),
     )
 more_frameworks_gain_nothing limits rows other (comes framework roles ∷ steps) consistent right given given_too keep alike come =
     let event : Event = AddFramework framework roles in
@@ -569,6 +569,6 @@ more_frameworks_gain_nothing limits rows other (comes framework roles ∷ steps)
     consistent (IsConsistent-after limits other event right given_too.0) given given_too.1 keep
     (comes-alike limits rows other framework roles alike come.0) come.1 in (
       later.0,
-      map-append to_role (lines_told (reply_to limits other event)) (flat_map lines_told (replies_to limits (rows_after limits other event) (events_of_other steps)))
+      map-append to_role (lines_reported (reply_to limits other event)) (flat_map lines_reported (replies_to limits (rows_after limits other event) (events_of_other steps)))
           ∙ (λ i. comes_untold limits other framework roles i ++ later.1 i),
     )

@@ -11,14 +11,14 @@ use Rattle.drf_bundle.specs.Bundle.{IsBundle}
 use Rattle.drf_bundle.specs.declared.resource.Resource.{Resource}
 use Rattle.drf_rows.specs.Client.{Client, path_of}
 use Rattle.drf_rows.specs.Consistent.{IsConsistent}
-use Rattle.drf_rows.specs.Cycle.{grant, new_offer, with_offer, tried, all_tried, turn_order, turn, turns, at_moment, cycle}
+use Rattle.drf_rows.specs.Cycle.{grant, new_offer, with_offer, tried, all_tried, turn_order, turn, turns, at_timestamp, cycle}
 use Rattle.drf_rows.specs.Held.{active_clients, is_registered}
 use Rattle.drf_rows.specs.Held as rows_word
 use Rattle.drf_row_laws.proofs.CycleLaws.{all_tried-append}
 use Rattle.drf_bundle.proofs.ListLaws.{each_append, each_at, each_from, each_parts, list_any_at}
 use Rattle.drf_laws.proofs.OfferedLaws.{each_served}
 use Rattle.drf_row_laws.proofs.ServingOrder.{stands_before-back}
-use Rattle.drf_rows.specs.declared.limits.TheConstants.{LATEST_MOMENT}
+use Rattle.drf_rows.specs.declared.limits.TheConstants.{LATEST_TIMESTAMP}
 use Rattle.drf_rows.specs.declared.rows.AgentRow.{AgentRow}
 use Rattle.drf_rows.specs.declared.rows.Rows.{Rows}
 use Rattle.drf_laws.proofs.laws.Turns.{turn_order-registered}
@@ -243,12 +243,12 @@ module _ (start origin : Rows) (same : origin.agents ≡ start.agents) where
       (midway-turn start rows agent at.0 first) (midway-turn origin other agent (there origin.agents same) second)
       (turn-alike rows other agent (there rows.agents first.agents) (there other.agents (second.agents ∙ same)) first.consistent second.consistent alike)
 
-pub cycle-alike : (rows other : Rows) (at : ℕ) → IsConsistent rows → IsConsistent other → at ≤ LATEST_MOMENT → StandAlike rows other
+pub cycle-alike : (rows other : Rows) (at : ℕ) → IsConsistent rows → IsConsistent other → at ≤ LATEST_TIMESTAMP → StandAlike rows other
     → StandAlike (cycle rows at) (cycle other at)
 unfolding cycle
 cycle-alike rows other at consistent right early alike =
-    subst (λ (agents : List AgentRow). StandAlike (cycle rows at) (turns (at_moment other at) (filter (λ a. a.active) agents))) (sym alike.agents)
-    (turns-alike (at_moment rows at) (at_moment other at) alike.agents (at_moment rows at) (at_moment other at) (active_agents rows)
+    subst (λ (agents : List AgentRow). StandAlike (cycle rows at) (turns (at_timestamp other at) (filter (λ a. a.active) agents))) (sym alike.agents)
+    (turns-alike (at_timestamp rows at) (at_timestamp other at) alike.agents (at_timestamp rows at) (at_timestamp other at) (active_agents rows)
     (all_at rows at consistent early) (begin rows at consistent early) (begin other at right early)
     (record {
       agents = alike.agents;

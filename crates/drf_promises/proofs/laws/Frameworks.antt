@@ -19,7 +19,7 @@ use Rattle.drf_rows.specs.Consistent.{IsFramework, IsConsistent}
 use Rattle.drf_rows.specs.Cycle.{free_of, grant, is_allocatable, new_offer, with_offer}
 use Rattle.drf_rows.specs.Held.{active_clients, client_of, cluster_total, held_by, is_registered, weight_of}
 use Rattle.drf_rows.specs.Held as rows_word
-use Rattle.drf_rows.specs.Holdings.{Holding, amount_in, of_offer, of_task, holdings_of, held_where, is_under, parts_on}
+use Rattle.drf_rows.specs.Holdings.{Holding, amount_in, holding_of_offer, holding_of_task, holdings_of, held_where, is_under, parts_on}
 use Rattle.drf_rows.specs.Quota.{consumption, entitlement, headrooms, is_within, reserved_for, unreserved_in}
 use Rattle.drf_rows.specs.Share.{Standing, is_ahead, stands_before_below}
 use Rattle.drf_row_laws.proofs.ConsistentLaws.{registered_once, same_text-swap, times_registered}
@@ -99,11 +99,11 @@ abbrev unnamed : Holding → Holding
 unnamed h = record h { client = record h.client { framework = [] } }
 
 unnamed-all : (os : List OfferRow) (ts : List TaskRow)
-    → map unnamed (map of_offer os ++ map of_task ts) ≡ map of_offer (map unnamed_offer os) ++ map of_task (map unnamed_task ts)
+    → map unnamed (map holding_of_offer os ++ map holding_of_task ts) ≡ map holding_of_offer (map unnamed_offer os) ++ map holding_of_task (map unnamed_task ts)
 unnamed-all os ts =
-    map-append unnamed (map of_offer os) (map of_task ts)
-    ∙ (λ i. (map-map unnamed of_offer os ∙ sym (map-map of_offer unnamed_offer os)) i
-    ++ (map-map unnamed of_task ts ∙ sym (map-map of_task unnamed_task ts)) i)
+    map-append unnamed (map holding_of_offer os) (map holding_of_task ts)
+    ∙ (λ i. (map-map unnamed holding_of_offer os ∙ sym (map-map holding_of_offer unnamed_offer os)) i
+    ++ (map-map unnamed holding_of_task ts ∙ sym (map-map holding_of_task unnamed_task ts)) i)
 
 held-unnamed : (node : Path) → IsOfRoles node → (hs : List Holding) (label : Text)
     → held_where (is_under node) (map unnamed hs) label ≡ held_where (is_under node) hs label
@@ -124,7 +124,7 @@ module _ (rows other : Rows) (alike : StandAlike rows other) where
   holdings-alike : map unnamed (holdings_of other) ≡ map unnamed (holdings_of rows)
   holdings-alike =
       unnamed-all other.offers other.tasks
-      ∙ (λ i. map of_offer (alike.offers i) ++ map of_task (alike.tasks i))
+      ∙ (λ i. map holding_of_offer (alike.offers i) ++ map holding_of_task (alike.tasks i))
       ∙ sym (unnamed-all rows.offers rows.tasks)
 
   held-alike : (node : Path) → IsOfRoles node → (label : Text) → held_by other node label ≡ held_by rows node label

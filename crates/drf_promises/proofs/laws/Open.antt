@@ -10,7 +10,7 @@ use Rattle.drf_bundle.specs.Taken.{rest_of_all}
 use Rattle.drf_bundle.proofs.laws.PartLaws.{part_for-all}
 use Rattle.drf_bundle.specs.declared.resource.Resource.{Resource}
 use Rattle.drf_rows.specs.Client.{Client}
-use Rattle.drf_rows.specs.Cycle.{free_of, is_allocatable, grant, new_offer, with_offer, all_tried, turn_order, turn, at_moment, cycle}
+use Rattle.drf_rows.specs.Cycle.{free_of, is_allocatable, grant, new_offer, with_offer, all_tried, turn_order, turn, at_timestamp, cycle}
 use Rattle.drf_rows.specs.Filters.{is_held_back}
 use Rattle.drf_rows.specs.Holdings.{holdings_of, parts_on, AreBundles}
 use Rattle.drf_rows.specs.Quota.{headroom, headrooms, consumption, entitlement}
@@ -100,7 +100,7 @@ module _ (rows : Rows) (is_open : IsOpen rows) (agent : AgentRow) (total : IsBun
 -- a cycle changes no filters and moves the clock to its timestamp
 kept-cycle : (rows : Rows) (at : ℕ) → ((cycle rows at).filters ≡ rows.filters) × ((cycle rows at).clock ≡ max rows.clock at)
 unfolding cycle
-kept-cycle rows at = kept-turns (at_moment rows at) (active_agents rows)
+kept-cycle rows at = kept-turns (at_timestamp rows at) (active_agents rows)
 
 pub all_is_handed_out : AllIsHandedOut
 all_is_handed_out rows at client consistent early is_open takes =

@@ -9,7 +9,7 @@ use Rattle.drf_role.specs.Text.{Text}
 use Rattle.drf_bundle.specs.Bundle.{IsBundle}
 use Rattle.drf_rows.specs.Client.{path_of}
 use Rattle.drf_rows.specs.Consistent.{IsConsistent}
-use Rattle.drf_rows.specs.Cycle.{at_moment, with_offer, cycle}
+use Rattle.drf_rows.specs.Cycle.{at_timestamp, with_offer, cycle}
 use Rattle.drf_rows.specs.Held.{cluster_total, count_of, held_by, weight_of}
 use Rattle.drf_rows.specs.Held as rows_word
 use Rattle.drf_rows.specs.Holdings.{is_under}
@@ -70,7 +70,7 @@ grows-offer rows offer = record {
 grows-cycle : (rows : Rows) (at : ℕ) → Grows rows (cycle rows at)
 unfolding cycle
 grows-cycle rows at =
-    let start : Rows = at_moment rows at in
+    let start : Rows = at_timestamp rows at in
     let all = any_turns (Grows start) (λ r offer so. grows_on start r (with_offer r offer) so (grows-offer r offer)) start (active_agents rows) (grows_by_nothing start) in
     record { held = all.held; count = all.count; total = all.total; weights = all.weights }
 
@@ -79,7 +79,7 @@ grows-cycle rows at =
 module _ (limits : LimitNumbers) (rows : Rows) (consistent : IsConsistent rows) where
   grows-accept : (a : accepting.Accept) → AllByRecursion IsBundle (uses a.tasks) → KeepsAll rows (Accept a) → refusal_of limits rows (Accept a) ≡ None
       → (found : Option OfferRow) → offer_at rows a.offer ≡ found
-      → Grows rows (option_map_or (λ o. offer_accepted (at_moment rows a.at) o a.tasks a.refuse_ms) found rows)
+      → Grows rows (option_map_or (λ o. offer_accepted (at_timestamp rows a.at) o a.tasks a.refuse_ms) found rows)
   grows-accept a given keeps accepted None found = grows_by_nothing rows
   grows-accept a given keeps accepted (Some o) found = record {
     held = λ node label. omega (arith, held-accepted limits rows consistent a given accepted o found (keeps o found) node label);

@@ -8,7 +8,7 @@ use Rattle.drf_role.specs.Path.{Path, begins_with}
 use Rattle.drf_role.specs.Text.{Text}
 use Rattle.drf_rows.specs.Client.{Client, path_of}
 use Rattle.drf_rows.specs.Consistent.{IsConsistent}
-use Rattle.drf_rows.specs.Cycle.{at_moment, turn, turns, turn_order, cycle}
+use Rattle.drf_rows.specs.Cycle.{at_timestamp, turn, turns, turn_order, cycle}
 use Rattle.drf_rows.specs.Held.{count_of}
 use Rattle.drf_rows.specs.LimitNumbers.{LimitNumbers}
 use Rattle.drf_rows.specs.Step.{refusal_of, effect, rows_after, rows_after_all}
@@ -86,11 +86,11 @@ module _ (limits : LimitNumbers) (rows : Rows) (consistent : IsConsistent rows) 
   }
 
   goes_cycle : (at : ℕ) → refusal_of limits rows (Cycle at) ≡ None
-      → Goes (Cycle at) (passes_in_turns its (at_moment rows at) (active_agents rows)) (cycle rows at)
+      → Goes (Cycle at) (passes_in_turns its (at_timestamp rows at) (active_agents rows)) (cycle rows at)
   unfolding cycle
   goes_cycle at accepted =
       let early = early_cycle limits rows at accepted in
-      let start : Rows = at_moment rows at in
+      let start : Rows = at_timestamp rows at in
       record {
         rises = count-turns start (active_agents rows) its;
         clients = λ all. subst (All start parent one others) (sym (end rows at consistent early).active) all;
@@ -102,7 +102,7 @@ module _ (limits : LimitNumbers) (rows : Rows) (consistent : IsConsistent rows) 
   unfolding effect
   goes_effect (Cycle at) keeps accepted =
       subst (λ (n : ℕ). Goes (Cycle at) n (cycle rows at))
-      (sym (ap (λ (r : Option Refusal). option_map_or (λ refusal. 0) r (passes_in_turns its (at_moment rows at) (active_agents rows))) accepted))
+      (sym (ap (λ (r : Option Refusal). option_map_or (λ refusal. 0) r (passes_in_turns its (at_timestamp rows at) (active_agents rows))) accepted))
       (goes_cycle at accepted)
   goes_effect (AddFramework framework roles) keeps accepted = absurd keeps
   goes_effect (SetFramework framework roles) keeps accepted = absurd keeps
@@ -113,7 +113,7 @@ module _ (limits : LimitNumbers) (rows : Rows) (consistent : IsConsistent rows) 
 
   none_refused : (event : Event) (refusal : Refusal) → refusal_of limits rows event ≡ Some refusal → passes_at limits its rows event ≡ 0
   none_refused (Cycle at) refusal refused =
-      ap (λ (r : Option Refusal). option_map_or (λ refusal. 0) r (passes_in_turns its (at_moment rows at) (active_agents rows))) refused
+      ap (λ (r : Option Refusal). option_map_or (λ refusal. 0) r (passes_in_turns its (at_timestamp rows at) (active_agents rows))) refused
   none_refused other refusal refused = refl
 
   goes_after : (event : Event) → KeepsFrameworks event → Goes event (passes_at limits its rows event) (rows_after limits rows event)

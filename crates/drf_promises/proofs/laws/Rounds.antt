@@ -14,30 +14,30 @@ use Rattle.drf_bundle.proofs.laws.RestLaws.{covers_units}
 use Rattle.drf_bundle.specs.declared.resource.Resource.{Resource}
 use Rattle.drf_rows.specs.Client.{Client}
 use Rattle.drf_rows.specs.Consistent.{IsAgent, IsFilter, IsConsistent}
-use Rattle.drf_rows.specs.Cycle.{free_of, is_allocatable, new_offer, with_offer, turn, turns, turn_order, at_moment, cycle}
-use Rattle.drf_rows.specs.Endings.{one_offer, without_ended}
+use Rattle.drf_rows.specs.Cycle.{free_of, is_allocatable, new_offer, with_offer, turn, turns, turn_order, at_timestamp, cycle}
+use Rattle.drf_rows.specs.Releases.{one_offer, without_ended}
 use Rattle.drf_rows.specs.Filters.{is_in_force, is_held_back, is_of_client, is_on_agent}
 use Rattle.drf_rows.specs.Held.{active_clients}
 use Rattle.drf_rows.specs.Held as rows_word
-use Rattle.drf_rows.specs.Holdings.{of_offer, of_task, parts_on}
+use Rattle.drf_rows.specs.Holdings.{holding_of_offer, holding_of_task, parts_on}
 use Rattle.drf_rows.specs.Offers.{filter_of, filtered_until, filters_with, offer_at, offer_declined}
 use Rattle.drf_rows.specs.Step.{effect}
 use Rattle.drf_row_laws.proofs.ConsistentLaws.{bundles-consistent, numbers_within}
 use Rattle.drf_row_laws.proofs.CycleLaws.{active_clients-with_offer, bundle-free_of}
-use Rattle.drf_row_laws.proofs.EndingLaws.{IsConsistent-filters}
+use Rattle.drf_row_laws.proofs.ReleaseLaws.{IsConsistent-filters}
 use Rattle.drf_row_laws.specs.LifeLaws.{is_same_client}
 use Rattle.drf_bundle.proofs.ListLaws.{each_append, each_filter, each_from, each_at, each_true, filter_each, filter_only, find_only}
 use Rattle.drf_row_laws.proofs.OfferLaws.{offer_filter}
 use Rattle.drf_laws.proofs.OfferedLaws.{each_served}
 use Rattle.drf_rows.specs.declared.event.Decline as declining
 use Rattle.drf_rows.specs.declared.event.Event.TheVariants.{Cycle, Decline}
-use Rattle.drf_rows.specs.declared.limits.TheConstants.{LATEST_MOMENT, LONGEST_FILTER}
+use Rattle.drf_rows.specs.declared.limits.TheConstants.{LATEST_TIMESTAMP, LONGEST_FILTER}
 use Rattle.drf_rows.specs.declared.rows.AgentRow.{AgentRow}
 use Rattle.drf_rows.specs.declared.rows.FilterRow.{FilterRow}
 use Rattle.drf_rows.specs.declared.rows.OfferRow.{OfferRow}
 use Rattle.drf_rows.specs.declared.rows.Rows.{Rows}
 use Rattle.drf_laws.specs.FilterLaws.{end_of}
-use Rattle.drf_laws.proofs.laws.Endings.{IsConsistent-ended}
+use Rattle.drf_laws.proofs.laws.Releases.{IsConsistent-ended}
 use Rattle.drf_laws.proofs.laws.Kept.{consistent-clock}
 use Rattle.drf_laws.proofs.laws.SetFilters.{declined_is_held_back}
 use Rattle.drf_promises.specs.Cycles.{active_agents}
@@ -98,18 +98,18 @@ module _ (rows : Rows) (agent : AgentRow) (client : Client) (bundle : List Resou
   unfolding effect with_offer
   is_refused =
       let filtered : nat_lt 0 ms ≡ true = lt-ltb 0 ms some in
-      ap (λ (f : Option OfferRow). option_map_or (λ o. offer_declined (at_moment made at) o ms) f made) found
-      ∙ (λ i. record refused { offers = offers_left i; tasks = tasks_left i; filters = filters_with (at_moment made at) (filtered i) o bundle ms })
+      ap (λ (f : Option OfferRow). option_map_or (λ o. offer_declined (at_timestamp made at) o ms) f made) found
+      ∙ (λ i. record refused { offers = offers_left i; tasks = tasks_left i; filters = filters_with (at_timestamp made at) (filtered i) o bundle ms })
 
-  pub refused_consistent : IsConsistent made → IsBundle bundle → max rows.clock at ≤ LATEST_MOMENT → IsConsistent refused
+  pub refused_consistent : IsConsistent made → IsBundle bundle → max rows.clock at ≤ LATEST_TIMESTAMP → IsConsistent refused
   unfolding with_offer
   refused_consistent right is early =
       let one : FilterRow = filter_of o bundle (filtered_until (max rows.clock at) ms) in
       let filters = each_append (IsFilter made.agents made.frameworks) rows.filters (one ∷ []) right.filters
       (offer_filter made rows.next_offer o bundle (max rows.clock at) ms right found is early, tt) in
       subst IsConsistent (λ i. record refused { offers = offers_left i; tasks = tasks_left i })
-      (IsConsistent-filters (without_ended (at_moment made at) (one_offer rows.next_offer)) (rows.filters ++ one ∷ [])
-      (IsConsistent-ended (at_moment made at) (one_offer rows.next_offer) (consistent-clock made (max rows.clock at) right early)) filters)
+      (IsConsistent-filters (without_ended (at_timestamp made at) (one_offer rows.next_offer)) (rows.filters ++ one ∷ [])
+      (IsConsistent-ended (at_timestamp made at) (one_offer rows.next_offer) (consistent-clock made (max rows.clock at) right early)) filters)
 
 -- ---- a round
 
@@ -142,7 +142,7 @@ covers_itself : (bundle : List Resource) → IsBundle bundle → covers bundle b
 covers_itself bundle is = covers_units bundle bundle is.in_order is.in_order is.each (λ key p. omega arith)
 
 module _ (start : Rows) (agent : AgentRow) (first last ms : ℕ) (right : IsConsistent start) (one : active_agents start ≡ agent ∷ [])
-    (unreserved : is_unreserved agent.total ≡ true) (worth : is_allocatable (free_of start agent) ≡ true) (late : last ≤ LATEST_MOMENT)
+    (unreserved : is_unreserved agent.total ≡ true) (worth : is_allocatable (free_of start agent) ≡ true) (late : last ≤ LATEST_TIMESTAMP)
     (long : last < first + min ms LONGEST_FILTER) where
   abbrev free : List Resource
   free = free_of start agent
@@ -171,27 +171,27 @@ module _ (start : Rows) (agent : AgentRow) (first last ms : ℕ) (right : IsCons
   pub record Offers (rows : Rows) (at : ℕ) : Type 0 where
     pub offer : OfferRow
     pub made : made_at rows at ≡ offer ∷ []
-    pub has : Has (active_clients start) (of_offer offer).client
-    pub past : is_held rows (of_offer offer).client ≡ false
+    pub has : Has (active_clients start) (holding_of_offer offer).client
+    pub past : is_held rows (holding_of_offer offer).client ≡ false
     pub waits : Waits (round ms rows at)
-    pub held : (client : Client) → is_held (round ms rows at) client ≡ (is_held rows client || is_same_client client (of_offer offer).client)
+    pub held : (client : Client) → is_held (round ms rows at) client ≡ (is_held rows client || is_same_client client (holding_of_offer offer).client)
 
   module _ (rows : Rows) (at : ℕ) (waits : Waits rows) (not_before : first ≤ at) (in_time : at ≤ last) where
     abbrev mid : Rows
-    mid = at_moment rows at
+    mid = at_timestamp rows at
 
     mid_consistent : IsConsistent mid
     mid_consistent = consistent-clock rows (max rows.clock at) waits.consistent (omega (arith, waits.clock, in_time, late))
 
     free_is : free_of mid agent ≡ free
     unfolding free_of
-    free_is = λ i. rest_of_all agent.total (parts_on agent.name (map of_offer (waits.offers i) ++ map of_task (waits.tasks i)))
+    free_is = λ i. rest_of_all agent.total (parts_on agent.name (map holding_of_offer (waits.offers i) ++ map holding_of_task (waits.tasks i)))
 
     cycle_is : cycle rows at ≡ turn mid agent
     unfolding cycle
     cycle_is = ap (turns mid) (ap (filter (λ a. a.active)) waits.agents ∙ one)
 
-    early : at ≤ LATEST_MOMENT
+    early : at ≤ LATEST_TIMESTAMP
     early = omega (arith, in_time, late)
 
     total : IsBundle agent.total
@@ -271,10 +271,10 @@ module _ (start : Rows) (agent : AgentRow) (first last ms : ℕ) (right : IsCons
                 waits.lasting (inr (omega (arith, long, not_before)), tt);
           })
 
-      held_more : (client : Client) → is_held (round ms rows at) client ≡ (is_held rows client || is_same_client client (of_offer offered).client)
+      held_more : (client : Client) → is_held (round ms rows at) client ≡ (is_held rows client || is_same_client client (holding_of_offer offered).client)
       unfolding with_offer
       held_more client =
-          let same : Bool = is_same_client client (of_offer offered).client in
+          let same : Bool = is_same_client client (holding_of_offer offered).client in
           let lasts : nat_lt last (end_of after at ms) ≡ true = lt-ltb last (end_of after at ms) (omega (arith, long, not_before)) in
           let cover : covers (free_of mid agent) free ≡ true = ap (λ (b : List Resource). covers b free) free_is ∙ covers_itself free free_bundle in
           let itself : same_text agent.name agent.name ≡ true = same_itself agent.name in

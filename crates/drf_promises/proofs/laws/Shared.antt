@@ -14,10 +14,10 @@ use Rattle.drf_bundle.specs.declared.quantities.Entry.{Entry}
 use Rattle.drf_bundle.specs.declared.resource.Resource.{Resource}
 use Rattle.drf_rows.specs.Client.{Client, path_of}
 use Rattle.drf_rows.specs.Consistent.{IsConsistent, are_distinct}
-use Rattle.drf_rows.specs.Cycle.{free_of, grant, is_allocatable, new_offer, with_offer, turn, turns, at_moment, cycle}
+use Rattle.drf_rows.specs.Cycle.{free_of, grant, is_allocatable, new_offer, with_offer, turn, turns, at_timestamp, cycle}
 use Rattle.drf_rows.specs.Held.{active_clients, cluster_total, held_by}
 use Rattle.drf_rows.specs.Held as rows_word
-use Rattle.drf_rows.specs.Holdings.{held_where, of_offer, of_task, is_under, parts_on}
+use Rattle.drf_rows.specs.Holdings.{held_where, holding_of_offer, holding_of_task, is_under, parts_on}
 use Rattle.drf_rows.specs.Share.{Fraction}
 use Rattle.drf_row_laws.proofs.ConsistentLaws.{bundles-consistent}
 use Rattle.drf_row_laws.proofs.CycleLaws.{free_of-with_offer_other}
@@ -25,7 +25,7 @@ use Rattle.drf_row_laws.proofs.HoldingsLaws.{held_where-with_offer}
 use Rattle.drf_bundle.proofs.ListLaws.{each_append, each_at, each_filter, each_from, filter_each}
 use Rattle.drf_row_laws.proofs.MemberLaws.{amount_on, amount-cluster_total}
 use Rattle.drf_laws.proofs.OfferedLaws.{each_served}
-use Rattle.drf_rows.specs.declared.limits.TheConstants.{LATEST_MOMENT}
+use Rattle.drf_rows.specs.declared.limits.TheConstants.{LATEST_TIMESTAMP}
 use Rattle.drf_rows.specs.declared.rows.AgentRow.{AgentRow}
 use Rattle.drf_rows.specs.declared.rows.Rows.{Rows}
 use Rattle.drf_sorter.specs.Fractions.{dominant_of}
@@ -182,14 +182,14 @@ module _ (names : List Text) (label : Text) where
 
 -- ---- the cycle
 
-module _ (rows : Rows) (at : ℕ) (one : Text) (others : List Text) (consistent : IsConsistent rows) (early : at ≤ LATEST_MOMENT) (is_open : IsOpen (at_moment rows at))
+module _ (rows : Rows) (at : ℕ) (one : Text) (others : List Text) (consistent : IsConsistent rows) (early : at ≤ LATEST_TIMESTAMP) (is_open : IsOpen (at_timestamp rows at))
     (offers : rows.offers ≡ []) (tasks : rows.tasks ≡ []) (full : AllByRecursion (λ a. (a.active ≡ true) × (is_allocatable a.total ≡ true)) rows.agents)
     (clients : AreClientsOf rows [] (one ∷ others)) (takes : TakesPart rows (child [] one)) where
   abbrev after : Rows
   after = cycle rows at
 
   abbrev start : Rows
-  start = at_moment rows at
+  start = at_timestamp rows at
 
   pub gone : IsMidway start after
   gone = end rows at consistent early
@@ -202,7 +202,7 @@ module _ (rows : Rows) (at : ℕ) (one : Text) (others : List Text) (consistent 
   unfolding free_of
   fresh label = each_filter (Fresh (one ∷ others) label start) (λ a. a.active) rows.agents
       (each_from (λ a. (a.active ≡ true) × (is_allocatable a.total ≡ true)) (Fresh (one ∷ others) label start) rows.agents
-      (λ a both. ((λ i. rest_of_all a.total (parts_on a.name (map of_offer (offers i) ++ map of_task (tasks i)))), both.1)) full)
+      (λ a both. ((λ i. rest_of_all a.total (parts_on a.name (map holding_of_offer (offers i) ++ map holding_of_task (tasks i)))), both.1)) full)
 
   pub adds : (l : Text) → (held_by start [] l + sum_by (amount_on l) (active_agents rows) ≤ held_by after [] l)
       × (held_by start [] l ≤ held_in (one ∷ others) l start → held_by after [] l ≤ held_in (one ∷ others) l after)
@@ -216,7 +216,7 @@ module _ (rows : Rows) (at : ℕ) (one : Text) (others : List Text) (consistent 
 
   all_held : HoldAll after [] one others
   all_held l =
-      let none : held_by start [] l ≡ 0 = λ i. held_where (is_under []) (map of_offer (offers i) ++ map of_task (tasks i)) l in
+      let none : held_by start [] l ≡ 0 = λ i. held_where (is_under []) (map holding_of_offer (offers i) ++ map holding_of_task (tasks i)) l in
       omega (arith, (adds l).1 (omega (arith, none)), sum_by-cons (λ name. held_by after (child [] name) l) one others)
 
   root : (label : Text) → 0 < amount_of (cluster_total rows.agents) label → AtMost whole (share_at after [])

@@ -11,7 +11,7 @@ use Rattle.drf_bundle.specs.declared.quantities.Entry.{Entry}
 use Rattle.drf_rows.specs.Share.{Fraction, Standing, is_less, is_same, share_of, weighted_share_of, is_ahead, stands_before_below}
 use Rattle.drf_rows.specs.Cycle.{with_offer}
 use Rattle.drf_rows.specs.Held.{count_of, held_by, weight_of}
-use Rattle.drf_rows.specs.Holdings.{amount_in, is_under, of_offer}
+use Rattle.drf_rows.specs.Holdings.{amount_in, is_under, holding_of_offer}
 use Rattle.drf_rows.specs.Held as rows_word
 use Rattle.drf_rows.specs.Client.{Client, path_of}
 use Rattle.drf_rows.specs.Step.{effect}
@@ -158,7 +158,7 @@ offer_is_later rows offer first consistent before =
     after = with_offer rows offer
 
     client : Client
-    client = (of_offer offer).client
+    client = (holding_of_offer offer).client
 
     weighs : (node : Path) → 1 ≤ weight_of rows.weights node
     weighs node = (weight_of-in_range rows.weights node consistent.weights.each).0
@@ -169,7 +169,7 @@ offer_is_later rows offer first consistent before =
         omega (
           arith,
           held_where-with_offer (is_under node) rows offer label,
-          ap {B = ℕ} (λ b. cond b (amount_in label (of_offer offer)) 0) other,
+          ap {B = ℕ} (λ b. cond b (amount_in label (holding_of_offer offer)) 0) other,
         )
 
     count : (node : Path) → begins_with (path_of client) node ≡ false → count_of after node ≤ count_of rows node

@@ -4,7 +4,7 @@ use Rattle.std.specs.Prelude.{◌≡◌, zero, suc, Bool, true, false, List, [],
 use Rattle.std.specs.Option.{option_map_or}
 use Rattle.std.proofs.Common.{refl, sym, ap, subst, ◌∙◌, inl, inr, cond}
 use Rattle.std.proofs.lemmas.Bool.{cases_Bool}
-use Rattle.drf_rows.specs.Cycle.{at_moment}
+use Rattle.drf_rows.specs.Cycle.{at_timestamp}
 use Rattle.drf_rows.specs.Offers.{offer_at, offer_accepted}
 use Rattle.drf_rows.specs.Step.{opening, effect, rows_after}
 use Rattle.drf_laws.proofs.EndedLaws.{accepted_starts_tasks}
@@ -90,7 +90,7 @@ accept_has : (rows : Rows) (a : accepting.Accept) (t : TaskRow) → Has rows.tas
     → HasTask t (effect rows (Accept a))
 unfolding effect
 accept_has rows a t has None none =
-    subst (HasTask t) (sym (ap (λ (f : Option OfferRow). option_map_or (λ o. offer_accepted (at_moment rows a.at) o a.tasks a.refuse_ms) f rows) none)) has
+    subst (HasTask t) (sym (ap (λ (f : Option OfferRow). option_map_or (λ o. offer_accepted (at_timestamp rows a.at) o a.tasks a.refuse_ms) f rows) none)) has
 accept_has rows a t has (Some o) found =
     subst (HasTask t) (sym (accepted_starts_tasks rows a o found).nothing_else) (has_before rows.tasks (map (task_started o) a.tasks) t has)
 

@@ -9,7 +9,7 @@ use Rattle.drf_worked.specs.Examples.{cpus, cpus_for, framework_in, mem}
 use Rattle.drf_worked.specs.LifeExamples.{accept, decline, decline_for}
 use Rattle.drf_worked.specs.QuotaExamples.{cpus_limit}
 use Rattle.drf_worked.specs.WeightExamples.{weighing}
-use Rattle.drf_row_laws.specs.LifeLaws.{lines_told}
+use Rattle.drf_row_laws.specs.LifeLaws.{lines_reported}
 use Rattle.drf_rows.specs.declared.event.Event.{Event}
 use Rattle.drf_rows.specs.declared.event.Event.TheVariants.{AddAgent, ActivateAgent, DeactivateAgent, AddFramework, Cycle}
 use Rattle.drf_rows.specs.declared.rows.Rows.{Rows}
@@ -21,7 +21,7 @@ rows_of events = rows_after_all ceilings opening events
 
 -- the frameworks to which the offers of a run are made, in order
 abbrev pub offered_to : List Event → List Text
-offered_to events = map (λ line. line.framework) (flat_map lines_told (replies_to ceilings opening events))
+offered_to events = map (λ line. line.framework) (flat_map lines_reported (replies_to ceilings opening events))
 
 abbrev pub fa : Text
 fa = codes "fa"
@@ -91,7 +91,7 @@ alone = agent (codes "n1") (cpus 1000 ∷ []) ∷ both
 
 -- the frameworks to which the agent is offered in some cycles, if each declines it for 5000 ms
 abbrev pub declined_by_each : List ℕ → List Text
-declined_by_each moments = map (λ o. o.framework) (made_in 5000 (rows_of alone) moments)
+declined_by_each timestamps = map (λ o. o.framework) (made_in 5000 (rows_of alone) timestamps)
 
 -- two of three agents become active later: the client that got nothing comes before the one that got the first agent
 abbrev pub waiting : List Event

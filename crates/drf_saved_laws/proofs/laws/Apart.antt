@@ -7,8 +7,8 @@ use Rattle.std.proofs.lemmas.List.Folds.{list_all-append, list_all-map}
 use Rattle.drf_role.specs.Text.{Text, same_text}
 use Rattle.drf_role.specs.Path.{Path, same_path}
 use Rattle.drf_rows.specs.Consistent.{are_distinct, are_distinct_roles, are_distinct_tasks, are_rising}
-use Rattle.drf_rows.specs.Endings.{is_task}
-use Rattle.drf_row_laws.proofs.EndingLaws.{is_task-swap}
+use Rattle.drf_rows.specs.Releases.{is_task}
+use Rattle.drf_row_laws.proofs.ReleaseLaws.{is_task-swap}
 use Rattle.drf_rows.specs.declared.rows.OfferRow.{OfferRow}
 use Rattle.drf_rows.specs.declared.rows.TaskRow.{TaskRow}
 

@@ -11,7 +11,7 @@ use Rattle.drf_rows.specs.Client.{Client}
 use Rattle.drf_rows.specs.Consistent.{are_distinct, are_distinct_roles, offers_counted, AreFrameworks, IsConsistent, IsCovered, IsFilter, IsFramework, IsHeld, IsNumberedByEvents}
 use Rattle.drf_rows.specs.Filters.{in_force, number_in_force}
 use Rattle.drf_rows.specs.Held.{client_of, clients_in, clients_of, is_registered}
-use Rattle.drf_rows.specs.Holdings.{Holding, of_offer, of_task, holdings_of}
+use Rattle.drf_rows.specs.Holdings.{Holding, holding_of_offer, holding_of_task, holdings_of}
 use Rattle.drf_rows.specs.LimitNumbers.{LimitNumbers}
 use Rattle.drf_rows.specs.Step.{live_rows}
 use Rattle.drf_row_laws.proofs.FilterLaws.{number_in_force-later}
@@ -23,39 +23,39 @@ use Rattle.drf_rows.specs.declared.rows.FrameworkRow.{FrameworkRow}
 use Rattle.drf_rows.specs.declared.rows.Rows.{Rows}
 use Rattle.drf_laws.specs.BoundLaws.{AreWithin}
 use Rattle.drf_laws.proofs.laws.Kept.{consistent-live}
-use Rattle.drf_saved.specs.Epoch.{begun_anew, epoch, uncounted}
+use Rattle.drf_saved.specs.Epoch.{with_counts_reset, epoch, uncounted}
 use Rattle.drf_saved_laws.specs.SavedLaws.{but_for_counts, EpochCanBeSaved, EpochKeepsTheRest, IsSaveable}
 
 -- ---- frameworks whose clients have no counts
 
-roles_anew : (f : FrameworkRow) → map (λ c. c.role) (begun_anew f).clients ≡ map (λ c. c.role) f.clients
+roles_anew : (f : FrameworkRow) → map (λ c. c.role) (with_counts_reset f).clients ≡ map (λ c. c.role) f.clients
 roles_anew f = map-map (λ (c : ClientRow). c.role) uncounted f.clients
 
-registered_anew : (fs : List FrameworkRow) (client : Client) → is_registered (map begun_anew fs) client ≡ is_registered fs client
+registered_anew : (fs : List FrameworkRow) (client : Client) → is_registered (map with_counts_reset fs) client ≡ is_registered fs client
 registered_anew fs client =
-    list_any-map (λ (f : FrameworkRow). same_text f.name client.framework && list_any (λ c. same_path c.role client.role) f.clients) begun_anew fs
+    list_any-map (λ (f : FrameworkRow). same_text f.name client.framework && list_any (λ c. same_path c.role client.role) f.clients) with_counts_reset fs
     ∙ (λ i. list_any (λ f. same_text f.name client.framework && list_any-map (λ (c : ClientRow). same_path c.role client.role) uncounted f.clients i) fs)
 
-clients_anew : (fs : List FrameworkRow) → clients_in (map begun_anew fs) ≡ clients_in fs
+clients_anew : (fs : List FrameworkRow) → clients_in (map with_counts_reset fs) ≡ clients_in fs
 clients_anew [] = refl
-clients_anew (f ∷ fs) = λ i. map-map (client_of (begun_anew f)) uncounted f.clients i ++ clients_anew fs i
+clients_anew (f ∷ fs) = λ i. map-map (client_of (with_counts_reset f)) uncounted f.clients i ++ clients_anew fs i
 
-none_counted : (fs : List FrameworkRow) → offers_counted (map begun_anew fs) ≡ 0
+none_counted : (fs : List FrameworkRow) → offers_counted (map with_counts_reset fs) ≡ 0
 none_counted fs =
-    sum_by-map (λ (f : FrameworkRow). sum_by (λ c. c.count) f.clients) begun_anew fs
+    sum_by-map (λ (f : FrameworkRow). sum_by (λ c. c.count) f.clients) with_counts_reset fs
     ∙ (λ i. sum_by (λ f. uncounted_sum f.clients i) fs)
     ∙ sum_by_none fs
   where
     uncounted_sum : (cs : List ClientRow) → sum_by (λ c. c.count) (map uncounted cs) ≡ 0
     uncounted_sum cs = sum_by-map (λ (c : ClientRow). c.count) uncounted cs ∙ sum_by_none cs
 
-each_anew : (P Q : FrameworkRow → Type 0) (fs : List FrameworkRow) → ((f : FrameworkRow) → P f → Q (begun_anew f))
-    → AllByRecursion P fs → AllByRecursion Q (map begun_anew fs)
-each_anew P Q fs so all = each_map Q begun_anew fs (each_from P (λ f. Q (begun_anew f)) fs so all)
+each_anew : (P Q : FrameworkRow → Type 0) (fs : List FrameworkRow) → ((f : FrameworkRow) → P f → Q (with_counts_reset f))
+    → AllByRecursion P fs → AllByRecursion Q (map with_counts_reset fs)
+each_anew P Q fs so all = each_map Q with_counts_reset fs (each_from P (λ f. Q (with_counts_reset f)) fs so all)
 
-frameworks_anew : (fs : List FrameworkRow) → AreFrameworks fs → AreFrameworks (map begun_anew fs)
+frameworks_anew : (fs : List FrameworkRow) → AreFrameworks fs → AreFrameworks (map with_counts_reset fs)
 frameworks_anew fs are = record {
-  names = ap are_distinct (map-map (λ (f : FrameworkRow). f.name) begun_anew fs) ∙ are.names;
+  names = ap are_distinct (map-map (λ (f : FrameworkRow). f.name) with_counts_reset fs) ∙ are.names;
   roles = each_anew Apart Apart fs (λ f apart. ap are_distinct_roles (roles_anew f) ∙ apart) are.roles;
   each = each_anew IsFramework IsFramework fs
       (λ f is. record { name = is.name; roles = subst (AllByRecursion IsRole) (sym (roles_anew f)) is.roles }) are.each;
@@ -68,16 +68,16 @@ frameworks_anew fs are = record {
 
 consistent_anew : (rows : Rows) → IsConsistent rows → IsConsistent (epoch rows)
 consistent_anew rows consistent =
-    let fs : List FrameworkRow = map begun_anew rows.frameworks in
-    let tasks : List Holding = map of_task rows.tasks in
+    let fs : List FrameworkRow = map with_counts_reset rows.frameworks in
+    let tasks : List Holding = map holding_of_task rows.tasks in
     let are : AreFrameworks fs = frameworks_anew rows.frameworks consistent.frameworks in
     let holdings : AllByRecursion (IsHeld rows.agents fs) tasks =
     each_from (IsHeld rows.agents rows.frameworks) (IsHeld rows.agents fs) tasks
     (λ h held. record { agent = held.agent; client = registered_anew rows.frameworks h.client ∙ held.client; bundle = held.bundle })
-    (each_parts (IsHeld rows.agents rows.frameworks) (map of_offer rows.offers) tasks consistent.holdings).1 in
+    (each_parts (IsHeld rows.agents rows.frameworks) (map holding_of_offer rows.offers) tasks consistent.holdings).1 in
     let covered : AllByRecursion (IsCovered tasks) rows.agents =
     each_from (IsCovered (holdings_of rows)) (IsCovered tasks) rows.agents
-    (λ a covered key p. omega (arith, covered key p, units_on-append a.name key p (map of_offer rows.offers) tasks)) consistent.covered in
+    (λ a covered key p. omega (arith, covered key p, units_on-append a.name key p (map holding_of_offer rows.offers) tasks)) consistent.covered in
     let filters : AllByRecursion (IsFilter rows.agents fs) rows.filters =
     each_from (IsFilter rows.agents rows.frameworks) (IsFilter rows.agents fs) rows.filters (λ f is. record {
       agent = is.agent;
@@ -102,15 +102,15 @@ module _ (limits : LimitNumbers) (rows : Rows) (can : IsSaveable limits rows) wh
   epoch_saveable =
       let Few : FrameworkRow → Type 0 = λ f. length f.clients ≤ limits.roles in
       let consistent = consistent_anew rows can.consistent in
-      let frameworks : length (map begun_anew rows.frameworks) ≤ limits.frameworks =
-      omega (arith, length-map rows.frameworks begun_anew, can.within.frameworks) in
-      let roles : AllByRecursion Few (map begun_anew rows.frameworks) =
+      let frameworks : length (map with_counts_reset rows.frameworks) ≤ limits.frameworks =
+      omega (arith, length-map rows.frameworks with_counts_reset, can.within.frameworks) in
+      let roles : AllByRecursion Few (map with_counts_reset rows.frameworks) =
       each_anew Few Few rows.frameworks (λ f few. omega (arith, length-map f.clients uncounted, few)) can.within.roles_of_each in
       let clients : length (clients_of (epoch rows)) ≤ limits.clients = omega (arith, ap length (clients_anew rows.frameworks), can.within.clients) in
       let events : 0 ≤ limits.events = omega arith in
       let within : AreWithin limits (epoch rows) = search (can.within, frameworks, roles, clients, events) in
       let numbered : IsNumberedByEvents (epoch rows) = omega arith in
-      let own = (each_parts IsForItsRole (map of_offer rows.offers) (map of_task rows.tasks) can.own).1 in
+      let own = (each_parts IsForItsRole (map holding_of_offer rows.offers) (map holding_of_task rows.tasks) can.own).1 in
       search (consistent, within, numbered, own)
 
 pub epoch_can_be_saved : EpochCanBeSaved
@@ -122,7 +122,7 @@ pub epoch_keeps_the_rest : EpochKeepsTheRest
 epoch_keeps_the_rest rows = (
   record {
     agents = refl;
-    frameworks = map-map but_for_counts begun_anew rows.frameworks
+    frameworks = map-map but_for_counts with_counts_reset rows.frameworks
         ∙ (λ i. map (λ f. (f.name, map-map (λ (c : ClientRow). (c.role, c.suppressed)) uncounted f.clients i)) rows.frameworks);
     tasks = refl;
     weights = refl;

@@ -13,12 +13,12 @@ use Rattle.drf_bundle.specs.declared.quantities.Entry.{Entry}
 use Rattle.drf_rows.specs.Client.{Client}
 use Rattle.drf_rows.specs.Consistent.{are_distinct_roles, offers_counted, AreAgents, AreFrameworks, AreLimits, AreWeights, IsAgent, IsConsistent, IsCovered, IsFilter, IsFramework, IsHeld}
 use Rattle.drf_rows.specs.Held.{is_registered}
-use Rattle.drf_rows.specs.Holdings.{Holding, of_offer, of_task, holdings_of}
+use Rattle.drf_rows.specs.Holdings.{Holding, holding_of_offer, holding_of_task, holdings_of}
 use Rattle.drf_rows.specs.LimitNumbers.{LimitNumbers}
 use Rattle.drf_rows.specs.Members.{has_agent}
 use Rattle.drf_rows.specs.Offers.{is_empty}
 use Rattle.drf_rows.specs.Weights.{is_weight}
-use Rattle.drf_row_laws.proofs.EndingLaws.{IsOneLess, IsConsistent-filters, IsConsistent-held}
+use Rattle.drf_row_laws.proofs.ReleaseLaws.{IsOneLess, IsConsistent-filters, IsConsistent-held}
 use Rattle.drf_laws.specs.HeldForLaws.{IsForItsRole}
 use Rattle.drf_bundle.proofs.ListLaws.{each_append, each_from}
 use Rattle.drf_row_laws.proofs.RegistrationLaws.{parts_on-nothing}
@@ -151,13 +151,13 @@ module _ (limits : LimitNumbers) (rows : Rows) (consistent : IsConsistent rows) 
   pub offer_is_put : (o : OfferRow) → IsTyped (Offer o) → NoneHolds (row_cases limits rows (Offer o))
       → IsPut rows (holdings_of (with_row rows (Offer o)))
   offer_is_put o typed none =
-      put_holding (of_offer o) (holdings_of (with_row rows (Offer o))) (one_offer_more rows.offers (map of_task rows.tasks) o) typed.3
+      put_holding (holding_of_offer o) (holdings_of (with_row rows (Offer o))) (one_offer_more rows.offers (map holding_of_task rows.tasks) o) typed.3
       none.1.0 none.1.1.1.0 none.1.1.1.1.0
 
   pub task_is_put : (t : TaskRow) → IsTyped (Task t) → NoneHolds (row_cases limits rows (Task t))
       → IsPut rows (holdings_of (with_row rows (Task t)))
   task_is_put t typed none =
-      put_holding (of_task t) (holdings_of (with_row rows (Task t))) (one_task_more (map of_offer rows.offers) rows.tasks t) typed.4
+      put_holding (holding_of_task t) (holdings_of (with_row rows (Task t))) (one_task_more (map holding_of_offer rows.offers) rows.tasks t) typed.4
       none.1.0 none.1.1.1.0 none.1.1.1.1.1.0
 
   put_offer : (o : OfferRow) → IsTyped (Offer o) → NoneHolds (row_cases limits rows (Offer o)) → IsConsistent (with_row rows (Offer o))

@@ -16,13 +16,13 @@ use Rattle.drf_bundle.specs.declared.resource.Resource.{Resource}
 use Rattle.drf_rows.specs.Client.{Client}
 use Rattle.drf_rows.specs.Consistent.{IsConsistent, IsCovered}
 use Rattle.drf_rows.specs.Cycle.{free_of}
-use Rattle.drf_rows.specs.Holdings.{Holding, of_offer, of_task, holdings_of}
+use Rattle.drf_rows.specs.Holdings.{Holding, holding_of_offer, holding_of_task, holdings_of}
 use Rattle.drf_rows.specs.Quota.{is_within}
 use Rattle.drf_rows.specs.Step.{opening}
 use Rattle.drf_rows.specs.Totals.{agent_at}
 use Rattle.drf_row_laws.proofs.ConsistentLaws.{same_text-swap}
 use Rattle.drf_row_laws.proofs.CycleLaws.{entitlement-unlimited, units-entitlement}
-use Rattle.drf_row_laws.proofs.EndingLaws.{IsOneLess, units-one_less}
+use Rattle.drf_row_laws.proofs.ReleaseLaws.{IsOneLess, units-one_less}
 use Rattle.drf_row_laws.specs.EntitlementLaws.{units_for}
 use Rattle.drf_row_laws.proofs.EntitlementLaws.{entitled_by_units}
 use Rattle.drf_laws.specs.HeldForLaws.{IsForItsRole}
@@ -94,21 +94,21 @@ module _ (rows : Rows) (h : Holding) (is : IsBundle h.bundle) where
 -- ---- one more holding
 
 pub one_offer_more : (os : List OfferRow) (others : List Holding) (o : OfferRow)
-    → IsOneLess (map of_offer (os ++ o ∷ []) ++ others) (map of_offer os ++ others) (of_offer o)
+    → IsOneLess (map holding_of_offer (os ++ o ∷ []) ++ others) (map holding_of_offer os ++ others) (holding_of_offer o)
 one_offer_more os others o = record {
-  before = map of_offer os;
+  before = map holding_of_offer os;
   after = others;
-  has = ap (λ (hs : List Holding). hs ++ others) (map-append of_offer os (o ∷ [])) ∙ append_assoc (map of_offer os) (of_offer o ∷ []) others;
+  has = ap (λ (hs : List Holding). hs ++ others) (map-append holding_of_offer os (o ∷ [])) ∙ append_assoc (map holding_of_offer os) (holding_of_offer o ∷ []) others;
   lacks = refl;
 }
 
 pub one_task_more : (others : List Holding) (ts : List TaskRow) (t : TaskRow)
-    → IsOneLess (others ++ map of_task (ts ++ t ∷ [])) (others ++ map of_task ts) (of_task t)
+    → IsOneLess (others ++ map holding_of_task (ts ++ t ∷ [])) (others ++ map holding_of_task ts) (holding_of_task t)
 one_task_more others ts t = record {
-  before = others ++ map of_task ts;
+  before = others ++ map holding_of_task ts;
   after = [];
-  has = ap (λ (hs : List Holding). others ++ hs) (map-append of_task ts (t ∷ [])) ∙ sym (append_assoc others (map of_task ts) (of_task t ∷ []));
-  lacks = sym (append-nil (others ++ map of_task ts));
+  has = ap (λ (hs : List Holding). others ++ hs) (map-append holding_of_task ts (t ∷ [])) ∙ sym (append_assoc others (map holding_of_task ts) (holding_of_task t ∷ []));
+  lacks = sym (append-nil (others ++ map holding_of_task ts));
 }
 
 module _ (old new : List Holding) (h : Holding) (less : IsOneLess old new h) where

@@ -11,7 +11,7 @@ use Rattle.drf_rows.specs.Holdings.{holdings_of}
 use Rattle.drf_rows.specs.LimitNumbers.{LimitNumbers}
 use Rattle.drf_laws.specs.HeldForLaws.{IsForItsRole}
 use Rattle.drf_row_laws.proofs.RegistrationLaws.{length-clients_of-framework_added}
-use Rattle.drf_rows.specs.declared.limits.TheConstants.{LATEST_MOMENT}
+use Rattle.drf_rows.specs.declared.limits.TheConstants.{LATEST_TIMESTAMP}
 use Rattle.drf_rows.specs.declared.rows.AgentRow.{AgentRow}
 use Rattle.drf_rows.specs.declared.rows.FrameworkRow.{FrameworkRow}
 use Rattle.drf_rows.specs.declared.rows.LimitRow.{LimitRow}
@@ -107,7 +107,7 @@ head_is_saveable limits head stands =
     let none = no_head_case limits head stands in
     let numbers = or_parts (not (nat_le 1 head.next_offer)) (nat_lt (1 + head.events * 2 ^ 24) head.next_offer) none.1.1.0 in
     let events = ltb-false limits.events head.events none.0 in
-    let early = ltb-false LATEST_MOMENT head.clock none.1.0 in
+    let early = ltb-false LATEST_TIMESTAMP head.clock none.1.0 in
     let counted = leb-true 1 head.next_offer (not-false (nat_le 1 head.next_offer) numbers.0) in
     let zero : (n : ℕ) → 0 ≤ n = λ n. omega arith in
     record {

@@ -19,20 +19,20 @@ use Rattle.drf_rows.specs.Client.{Client}
 use Rattle.drf_rows.specs.Consistent.{are_distinct, are_distinct_roles, are_distinct_tasks, are_rising, offers_counted, IsAgent, IsFilter, IsHeld}
 use Rattle.drf_rows.specs.Filters.{in_force, is_in_force}
 use Rattle.drf_rows.specs.Held.{client_of, clients_of, cluster_total, is_registered}
-use Rattle.drf_rows.specs.Holdings.{Holding, of_offer, of_task, holdings_of}
+use Rattle.drf_rows.specs.Holdings.{Holding, holding_of_offer, holding_of_task, holdings_of}
 use Rattle.drf_rows.specs.LimitNumbers.{LimitNumbers}
 use Rattle.drf_rows.specs.Members.{has_agent, has_framework}
 use Rattle.drf_rows.specs.Offers.{is_empty}
 use Rattle.drf_rows.specs.Weights.{is_weight}
 use Rattle.drf_row_laws.proofs.ConsistentLaws.{bundles-consistent, same_text-swap}
 use Rattle.drf_row_laws.proofs.CycleLaws.{bundle-free_of, units-free_of}
-use Rattle.drf_row_laws.proofs.EndingLaws.{each-one}
+use Rattle.drf_row_laws.proofs.ReleaseLaws.{each-one}
 use Rattle.drf_laws.specs.HeldForLaws.{IsForItsRole}
 use Rattle.drf_row_laws.proofs.HoldingsLaws.{units_on, units_on-append, units_on-cons}
 use Rattle.drf_bundle.proofs.ListLaws.{each_filter, each_parts}
 use Rattle.drf_row_laws.proofs.ReservationLaws.{found_known}
 use Rattle.drf_row_laws.proofs.TotalsLaws.{at, is_agent, is_covered, no_zeros-total}
-use Rattle.drf_rows.specs.declared.limits.TheConstants.{LARGEST_AMOUNT, LATEST_MOMENT}
+use Rattle.drf_rows.specs.declared.limits.TheConstants.{LARGEST_AMOUNT, LATEST_TIMESTAMP}
 use Rattle.drf_rows.specs.declared.rows.AgentRow.{AgentRow}
 use Rattle.drf_rows.specs.declared.rows.FilterRow.{FilterRow}
 use Rattle.drf_rows.specs.declared.rows.FrameworkRow.{FrameworkRow}
@@ -64,11 +64,11 @@ module _ {X : Type 0} (xs before after : List X) (x : X) (stands : xs ≡ before
       (and_parts (test x) (list_all test after) parts.1).0
 
   -- the prefix of the table that ends with it is not longer than the table
-  front_length : length (before ++ x ∷ []) ≤ length xs
-  front_length = omega (arith, ap length stands, length-append before (x ∷ after), length-append before (x ∷ []))
+  prefix_length : length (before ++ x ∷ []) ≤ length xs
+  prefix_length = omega (arith, ap length stands, length-append before (x ∷ after), length-append before (x ∷ []))
 
-  front_count : length before + 1 ≤ length xs
-  front_count = omega (arith, front_length, length-append before (x ∷ []))
+  prefix_count : length before + 1 ≤ length xs
+  prefix_count = omega (arith, prefix_length, length-append before (x ∷ []))
 
 -- ---- agents
 
@@ -126,23 +126,23 @@ module _ (limits : LimitNumbers) (rows : Rows) (can : IsSaveable limits rows) wh
   agent_stands : (before after : List AgentRow) (a : AgentRow) → rows.agents ≡ before ++ a ∷ after
       → row_fault limits (with_agents before) (Agent a) ≡ None
   agent_stands before after a stands =
-      let front : List AgentRow = before ++ a ∷ [] in
-      let split : rows.agents ≡ front ++ after = stands ∙ sym (append_assoc before (a ∷ []) after) in
+      let prefix : List AgentRow = before ++ a ∷ [] in
+      let split : rows.agents ≡ prefix ++ after = stands ∙ sym (append_assoc before (a ∷ []) after) in
       let is : IsAgent a = its rows.agents before after a stands IsAgent can.consistent.agents.each in
       let new = names_before (λ (b : AgentRow). b.name) before after a
       (subst (λ (agents : List AgentRow). are_distinct (map (λ b. b.name) agents) ≡ true) stands can.consistent.agents.names) in
       let small = small_entries (quantities_of a.total) LARGEST_AMOUNT (quantities_no_zeros a.total is.total).in_order is.small in
-      let each = each_parts IsAgent front after (subst (AllByRecursion IsAgent) split can.consistent.agents.each) in
-      let names : length (cluster_total front) ≤ limits.scalar_names = omega (
+      let each = each_parts IsAgent prefix after (subst (AllByRecursion IsAgent) split can.consistent.agents.each) in
+      let names : length (cluster_total prefix) ≤ limits.scalar_names = omega (
         arith,
-        names_grow (cluster_total front) after (no_zeros-total front each.0).in_order each.1,
-        ap length (sym (fold-append (λ s (b : AgentRow). plus s (quantities_of b.total)) [] front after)),
+        names_grow (cluster_total prefix) after (no_zeros-total prefix each.0).in_order each.1,
+        ap length (sym (fold-append (λ s (b : AgentRow). plus s (quantities_of b.total)) [] prefix after)),
         ap (λ (agents : List AgentRow). length (cluster_total agents)) split,
         can.within.names,
       ) in
-      let few = or_from (nat_lt limits.agents (length front)) (nat_lt limits.scalar_names (length (cluster_total front)))
-      (le-ltb limits.agents (length front) (omega (arith, front_length rows.agents before after a stands, can.within.agents)))
-      (le-ltb limits.scalar_names (length (cluster_total front)) names) in
+      let few = or_from (nat_lt limits.agents (length prefix)) (nat_lt limits.scalar_names (length (cluster_total prefix)))
+      (le-ltb limits.agents (length prefix) (omega (arith, prefix_length rows.agents before after a stands, can.within.agents)))
+      (le-ltb limits.scalar_names (length (cluster_total prefix)) names) in
       no_row_fault limits (with_agents before) (Agent a) (refl, (new, (small, (few, tt))))
 
   framework_stands : (before after : List FrameworkRow) (f : FrameworkRow) → rows.frameworks ≡ before ++ f ∷ after
@@ -164,7 +164,7 @@ module _ (limits : LimitNumbers) (rows : Rows) (can : IsSaveable limits rows) wh
         length-map f.clients (client_of f),
       ) in
       let few = or_from (nat_lt limits.frameworks (length before + 1)) (nat_lt limits.roles (length f.clients) || nat_lt limits.clients (length (clients_of state) + length f.clients))
-      (le-ltb limits.frameworks (length before + 1) (omega (arith, front_count rows.frameworks before after f stands, can.within.frameworks)))
+      (le-ltb limits.frameworks (length before + 1) (omega (arith, prefix_count rows.frameworks before after f stands, can.within.frameworks)))
       (or_from (nat_lt limits.roles (length f.clients)) (nat_lt limits.clients (length (clients_of state) + length f.clients))
       (le-ltb limits.roles (length f.clients) its_few)
       (le-ltb limits.clients (length (clients_of state) + length f.clients) (omega (arith, all, can.within.clients)))) in
@@ -186,7 +186,7 @@ module _ (limits : LimitNumbers) (rows : Rows) (can : IsSaveable limits rows) wh
       let new = roles_before (λ (v : WeightRow). v.role) before after w
       (subst (λ (ws : List WeightRow). are_distinct_roles (map (λ v. v.role) ws) ≡ true) stands can.consistent.weights.roles) in
       let right = passes rows.weights before after w stands (λ v. is_weight v.weight) can.consistent.weights.each in
-      let few = le-ltb limits.weights (length before + 1) (omega (arith, front_count rows.weights before after w stands, can.within.weights)) in
+      let few = le-ltb limits.weights (length before + 1) (omega (arith, prefix_count rows.weights before after w stands, can.within.weights)) in
       no_row_fault limits (with_weights before) (Weight w) (refl, (new, (ap not right, (few, tt))))
 
   limit_stands : (before after : List LimitRow) (l : LimitRow) → rows.limits ≡ before ++ l ∷ after
@@ -199,7 +199,7 @@ module _ (limits : LimitNumbers) (rows : Rows) (can : IsSaveable limits rows) wh
       let its_few : length l.limit ≤ limits.scalar_names =
       its rows.limits before after l stands (λ m. length m.limit ≤ limits.scalar_names) can.within.names_of_each in
       let few = or_from (nat_lt limits.limits (length before + 1)) (nat_lt limits.scalar_names (length l.limit))
-      (le-ltb limits.limits (length before + 1) (omega (arith, front_count rows.limits before after l stands, can.within.limits_of_roles)))
+      (le-ltb limits.limits (length before + 1) (omega (arith, prefix_count rows.limits before after l stands, can.within.limits_of_roles)))
       (le-ltb limits.scalar_names (length l.limit) its_few) in
       no_row_fault limits (with_limits before) (Limit l)
       (refl, (not-true (is_default l.role) right.0, (some_names l.limit right.1, (new, (few, tt)))))
@@ -251,30 +251,30 @@ module _ (limits : LimitNumbers) (rows : Rows) (can : IsSaveable limits rows) wh
       → row_fault limits (with_offers before) (Offer o) ≡ None
   offer_stands before after o stands =
       let state : Rows = with_offers before in
-      let behind : List Holding = map of_offer after ++ map of_task rows.tasks in
-      let place : holdings_of rows ≡ holdings_of state ++ of_offer o ∷ behind =
-      ap (λ (os : List OfferRow). map of_offer os ++ map of_task rows.tasks) stands ∙ simp (map-append, append-nil, append_assoc) in
-      let held = its_held state (of_offer o) behind refl place in
+      let behind : List Holding = map holding_of_offer after ++ map holding_of_task rows.tasks in
+      let place : holdings_of rows ≡ holdings_of state ++ holding_of_offer o ∷ behind =
+      ap (λ (os : List OfferRow). map holding_of_offer os ++ map holding_of_task rows.tasks) stands ∙ simp (map-append, append-nil, append_assoc) in
+      let held = its_held state (holding_of_offer o) behind refl place in
       let owner = owner_stands o.agent o.framework o.role held.agent held.client in
       let rising = numbers_before before after o rows.next_offer
       (subst (λ (os : List OfferRow). are_rising (map (λ p. p.number) os) rows.next_offer ≡ true) stands can.consistent.numbered) in
       let numbers = or_from (not (list_all (λ p. nat_lt p.number o.number) before)) (nat_le rows.next_offer o.number) (ap not rising.0)
       (lt-leb rows.next_offer o.number (ltb-true o.number rows.next_offer rising.1)) in
       no_row_fault limits state (Offer o)
-      (refl, (owner.0, (owner.1.0, (owner.1.1.0, (holding_usable state (of_offer o) behind refl place, (numbers, tt))))))
+      (refl, (owner.0, (owner.1.0, (owner.1.1.0, (holding_usable state (holding_of_offer o) behind refl place, (numbers, tt))))))
 
   task_stands : (before after : List TaskRow) (t : TaskRow) → rows.tasks ≡ before ++ t ∷ after
       → row_fault limits (with_tasks before) (Task t) ≡ None
   task_stands before after t stands =
       let state : Rows = with_tasks before in
-      let behind : List Holding = map of_task after in
-      let place : holdings_of rows ≡ holdings_of state ++ of_task t ∷ behind =
-      ap (λ (ts : List TaskRow). map of_offer rows.offers ++ map of_task ts) stands ∙ simp (map-append, append_assoc) in
-      let held = its_held state (of_task t) behind refl place in
+      let behind : List Holding = map holding_of_task after in
+      let place : holdings_of rows ≡ holdings_of state ++ holding_of_task t ∷ behind =
+      ap (λ (ts : List TaskRow). map holding_of_offer rows.offers ++ map holding_of_task ts) stands ∙ simp (map-append, append_assoc) in
+      let held = its_held state (holding_of_task t) behind refl place in
       let owner = owner_stands t.agent t.framework t.role held.agent held.client in
       let new = tasks_before before after t (subst (λ (ts : List TaskRow). are_distinct_tasks ts ≡ true) stands can.consistent.tasks) in
       no_row_fault limits state (Task t)
-      (refl, (owner.0, (owner.1.0, (owner.1.1.0, (new, (holding_usable state (of_task t) behind refl place, tt))))))
+      (refl, (owner.0, (owner.1.0, (owner.1.1.0, (new, (holding_usable state (holding_of_task t) behind refl place, tt))))))
 
   -- ---- filters in force
 
@@ -290,7 +290,7 @@ module _ (limits : LimitNumbers) (rows : Rows) (can : IsSaveable limits rows) wh
       (lt-leb (2 ^ 63) f.until is.until) in
       let few = lt-leb limits.filters (length before) (omega (
         arith,
-        front_count live before after f stands,
+        prefix_count live before after f stands,
         length-filter (is_in_force rows.clock) rows.filters,
         can.within.filters_in_force,
       )) in
@@ -311,7 +311,7 @@ module _ (limits : LimitNumbers) (rows : Rows) (can : IsSaveable limits rows) wh
       (not_from_true (nat_le 1 rows.next_offer) (le-leb 1 rows.next_offer (omega (arith, can.consistent.counted))))
       (le-ltb (1 + rows.events * 2 ^ 24) rows.next_offer can.numbered) in
       no_head_fault limits (head_of rows)
-      (le-ltb limits.events rows.events can.within.events, (le-ltb LATEST_MOMENT rows.clock can.consistent.early, (numbers, tt)))
+      (le-ltb limits.events rows.events can.within.events, (le-ltb LATEST_TIMESTAMP rows.clock can.consistent.early, (numbers, tt)))
 
 -- ---- table by table
 

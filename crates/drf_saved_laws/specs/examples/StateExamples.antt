@@ -11,7 +11,7 @@ use Rattle.drf_rows.specs.Cycle.{free_of}
 use Rattle.drf_rows.specs.LimitNumbers.{LimitNumbers, ceilings}
 use Rattle.drf_worked.specs.Examples.{cpus, cpus_for, mem}
 use Rattle.drf_worked.specs.PortExamples.{Numbers, ports}
-use Rattle.drf_rows.specs.declared.limits.TheConstants.{LATEST_MOMENT}
+use Rattle.drf_rows.specs.declared.limits.TheConstants.{LATEST_TIMESTAMP}
 use Rattle.drf_rows.specs.declared.reply.Refusal.TheVariants.{HistoryFull, BadMoment, UnknownAgent, KnownAgent, UnknownFramework, KnownFramework, KnownTask, NotInRole, DefaultRole, Empty, NotCovered, BadWeight, TooLarge}
 use Rattle.drf_rows.specs.declared.rows.AgentRow.{AgentRow}
 use Rattle.drf_rows.specs.declared.rows.ClientRow.{ClientRow}
@@ -201,7 +201,7 @@ other_rows =
 abbrev pub faulty_heads : List (Head × RowFault)
 faulty_heads =
     (record state_head { events = 4294967296 }, Refused HistoryFull)
-    ∷ (record state_head { clock = LATEST_MOMENT + 1 }, Refused BadMoment)
+    ∷ (record state_head { clock = LATEST_TIMESTAMP + 1 }, Refused BadMoment)
     ∷ (record state_head { next_offer = 0 }, BadNumber)
     ∷ (record { clock = 0; next_offer = 2; events = 0 }, BadNumber)
     ∷ []

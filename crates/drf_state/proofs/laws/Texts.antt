@@ -163,15 +163,15 @@ module _ (limits : LimitNumbers) (text : List ℕ) (lines : ℕ) (rows made : Ro
       counted : lines ≡ lines + length {A = SavedRow} []
       counted = omega arith
 
-  says_rest : (told : Result (Option Rows) StateFault) → rows_behind limits text lines rows line (said_by line) ≡ told
-      → says_behind (lines + 1) rows (is_at_end (next ∷ parts)) (λ new. rest_says limits (text ++ ended line) (lines + 1) new (next ∷ parts)) told ≡ Ok made
+  says_rest : (reported : Result (Option Rows) StateFault) → rows_behind limits text lines rows line (said_by line) ≡ reported
+      → says_behind (lines + 1) rows (is_at_end (next ∷ parts)) (λ new. rest_says limits (text ++ ended line) (lines + 1) new (next ∷ parts)) reported ≡ Ok made
       → ((new : Rows) → rest_says limits (text ++ ended line) (lines + 1) new (next ∷ parts) ≡ Ok made → SaysRest limits (text ++ ended line) (lines + 1) new (next ∷ parts) made)
       → SaysRest limits text lines rows (line ∷ next ∷ parts) made
-  says_rest (Ok (Some new)) told is later =
-      one_row_more new (has_made limits text lines rows line new (said_by line) refl told) (later new is)
-  says_rest (Ok None) told is later =
-      the_last (has_ended limits text lines rows line (said_by line) told) (whole (is_at_end (next ∷ parts)) (lines + 1) rows made is)
-  says_rest (Err fault) told is later = let none : ⊥ = cc in absurd none
+  says_rest (Ok (Some new)) reported is later =
+      one_row_more new (has_made limits text lines rows line new (said_by line) refl reported) (later new is)
+  says_rest (Ok None) reported is later =
+      the_last (has_ended limits text lines rows line (said_by line) reported) (whole (is_at_end (next ∷ parts)) (lines + 1) rows made is)
+  says_rest (Err fault) reported is later = let none : ⊥ = cc in absurd none
 
 rest_is : (limits : LimitNumbers) (text : List ℕ) (lines : ℕ) (rows made : Rows) (parts : List (List ℕ))
     → rest_says limits text lines rows parts ≡ Ok made → SaysRest limits text lines rows parts made

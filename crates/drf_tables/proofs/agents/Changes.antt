@@ -5,7 +5,7 @@ use Rattle.std.specs.Map.{remove_entry}
 use Rattle.std.proofs.Common.{refl, sym, ap, ◌∙◌, subst, arith, ◌≡◌, ℕ, ◌+◌, ◌-◌, Bool, true, false, not, List, length, map, filter}
 use Rattle.std.proofs.lemmas.List.{length-map}
 use Rattle.drf_tables.proofs.tables.Names.{Text, same_text, Entry, Client, are_distinct, clients_of, cluster_total, holdings_of, each_filter, length-filter_le, active_at, with_activity, with_suppression, suppressed_in, revived, agent_removed, framework_removed, ClientRow, Rows, changed, with_active, count_clients, Agent, Inside}
-use Rattle.drf_rows.specs.Endings.{without_ended, all_on, all_of}
+use Rattle.drf_rows.specs.Releases.{without_ended, all_on, all_of}
 use Rattle.drf_rows.specs.Filters.{filters_without_client, filters_without_agent, filters_without_framework}
 use Rattle.drf_row_laws.proofs.MemberLaws.{IsConsistent-with_activity, cluster_total-with_activity, IsConsistent-with_suppression, clients_of-with_suppression, IsConsistent-revived, IsConsistent-agent_removed, IsConsistent-framework_removed}
 use Rattle.drf_rows.specs.declared.rows.FilterRow.{FilterRow}
@@ -32,11 +32,11 @@ module _ (t : Inside) (kept : AreDerived (rows_in t) t.agents.entries t.total t.
   -- ---- an agent is activated or deactivated
 
   module _ (name : Text) (active : Bool) (entries : List (Text × Agent))
-      (told : entries ≡ map (changed name (with_active active)) t.agents.entries) where
+      (reported : entries ≡ map (changed name (with_active active)) t.agents.entries) where
     pub rows-active : rows_but t entries t.frameworks.entries t.filters ≡ record (rows_in t) { agents = with_activity (rows_in t) name active }
     unfolding rows_of
     rows-active =
-        let read = ap (map agent_row) told ∙ rows-with_active name active t.agents.entries in
+        let read = ap (map agent_row) reported ∙ rows-with_active name active t.agents.entries in
         λ i. record (rows_in t) { agents = read i }
 
     pub kept-active : AreDerived (rows_but t entries t.frameworks.entries t.filters) entries t.total t.clients
@@ -44,7 +44,7 @@ module _ (t : Inside) (kept : AreDerived (rows_in t) t.agents.entries t.total t.
         let known = known-with_active (holdings_of (rows_in t)) name active t.agents.entries kept.free in
         subst (λ (r : Rows). AreDerived r entries t.total t.clients) (sym rows-active) (record {
           consistent = IsConsistent-with_activity (rows_in t) name active kept.consistent;
-          free = subst (λ (es : List (Text × Agent)). AllByRecursion (IsKnown (holdings_of (rows_in t))) es) (sym told) known;
+          free = subst (λ (es : List (Text × Agent)). AllByRecursion (IsKnown (holdings_of (rows_in t))) es) (sym reported) known;
           total = kept.total ∙ sym (cluster_total-with_activity (rows_in t) name active);
           clients = kept.clients;
           few = omega (arith, length-map (rows_in t).agents (active_at name active), kept.few);
@@ -53,11 +53,11 @@ module _ (t : Inside) (kept : AreDerived (rows_in t) t.agents.entries t.total t.
   -- ---- a client is suppressed or revived
 
   module _ (client : Client) (suppressed : Bool) (entries : List (Text × Vec ClientRow))
-      (told : framework_rows entries ≡ map (suppressed_in client suppressed) (framework_rows t.frameworks.entries)) where
+      (reported : framework_rows entries ≡ map (suppressed_in client suppressed) (framework_rows t.frameworks.entries)) where
     pub rows-suppressed : rows_but t t.agents.entries entries t.filters
         ≡ record (rows_in t) { frameworks = with_suppression (rows_in t) client suppressed }
     unfolding rows_of
-    rows-suppressed = λ i. record (rows_in t) { frameworks = told i }
+    rows-suppressed = λ i. record (rows_in t) { frameworks = reported i }
 
     pub kept-suppressed : AreDerived (rows_but t t.agents.entries entries t.filters) t.agents.entries t.total t.clients
     kept-suppressed =
@@ -68,11 +68,11 @@ module _ (t : Inside) (kept : AreDerived (rows_in t) t.agents.entries t.total t.
         refl refl (sym (ap length (clients_of-with_suppression (rows_in t) client suppressed))))
 
   module _ (client : Client) (entries : List (Text × Vec ClientRow)) (filters : List FilterRow)
-      (told : framework_rows entries ≡ map (suppressed_in client false) (framework_rows t.frameworks.entries))
+      (reported : framework_rows entries ≡ map (suppressed_in client false) (framework_rows t.frameworks.entries))
       (left : filters ≡ filters_without_client client t.filters) where
     rows-revived : rows_but t t.agents.entries entries filters ≡ revived (rows_in t) client
     unfolding rows_of
-    rows-revived = λ i. record (rows_in t) { frameworks = told i; filters = left i }
+    rows-revived = λ i. record (rows_in t) { frameworks = reported i; filters = left i }
 
     pub kept-revived : AreDerived (rows_but t t.agents.entries entries filters) t.agents.entries t.total t.clients
     kept-revived =

@@ -3,7 +3,7 @@ use Rattle.std.proofs.Common.{refl, sym, ap, ◌∙◌, inl, inr, zero, suc, ari
 use Rattle.std.proofs.lemmas.Bool.{cases_Bool}
 use Rattle.std.proofs.lemmas.List.{length-append, length-map}
 use Rattle.std.proofs.lemmas.List.Sums.{sum_by-cons}
-use Rattle.drf_tables.proofs.tables.Names.{same_text, same_path, Client, offers_counted, counted, count_offer, client_of, of_offer, ClientRow, FrameworkRow, OfferRow, counting, counting_all, count_clients, CanCount, CanCountAll}
+use Rattle.drf_tables.proofs.tables.Names.{same_text, same_path, Client, offers_counted, counted, count_offer, client_of, holding_of_offer, ClientRow, FrameworkRow, OfferRow, counting, counting_all, count_clients, CanCount, CanCountAll}
 
 -- ---- the clients are changed one by one
 
@@ -62,7 +62,7 @@ pub CanCountAll-counting : (n m : ℕ) (fs : List FrameworkRow) (offer : OfferRo
     → m ≡ n + 1 → CanCountAll m fs → CanCountAll n (counting fs offer)
 CanCountAll-counting n m [] offer next all = tt
 CanCountAll-counting n m (f ∷ fs) offer next all =
-    (counted_in n m (of_offer offer).client f next all.0, CanCountAll-counting n m fs offer next all.1)
+    (counted_in n m (holding_of_offer offer).client f next all.0, CanCountAll-counting n m fs offer next all.1)
 
 -- no count of a client is above the sum of all counts
 CanCount-from : (n : ℕ) (cs : List ClientRow) → sum_by (λ c. c.count) cs + n < 2 ^ 64 → CanCount n cs
@@ -95,8 +95,8 @@ count_clients-counting : (fs : List FrameworkRow) (offer : OfferRow)
     → count_clients (counting fs offer) ≡ count_clients fs
 count_clients-counting [] offer = refl
 count_clients-counting (f ∷ fs) offer =
-    count_clients-cons (count_offer (of_offer offer).client f) (counting fs offer)
-    ∙ (λ i. length-count_offer (of_offer offer).client f i + count_clients-counting fs offer i)
+    count_clients-cons (count_offer (holding_of_offer offer).client f) (counting fs offer)
+    ∙ (λ i. length-count_offer (holding_of_offer offer).client f i + count_clients-counting fs offer i)
     ∙ sym (count_clients-cons f fs)
 
 pub count_clients-counting_all : (fs : List FrameworkRow) (offers : List OfferRow)

@@ -62,9 +62,9 @@ admits-unlimited rows role amounts none = sym (ap (λ (ls : List LimitRow). admi
 -- if consumption is unknown, and would be known if there were limits, there are none
 pub none-unlimited : (limits : List LimitRow) (consumption : Option (List Usage)) (counted : Bool) → quota_under limits consumption ≡ None
     → is_some consumption ≡ counted → (limits ≢ [] → counted ≡ true) → limits ≡ []
-none-unlimited [] consumption counted none is told = refl
-none-unlimited (l ∷ ls) None counted none is told = absurd (false≢true (is ∙ told (λ (same : l ∷ ls ≡ []). cc)))
-none-unlimited (l ∷ ls) (Some used) counted none is told = cc
+none-unlimited [] consumption counted none is reported = refl
+none-unlimited (l ∷ ls) None counted none is reported = absurd (false≢true (is ∙ reported (λ (same : l ∷ ls ≡ []). cc)))
+none-unlimited (l ∷ ls) (Some used) counted none is reported = cc
 
 -- the limits with known consumption are right for the rows
 pub allowance-counted : (rows : Rows) (consumption : Option (List Usage)) (quota : Allowance) → CountsAll rows consumption

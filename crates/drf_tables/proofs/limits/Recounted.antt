@@ -5,7 +5,7 @@ use Rattle.std.specs.Option.{option_map_or}
 use Rattle.std.proofs.Common.{refl, sym, ap, ◌∙◌, cond, inl, inr, arith, ◌≡◌, ℕ, ◌+◌, ◌<◌, ◌≤◌, ◌^◌, Bool, true, false, List, [], ◌∷◌, ◌++◌, map, Option, Some, None, IfSome, length}
 use Rattle.std.proofs.lemmas.Bool.{cases_Bool}
 use Rattle.std.proofs.lemmas.List.Sums.{sum_by-append, sum_by-cons}
-use Rattle.drf_tables.proofs.tables.Names.{Text, same_text, Path, same_path, Key, IsBundle, quantities_of, rest, units, units_where, amount_of, Resource, IsConsistent, same_text-swap, Holding, holdings_of, of_offer, of_task, CanStart, offer_at, task_of, consumption_where, held_unreserved, reserved_for, reserved_in, reserves, unreserved_in, CanExchange, agent_at, exchanged, with_total, AgentRow, OfferRow, Rows, IsConsumptionOf, Usage, used_by, used_where, agent_row, Amounts, CountsAll, IsRaisedIf, reserved_at, Agent}
+use Rattle.drf_tables.proofs.tables.Names.{Text, same_text, Path, same_path, Key, IsBundle, quantities_of, rest, units, units_where, amount_of, Resource, IsConsistent, same_text-swap, Holding, holdings_of, holding_of_offer, holding_of_task, CanStart, offer_at, task_of, consumption_where, held_unreserved, reserved_for, reserved_in, reserves, unreserved_in, CanExchange, agent_at, exchanged, with_total, AgentRow, OfferRow, Rows, IsConsumptionOf, Usage, used_by, used_where, agent_row, Amounts, CountsAll, IsRaisedIf, reserved_at, Agent}
 use Rattle.drf_role.specs.PathLaws.{same_path_itself}
 use Rattle.drf_bundle.specs.laws.FitLaws.{join_some}
 use Rattle.drf_bundle.specs.laws.JoinLaws.{where-merged}
@@ -15,7 +15,7 @@ use Rattle.drf_bundle.specs.Taken.{rest_of_all, units_of_all}
 use Rattle.drf_bundle.proofs.laws.TakenLaws.{units-rest_of_all}
 use Rattle.drf_bundle.proofs.laws.UnitProofs.{covers_by_units, rest_and_part}
 use Rattle.drf_bundle.specs.Value.{Point, Thousandths}
-use Rattle.drf_row_laws.proofs.EndingLaws.{IsOneLess, accepted_in, offer_held, offer_out, started_by, sum_by-out, tasks_last}
+use Rattle.drf_row_laws.proofs.ReleaseLaws.{IsOneLess, accepted_in, offer_held, offer_out, started_by, sum_by-out, tasks_last}
 use Rattle.drf_row_laws.proofs.QuotaLaws.{consumption_is_part_of_total, parts_le}
 use Rattle.drf_row_laws.proofs.RegistrationLaws.{agent_added, new_agent}
 use Rattle.drf_rows.proofs.TaskLaws.{units-covers_all}
@@ -153,8 +153,8 @@ consumption-one_less old new h less same test label =
 
 module _ (old new : Rows) (before : Option (List Usage)) (h : Holding) (counted : CountsAll old before)
     (less : IsOneLess (holdings_of old) (holdings_of new) h) (same : old.agents ≡ new.agents) where
-  pub ending_fits : IfSome before (λ used. (label : Text) → unreserved_in label h.bundle ≤ used_by used h.client.role label)
-  ending_fits =
+  pub release_fits : IfSome before (λ used. (label : Text) → unreserved_in label h.bundle ≤ used_by used h.client.role label)
+  release_fits =
       let role = h.client.role in
       counted_so old before counted (λ used. (label : Text) → unreserved_in label h.bundle ≤ used_by used role label) (λ used its label.
       omega (
@@ -184,7 +184,7 @@ module _ (rows : Rows) (number : ℕ) (o : OfferRow) (starts : List Start) (filt
       nothing false = refl
   held_started (s ∷ ss) =
       let part : List Resource → ℕ = λ part. units part (label, []) Thousandths in
-      sum_by-cons (held_by test label) (of_task (task_of o s)) (started_by o ss)
+      sum_by-cons (held_by test label) (holding_of_task (task_of o s)) (started_by o ss)
       ∙ ap (λ n. cond (test o.role) (unreserved_in label s.1) 0 + n) (held_started ss)
       ∙ plus (test o.role) (unreserved_in label s.1) (units_of_all (uses ss) (label, []) Thousandths)
       ∙ ap (λ n. cond (test o.role) n 0) (sym (sum_by-cons part s.1 (uses ss)))
@@ -208,7 +208,7 @@ module _ (rows : Rows) (number : ℕ) (o : OfferRow) (starts : List Start) (filt
       omega (
         arith,
         ap of out.has,
-        sum_by-out (held_by test label) out.before out.after (of_offer o),
+        sum_by-out (held_by test label) out.before out.after (holding_of_offer o),
         ap of (tasks_last rows number o starts filters consistent found ∙ ap (λ hs. hs ++ started_by o starts) out.lacks),
         sum_by-append (held_by test label) (out.before ++ out.after) (started_by o starts),
         held_started starts,
@@ -229,9 +229,9 @@ module _ (rows : Rows) (before : Option (List Usage)) (counted : CountsAll rows 
   abbrev less_held : Amounts
   less_held test label = cond (test x.role) (unreserved_in label left) 0
 
-  told_as : (test : Path → Bool) (label : Text)
+  reported_as : (test : Path → Bool) (label : Text)
       → less_held test label ≡ cond (test o.role) (unreserved_in label (rest_of_all o.bundle (uses starts))) 0
-  told_as test label = λ i. cond (test (same i).role) (unreserved_in label (rest_is i)) 0
+  reported_as test label = λ i. cond (test (same i).role) (unreserved_in label (rest_is i)) 0
 
   pub accept_fits : IfSome before (λ used. (label : Text) → unreserved_in label left ≤ used_by used x.role label)
   accept_fits =
@@ -241,7 +241,7 @@ module _ (rows : Rows) (before : Option (List Usage)) (counted : CountsAll rows 
         arith,
         its test label,
         consumption-accepted rows number o starts [] consistent found bundles can test label,
-        told_as test label,
+        reported_as test label,
         ap (λ b. cond b (unreserved_in label left) 0) (same_path_itself x.role),
       ))
 
@@ -249,7 +249,7 @@ module _ (rows : Rows) (before : Option (List Usage)) (counted : CountsAll rows 
       → CountsAll (accepted_in rows o starts filters) after
   counts-accepted filters after raised =
       counts-released rows before counted (accepted_in rows o starts filters) after less_held raised
-      (λ test label. omega (arith, consumption-accepted rows number o starts filters consistent found bundles can test label, told_as test label))
+      (λ test label. omega (arith, consumption-accepted rows number o starts filters consistent found bundles can test label, reported_as test label))
 
 -- ---- agents are added and removed
 

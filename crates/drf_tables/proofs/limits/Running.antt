@@ -97,8 +97,8 @@ module _ (t : Inside) (kept : AreDerived (rows_in t) t.agents.entries t.total t.
     pub counts-exchanged : (entries : List (Text × Agent)) → entries ≡ map (changed name (with_exchanged old new)) t.agents.entries
         → (after : Option (List Usage)) → IsRaisedIf after mid (λ test label. reserved_in test label old)
         → CountsAll (rows_but t entries t.frameworks.entries t.filters) after
-    counts-exchanged entries told after released =
-        subst (λ (r : Rows). CountsAll r after) (sym (rows-exchanged t kept name old new can entries told))
+    counts-exchanged entries reported after released =
+        subst (λ (r : Rows). CountsAll r after) (sym (rows-exchanged t kept name old new can entries reported))
         (counts-moved (rows_in t) t.consumption counted
         (record (rows_in t) { agents = with_total (rows_in t) name (exchanged old new) }) mid after
         (λ test label. reserved_in test label new) (λ test label. reserved_in test label old) raised released
@@ -131,10 +131,10 @@ module _ (t : Inside) (kept : AreDerived (rows_in t) t.agents.entries t.total t.
   fits : (test : Path → Bool) (label : Text) → consumption_where test after_rows label < 2 ^ 64
   fits test label =
       let made : List (Text × Agent) = map (changed name (with_other false total)) t.agents.entries in
-      let told : HasOther name total t.agents.entries made = record { kept = false; same = refl } in
+      let reported : HasOther name total t.agents.entries made = record { kept = false; same = refl } in
       let still : AreDerived after_rows made sum t.clients =
-      subst (λ (r : Rows). AreDerived r made sum t.clients) (rows-other t kept name total sum right summed made told)
-      (kept-other t kept name total sum right summed made told) in
+      subst (λ (r : Rows). AreDerived r made sum t.clients) (rows-other t kept name total sum right summed made reported)
+      (kept-other t kept name total sum right summed made reported) in
       omega (
         arith,
         consumption_is_part_of_total test after_rows label still.consistent,
@@ -149,7 +149,7 @@ module _ (t : Inside) (kept : AreDerived (rows_in t) t.agents.entries t.total t.
   pub counts-other : (entries : List (Text × Agent)) → HasOther name total t.agents.entries entries
       → (after : Option (List Usage)) → IfSome after (λ used. IsRaisedIf mid (Some used) (λ test label. reserved_in test label total))
       → CountsAll (rows_but t entries t.frameworks.entries t.filters) after
-  counts-other entries told after raised =
-      subst (λ (r : Rows). CountsAll r after) (sym (rows-other t kept name total sum right summed entries told))
+  counts-other entries reported after raised =
+      subst (λ (r : Rows). CountsAll r after) (sym (rows-other t kept name total sum right summed entries reported))
       (counts-replaced (rows_in t) t.consumption counted after_rows mid after
       (reserved_at (map agent_row t.agents.entries) name) (λ test label. reserved_in test label total) released raised moves)

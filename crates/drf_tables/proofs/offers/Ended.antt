@@ -11,10 +11,10 @@ use Rattle.drf_bundle.specs.declared.resource.Resource.{Resource}
 use Rattle.drf_bundle.specs.declared.quantities.Entry.{Entry}
 use Rattle.drf_rows.specs.Consistent.{IsAgent, IsConsistent, IsCovered, IsHeld, IsFilter}
 use Rattle.drf_row_laws.proofs.ConsistentLaws.{bundles-consistent}
-use Rattle.drf_rows.specs.Endings.{Ending, without_ended}
-use Rattle.drf_row_laws.proofs.EndingLaws.{IsOneLess, held_where-one_less, parts_on-one_less, units-one_less, one-one_less, one_less-offer, IsConsistent-offer_out, without_ended-offer, left-offer, one_less-task, IsConsistent-task_out, without_ended-task, left-task, without_ended-none, parts_on-accepted, units-left, offer_held, IsConsistent-accepted, without_offer-place}
+use Rattle.drf_rows.specs.Releases.{Release, without_ended}
+use Rattle.drf_row_laws.proofs.ReleaseLaws.{IsOneLess, held_where-one_less, parts_on-one_less, units-one_less, one-one_less, one_less-offer, IsConsistent-offer_out, without_ended-offer, left-offer, one_less-task, IsConsistent-task_out, without_ended-task, left-task, without_ended-none, parts_on-accepted, units-left, offer_held, IsConsistent-accepted, without_offer-place}
 use Rattle.drf_rows.specs.Held.{clients_of, cluster_total}
-use Rattle.drf_rows.specs.Holdings.{Holding, of_offer, of_task, holdings_of, parts_on}
+use Rattle.drf_rows.specs.Holdings.{Holding, holding_of_offer, holding_of_task, holdings_of, parts_on}
 use Rattle.drf_rows.specs.Offers.{CanStart, left_of_offer, offer_at, task_of}
 use Rattle.drf_rows.proofs.TaskLaws.{units-covers_all}
 use Rattle.drf_rows.specs.Tasks.{Start, uses}
@@ -34,20 +34,20 @@ use Rattle.drf_tables.proofs.registry.Freed.{joins-freed, known-freed, rows-free
 
 -- ---- one offer or task ends
 
-pub record IsWithoutOne (old new : Rows) (ending : Ending) (h : Holding) : Type 0 where
-  pub taken : IsOfferOut ending (held_in old) (held_in new) h ⊎ IsTaskOut ending (held_in old) (held_in new) h
+pub record IsWithoutOne (old new : Rows) (release : Release) (h : Holding) : Type 0 where
+  pub taken : IsOfferOut release (held_in old) (held_in new) h ⊎ IsTaskOut release (held_in old) (held_in new) h
   pub others : new ≡ record old { offers = new.offers; tasks = new.tasks }
   pub consistent : IsConsistent new
   pub less : IsOneLess (holdings_of old) (holdings_of new) h
-  pub later : without_ended new ending ≡ without_ended old ending
-  pub fewer : left_to_end old ending ≡ left_to_end new ending + 1
+  pub later : without_ended new release ≡ without_ended old release
+  pub fewer : left_to_end old release ≡ left_to_end new release + 1
 
 -- the rows with other holdings
 abbrev pub rows_with : Inside → OffersAndTasks → Rows
 rows_with t held = rows_of t.agents.entries t.frameworks.entries held t.filters t.weights.entries t.limits t.clock t.next_offer t.events
 
-module _ (t : Inside) (held : OffersAndTasks) (ending : Ending) (taken : Taken) (consistent : IsConsistent (rows_in t)) where
-  lost_offer : IsOfferOut ending t.holdings held (holding_of taken) → IsWithoutOne (rows_in t) (rows_with t held) ending (holding_of taken)
+module _ (t : Inside) (held : OffersAndTasks) (release : Release) (taken : Taken) (consistent : IsConsistent (rows_in t)) where
+  lost_offer : IsOfferOut release t.holdings held (holding_of taken) → IsWithoutOne (rows_in t) (rows_with t held) release (holding_of taken)
   unfolding rows_of
   lost_offer lost =
       let o : OfferRow = lost.offer in
@@ -55,17 +55,17 @@ module _ (t : Inside) (held : OffersAndTasks) (ending : Ending) (taken : Taken) 
       let after = lost.taken.after in
       let new : Rows = record (rows_in t) { offers = before ++ after } in
       let rows : new ≡ rows_with t held = λ i. record (rows_in t) { offers = sym lost.taken.left i; tasks = sym lost.same i } in
-      let one : IsWithoutOne (rows_in t) new ending (of_offer o) = record {
-        taken = inl (record { offer = o; taken = record { before = before; after = after; whole = lost.taken.whole; left = refl; passes = lost.taken.passes }; same = refl; told = refl });
+      let one : IsWithoutOne (rows_in t) new release (holding_of_offer o) = record {
+        taken = inl (record { offer = o; taken = record { before = before; after = after; whole = lost.taken.whole; left = refl; passes = lost.taken.passes }; same = refl; reported = refl });
         others = refl;
         consistent = IsConsistent-offer_out (rows_in t) before after o lost.taken.whole consistent;
         less = one_less-offer (rows_in t) before after o lost.taken.whole;
-        later = without_ended-offer (rows_in t) before after o lost.taken.whole ending lost.taken.passes;
-        fewer = left-offer (rows_in t) before after o lost.taken.whole ending lost.taken.passes;
+        later = without_ended-offer (rows_in t) before after o lost.taken.whole release lost.taken.passes;
+        fewer = left-offer (rows_in t) before after o lost.taken.whole release lost.taken.passes;
       } in
-      subst (λ (q : Rows × Holding). IsWithoutOne (rows_in t) q.0 ending q.1) (λ i. (rows i, sym lost.told i)) one
+      subst (λ (q : Rows × Holding). IsWithoutOne (rows_in t) q.0 release q.1) (λ i. (rows i, sym lost.reported i)) one
 
-  lost_task : IsTaskOut ending t.holdings held (holding_of taken) → IsWithoutOne (rows_in t) (rows_with t held) ending (holding_of taken)
+  lost_task : IsTaskOut release t.holdings held (holding_of taken) → IsWithoutOne (rows_in t) (rows_with t held) release (holding_of taken)
   unfolding rows_of
   lost_task lost =
       let x : TaskRow = lost.task in
@@ -73,27 +73,27 @@ module _ (t : Inside) (held : OffersAndTasks) (ending : Ending) (taken : Taken) 
       let after = lost.taken.after in
       let new : Rows = record (rows_in t) { tasks = before ++ after } in
       let rows : new ≡ rows_with t held = λ i. record (rows_in t) { tasks = sym lost.taken.left i; offers = sym lost.same i } in
-      let one : IsWithoutOne (rows_in t) new ending (of_task x) = record {
-        taken = inr (record { task = x; taken = record { before = before; after = after; whole = lost.taken.whole; left = refl; passes = lost.taken.passes }; same = refl; told = refl });
+      let one : IsWithoutOne (rows_in t) new release (holding_of_task x) = record {
+        taken = inr (record { task = x; taken = record { before = before; after = after; whole = lost.taken.whole; left = refl; passes = lost.taken.passes }; same = refl; reported = refl });
         others = refl;
         consistent = IsConsistent-task_out (rows_in t) before after x lost.taken.whole consistent;
         less = one_less-task (rows_in t) before after x lost.taken.whole;
-        later = without_ended-task (rows_in t) before after x lost.taken.whole ending lost.taken.passes;
-        fewer = left-task (rows_in t) before after x lost.taken.whole ending lost.taken.passes;
+        later = without_ended-task (rows_in t) before after x lost.taken.whole release lost.taken.passes;
+        fewer = left-task (rows_in t) before after x lost.taken.whole release lost.taken.passes;
       } in
-      subst (λ (q : Rows × Holding). IsWithoutOne (rows_in t) q.0 ending q.1) (λ i. (rows i, sym lost.told i)) one
+      subst (λ (q : Rows × Holding). IsWithoutOne (rows_in t) q.0 release q.1) (λ i. (rows i, sym lost.reported i)) one
 
-  pub without_taken : IsOfferOut ending t.holdings held (holding_of taken) ⊎ IsTaskOut ending t.holdings held (holding_of taken)
-      → IsWithoutOne (rows_in t) (rows_with t held) ending (holding_of taken)
+  pub without_taken : IsOfferOut release t.holdings held (holding_of taken) ⊎ IsTaskOut release t.holdings held (holding_of taken)
+      → IsWithoutOne (rows_in t) (rows_with t held) release (holding_of taken)
   without_taken lost = elim lost [
     | inl offer ↦ lost_offer offer
     | inr task ↦ lost_task task
   ]
 
 -- less is held on its agent
-less-ended : (old new : Rows) (ending : Ending) (h : Holding) → IsConsistent old → IsWithoutOne old new ending h
+less-ended : (old new : Rows) (release : Release) (h : Holding) → IsConsistent old → IsWithoutOne old new release h
     → HasLess (holdings_of old) (holdings_of new) h.agent h.bundle
-less-ended old new ending h consistent one = record {
+less-ended old new release h consistent one = record {
   is_part = (one-one_less (holdings_of old) (holdings_of new) h one.less (IsHeld old.agents old.frameworks) consistent.holdings).bundle;
   each_old = bundles-consistent old consistent;
   each_new = bundles-consistent new one.consistent;
@@ -104,21 +104,21 @@ less-ended old new ending h consistent one = record {
 }
 
 -- so its resources can join the free ones
-pub back-ended : (t : Inside) (held : OffersAndTasks) (ending : Ending) (taken : Taken) → AreDerived (rows_in t) t.agents.entries t.total t.clients
-    → IsOfferOut ending t.holdings held (holding_of taken) ⊎ IsTaskOut ending t.holdings held (holding_of taken)
+pub back-ended : (t : Inside) (held : OffersAndTasks) (release : Release) (taken : Taken) → AreDerived (rows_in t) t.agents.entries t.total t.clients
+    → IsOfferOut release t.holdings held (holding_of taken) ⊎ IsTaskOut release t.holdings held (holding_of taken)
     → CanGiveBack taken.agent taken.bundle t.agents.entries
 unfolding rows_of
-back-ended t held ending taken kept lost =
+back-ended t held release taken kept lost =
     joins-freed (holdings_of (rows_in t)) (holdings_of (rows_with t held)) taken.agent taken.bundle
-    (less-ended (rows_in t) (rows_with t held) ending (holding_of taken) kept.consistent (without_taken t held ending taken kept.consistent lost))
+    (less-ended (rows_in t) (rows_with t held) release (holding_of taken) kept.consistent (without_taken t held release taken kept.consistent lost))
     t.agents.entries kept.free kept.consistent.agents.each kept.consistent.covered
 
-pub AreDerived-ended : (old new : Rows) (agents : List (Text × Agent)) (sum : List Entry) (number : ℕ) (ending : Ending) (h : Holding) (back : Bool)
-    → old.agents ≡ map agent_row agents → AreDerived old agents sum number → IsWithoutOne old new ending h
+pub AreDerived-ended : (old new : Rows) (agents : List (Text × Agent)) (sum : List Entry) (number : ℕ) (release : Release) (h : Holding) (back : Bool)
+    → old.agents ≡ map agent_row agents → AreDerived old agents sum number → IsWithoutOne old new release h
     → AreDerived new (map (changed h.agent (freed back h.bundle)) agents) sum number
-AreDerived-ended old new agents sum number ending h back stand kept one = record {
+AreDerived-ended old new agents sum number release h back stand kept one = record {
   consistent = one.consistent;
-  free = known-freed (holdings_of old) (holdings_of new) h.agent h.bundle (less-ended old new ending h kept.consistent one) back agents kept.free
+  free = known-freed (holdings_of old) (holdings_of new) h.agent h.bundle (less-ended old new release h kept.consistent one) back agents kept.free
       (subst (AllByRecursion IsAgent) stand kept.consistent.agents.each)
       (subst (AllByRecursion (IsCovered (holdings_of old))) stand kept.consistent.covered);
   total = kept.total ∙ sym (ap (λ (r : Rows). cluster_total r.agents) one.others);
@@ -126,9 +126,9 @@ AreDerived-ended old new agents sum number ending h back stand kept one = record
   few = subst (λ (agents : List AgentRow). length agents ≤ 4096) (sym (ap (λ (r : Rows). r.agents) one.others)) kept.few;
 }
 
-pub ended_from : (old new : Rows) (ending : Ending) (taken : Taken)
-    → IsConsistent old → IsWithoutOne old new ending (holding_of taken) → HasEnded old new ending taken
-ended_from old new ending taken consistent one = record {
+pub ended_from : (old new : Rows) (release : Release) (taken : Taken)
+    → IsConsistent old → IsWithoutOne old new release (holding_of taken) → HasEnded old new release taken
+ended_from old new release taken consistent one = record {
   registered = (one-one_less (holdings_of old) (holdings_of new) (holding_of taken) one.less (IsHeld old.agents old.frameworks) consistent.holdings).client;
   taken = one.taken;
   others = one.others;
@@ -139,14 +139,14 @@ ended_from old new ending taken consistent one = record {
 
 -- ---- nothing ends
 
-module _ (t : Inside) (held : OffersAndTasks) (ending : Ending) (lost : IsNothingOut ending t.holdings held) where
+module _ (t : Inside) (held : OffersAndTasks) (release : Release) (lost : IsNothingOut release t.holdings held) where
   pub rows-none : rows_with t held ≡ rows_in t
   unfolding rows_of
   rows-none = λ i. record (rows_in t) { offers = lost.offers.same i; tasks = lost.tasks.same i }
 
-  pub without-none : without_ended (rows_in t) ending ≡ rows_in t
+  pub without-none : without_ended (rows_in t) release ≡ rows_in t
   unfolding rows_of
-  without-none = without_ended-none (rows_in t) ending lost.offers.none lost.tasks.none
+  without-none = without_ended-none (rows_in t) release lost.offers.none lost.tasks.none
 
 -- ---- an offer is replaced by tasks
 
@@ -169,7 +169,7 @@ less-accepted : (rows : Rows) (number : ℕ) (starts : List Start) (o : OfferRow
     → AllByRecursion IsBundle (uses starts) → CanStart rows o starts
     → HasLess (holdings_of rows) (holdings_of (with_accepted rows o starts None)) o.agent (left_of_offer o starts)
 less-accepted rows number starts o consistent found bundles can =
-    let held : IsHeld rows.agents rows.frameworks (of_offer o) = offer_held rows number o starts [] consistent found in
+    let held : IsHeld rows.agents rows.frameworks (holding_of_offer o) = offer_held rows number o starts [] consistent found in
     let has = units-covers_all o.bundle (uses starts) held.bundle bundles can.covered in
     record {
       is_part = bundle-rest_of_all o.bundle (uses starts) held.bundle;
@@ -244,10 +244,10 @@ module _ (t : Inside) (entries : List (Text × Agent)) (held : OffersAndTasks) (
 
 -- ---- in terms of the fields
 
-module _ (t : Inside) (entries : List (Text × Agent)) (held : OffersAndTasks) (ending : Ending) (taken : Taken)
+module _ (t : Inside) (entries : List (Text × Agent)) (held : OffersAndTasks) (release : Release) (taken : Taken)
     (kept : AreDerived (rows_in t) t.agents.entries t.total t.clients)
     (freed_there : HasFreed taken.agent taken.bundle t.agents.entries entries)
-    (lost : IsOfferOut ending t.holdings held (holding_of taken) ⊎ IsTaskOut ending t.holdings held (holding_of taken)) where
+    (lost : IsOfferOut release t.holdings held (holding_of taken) ⊎ IsTaskOut release t.holdings held (holding_of taken)) where
   -- the rows without the offer or task
   abbrev pub rows_ended : Rows
   rows_ended = rows_of entries t.frameworks.entries held t.filters t.weights.entries t.limits t.clock t.next_offer t.events
@@ -259,16 +259,16 @@ module _ (t : Inside) (entries : List (Text × Agent)) (held : OffersAndTasks) (
       ap (map agent_row) freed_there.same ∙ rows-freed freed_there.kept taken.agent taken.bundle t.agents.entries in
       λ i. record (rows_with t held) { agents = sym agents i }
 
-  pub without_it : IsWithoutOne (rows_in t) rows_ended ending (holding_of taken)
+  pub without_it : IsWithoutOne (rows_in t) rows_ended release (holding_of taken)
   without_it =
-      subst (λ (r : Rows). IsWithoutOne (rows_in t) r ending (holding_of taken)) same_rows
-      (without_taken t held ending taken kept.consistent lost)
+      subst (λ (r : Rows). IsWithoutOne (rows_in t) r release (holding_of taken)) same_rows
+      (without_taken t held release taken kept.consistent lost)
 
   pub ended-kept : AreDerived rows_ended entries t.total t.clients
   unfolding rows_of
   ended-kept =
       subst (λ (es : List (Text × Agent)). AreDerived rows_ended es t.total t.clients) (sym freed_there.same)
-      (AreDerived-ended (rows_in t) rows_ended t.agents.entries t.total t.clients ending (holding_of taken) freed_there.kept refl kept without_it)
+      (AreDerived-ended (rows_in t) rows_ended t.agents.entries t.total t.clients release (holding_of taken) freed_there.kept refl kept without_it)
 
-  pub ended-one : HasEnded (rows_in t) rows_ended ending taken
-  ended-one = ended_from (rows_in t) rows_ended ending taken kept.consistent without_it
+  pub ended-one : HasEnded (rows_in t) rows_ended release taken
+  ended-one = ended_from (rows_in t) rows_ended release taken kept.consistent without_it

@@ -2,13 +2,13 @@
 use Rattle.std.specs.List.{AllByRecursion}
 use Rattle.std.specs.Option.{option_map}
 use Rattle.std.proofs.Common.{refl, sym, ap, subst, ◌∙◌, arith, ◌≡◌, ℕ, ◌+◌, ◌≤◌, Bool, true, false, ◌&&◌, List, [], ◌∷◌, ◌++◌, length, map, Option, Some, None, is_some, if◌then◌else◌, append-nil}
-use Rattle.drf_tables.proofs.tables.Names.{Text, same_text, Key, IsBundle, rest, units, Entry, Resource, IsAgent, IsConsistent, IsHeld, clients_of, cluster_total, Holding, AreBundles, holdings_of, of_offer, of_task, parts_on, bundles-consistent, same_text-swap, AgentRow, OfferRow, Rows, changed, with_held, agent_row, is_settled, AreDerived, IsKnown, Agent}
+use Rattle.drf_tables.proofs.tables.Names.{Text, same_text, Key, IsBundle, rest, units, Entry, Resource, IsAgent, IsConsistent, IsHeld, clients_of, cluster_total, Holding, AreBundles, holdings_of, holding_of_offer, holding_of_task, parts_on, bundles-consistent, same_text-swap, AgentRow, OfferRow, Rows, changed, with_held, agent_row, is_settled, AreDerived, IsKnown, Agent}
 use Rattle.drf_bundle.specs.Value.{Point}
 use Rattle.drf_bundle.specs.Taken.{units_of_all, rest_of_all}
 use Rattle.drf_bundle.specs.laws.BundleLaws.{known_by_units}
 use Rattle.drf_bundle.proofs.laws.RestLaws.{bundle-rest, units-rest}
 use Rattle.drf_bundle.proofs.laws.TakenLaws.{bundle-rest_of_all, units-rest_of_all}
-use Rattle.drf_row_laws.proofs.EndingLaws.{IsOneLess, one-one_less, one_less-offer, one_less-task, parts_on-one_less, units-one_less}
+use Rattle.drf_row_laws.proofs.ReleaseLaws.{IsOneLess, one-one_less, one_less-offer, one_less-task, parts_on-one_less, units-one_less}
 use Rattle.drf_row_laws.proofs.HoldingsLaws.{each_part}
 use Rattle.drf_rows.specs.declared.rows.TaskRow.{TaskRow}
 
@@ -110,14 +110,14 @@ AreDerived-held old new agents sum number h consistent more others stand kept = 
 
 -- ---- one more offer, or one more task
 
-pub one_more-offer : (rows : Rows) (o : OfferRow) → IsOneLess (holdings_of (record rows { offers = rows.offers ++ o ∷ [] })) (holdings_of rows) (of_offer o)
+pub one_more-offer : (rows : Rows) (o : OfferRow) → IsOneLess (holdings_of (record rows { offers = rows.offers ++ o ∷ [] })) (holdings_of rows) (holding_of_offer o)
 one_more-offer rows o =
     let new : Rows = record rows { offers = rows.offers ++ o ∷ [] } in
-    subst (λ (os : List OfferRow). IsOneLess (holdings_of new) (holdings_of (record rows { offers = os })) (of_offer o)) (append-nil rows.offers)
+    subst (λ (os : List OfferRow). IsOneLess (holdings_of new) (holdings_of (record rows { offers = os })) (holding_of_offer o)) (append-nil rows.offers)
     (one_less-offer new rows.offers [] o refl)
 
-pub one_more-task : (rows : Rows) (x : TaskRow) → IsOneLess (holdings_of (record rows { tasks = rows.tasks ++ x ∷ [] })) (holdings_of rows) (of_task x)
+pub one_more-task : (rows : Rows) (x : TaskRow) → IsOneLess (holdings_of (record rows { tasks = rows.tasks ++ x ∷ [] })) (holdings_of rows) (holding_of_task x)
 one_more-task rows x =
     let new : Rows = record rows { tasks = rows.tasks ++ x ∷ [] } in
-    subst (λ (ts : List TaskRow). IsOneLess (holdings_of new) (holdings_of (record rows { tasks = ts })) (of_task x)) (append-nil rows.tasks)
+    subst (λ (ts : List TaskRow). IsOneLess (holdings_of new) (holdings_of (record rows { tasks = ts })) (holding_of_task x)) (append-nil rows.tasks)
     (one_less-task new rows.tasks [] x refl)

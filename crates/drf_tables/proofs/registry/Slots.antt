@@ -114,9 +114,9 @@ pub read_slot : {A : Type 0} (slots : Slots A) (i : ℕ) (x : Option (Entry A)) 
     → get_or slots i None ≡ Some e
 read_slot slots i x e below read is = get_or_default slots i None x below ∙ sym read ∙ is
 
-pub no_gap : {A : Type 0} (slots : Slots A) (i : ℕ) (x : Option (Entry A)) (e : Entry A) → i < length slots → x ≡ get_or slots i x → get_or slots i None ≡ Some e
+pub no_free_slot : {A : Type 0} (slots : Slots A) (i : ℕ) (x : Option (Entry A)) (e : Entry A) → i < length slots → x ≡ get_or slots i x → get_or slots i None ≡ Some e
     → x ≡ None → ⊥
-no_gap slots i x e below read there none =
+no_free_slot slots i x e below read there none =
     let wrong : ◌≡◌ {A = Option (Entry _)} None (Some e) = sym none ∙ read_is slots i x e below read there in
     cc
 

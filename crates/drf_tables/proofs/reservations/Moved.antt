@@ -4,7 +4,7 @@ use Rattle.std.specs.Option.{option_map}
 use Rattle.std.proofs.Common.{refl, sym, ap, subst, ◌∙◌, arith, ◌≡◌, ℕ, ◌+◌, ◌<◌, ◌≤◌, ◌^◌, Bool, true, false, not, List, [], ◌∷◌, map, filter, Option, Some, None, if◌then◌else◌}
 use Rattle.std.proofs.lemmas.List.{length-map}
 use Rattle.std.proofs.lemmas.List.Sums.{sum_by-append}
-use Rattle.drf_tables.proofs.tables.Names.{Text, same_text, Path, Key, IsBundle, is_default, quantities_of, rest, units, plus, Entry, Resource, IsAgent, IsCovered, cluster_total, Holding, AreBundles, of_offer, of_task, holdings_of, parts_on, bundles-consistent, each_from_both, each_map, unreserved_in, held_unreserved, reserved_for, consumption_where, limits_with, CanExchange, total_at, with_total, with_other_total, exchanged, AgentRow, Rows, IsConsumptionOf, IsRaisedBy, Usage, used_where, CanExchangeOn, CanHaveTotal, CanExchangeAt, HasOther, changed, other_free, with_exchanged, with_other, Agent, Inside}
+use Rattle.drf_tables.proofs.tables.Names.{Text, same_text, Path, Key, IsBundle, is_default, quantities_of, rest, units, plus, Entry, Resource, IsAgent, IsCovered, cluster_total, Holding, AreBundles, holding_of_offer, holding_of_task, holdings_of, parts_on, bundles-consistent, each_from_both, each_map, unreserved_in, held_unreserved, reserved_for, consumption_where, limits_with, CanExchange, total_at, with_total, with_other_total, exchanged, AgentRow, Rows, IsConsumptionOf, IsRaisedBy, Usage, used_where, CanExchangeOn, CanHaveTotal, CanExchangeAt, HasOther, changed, other_free, with_exchanged, with_other, Agent, Inside}
 use Rattle.drf_role.specs.Role.{IsRole}
 use Rattle.drf_bundle.specs.Value.{Point}
 use Rattle.drf_bundle.specs.laws.BundleLaws.{bundle-empty, known_by_units}
@@ -99,12 +99,12 @@ module _ (t : Inside) (kept : AreDerived (rows_in t) t.agents.entries t.total t.
         free = λ f is. subst (λ (g : List Resource). CanExchange g old new) (sym (known f is)) (both same).1;
       }) all kept.free
 
-  module _ (entries : List (Text × Agent)) (told : entries ≡ map (changed name (with_exchanged old new)) t.agents.entries) where
+  module _ (entries : List (Text × Agent)) (reported : entries ≡ map (changed name (with_exchanged old new)) t.agents.entries) where
     pub rows-exchanged : rows_but t entries t.frameworks.entries t.filters
         ≡ record (rows_in t) { agents = with_total (rows_in t) name (exchanged old new) }
     unfolding rows_of
     rows-exchanged =
-        let read = ap (map agent_row) told ∙ rows-exchanged_entries name old new t.agents.entries in
+        let read = ap (map agent_row) reported ∙ rows-exchanged_entries name old new t.agents.entries in
         λ i. record (rows_in t) { agents = read i }
 
     moves_each : AllByRecursion (λ e. same_text e.0 name ≡ true
@@ -123,7 +123,7 @@ module _ (t : Inside) (kept : AreDerived (rows_in t) t.agents.entries t.total t.
     kept-exchanged =
         subst (λ (r : Rows). AreDerived r entries t.total t.clients) (sym rows-exchanged) (record {
           consistent = IsConsistent-exchanged (rows_in t) name can.row kept.consistent can.found old new can.can;
-          free = subst (λ (es : List (Text × Agent)). AllByRecursion (IsKnown (holdings_of (rows_in t))) es) (sym told)
+          free = subst (λ (es : List (Text × Agent)). AllByRecursion (IsKnown (holdings_of (rows_in t))) es) (sym reported)
               (known-exchanged (holdings_of (rows_in t)) name old new t.agents.entries moves_each kept.free);
           total = kept.total ∙ sym (cluster_total-exchanged (rows_in t) name can.row kept.consistent can.found old new can.can);
           clients = kept.clients;
@@ -197,11 +197,11 @@ module _ (hs : List Holding) (bundles : AreBundles hs) (name : Text) (total : Li
 module _ (t : Inside) (kept : AreDerived (rows_in t) t.agents.entries t.total t.clients) (name : Text) (total : List Resource) (sum : List Entry)
     (right : CanHaveTotal (rows_in t) name total)
     (summed : sum ≡ plus (cluster_total (filter (λ a. not (same_text a.name name)) (rows_in t).agents)) (quantities_of total))
-    (entries : List (Text × Agent)) (told : HasOther name total t.agents.entries entries) where
+    (entries : List (Text × Agent)) (reported : HasOther name total t.agents.entries entries) where
   pub rows-other : rows_but t entries t.frameworks.entries t.filters ≡ record (rows_in t) { agents = with_other_total (rows_in t) name total }
   unfolding rows_of
   rows-other =
-      let read = ap (map agent_row) told.same ∙ rows-other_entries told.kept name total t.agents.entries in
+      let read = ap (map agent_row) reported.same ∙ rows-other_entries reported.kept name total t.agents.entries in
       λ i. record (rows_in t) { agents = read i }
 
   pub kept-other : AreDerived (rows_but t entries t.frameworks.entries t.filters) entries sum t.clients
@@ -210,8 +210,8 @@ module _ (t : Inside) (kept : AreDerived (rows_in t) t.agents.entries t.total t.
       let agent : IsAgent (record right.row { total = total }) = record { total = right.bundle; small = right.small } in
       subst (λ (r : Rows). AreDerived r entries sum t.clients) (sym rows-other) (record {
         consistent = IsConsistent-other_total (rows_in t) name right.row total kept.consistent right.found right.bundle right.covered agent;
-        free = subst (λ (es : List (Text × Agent)). AllByRecursion (IsKnown (holdings_of (rows_in t))) es) (sym told.same)
-            (known-other (holdings_of (rows_in t)) (bundles-consistent (rows_in t) kept.consistent) name total right.bundle told.kept t.agents.entries
+        free = subst (λ (es : List (Text × Agent)). AllByRecursion (IsKnown (holdings_of (rows_in t))) es) (sym reported.same)
+            (known-other (holdings_of (rows_in t)) (bundles-consistent (rows_in t) kept.consistent) name total right.bundle reported.kept t.agents.entries
             kept.free kept.consistent.agents.each kept.consistent.covered);
         total = summed ∙ cluster_total-other_total (rows_in t) name right.row total kept.consistent right.found agent;
         clients = kept.clients;
@@ -222,10 +222,10 @@ module _ (t : Inside) (kept : AreDerived (rows_in t) t.agents.entries t.total t.
 
 module _ (t : Inside) (kept : AreDerived (rows_in t) t.agents.entries t.total t.clients) (test : Path → Bool) (label : Text) where
   abbrev by_offers : ℕ
-  by_offers = held_unreserved test (map of_offer t.holdings.offers) label
+  by_offers = held_unreserved test (map holding_of_offer t.holdings.offers) label
 
   abbrev by_tasks : ℕ
-  by_tasks = held_unreserved test (map of_task t.holdings.tasks) label
+  by_tasks = held_unreserved test (map holding_of_task t.holdings.tasks) label
 
   abbrev by_totals : ℕ
   by_totals = reserved_for test (map agent_row t.agents.entries) label
@@ -234,7 +234,7 @@ module _ (t : Inside) (kept : AreDerived (rows_in t) t.agents.entries t.total t.
   unfolding rows_of
   all_consumed =
       ap (λ n. n + by_totals)
-      (sum_by-append (λ (h : Holding). if test h.client.role then unreserved_in label h.bundle else 0) (map of_offer t.holdings.offers) (map of_task t.holdings.tasks))
+      (sum_by-append (λ (h : Holding). if test h.client.role then unreserved_in label h.bundle else 0) (map holding_of_offer t.holdings.offers) (map holding_of_task t.holdings.tasks))
 
   pub consumed_fits : by_offers + by_tasks + by_totals < 2 ^ 64
   consumed_fits = omega (
@@ -248,8 +248,8 @@ module _ (t : Inside) (kept : AreDerived (rows_in t) t.agents.entries t.total t.
 pub counted-all : (t : Inside) (kept : AreDerived (rows_in t) t.agents.entries t.total t.clients)
     (none one two three : List Usage)
     → none ≡ []
-    → IsRaisedBy none one (λ test label. held_unreserved test (map of_offer t.holdings.offers) label)
-    → IsRaisedBy one two (λ test label. held_unreserved test (map of_task t.holdings.tasks) label)
+    → IsRaisedBy none one (λ test label. held_unreserved test (map holding_of_offer t.holdings.offers) label)
+    → IsRaisedBy one two (λ test label. held_unreserved test (map holding_of_task t.holdings.tasks) label)
     → IsRaisedBy two three (λ test label. reserved_for test (map agent_row t.agents.entries) label)
     → IsConsumptionOf (rows_in t) three
 counted-all t kept none one two three forgot first second third = λ test label.

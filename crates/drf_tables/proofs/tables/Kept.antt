@@ -4,7 +4,7 @@ use Rattle.std.proofs.Common.{refl, sym, ap, ◌∙◌, subst, arith, length-app
 use Rattle.drf_tables.proofs.tables.Names.{Text, plus, quantities_of, Entry, Resource, clients_of, cluster_total, Holding, holdings_of, parts_on, has_agent, has_framework, IsAgent, IsFramework, IsConsistent, are_distinct_roles, offers_counted, each_append, AgentRow, FrameworkRow, OfferRow, Rows, agent_row, frees_in, known_after, is_settled, IsKnown, AreDerived, Agent}
 use Rattle.drf_bundle.specs.Taken.{rest_of_all}
 use Rattle.drf_row_laws.proofs.RegistrationLaws.{new_agent, agent_added, framework_added, cluster_total-with_agent, parts_on-nothing, length-clients_of-framework_added, IsConsistent-agent_added}
-use Rattle.drf_rows.specs.declared.limits.TheConstants.{LATEST_MOMENT}
+use Rattle.drf_rows.specs.declared.limits.TheConstants.{LATEST_TIMESTAMP}
 use Rattle.drf_rows.specs.Cycle.{free_of}
 use Rattle.drf_tables.specs.cycle.Drafts.{with_offers, frees_of, frees_after}
 use Rattle.drf_tables.proofs.cycle.DraftLaws.{with_offers-added, agents-with_offers}
@@ -30,7 +30,7 @@ module _ (rows new : Rows) (agents : List (Text × Agent)) (sum : List Entry) (n
 -- ---- the clock and the number of events change
 
 pub AreDerived-clocked : (rows : Rows) (agents : List (Text × Agent)) (sum : List Entry) (number clock events : ℕ)
-    → clock ≤ LATEST_MOMENT → AreDerived rows agents sum number
+    → clock ≤ LATEST_TIMESTAMP → AreDerived rows agents sum number
     → AreDerived (record rows { clock = clock; events = events }) agents sum number
 AreDerived-clocked rows agents sum number clock events early kept =
     AreDerived-same rows (record rows { clock = clock; events = events }) agents sum number kept

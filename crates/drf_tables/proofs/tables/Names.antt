@@ -11,9 +11,9 @@ pub use Rattle.drf_role.specs.Text.{Text, same_text}
 pub use Rattle.drf_row_laws.proofs.ConsistentLaws.{bundles-consistent, same_text-swap}
 pub use Rattle.drf_rows.specs.Client.{Client}
 pub use Rattle.drf_rows.specs.Consistent.{AreAgents, IsAgent, IsConsistent, IsCovered, IsFilter, IsFramework, IsHeld, are_distinct, are_distinct_roles, are_distinct_tasks, are_rising, offers_counted}
-pub use Rattle.drf_rows.specs.Cycle.{at_moment, count_offer, counted}
+pub use Rattle.drf_rows.specs.Cycle.{at_timestamp, count_offer, counted}
 pub use Rattle.drf_rows.specs.Held.{client_of, clients_of, cluster_total, is_registered}
-pub use Rattle.drf_rows.specs.Holdings.{AreBundles, Holding, holdings_of, of_offer, of_task, parts_on}
+pub use Rattle.drf_rows.specs.Holdings.{AreBundles, Holding, holdings_of, holding_of_offer, holding_of_task, parts_on}
 pub use Rattle.drf_rows.specs.Members.{active_at, agent_removed, framework_removed, has_agent, has_framework, revived, suppressed_at, suppressed_in, with_activity, with_suppression}
 pub use Rattle.drf_rows.specs.Offers.{CanStart, filter_of, filtered_until, filters_all, filters_rest, filters_with, is_empty, left_of_offer, offer_accepted, offer_at, task_of}
 pub use Rattle.drf_rows.specs.Quota.{admits, admits_under, consumption, consumption_where, has_limit, held_unreserved, limit_of, limits_with, reserved_for, reserved_in, reserves, unreserved_in}

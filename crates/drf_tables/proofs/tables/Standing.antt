@@ -13,10 +13,10 @@ none_there (x ∷ xs) = eqb-suc-zero (length xs)
 -- a list is empty exactly if there is no first element
 pub none_first : {A V : Type 0} (shows : A → V) (s t : List V) (r : Option A) (none : Bool) → TakesFirst shows s r t
     → is_some r ≡ not none → none ≡ is_empty s
-none_first shows s t None true gone told = ap (λ (es : List _). is_empty es) (sym gone.0)
-none_first shows s t None false gone told = cc
-none_first shows s t (Some x) true first told = cc
-none_first shows s t (Some x) false first told = ap (λ (es : List _). is_empty es) (sym first)
+none_first shows s t None true gone reported = ap (λ (es : List _). is_empty es) (sym gone.0)
+none_first shows s t None false gone reported = cc
+none_first shows s t (Some x) true first reported = cc
+none_first shows s t (Some x) false first reported = ap (λ (es : List _). is_empty es) (sym first)
 
 -- all numbers are below a number if no offer has that number or a greater one
 pub none_from : (number : ℕ) (os : List OfferRow)

@@ -3,14 +3,14 @@ use Rattle.std.specs.Prelude.{ℕ, ◌+◌, ◌^◌, ◌<◌, List, [], ◌∷�
 use Rattle.std.specs.List.{AllByRecursion}
 use Rattle.drf_rows.specs.Cycle.{count_offer}
 use Rattle.drf_rows.specs.Held.{client_of}
-use Rattle.drf_rows.specs.Holdings.{of_offer}
+use Rattle.drf_rows.specs.Holdings.{holding_of_offer}
 use Rattle.drf_rows.specs.declared.rows.ClientRow.{ClientRow}
 use Rattle.drf_rows.specs.declared.rows.FrameworkRow.{FrameworkRow}
 use Rattle.drf_rows.specs.declared.rows.OfferRow.{OfferRow}
 
 -- the frameworks after an offer is counted for its client
 abbrev pub counting : List FrameworkRow → OfferRow → List FrameworkRow
-counting frameworks offer = map (count_offer (of_offer offer).client) frameworks
+counting frameworks offer = map (count_offer (holding_of_offer offer).client) frameworks
 
 -- the frameworks after offers are counted for their clients
 abbrev pub counting_all : List FrameworkRow → List OfferRow → List FrameworkRow

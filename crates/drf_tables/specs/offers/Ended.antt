@@ -2,7 +2,7 @@
 use Rattle.std.specs.Prelude.{◌≡◌, ℕ, ◌+◌, Bool, true, ◌⊎◌, List, [], ◌∷◌, ◌++◌, map, count_by, cond, Option, Some, None, if◌then◌else◌}
 use Rattle.std.specs.Option.{option_map_or}
 use Rattle.drf_role.specs.Text.{Text}
-use Rattle.drf_rows.specs.Endings.{Ending, one_offer, ends_offer, ends_task, without_ended}
+use Rattle.drf_rows.specs.Releases.{Release, one_offer, ends_offer, ends_task, without_ended}
 use Rattle.drf_rows.specs.Held.{is_registered}
 use Rattle.drf_rows.specs.Holdings.{Holding, holdings_of, held_where, amount_in}
 use Rattle.drf_rows.specs.Offers.{left_of_offer, task_of}
@@ -13,23 +13,23 @@ use Rattle.drf_rows.specs.declared.rows.Rows.{Rows}
 use Rattle.drf_holdings.specs.Stored.{OffersAndTasks, IsOfferOut, IsTaskOut, holding_of}
 use Rattle.drf_holdings.specs.declared.holdings.Taken.{Taken}
 
--- how many offers and tasks an `Ending` selects
-abbrev pub left_to_end : Rows → Ending → ℕ
-left_to_end rows ending = count_by (ends_offer ending) rows.offers + count_by (ends_task ending) rows.tasks
+-- how many offers and tasks an `Release` selects
+abbrev pub left_to_end : Rows → Release → ℕ
+left_to_end rows release = count_by (ends_offer release) rows.offers + count_by (ends_task release) rows.tasks
 
 -- the offers and tasks of the rows
 abbrev pub held_in : Rows → OffersAndTasks
 held_in rows = record { offers = rows.offers; tasks = rows.tasks }
 
 -- one of the selected offers and tasks was removed
-pub record HasEnded (old new : Rows) (ending : Ending) (ended : Taken) : Type 0 where
+pub record HasEnded (old new : Rows) (release : Release) (ended : Taken) : Type 0 where
   pub registered : is_registered old.frameworks (holding_of ended).client ≡ true
-  pub taken : IsOfferOut ending (held_in old) (held_in new) (holding_of ended) ⊎ IsTaskOut ending (held_in old) (held_in new) (holding_of ended)
+  pub taken : IsOfferOut release (held_in old) (held_in new) (holding_of ended) ⊎ IsTaskOut release (held_in old) (held_in new) (holding_of ended)
   -- nothing else changed
   pub others : new ≡ record old { offers = new.offers; tasks = new.tasks }
   -- the other selected ones remain to be removed, and nothing else is removed
-  pub later : without_ended new ending ≡ without_ended old ending
-  pub fewer : left_to_end old ending ≡ left_to_end new ending + 1
+  pub later : without_ended new release ≡ without_ended old release
+  pub fewer : left_to_end old release ≡ left_to_end new release + 1
   -- the holdings that pass a test hold this much less
   pub out : (test : Holding → Bool) (label : Text)
       → held_where test (holdings_of old) label

@@ -5,7 +5,7 @@ ghost use Rattle.std.specs.Prelude.{◌≡◌, ◌+◌, ◌<◌, ◌^◌, [], �
 ghost use Rattle.drf_hash.specs.Slots.{filled};
 ghost use Rattle.drf_role.specs.Text.{Text};
 ghost use Rattle.drf_role.specs.Path.{Path};
-ghost use Rattle.drf_rows.specs.Holdings.{of_offer, of_task};
+ghost use Rattle.drf_rows.specs.Holdings.{holding_of_offer, holding_of_task};
 ghost use Rattle.drf_rows.specs.Quota.{held_unreserved, reserved_for};
 ghost use Rattle.drf_gates.specs.quota.Allowance.{IsRaisedBy, used_where};
 ghost use Rattle.drf_holdings.specs.Listed.{task_row};
@@ -25,8 +25,8 @@ pub(crate) fn consume_offers(
     offers: InOrder<'_, OfferRow>,
 ) -> Result<(), AllocError>
     requires { (test : Path → Bool) (label : Text)
-        → used_where test consumption.old label + held_unreserved test (map of_offer offers) label < 2 ^ 64 }
-    ensures { OnOk result (IsRaisedBy consumption.old consumption.new (λ test label. held_unreserved test (map of_offer offers.entry) label)) }
+        → used_where test consumption.old label + held_unreserved test (map holding_of_offer offers) label < 2 ^ 64 }
+    ensures { OnOk result (IsRaisedBy consumption.old consumption.new (λ test label. held_unreserved test (map holding_of_offer offers.entry) label)) }
 {
     for offer in offers {
         consumption.consume_unreserved(&offer.role, &offer.bundle)?;
@@ -40,8 +40,8 @@ pub(crate) fn consume_tasks(
     tasks: InOrder<'_, Task>,
 ) -> Result<(), AllocError>
     requires { (test : Path → Bool) (label : Text)
-        → used_where test consumption.old label + held_unreserved test (map of_task (map task_row tasks)) label < 2 ^ 64 }
-    ensures { OnOk result (IsRaisedBy consumption.old consumption.new (λ test label. held_unreserved test (map of_task (map task_row tasks.entry)) label)) }
+        → used_where test consumption.old label + held_unreserved test (map holding_of_task (map task_row tasks)) label < 2 ^ 64 }
+    ensures { OnOk result (IsRaisedBy consumption.old consumption.new (λ test label. held_unreserved test (map holding_of_task (map task_row tasks.entry)) label)) }
 {
     for task in tasks {
         consumption.consume_unreserved(&task.row.role, &task.row.bundle)?;

@@ -17,7 +17,7 @@ ghost use Rattle.drf_tables.specs.declared.tables.Agent.{Agent};
 
 use crate::registry::Registry;
 use crate::registry::free_part::FreePart;
-use crate::registry::gaps::ranked;
+use crate::registry::free_slots::ranked;
 use crate::tables::Agent;
 use drf_amount::Algebra;
 use drf_bundle::Bundle;

@@ -7,7 +7,7 @@ ghost use Rattle.std.specs.List.{list_all};
 ghost use Rattle.std.specs.Option.{option_map};
 ghost use Rattle.drf_bundle.specs.Bundle.{rest};
 ghost use Rattle.drf_rows.specs.Consistent.{IsConsistent};
-ghost use Rattle.drf_rows.specs.declared.limits.TheConstants.{LATEST_MOMENT};
+ghost use Rattle.drf_rows.specs.declared.limits.TheConstants.{LATEST_TIMESTAMP};
 ghost use Rattle.drf_saved.specs.Saved.{begun, is_usable, no_filters, no_frameworks, no_limits, no_offers, no_tasks, no_weights};
 
 use crate::registry::free_part::FreePart;
@@ -45,7 +45,7 @@ pub fn offers_with(offers: u64, clients: &[ClientRow]) -> Option<u64>
 impl Tables {
     /// Returns tables with the numbers of a saved state, and without rows.
     pub fn begin(alloc: Global, key: HashKey, head: Head) -> Tables
-        requires early { head.clock ≤ LATEST_MOMENT }
+        requires early { head.clock ≤ LATEST_TIMESTAMP }
         requires numbered { 1 ≤ head.next_offer }
         ensures rows { result.rows ≡ begun head }
         ensures settled { result.settled ≡ true }

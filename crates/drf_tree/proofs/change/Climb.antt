@@ -46,14 +46,14 @@ second_of true b second = refl
 second_of false b second = second
 
 -- two nodes with the same number of parts above one leaf are the same
-same_front : (a b : Path) (x y : Path) → length a ≡ length b → a ++ x ≡ b ++ y → a ≡ b
-same_front [] [] x y long whole = refl
-same_front [] (q ∷ b) x y long whole = absurd (omega arith)
-same_front (p ∷ a) [] x y long whole = absurd (omega arith)
-same_front (p ∷ a) (q ∷ b) x y long whole =
+same_prefix : (a b : Path) (x y : Path) → length a ≡ length b → a ++ x ≡ b ++ y → a ≡ b
+same_prefix [] [] x y long whole = refl
+same_prefix [] (q ∷ b) x y long whole = absurd (omega arith)
+same_prefix (p ∷ a) [] x y long whole = absurd (omega arith)
+same_prefix (p ∷ a) (q ∷ b) x y long whole =
     let head : p ≡ q = cc in
     let tail : a ++ x ≡ b ++ y = cc in
-    let rest : a ≡ b = same_front a b x y (omega arith) tail in
+    let rest : a ≡ b = same_prefix a b x y (omega arith) tail in
     λ i. head i ∷ rest i
 
 pub live_on_way : (places : List (Option Place)) (leaf i : ℕ) → on_way places leaf i ≡ true
@@ -81,7 +81,7 @@ module _ (places : List (Option Place)) (families : List Family) (stale : List B
       let b = live_on_way places leaf j on_j in
       let p : Path = path_at places leaf in
       shape.distinct i j a.0 b.0
-      (same_front (path_at places i) (path_at places j) (drop (length (path_at places i)) p) (drop (length (path_at places j)) p) long
+      (same_prefix (path_at places i) (path_at places j) (drop (length (path_at places i)) p) (drop (length (path_at places j)) p) long
       (sym (begins_to p (path_at places i) a.1) ∙ begins_to p (path_at places j) b.1))
 
   pub at_leaf : is_live places leaf ≡ true → IsAt places leaf leaf

@@ -14,8 +14,8 @@ use Rattle.drf_tree.proofs.shape.Way.{live_from, top_is}
 -- ---- prefixes of a path
 
 -- a prefix is the path of a node
-pub front_right : (path : Path) (len : ℕ) → IsClientPath path → 1 ≤ len → len ≤ length path → IsNodePath (take len path)
-front_right path len right some within = record {
+pub prefix_right : (path : Path) (len : ℕ) → IsClientPath path → 1 ≤ len → len ≤ length path → IsNodePath (take len path)
+prefix_right path len right some within = record {
   path = path;
   right_path = right;
   not_empty = λ none. omega (arith, ap length none, length-take-le len path within, some);
@@ -23,16 +23,16 @@ front_right path len right some within = record {
 }
 
 -- a prefix that is shorter is not a client's path
-pub front_no_client : (path : Path) (len : ℕ) → IsClientPath path → len < length path → IsClientPath (take len path) → ⊥
-front_no_client path len right less client =
+pub prefix_no_client : (path : Path) (len : ℕ) → IsClientPath path → len < length path → IsClientPath (take len path) → ⊥
+prefix_no_client path len right less client =
     let short : length (take len path) ≡ len = length-take-le len path (omega (arith, less)) in
     let apart : path ≢ take len path = λ same. omega (arith, ap length same, short, less) in
     true≢false (sym (begins_by path (take len path) (drop len path) (sym (take-append-drop len path)))
     ∙ client_paths-apart path (take len path) right client apart)
 
 -- an element of a prefix is the same as in the whole list
-pub read_front : {X : Type 0} (xs : List X) (i : ℕ) (x : X) → slice_get xs i ≡ Some x → slice_get (take (i + 1) xs) i ≡ Some x
-read_front {X} xs i x at =
+pub read_prefix : {X : Type 0} (xs : List X) (i : ℕ) (x : X) → slice_get xs i ≡ Some x → slice_get (take (i + 1) xs) i ≡ Some x
+read_prefix {X} xs i x at =
     ap (λ (ys : List X). slice_get ys i) (take_one_more xs i x at)
     ∙ last_there (take i xs) i x (length-take-le i xs (within_too (slice_get_within xs i x at)))
   where
@@ -47,8 +47,8 @@ read_front {X} xs i x at =
 -- ---- one more node
 
 -- a longer prefix begins with a shorter one
-front_begins : (path : Path) (i : ℕ) → begins_with (take (i + 1) path) (take i path) ≡ true
-front_begins path i =
+prefix_begins : (path : Path) (i : ℕ) → begins_with (take (i + 1) path) (take i path) ≡ true
+prefix_begins path i =
     begins_by (take (i + 1) path) (take i path) (drop i (take (i + 1) path))
     (sym (take-append-drop i (take (i + 1) path)) ∙ ap (λ (p : Path). p ++ drop i (take (i + 1) path)) fewer)
   where
@@ -85,7 +85,7 @@ grow_step content old now new path node i child so of free live at spends one = 
   there = node_from_live new.places.items child live;
   at = at;
   spends = spends-both so.spends spends;
-  but = λ tidy. grown_but content now.places.items new.places.items (take i path) (take (i + 1) path) (front_begins path i) one (so.but tidy);
+  but = λ tidy. grown_but content now.places.items new.places.items (take i path) (take (i + 1) path) (prefix_begins path i) one (so.but tidy);
 }
 
 module _ (content : Content) (old now : Tree) (path : Path) (node i : ℕ) (so : IsGrowing content old now path node i)
@@ -111,8 +111,8 @@ module _ (content : Content) (tree : Tree) (of : IsTreeOf content tree) (path : 
     (there : is_node tree.places.items node ≡ true) (at : path_at tree.places.items node ≡ take i path)
     (next : slice_get path i ≡ Some name)
     (none : list_any (same_text name) (map child_name (children_at tree.families.items node)) ≡ false) where
-  front_at : path_at tree.places.items node ≡ take i (take (i + 1) path)
-  front_at =
+  prefix_at : path_at tree.places.items node ≡ take i (take (i + 1) path)
+  prefix_at =
       at
       ∙ sym (ap (take i) (take_one_more path i name next)
       ∙ take_at (take i path) (name ∷ []) i (length-take-le i path (le_of (slice_get_within path i name next))))
@@ -127,9 +127,9 @@ module _ (content : Content) (tree : Tree) (of : IsTreeOf content tree) (path : 
   }
 
   pub step_missing : (j : ℕ) → is_live tree.places.items j ≡ true → path_at tree.places.items j ≢ take (i + 1) path
-  step_missing = no_such tree of.shape node i (take (i + 1) path) name there front_at (read_front path i name next) none
+  step_missing = no_such tree of.shape node i (take (i + 1) path) name there prefix_at (read_prefix path i name next) none
 
   pub step_nobody : has_node content (take (i + 1) path) ≡ false
   step_nobody =
       false_from_ne_true (has_node content (take (i + 1) path))
-      (not_below tree of.shape node i (take (i + 1) path) name there front_at (read_front path i name next) none content of)
+      (not_below tree of.shape node i (take (i + 1) path) name there prefix_at (read_prefix path i name next) none content of)

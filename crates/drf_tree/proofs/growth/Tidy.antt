@@ -6,7 +6,7 @@ use Rattle.std.proofs.lemmas.Bool.{true≢false, false≢true, cases_Bool, cases
 use Rattle.std.proofs.lemmas.List.Folds.{list_any-append}
 use Rattle.drf_tree.proofs.Names.{Path, begins_with, same_path, same_path-true, Content, Ranked, has_node, with_change, with_client, without_client, Child, Place, Sum, Tree, IsShapeOf, is_bare_at, child_name, children_at, is_live, parent_at, path_at, place_at, IsOneMore, IsTidy, IsTidyBut, IsChildOf, IsTreeOf}
 use Rattle.drf_tree.proofs.sums.Content.{paths_stay, step}
-use Rattle.drf_tree.proofs.shape.Path.{begins_by, begins_front, begins_itself, begins_long, begins_to, begins_trans}
+use Rattle.drf_tree.proofs.shape.Path.{begins_by, begins_prefix, begins_itself, begins_long, begins_to, begins_trans}
 use Rattle.drf_tree.proofs.shape.Way.{above_of, equal_self, shorter_above, top_is}
 
 -- ---- clients below a node
@@ -108,13 +108,13 @@ tidy_but content path places tidy i live = inl (tidy i live)
 -- ---- a node is removed
 
 -- a prefix of a path that is not the path itself is a prefix of it without its last part
-shorter_begins : (front node : Path) (name : _) (path : Path) → path ≡ front ++ name ∷ [] → begins_with path node ≡ true → node ≢ path
-    → begins_with front node ≡ true
-shorter_begins front node name path is begins other = by (drop (length node) path) (begins_to path node begins)
+shorter_begins : (prefix node : Path) (name : _) (path : Path) → path ≡ prefix ++ name ∷ [] → begins_with path node ≡ true → node ≢ path
+    → begins_with prefix node ≡ true
+shorter_begins prefix node name path is begins other = by (drop (length node) path) (begins_to path node begins)
   where
-    by : (rest : Path) → path ≡ node ++ rest → begins_with front node ≡ true
+    by : (rest : Path) → path ≡ node ++ rest → begins_with prefix node ≡ true
     by [] whole = absurd (other (sym (whole ∙ append-nil node)))
-    by (part ∷ rest) whole = begins_front node rest front part name (sym whole ∙ is)
+    by (part ∷ rest) whole = begins_prefix node rest prefix part name (sym whole ∙ is)
 
 module _ (now new : Tree) (shape : IsShapeOf now) (node parent : ℕ) (live : is_live now.places.items node ≡ true)
     (parent_is : parent ≡ parent_at now.places.items node)
@@ -226,14 +226,14 @@ one_more old mid new node place same within set i live = elim (cases_eq i node) 
 ]
 
 -- a node is added on a path
-pub grown_but : (content : Content) (old new : List (Option Place)) (front path : Path) → begins_with path front ≡ true
-    → IsOneMore path old new → IsTidyBut front content old → IsTidyBut path content new
-grown_but content old new front path begins one but i live = elim (one i live) [
+pub grown_but : (content : Content) (old new : List (Option Place)) (prefix path : Path) → begins_with path prefix ≡ true
+    → IsOneMore path old new → IsTidyBut prefix content old → IsTidyBut path content new
+grown_but content old new prefix path begins one but i live = elim (one i live) [
   | inl was ↦
       let same : path_at new i ≡ path_at old i = ap (λ (o : Option Place). option_map_or (λ p. p.path) o []) was in
       elim (but i (ap (λ (o : Option Place). is_some o) (sym was) ∙ live)) [
         | inl has ↦ inl (ap (has_node content) same ∙ has)
-        | inr on ↦ inr (ap (begins_with path) same ∙ begins_trans path front (path_at old i) begins on)
+        | inr on ↦ inr (ap (begins_with path) same ∙ begins_trans path prefix (path_at old i) begins on)
       ]
   | inr is ↦ inr (ap (begins_with path) is ∙ begins_itself path)
 ]

@@ -16,8 +16,8 @@ pub names_flip : (x y : List ℕ) → same_text x y ≡ same_text y x
 names_flip = nat_list_eq_equiv.symm
 
 module _ (child : Child) (less more : List Child) (with : IsWith child less more) where
-  pub moved_to_front : IsPermutation more (child ∷ less)
-  moved_to_front =
+  pub moved_to_prefix : IsPermutation more (child ∷ less)
+  moved_to_prefix =
       subst (λ (cs : List Child). IsPermutation cs (child ∷ less)) (sym with.more_is)
       (subst (λ (cs : List Child). IsPermutation (with.before ++ child ∷ with.after) (child ∷ cs)) (sym with.less_is)
       (IsPermutation-middle with.before child with.after))
@@ -33,12 +33,12 @@ module _ (child : Child) (less more : List Child) (with : IsWith child less more
       (parts.1.0, subst (AllByRecursion P) (sym with.less_is) (each_append P with.before with.after parts.0 parts.1.1))
 
   pub any_with : {X : Type 0} (g : Child → X) (t : X → Bool) → list_any t (map g more) ≡ (t (g child) || list_any t (map g less))
-  any_with g t = list_any-IsPermutation t (map g more) (map g (child ∷ less)) (IsPermutation-map g more (child ∷ less) moved_to_front)
+  any_with g t = list_any-IsPermutation t (map g more) (map g (child ∷ less)) (IsPermutation-map g more (child ∷ less) moved_to_prefix)
 
   pub once_without : IsDistinct same_text (map child_name more) → IsDistinct same_text (child_name child ∷ map child_name less)
   once_without distinct =
       IsDistinct-IsPermutation same_text names_flip (map child_name more) (child_name child ∷ map child_name less)
-      (IsPermutation-map child_name more (child ∷ less) moved_to_front) distinct
+      (IsPermutation-map child_name more (child ∷ less) moved_to_prefix) distinct
 
 -- ---- one family is replaced
 

@@ -9,7 +9,7 @@ use Rattle.std.specs.List.Sorted.{IsPartitionedBy, IsSorted}
 use Rattle.std.specs.Ordering.{is_lt, nat_cmp, ordering_then}
 use Rattle.std.specs.String.{string_bytes}
 use Rattle.std.proofs.Common.{refl, sym, ap, ◌∙◌, inl, inr, arith, ◌≡◌, ◌≤◌, ◌<◌, ℕ, zero, suc, Bool, true, false, not, ◌&&◌, cond, List, [], ◌∷◌, ◌++◌, Option, None, Some, ◌==◌, length, map, take, drop, slice_get, slice_index_or, take-append-drop}
-use Rattle.drf_row_laws.proofs.EndingLaws.{split_at}
+use Rattle.drf_row_laws.proofs.ReleaseLaws.{split_at}
 use Rattle.std.proofs.lemmas.Bool.{true≢false, cases_Bool, and_from, and_parts, eqb-true, not-true}
 use Rattle.std.proofs.lemmas.Cmp.{then_total, on_total}
 use Rattle.std.proofs.lemmas.List.MinMax.{ranks_by}
@@ -72,16 +72,16 @@ sorted_without (x ∷ before) after child sorted =
 pub sorted_with : (before after : List Child) (child : Child) → are_sorted (before ++ after) ≡ true
     → list_all (λ c. is_before c.key child.key) before ≡ true
     → list_all (λ c. not (is_before c.key child.key)) after ≡ true → are_sorted (before ++ child ∷ after) ≡ true
-sorted_with [] after child sorted front back =
+sorted_with [] after child sorted prefix back =
     and_from (list_all (is_not_behind child) after) (are_sorted after) back sorted
-sorted_with (x ∷ before) after child sorted front back =
+sorted_with (x ∷ before) after child sorted prefix back =
     let parts = and_parts (list_all (is_not_behind x) (before ++ after)) (are_sorted (before ++ after)) sorted in
-    let fronts =
-    and_parts (is_before x.key child.key) (list_all (λ (c : Child). is_before c.key child.key) before) front in
-    let ahead : is_not_behind x child ≡ true = ap not (keys_rank.one_way x.key child.key fronts.0) in
+    let prefixes =
+    and_parts (is_before x.key child.key) (list_all (λ (c : Child). is_before c.key child.key) before) prefix in
+    let ahead : is_not_behind x child ≡ true = ap not (keys_rank.one_way x.key child.key prefixes.0) in
     and_from (list_all (is_not_behind x) (before ++ child ∷ after)) (are_sorted (before ++ child ∷ after))
     (list_all-insert (is_not_behind x) before after child ahead parts.0)
-    (sorted_with before after child parts.1 fronts.1 back)
+    (sorted_with before after child parts.1 prefixes.1 back)
 
 -- sorting puts the children in order
 abbrev pub child_order : Child → Child → Ordering
@@ -145,14 +145,14 @@ parted (x ∷ xs) key sorted (suc i) (suc j) d order below before =
     (omega (arith, below)) before
 
 -- the result of `partition_point`, as two lists
-pub front_all : {X : Type 0} (p : X → Bool) (xs : List X) (i : ℕ) → i ≤ length xs → AllWithin (λ x. p x ≡ true) xs 0 i
+pub prefix_all : {X : Type 0} (p : X → Bool) (xs : List X) (i : ℕ) → i ≤ length xs → AllWithin (λ x. p x ≡ true) xs 0 i
     → list_all p (take i xs) ≡ true
-front_all p [] zero below all = refl
-front_all p [] (suc i) below all = absurd (omega (arith, below))
-front_all p (x ∷ xs) zero below all = refl
-front_all p (x ∷ xs) (suc i) below all =
+prefix_all p [] zero below all = refl
+prefix_all p [] (suc i) below all = absurd (omega (arith, below))
+prefix_all p (x ∷ xs) zero below all = refl
+prefix_all p (x ∷ xs) (suc i) below all =
     and_from (p x) (list_all p (take i xs)) (all zero x (omega arith) (omega arith))
-    (front_all p xs i (omega (arith, below)) (λ k d low high. all (suc k) d (omega arith) (omega (arith, high))))
+    (prefix_all p xs i (omega (arith, below)) (λ k d low high. all (suc k) d (omega arith) (omega (arith, high))))
 
 none_at : {X : Type 0} (p : X → Bool) (xs : List X) → AllWithin (λ x. p x ≡ false) xs 0 (length xs)
     → list_all (λ x. not (p x)) xs ≡ true
@@ -182,17 +182,17 @@ module _ (children : List Child) (child : Child) (place : ℕ) where
   pub sorted_insert : are_sorted children ≡ true → list_all (λ c. is_before c.key child.key) (take place children) ≡ true
       → list_all (λ c. not (is_before c.key child.key)) (drop place children) ≡ true
       → are_sorted (take place children ++ child ∷ drop place children) ≡ true
-  sorted_insert sorted front back =
+  sorted_insert sorted prefix back =
       sorted_with (take place children) (drop place children) child
-      (ap are_sorted (take-append-drop place children) ∙ sorted) front back
+      (ap are_sorted (take-append-drop place children) ∙ sorted) prefix back
 
   -- the children are in order, whether or not memory ran out
   pub sorted_tried : (b : Bool) → are_sorted children ≡ true
       → list_all (λ c. is_before c.key child.key) (take place children) ≡ true
       → list_all (λ c. not (is_before c.key child.key)) (drop place children) ≡ true
       → are_sorted (cond b (take place children ++ child ∷ drop place children) children) ≡ true
-  sorted_tried true sorted front back = sorted_insert sorted front back
-  sorted_tried false sorted front back = sorted
+  sorted_tried true sorted prefix back = sorted_insert sorted prefix back
+  sorted_tried false sorted prefix back = sorted
 
   -- this child is at that position
   pub without_child : slice_get children place ≡ Some child

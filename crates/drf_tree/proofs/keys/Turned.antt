@@ -62,61 +62,61 @@ behind children key place sorted below first =
     ])
 
 -- both parts of a sorted family are sorted
-pub sorted_front : (front back : List Child) → are_sorted (front ++ back) ≡ true → are_sorted front ≡ true
-sorted_front [] back sorted = refl
-sorted_front (c ∷ front) back sorted =
-    let parts = and_parts (list_all (is_not_behind c) (front ++ back)) (are_sorted (front ++ back)) sorted in
-    and_from (list_all (is_not_behind c) front) (are_sorted front)
-    (and_parts (list_all (is_not_behind c) front) (list_all (is_not_behind c) back) (sym (list_all-append (is_not_behind c) front back) ∙ parts.0)).0
-    (sorted_front front back parts.1)
+pub sorted_prefix : (prefix back : List Child) → are_sorted (prefix ++ back) ≡ true → are_sorted prefix ≡ true
+sorted_prefix [] back sorted = refl
+sorted_prefix (c ∷ prefix) back sorted =
+    let parts = and_parts (list_all (is_not_behind c) (prefix ++ back)) (are_sorted (prefix ++ back)) sorted in
+    and_from (list_all (is_not_behind c) prefix) (are_sorted prefix)
+    (and_parts (list_all (is_not_behind c) prefix) (list_all (is_not_behind c) back) (sym (list_all-append (is_not_behind c) prefix back) ∙ parts.0)).0
+    (sorted_prefix prefix back parts.1)
 
-pub sorted_back : (front back : List Child) → are_sorted (front ++ back) ≡ true → are_sorted back ≡ true
+pub sorted_back : (prefix back : List Child) → are_sorted (prefix ++ back) ≡ true → are_sorted back ≡ true
 sorted_back [] back sorted = sorted
-sorted_back (c ∷ front) back sorted =
-    sorted_back front back (and_parts (list_all (is_not_behind c) (front ++ back)) (are_sorted (front ++ back)) sorted).1
+sorted_back (c ∷ prefix) back sorted =
+    sorted_back prefix back (and_parts (list_all (is_not_behind c) (prefix ++ back)) (are_sorted (prefix ++ back)) sorted).1
 
 -- the number of other children before a key
 module _ (children : List Child) (at : ℕ) (key : made.Key) (small : at < length children) (sorted : are_sorted (without_place at children) ≡ true) where
   abbrev others : List Child
   others = without_place at children
 
-  abbrev front : List Child
-  front = take at children
+  abbrev prefix : List Child
+  prefix = take at children
 
   abbrev back : List Child
   back = drop (at + 1) children
 
-  long : length front ≡ at
+  long : length prefix ≡ at
   long = length-take-le at children (omega (arith, small))
 
-  pub rank-front_before : (place : ℕ) → place < at → list_all (λ c. is_before c.key key) (take place front) ≡ true
+  pub rank-prefix_before : (place : ℕ) → place < at → list_all (λ c. is_before c.key key) (take place prefix) ≡ true
       → list_all (λ c. is_before c.key key) (take place others) ≡ true
-  rank-front_before place less all =
-      ap (list_all (λ (c : Child). is_before c.key key)) (take-append-le place front back (omega (arith, less, long))) ∙ all
+  rank-prefix_before place less all =
+      ap (list_all (λ (c : Child). is_before c.key key)) (take-append-le place prefix back (omega (arith, less, long))) ∙ all
 
-  pub rank-front_after : (place : ℕ) → place < at → list_all (λ c. not (is_before c.key key)) (drop place front) ≡ true
+  pub rank-prefix_after : (place : ℕ) → place < at → list_all (λ c. not (is_before c.key key)) (drop place prefix) ≡ true
       → list_all (λ c. not (is_before c.key key)) (drop place others) ≡ true
-  rank-front_after place less all =
-      behind others key place sorted (omega (arith, less, long, length-append front back))
+  rank-prefix_after place less all =
+      behind others key place sorted (omega (arith, less, long, length-append prefix back))
       (λ d.
       ap (λ (c : Child). is_before c.key key)
-      (get_or_append_left front back d place (omega (arith, less, long)) ∙ ap (λ (n : ℕ). slice_index_or front n d) (omega arith) ∙ sym (get_or-drop place front 0 d))
-      ∙ not-true (is_before (slice_index_or (drop place front) 0 d).key key)
-      (list_all-at (λ (c : Child). not (is_before c.key key)) (drop place front) 0 d (omega (arith, less, long, length-drop place front)) all))
+      (get_or_append_left prefix back d place (omega (arith, less, long)) ∙ ap (λ (n : ℕ). slice_index_or prefix n d) (omega arith) ∙ sym (get_or-drop place prefix 0 d))
+      ∙ not-true (is_before (slice_index_or (drop place prefix) 0 d).key key)
+      (list_all-at (λ (c : Child). not (is_before c.key key)) (drop place prefix) 0 d (omega (arith, less, long, length-drop place prefix)) all))
 
-  pub rank-back_before : (place : ℕ) → list_all (λ c. is_before c.key key) front ≡ true
+  pub rank-back_before : (place : ℕ) → list_all (λ c. is_before c.key key) prefix ≡ true
       → list_all (λ c. is_before c.key key) (take place back) ≡ true → list_all (λ c. is_before c.key key) (take (at + place) others) ≡ true
-  rank-back_before place fronts backs =
+  rank-back_before place prefixes backs =
       ap (λ (n : ℕ). list_all (λ (c : Child). is_before c.key key) (take (n + place) others)) (sym long)
-      ∙ ap (list_all (λ (c : Child). is_before c.key key)) (take-append-add front back place)
-      ∙ list_all-append (λ (c : Child). is_before c.key key) front (take place back)
-      ∙ and_from (list_all (λ (c : Child). is_before c.key key) front) (list_all (λ (c : Child). is_before c.key key) (take place back)) fronts backs
+      ∙ ap (list_all (λ (c : Child). is_before c.key key)) (take-append-add prefix back place)
+      ∙ list_all-append (λ (c : Child). is_before c.key key) prefix (take place back)
+      ∙ and_from (list_all (λ (c : Child). is_before c.key key) prefix) (list_all (λ (c : Child). is_before c.key key) (take place back)) prefixes backs
 
   pub rank-back_after : (place : ℕ) → list_all (λ c. not (is_before c.key key)) (drop place back) ≡ true
       → list_all (λ c. not (is_before c.key key)) (drop (at + place) others) ≡ true
   rank-back_after place backs =
       ap (λ (n : ℕ). list_all (λ (c : Child). not (is_before c.key key)) (drop (n + place) others)) (sym long)
-      ∙ ap (list_all (λ (c : Child). not (is_before c.key key))) (drop-append-add front back place) ∙ backs
+      ∙ ap (list_all (λ (c : Child). not (is_before c.key key))) (drop-append-add prefix back place) ∙ backs
 
 -- ---- moving it there
 

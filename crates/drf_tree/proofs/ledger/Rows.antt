@@ -5,7 +5,7 @@ use Rattle.std.specs.Option.{option_map, IfSome}
 use Rattle.std.proofs.lemmas.List.{append-nil, get_or-map, length-map, map-set, take_more}
 use Rattle.std.proofs.lemmas.List.Elements.{filter_map-append}
 use Rattle.drf_hash.specs.Slots.{filled, ranks_of, slot_of, IsRegistry}
-use Rattle.drf_hash.proofs.GapLaws.{closed-seen, ranks-seen, registry-closed}
+use Rattle.drf_hash.proofs.FreeSlotLaws.{closed-seen, ranks-seen, registry-closed}
 use Rattle.drf_hash.proofs.SlotLaws.{IsIn, each_slot, filled-changed, filled-push, new_to_come, registry-set, slot_found, slot_in_sum, slot_missed}
 use Rattle.drf_tree.proofs.Names.{Path, same_path, path_decides, same_path_itself, Content, Ranked, has_client, ledger_content}
 use Rattle.drf_tree.specs.Booked.{client_of, path_of, seen_slot}
@@ -76,8 +76,8 @@ module _ (ledger copy : Ledger) (slots : List (Option Booked)) (all : slots ≡ 
       (one_more ∙ ap (λ (s : Option Booked). take i (rows_in ledger) ++ seen_slot s ∷ []) some)
       ∙ filled-push (take i (rows_in ledger)) (client_of b)))
 
-  pub copied_gap : x ≡ None → ledger_content copy ≡ with_clients ledger (filled (take (i + 1) (rows_in ledger)))
-  copied_gap none =
+  pub copied_free_slot : x ≡ None → ledger_content copy ≡ with_clients ledger (filled (take (i + 1) (rows_in ledger)))
+  copied_free_slot none =
       copied
       ∙ ap (with_clients ledger) (sym (ap (λ (rows : List (Option Ranked)). filled rows)
       (one_more ∙ ap (λ (s : Option Booked). take i (rows_in ledger) ++ seen_slot s ∷ []) none)

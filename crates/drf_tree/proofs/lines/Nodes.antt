@@ -76,16 +76,16 @@ module _ (content : Content) (tree : Tree) (of : IsTreeOf content tree) (path : 
     where
       by : IsPlaced tree.places.items (take k path) → (name : Text) × (slice_get path k ≡ Some name)
           → IsPlaced tree.places.items (take (suc k) path)
-      by front next =
-          let children : List Child = children_at tree.families.items front.node in
+      by prefix next =
+          let children : List Child = children_at tree.families.items prefix.node in
           let more : take k path ++ next.0 ∷ [] ≡ take (suc k) path =
           sym (take_one_more path k next.0 next.1) ∙ (let e : k + 1 ≡ suc k = omega arith in ap (λ (n : ℕ). take n path) e) in
           elim (cases_Bool (list_any (same_text next.0) (map child_name children))) [
             | inl some ↦
-                subst (IsPlaced tree.places.items) (ap (λ (p : Path). p ++ next.0 ∷ []) front.at ∙ more)
-                (child_named tree.places.items front.node next.0 children (of.shape.children front.node) some)
+                subst (IsPlaced tree.places.items) (ap (λ (p : Path). p ++ next.0 ∷ []) prefix.at ∙ more)
+                (child_named tree.places.items prefix.node next.0 children (of.shape.children prefix.node) some)
             | inr none ↦
-                absurd (not_below tree of.shape front.node k path next.0 front.there front.at next.1 none content of has)
+                absurd (not_below tree of.shape prefix.node k path next.0 prefix.there prefix.at next.1 none content of has)
           ]
 
   -- each node with clients has a number

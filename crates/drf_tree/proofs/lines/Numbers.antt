@@ -19,9 +19,9 @@ any_parts p (y ∷ xs) x some = elim (or_cases (p y) (list_any p (xs ++ x ∷ []
 ]
 
 -- a number that is in a prefix of the list
-pub front_parts : (numbers : List ℕ) (k i : ℕ) → k < length numbers → list_any (λ n. n == i) (take (k + 1) numbers) ≡ true
+pub prefix_parts : (numbers : List ℕ) (k i : ℕ) → k < length numbers → list_any (λ n. n == i) (take (k + 1) numbers) ≡ true
     → (list_any (λ n. n == i) (take k numbers) ≡ true) ⊎ (get_or numbers k 0 ≡ i)
-front_parts numbers k i inside some =
+prefix_parts numbers k i inside some =
     elim (any_parts (λ n. n == i) (take k numbers) (get_or numbers k 0)
     (sym (ap (list_any (λ n. n == i)) (take_more numbers k 0 inside)) ∙ some)) [
       | inl before ↦ inl before

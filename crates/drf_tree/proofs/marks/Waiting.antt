@@ -116,15 +116,15 @@ fewer_at_most listed node below =
     at_most_one false = omega arith
 
 -- the last number that waits is removed, if its flag is not set
-module _ (stale listed : List Bool) (front : List ℕ) (node room : ℕ) (are : AreWaiting stale listed (front ++ node ∷ []) room) where
+module _ (stale listed : List Bool) (prefix : List ℕ) (node room : ℕ) (are : AreWaiting stale listed (prefix ++ node ∷ []) room) where
   pub last_within : node < length stale
-  last_within = (each_parts (λ n. n < length stale) front (node ∷ []) are.within).1.0
+  last_within = (each_parts (λ n. n < length stale) prefix (node ∷ []) are.within).1.0
 
-  pub unlisted : slice_index_or stale node false ≡ false → AreWaiting stale (slice_set listed node false) front room
+  pub unlisted : slice_index_or stale node false ≡ false → AreWaiting stale (slice_set listed node false) prefix room
   unlisted down =
       let inside : node < length listed = omega (arith, last_within, are.long) in record {
         long = length-set listed node false ∙ are.long;
-        few = omega (arith, are.few, length-append front (node ∷ []), fewer_at_most listed node inside);
+        few = omega (arith, are.few, length-append prefix (node ∷ []), fewer_at_most listed node inside);
         room_is = are.room_is;
         marked = λ i up. elim (cases_eq i node) [
           | inl same ↦ absurd (false≢true (sym down ∙ ap (λ n. slice_index_or stale n false) (sym same) ∙ up))
@@ -133,11 +133,11 @@ module _ (stale listed : List Bool) (front : List ℕ) (node room : ℕ) (are : 
         waits = λ i up. elim (cases_eq i node) [
           | inl same ↦ absurd (false≢true (sym (down_at listed node i same) ∙ up))
           | inr other ↦
-              not_last (list_any (λ n. n == i) front) (node == i) (ne_eqb node i (λ e. other (sym e)))
-              (sym (list_any-append (λ n. n == i) front (node ∷ []))
+              not_last (list_any (λ n. n == i) prefix) (node == i) (ne_eqb node i (λ e. other (sym e)))
+              (sym (list_any-append (λ n. n == i) prefix (node ∷ []))
               ∙ are.waits i (sym (get_or-set_other listed node i false false other) ∙ up))
         ];
-        within = (each_parts (λ n. n < length stale) front (node ∷ []) are.within).0;
+        within = (each_parts (λ n. n < length stale) prefix (node ∷ []) are.within).0;
       }
     where
       not_last : (a b : Bool) → b ≡ false → (a || (b || false)) ≡ true → a ≡ true

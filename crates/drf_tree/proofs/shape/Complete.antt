@@ -8,7 +8,7 @@ use Rattle.std.proofs.lemmas.List.{append-nil, map-append, same_from_push}
 use Rattle.std.proofs.lemmas.List.Folds.{list_any-append}
 use Rattle.std.proofs.lemmas.Map.Keys.{IsDistinct-push}
 use Rattle.drf_tree.proofs.Names.{Text, same_text, same_itself, Path, IsClientPath, begins_with, same_path, same_path-swap, same_path-true, each_append, Content, Ranked, has_client, with_client, Child, Family, Place, Sum, child_name, has_child, children_at, is_live, is_node, parent_at, path_at, IsChildOf, IsComplete, IsShape}
-use Rattle.drf_tree.proofs.shape.Path.{begins_by, begins_front, begins_long, begins_to}
+use Rattle.drf_tree.proofs.shape.Path.{begins_by, begins_prefix, begins_long, begins_to}
 use Rattle.drf_tree.proofs.shape.Way.{above_of, equal, live_from, shorter_above, top_is}
 
 -- the child with this number has the last part of the path as its name
@@ -67,10 +67,10 @@ module _ (places : List (Option Place)) (families : List Family) (stale : List B
       absurd (omega (arith, few, shorter_above places families stale sums shape leaf live))
   way_named (suc most) leaf i part few live node begins =
       by
-      (λ front.
+      (λ prefix.
       let less : length (path_at places leaf) ≡ length (path_at places above) + 1 =
       shorter_above places families stale sums shape leaf live in
-      way_named most above i part (omega (arith, less, few)) (live_above front) node front)
+      way_named most above i part (omega (arith, less, few)) (live_above prefix) node prefix)
       (drop (length (path_at places i ++ part ∷ [])) (path_at places leaf))
       (begins_to (path_at places leaf) (path_at places i ++ part ∷ []) begins)
     where
@@ -78,11 +78,11 @@ module _ (places : List (Option Place)) (families : List Family) (stale : List B
       above = parent_at places leaf
 
       live_above : begins_with (path_at places above) (path_at places i ++ part ∷ []) ≡ true → is_live places above ≡ true
-      live_above front =
+      live_above prefix =
           live_from places families stale sums shape above (shape.kept leaf live).0
           (omega (
             arith,
-            begins_long (path_at places above) (path_at places i ++ part ∷ []) front,
+            begins_long (path_at places above) (path_at places i ++ part ∷ []) prefix,
             length-append (path_at places i) (part ∷ []),
           ))
 
@@ -99,7 +99,7 @@ module _ (places : List (Option Place)) (families : List Family) (stale : List B
           (subst (λ (k : ℕ). has_child leaf (children_at families k) ≡ true) same (shape.kept leaf live).1) last
       by again (next ∷ rest) whole =
           let longer = above_of places families stale sums shape leaf live in
-          again (begins_front (path_at places i ++ part ∷ []) rest (path_at places above) next longer.part
+          again (begins_prefix (path_at places i ++ part ∷ []) rest (path_at places above) next longer.part
           (sym whole ∙ longer.joined))
 
   -- a client is added at a leaf

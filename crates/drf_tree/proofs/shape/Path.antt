@@ -31,19 +31,19 @@ begins_long path node begins =
     omega (arith, ap length (begins_to path node begins), length-append node (drop (length node) path))
 
 -- a longer path begins with all parts of the other except the last
-front_of : (node rest front : Path) (part name : Text) → node ++ part ∷ rest ≡ front ++ name ∷ []
-    → (more : Path) × (front ≡ node ++ more)
-front_of [] rest front part name same = (front, refl)
-front_of (x ∷ node) rest [] part name same =
+prefix_of : (node rest prefix : Path) (part name : Text) → node ++ part ∷ rest ≡ prefix ++ name ∷ []
+    → (more : Path) × (prefix ≡ node ++ more)
+prefix_of [] rest prefix part name same = (prefix, refl)
+prefix_of (x ∷ node) rest [] part name same =
     absurd (omega (arith, ap length same, length-append node (part ∷ rest)))
-front_of (x ∷ node) rest (y ∷ front) part name same =
-    let tail : node ++ part ∷ rest ≡ front ++ name ∷ [] = cc in
+prefix_of (x ∷ node) rest (y ∷ prefix) part name same =
+    let tail : node ++ part ∷ rest ≡ prefix ++ name ∷ [] = cc in
     let head : y ≡ x = cc in
-    let later = front_of node rest front part name tail in
+    let later = prefix_of node rest prefix part name tail in
     (later.0, λ i. head i ∷ later.1 i)
 
-pub begins_front : (node rest front : Path) (part name : Text) → node ++ part ∷ rest ≡ front ++ name ∷ []
-    → begins_with front node ≡ true
-begins_front node rest front part name same =
-    let more = front_of node rest front part name same in
-    begins_by front node more.0 more.1
+pub begins_prefix : (node rest prefix : Path) (part name : Text) → node ++ part ∷ rest ≡ prefix ++ name ∷ []
+    → begins_with prefix node ≡ true
+begins_prefix node rest prefix part name same =
+    let more = prefix_of node rest prefix part name same in
+    begins_by prefix node more.0 more.1

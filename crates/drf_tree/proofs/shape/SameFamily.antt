@@ -8,7 +8,7 @@ use Rattle.std.proofs.lemmas.List.Sorted.{All-permutation, IsPermutation-map, Is
 use Rattle.std.proofs.lemmas.Map.Keys.{IsDistinct-IsPermutation}
 use Rattle.drf_tree.proofs.Names.{Text, same_text, Path, same_path, each_from, each_map, list_any-map, Content, Child, Family, Place, Tree, IsShapeOf, IsWith, child_name, has_child, known, children_at, is_live, is_node, parent_at, path_at, IsChildOf, IsComplete, IsShape}
 use Rattle.drf_tree.proofs.shape.Way.{equal_self}
-use Rattle.drf_tree.proofs.growth.With.{each_family, moved_to_front, names_flip}
+use Rattle.drf_tree.proofs.growth.With.{each_family, moved_to_prefix, names_flip}
 
 -- ---- lists with the same elements
 
@@ -37,10 +37,10 @@ pub renewed_known : (was now : Child) (rest old new : List Child) → IsWith was
     → known now ≡ known was → IsPermutation (map known old) (map known new)
 renewed_known was now rest old new gone put same =
     IsPermutation-trans (map known old) (known was ∷ map known rest) (map known new)
-    (IsPermutation-map known old (was ∷ rest) (moved_to_front was rest old gone))
+    (IsPermutation-map known old (was ∷ rest) (moved_to_prefix was rest old gone))
     (subst (λ (k : ℕ × Text). IsPermutation (k ∷ map known rest) (map known new)) same
     (IsPermutation-sym (map known new) (known now ∷ map known rest)
-    (IsPermutation-map known new (now ∷ rest) (moved_to_front now rest new put))))
+    (IsPermutation-map known new (now ∷ rest) (moved_to_prefix now rest new put))))
 
 -- ---- the tree
 

@@ -26,21 +26,21 @@ module _ (clients : List Path) (path : ℕ → Path) (family : ℕ → List ℕ)
   Pending n frames = pending clients path family n frames
 
   -- the clients of the later frames come first
-  pub pending_apart : (front rest : List Frame) (m n : ℕ) → n ≡ length front + m
-      → Pending n (front ++ rest) ≡ Pending m rest ++ Pending n front
+  pub pending_apart : (prefix rest : List Frame) (m n : ℕ) → n ≡ length prefix + m
+      → Pending n (prefix ++ rest) ≡ Pending m rest ++ Pending n prefix
   pending_apart [] rest m n deep =
       let same : n ≡ m = omega (arith, deep) in
       ap (λ (k : ℕ). Pending k rest) same ∙ sym (append-nil (Pending m rest))
-  pending_apart (g ∷ front) rest m zero deep = absurd (omega (arith, deep))
-  pending_apart (g ∷ front) rest m (suc n) deep =
+  pending_apart (g ∷ prefix) rest m zero deep = absurd (omega (arith, deep))
+  pending_apart (g ∷ prefix) rest m (suc n) deep =
       let above : List Path = flat_map (Walked n) (drop g.next (family g.node)) in
-      ap (λ (ps : List Path). ps ++ above) (pending_apart front rest m n (omega (arith, deep)))
-      ∙ append_assoc (Pending m rest) (Pending n front) above
+      ap (λ (ps : List Path). ps ++ above) (pending_apart prefix rest m n (omega (arith, deep)))
+      ∙ append_assoc (Pending m rest) (Pending n prefix) above
 
   -- the clients of the last frame are those left in its family
-  pub pending_last : (front : List Frame) (f : Frame) (m n : ℕ) → n ≡ length front + suc m
-      → Pending n (front ++ f ∷ []) ≡ flat_map (Walked m) (drop f.next (family f.node)) ++ Pending n front
-  pending_last front f m n deep = pending_apart front (f ∷ []) (suc m) n deep
+  pub pending_last : (prefix : List Frame) (f : Frame) (m n : ℕ) → n ≡ length prefix + suc m
+      → Pending n (prefix ++ f ∷ []) ≡ flat_map (Walked m) (drop f.next (family f.node)) ++ Pending n prefix
+  pending_last prefix f m n deep = pending_apart prefix (f ∷ []) (suc m) n deep
 
 -- ---- the steps that are left
 
@@ -55,12 +55,12 @@ left family depth [] = 0
 left family zero (f ∷ frames) = 0
 left family (suc n) (f ∷ frames) = 1 + sum_by (size family n) (drop f.next (family f.node)) + left family n frames
 
-pub left_last : (family : ℕ → List ℕ) (front : List Frame) (f : Frame) (m n : ℕ) → n ≡ length front + suc m
-    → left family n (front ++ f ∷ []) ≡ 1 + sum_by (size family m) (drop f.next (family f.node)) + left family n front
+pub left_last : (family : ℕ → List ℕ) (prefix : List Frame) (f : Frame) (m n : ℕ) → n ≡ length prefix + suc m
+    → left family n (prefix ++ f ∷ []) ≡ 1 + sum_by (size family m) (drop f.next (family f.node)) + left family n prefix
 left_last family [] f m zero deep = absurd (omega (arith, deep))
 left_last family [] f m (suc n) deep =
     let same : n ≡ m = omega (arith, deep) in
     ap (λ (k : ℕ). 1 + sum_by (size family k) (drop f.next (family f.node)) + 0) same
-left_last family (g ∷ front) f m zero deep = absurd (omega (arith, deep))
-left_last family (g ∷ front) f m (suc n) deep =
-    omega (arith, left_last family front f m n (omega (arith, deep)))
+left_last family (g ∷ prefix) f m zero deep = absurd (omega (arith, deep))
+left_last family (g ∷ prefix) f m (suc n) deep =
+    omega (arith, left_last family prefix f m n (omega (arith, deep)))

@@ -8,19 +8,19 @@ module _ (places : List (Option Place)) where
   abbrev pub IsBelow : Frame → Frame → Type 0
   IsBelow f g = begins_with (path_at places g.node) (path_at places f.node) ≡ true
 
-  pub nested_parts : (front rest : List Frame) → AreNested places (front ++ rest) → AreNested places front × AreNested places rest
+  pub nested_parts : (prefix rest : List Frame) → AreNested places (prefix ++ rest) → AreNested places prefix × AreNested places rest
   nested_parts [] rest nested = (tt, nested)
-  nested_parts (g ∷ front) rest nested =
-      let later = nested_parts front rest nested.1 in
-      (((each_parts (IsBelow g) front rest nested.0).0, later.0), later.1)
+  nested_parts (g ∷ prefix) rest nested =
+      let later = nested_parts prefix rest nested.1 in
+      (((each_parts (IsBelow g) prefix rest nested.0).0, later.0), later.1)
 
-  pub nested_last : (front : List Frame) (f : Frame) → AreNested places (front ++ f ∷ []) → AllByRecursion (λ g. IsBelow g f) front
+  pub nested_last : (prefix : List Frame) (f : Frame) → AreNested places (prefix ++ f ∷ []) → AllByRecursion (λ g. IsBelow g f) prefix
   nested_last [] f nested = tt
-  nested_last (g ∷ front) f nested =
-      ((each_parts (IsBelow g) front (f ∷ []) nested.0).1.0, nested_last front f nested.1)
+  nested_last (g ∷ prefix) f nested =
+      ((each_parts (IsBelow g) prefix (f ∷ []) nested.0).1.0, nested_last prefix f nested.1)
 
-  pub nested_more : (front : List Frame) (f : Frame) → AreNested places front → AllByRecursion (λ g. IsBelow g f) front
-      → AreNested places (front ++ f ∷ [])
+  pub nested_more : (prefix : List Frame) (f : Frame) → AreNested places prefix → AllByRecursion (λ g. IsBelow g f) prefix
+      → AreNested places (prefix ++ f ∷ [])
   nested_more [] f nested below = (tt, tt)
-  nested_more (g ∷ front) f nested below =
-      (each_append (IsBelow g) front (f ∷ []) nested.0 (below.0, tt), nested_more front f nested.1 below.1)
+  nested_more (g ∷ prefix) f nested below =
+      (each_append (IsBelow g) prefix (f ∷ []) nested.0 (below.0, tt), nested_more prefix f nested.1 below.1)

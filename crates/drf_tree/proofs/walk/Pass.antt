@@ -5,7 +5,7 @@ use Rattle.std.proofs.Math.Seq.{take-append_seam}
 use Rattle.std.proofs.lemmas.Bool.{and_parts}
 use Rattle.std.proofs.lemmas.Option.{same_Some}
 use Rattle.drf_tree.proofs.Names.{Text, Path, begins_with, each_from, each_parts, Content, active_paths, Family, Place, Tree, Frame, IsShapeOf, children_at, family_at, is_node, last_part, path_at, AreFrames, IsSettled, frames_queue, most_parts, pending, IsTreeOf, IsChild, walk}
-use Rattle.drf_sorter.specs.Passed.{IsPassedFront}
+use Rattle.drf_sorter.specs.Passed.{IsPassedPrefix}
 use Rattle.drf_tree.proofs.walk.Frames.{pending_apart}
 use Rattle.drf_tree.proofs.walk.Nested.{nested_parts}
 use Rattle.drf_tree.proofs.shape.Node.{children_are}
@@ -137,7 +137,7 @@ module _ (tree : Tree) (shape : IsShapeOf tree) where
       some_gone =
           pending_some left f later (omega (arith, few)) (settled_past content places families kept f later settled)
 
-      frames_left : IsPassedFront (length kept) (frames_queue content tree (kept ++ f ∷ later)) (frames_queue content tree kept)
+      frames_left : IsPassedPrefix (length kept) (frames_queue content tree (kept ++ f ∷ later)) (frames_queue content tree kept)
       frames_left = record {
         passed = gone;
         split = apart;
@@ -153,7 +153,7 @@ module _ (tree : Tree) (shape : IsShapeOf tree) where
     -- the number of frames that stay
     passed_at : (frames rest : List Frame) (len : ℕ) → drop len frames ≡ rest → len < length frames → AreFrames places frames
         → IsSettled content places families frames
-        → IsPassedFront len (frames_queue content tree frames) (frames_queue content tree (take len frames))
+        → IsPassedPrefix len (frames_queue content tree frames) (frames_queue content tree (take len frames))
     passed_at frames [] len is below are settled =
         absurd (omega (
           arith,
@@ -166,12 +166,12 @@ module _ (tree : Tree) (shape : IsShapeOf tree) where
         let whole : take len frames ++ f ∷ later ≡ frames =
         ap (λ (fs : List Frame). take len frames ++ fs) (sym is) ∙ take-append-drop len frames in
         let long : length (take len frames) ≡ len = length-take-le len frames (omega (arith, below)) in
-        subst (λ (n : ℕ). IsPassedFront n (frames_queue content tree frames) (frames_queue content tree (take len frames))) long
-        (subst (λ (fs : List Frame). IsPassedFront (length (take len frames)) (frames_queue content tree fs) (frames_queue content tree (take len frames))) whole
+        subst (λ (n : ℕ). IsPassedPrefix n (frames_queue content tree frames) (frames_queue content tree (take len frames))) long
+        (subst (λ (fs : List Frame). IsPassedPrefix (length (take len frames)) (frames_queue content tree fs) (frames_queue content tree (take len frames))) whole
         (frames_left (take len frames) f later (subst (AreFrames places) (sym whole) are)
         (subst (IsSettled content places families) (sym whole) settled)))
 
-    pub passed_front : (frames : List Frame) (len : ℕ) → len < length frames → AreFrames places frames
+    pub passed_prefix : (frames : List Frame) (len : ℕ) → len < length frames → AreFrames places frames
         → IsSettled content places families frames
-        → IsPassedFront len (frames_queue content tree frames) (frames_queue content tree (take len frames))
-    passed_front frames len = passed_at frames (drop len frames) len refl
+        → IsPassedPrefix len (frames_queue content tree frames) (frames_queue content tree (take len frames))
+    passed_prefix frames len = passed_at frames (drop len frames) len refl

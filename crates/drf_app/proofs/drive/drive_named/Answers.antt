@@ -30,8 +30,8 @@ returns-in-Ok-clause-done g c = λ input.
 pub returns-in-Err-clause-done : goal.returns-in-Err-clause-done
 returns-in-Err-clause-done g c = λ input.
     let old : Streams = record { input = input; output = stream_of g.W.Write.contents c.args.output.now; errors = stream_of g.E.Write.contents c.args.errors.now } in
-    let new : Streams = record { input = input; output = stream_of g.W.Write.contents c.args.output.now; errors = stream_of g.E.Write.contents c.tell_start.new.errors } in
+    let new : Streams = record { input = input; output = stream_of g.W.Write.contents c.args.output.now; errors = stream_of g.E.Write.contents c.report_start.new.errors } in
     let known = g.F.FileBytes.known c.args.files.now in
     let from = c.get_str-from.ensures ∙ first_value-rows (found_of c.args.arguments.now) (codes "from") in
-    inl (subst (λ (name : Option Text). HasNotStarted known name old new c.tell_start.result) from
-    (record { fault = c.in-Err.fault; why = c.in-Err.ensures.err; input = refl; output = refl; told = c.tell_start.ensures }))
+    inl (subst (λ (name : Option Text). HasNotStarted known name old new c.report_start.result) from
+    (record { fault = c.in-Err.fault; why = c.in-Err.ensures.err; input = refl; output = refl; reported = c.report_start.ensures }))

@@ -8,7 +8,7 @@ pub returns : goal.returns
 returns c =
     let named : app_of c.after_help.result ≡ new_app (codes "explain") =
     ap app_of_fields c.after_help.ensures ∙ (ap app_of_fields c.about.ensures ∙ c.new.ensures.app) in
-    let first = IfOk-weaker c.arg-line.result _ _ (λ line added. added.shape c.moment_option.ensures.local ∙ ap₂ with_rule named c.moment_option.ensures.rule) c.arg-line.ensures in
+    let first = IfOk-weaker c.arg-line.result _ _ (λ line added. added.shape c.timestamp_option.ensures.local ∙ ap₂ with_rule named c.timestamp_option.ensures.rule) c.arg-line.ensures in
     let with_each = c.with_argument-line.ensures _ _ first c.flag-each.ensures.rule in
     let with_client = c.with_argument-line-2.ensures _ _ with_each c.client_option.ensures.rule in
     let with_agent = c.with_argument-line-3.ensures _ _ with_client c.agent_option.ensures.rule in

@@ -18,6 +18,6 @@ unfolding live
 returns g c =
     let value = list_value finding_value (explained (live_rows c.args.core.now.rows) c.args.at) in
     let found = all_listed (λ (framework : Text) (finding : Finding). true) c.deref.result.now ∙ c.deref.ensures.value ∙ c.in_ok-findings.ensures in
-    let told = c.in_ok-push_list.ensures ∙ ap (λ items. c.push_opening.new.text.items ++ compact_text (list_value finding_value items)) found in
+    let reported = c.in_ok-push_list.ensures ∙ ap (λ items. c.push_opening.new.text.items ++ compact_text (list_value finding_value items)) found in
     on_ok_weaker c.put.result
-    (λ end. answer_whole c.args.text.now.items (word_of Explain) value _ _ _ c.in_ok-push_opening.ensures told end) c.put.ensures
+    (λ end. answer_whole c.args.text.now.items (word_of Explain) value _ _ _ c.in_ok-push_opening.ensures reported end) c.put.ensures

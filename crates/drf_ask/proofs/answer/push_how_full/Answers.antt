@@ -27,7 +27,7 @@ pub returns : goal.returns
 unfolding live
 returns g c =
     let value = tables_value c.args.core.now.limits (live_rows c.args.core.now.rows) in
-    let told = c.in_ok-push_tables.ensures
+    let reported = c.in_ok-push_tables.ensures
     ∙ (λ i. c.push_opening.new.text.items ++ compact_text (tables_value (c.requires i) (c.in_ok-rows.ensures.rows i))) in
     on_ok_weaker c.put.result
-    (λ end. answer_whole c.args.text.now.items (word_of Tables) value _ _ _ c.in_ok-push_opening.ensures told end) c.put.ensures
+    (λ end. answer_whole c.args.text.now.items (word_of Tables) value _ _ _ c.in_ok-push_opening.ensures reported end) c.put.ensures

@@ -12,4 +12,4 @@ returns-then-is_known g c =
     (λ end. answer_whole c.args.text.now.items (word_of c.args.kind) value _ _ _ c.in_ok-push_opening.ensures c.in_ok-push_list.ensures end) c.put.ensures)
 
 pub returns : goal.returns
-returns g c = rw (sym c.is_known.ensures ∙ c.if-is_known.false) c.push_not_told.ensures
+returns g c = rw (sym c.is_known.ensures ∙ c.if-is_known.false) c.push_no_answer.ensures

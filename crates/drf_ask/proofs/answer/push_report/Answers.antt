@@ -18,6 +18,6 @@ returns g c =
     let value = report_value (report_of c.args.core.now.rows) in
     let opened = c.push_opening.new.text.items in
     let line = c.in_ok-push_reply.ensures.ok ∙ ap (λ report. opened ++ reply_line (reply.Report report)) c.in_ok-report.ensures in
-    let told = unfed opened (compact_text value) _ _ line c.drop_last.ensures in
+    let reported = unfed opened (compact_text value) _ _ line c.drop_last.ensures in
     on_ok_weaker c.put.result
-    (λ end. answer_whole c.args.text.now.items (word_of Report) value _ _ _ c.in_ok-push_opening.ensures told end) c.put.ensures
+    (λ end. answer_whole c.args.text.now.items (word_of Report) value _ _ _ c.in_ok-push_opening.ensures reported end) c.put.ensures

@@ -14,6 +14,6 @@ pub returns : goal.returns
 unfolding live
 returns g c =
     let text = c.deref.ensures.value ∙ c.in_ok-state.ensures.text ∙ ap state_text c.in_ok-rows.ensures.rows in
-    let told = c.in_ok-push_string.ensures ∙ ap (λ bytes. c.push_opening.new.text.items ++ quoted bytes) text in
+    let reported = c.in_ok-push_string.ensures ∙ ap (λ bytes. c.push_opening.new.text.items ++ quoted bytes) text in
     on_ok_weaker c.put.result
-    (λ end. answer_whole c.args.text.now.items (word_of State) (string (state_text (live_rows c.args.core.now.rows))) _ _ _ c.in_ok-push_opening.ensures told end) c.put.ensures
+    (λ end. answer_whole c.args.text.now.items (word_of State) (string (state_text (live_rows c.args.core.now.rows))) _ _ _ c.in_ok-push_opening.ensures reported end) c.put.ensures

@@ -9,9 +9,9 @@ pub returns : goal.returns
 unfolding audit_text
 returns c =
     let opened : IsText c.new-out.result [] = record { before = c.new-out.ensures.before ∙ c.new.ensures.items; all = c.new-out.ensures.tokens } in
-    let told = rw (c.text.ensures.text, c.as_str.ensures.value, c.in_ok-free.ensures, c.as_str-2.ensures.value, c.in_ok-total.ensures) at
+    let reported = rw (c.text.ensures.text, c.as_str.ensures.value, c.in_ok-free.ensures, c.as_str-2.ensures.value, c.in_ok-total.ensures) at
     (next (next (next (next (next (next (next (next (next (next opened
     c.in_ok-begin_object.ensures) c.in_ok-key.ensures) c.in_ok-string.ensures) c.in_ok-key-2.ensures) c.in_ok-string-2.ensures)
     c.in_ok-key-3.ensures) c.in_ok-u64.ensures) c.in_ok-key-4.ensures) c.in_ok-string-3.ensures) c.in_ok-end_object.ensures) in
     c.in_ok-push.ensures.items
-    ∙ ap (λ text. text ++ 10 ∷ []) (c.into_inner-text.ensures.items ∙ (λ i. told.before i ++ print (told.all i)) ∙ print-outline (audit_value c.args.line.now))
+    ∙ ap (λ text. text ++ 10 ∷ []) (c.into_inner-text.ensures.items ∙ (λ i. reported.before i ++ print (reported.all i)) ∙ print-outline (audit_value c.args.line.now))

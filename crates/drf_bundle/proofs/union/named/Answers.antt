@@ -13,5 +13,5 @@ returns c =
     let rest : List Resource = take (length rs - start) (drop start rs) in
     let is_rest : rest ≡ drop start rs = take_rest rs start in
     let parted = c.partition_point-start.ensures.partitioned (is_before name) (always_returns_same _ _ _ (λ a r g called. (search rules, search rules))) (names_rise rs name c.requires) in
-    let front = c.partition_point-count.ensures.partitioned (has_name name) (always_returns_same _ _ _ (λ a r g called. (search rules, search rules))) (named_rise rs name c.requires start rest is_rest parted) in
-    named_is rs name c.requires start rest is_rest parted c.partition_point-count.result front
+    let prefix = c.partition_point-count.ensures.partitioned (has_name name) (always_returns_same _ _ _ (λ a r g called. (search rules, search rules))) (named_rise rs name c.requires start rest is_rest parted) in
+    named_is rs name c.requires start rest is_rest parted c.partition_point-count.result prefix

@@ -1,6 +1,6 @@
 use Rattle.std.proofs.Common.{List, set, sym, ap, ◌∙◌, subst}
 use Rattle.drf_bundle.specs.Bundle.{key_of, with_value}
-use Rattle.drf_bundle.specs.KeyPlaces.{IsKeyAt, IsKeyGap}
+use Rattle.drf_bundle.specs.KeyPlaces.{IsKeyAt, IsKeyFreeSlot}
 use Rattle.drf_bundle.specs.declared.resource.Resource.{Resource}
 use Rattle.drf_bundle.specs.declared.value.Value.{Value}
 use Rattle.drf_bundle.proofs.SearchLemmas.{merged_at, small_at}
@@ -23,6 +23,6 @@ returns-in_ok-add_scalar-in-Ok-clause-ok c =
       c.in_ok-add_scalar-in-Ok.ensures.ok,
     )
 
-pub put_in_gap-requires-clause-gap : goal.put_in_gap-requires-clause-gap
-put_in_gap-requires-clause-gap c =
-    subst (λ (l : List Resource). IsKeyGap l (key_of c.args.resource) c.in-Err.at) c.deref.ensures.value c.in-Err.ensures.absent
+pub put_in_free_slot-requires-clause-free_slot : goal.put_in_free_slot-requires-clause-free_slot
+put_in_free_slot-requires-clause-free_slot c =
+    subst (λ (l : List Resource). IsKeyFreeSlot l (key_of c.args.resource) c.in-Err.at) c.deref.ensures.value c.in-Err.ensures.absent

@@ -1,5 +1,5 @@
 use Rattle.std.proofs.Common.{◌≡◌, ◌≤◌, ◌^◌, ℕ, List, Option, map, ap, ◌∙◌, subst, sym, arith}
-use Rattle.drf_rows.specs.Step.{line_told, new_offers}
+use Rattle.drf_rows.specs.Step.{line_reported, new_offers}
 use Rattle.drf_rows.specs.declared.reply.Reply.TheVariants.{Offers}
 use Rattle.drf_rows.specs.declared.rows.Rows.{Rows}
 use Rattle.drf_rows.specs.declared.rows.OfferRow.{OfferRow}
@@ -55,7 +55,7 @@ returns-clause-reply g c =
     let same = c.lend_consumption.ensures.same ∙ c.settle.ensures.same in
     c.in_ok-stepped-2.ensures.reply
     ∙ ap Offers (c.in_ok-from_vec.ensures.rows ∙ c.in_ok-lines.ensures
-    ∙ ap (map line_told) (c.deref.ensures.value
+    ∙ ap (map line_reported) (c.deref.ensures.value
     ∙ sym (new_offers-drafts c.lend_consumption.new.tables.rows c.turns.new.drafts.offers.items c.in_ok-turns.ensures.turns)
     ∙ (λ i. new_offers (same i) (turns_of (same i)))))
 
@@ -89,7 +89,7 @@ returns-then-idle-clause-reply g c =
     let same = c.settle.ensures.same in
     c.in_ok-stepped.ensures.reply
     ∙ ap Offers (c.empty.ensures
-    ∙ ap (map line_told)
+    ∙ ap (map line_reported)
     (sym (no_offers c.settle.new.self.rows (c.in_ok-idle.ensures.idle c.if-idle.true)) ∙ (λ i. new_offers (same i) (turns_of (same i)))))
 
 pub returns-then-idle-clause-spends : goal.returns-then-idle-clause-spends

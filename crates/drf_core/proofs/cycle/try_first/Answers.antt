@@ -7,7 +7,7 @@ use Rattle.drf_bundle.specs.Bundle.{rest, quantities_of}
 use Rattle.drf_bundle.proofs.ListLaws.{each_at}
 use Rattle.drf_gates.specs.quota.Allowance.{Allowance, quota_under}
 use Rattle.drf_rows.specs.Client.{path_of}
-use Rattle.drf_rows.specs.Holdings.{of_offer}
+use Rattle.drf_rows.specs.Holdings.{holding_of_offer}
 use Rattle.drf_rows.specs.declared.rows.OfferRow.{OfferRow}
 use Rattle.drf_rows.specs.declared.rows.Rows.{Rows}
 use Rattle.drf_sorter.specs.Content.{with_change, charged}
@@ -25,8 +25,8 @@ use Rattle.drf_core.proofs.cycle.try_first.Goals as goal
 -- the client is the first in the queue
 first_at : (g : given.Over) (c : After-reserve g) → slice_get (g.S.Sorter.queue c.args.sorter.now) 0 ≡ Some c.in_ok-client.client
 first_at g c =
-    let told : Some c.in-Some.client.now ≡ slice_get (g.S.Sorter.queue c.args.sorter.now) 0 = rw c.in-Some.is at c.first.ensures in
-    sym told ∙ ap Some (sym c.in_ok-client.ensures)
+    let reported : Some c.in-Some.client.now ≡ slice_get (g.S.Sorter.queue c.args.sorter.now) 0 = rw c.in-Some.is at c.first.ensures in
+    sym reported ∙ ap Some (sym c.in_ok-client.ensures)
 
 -- the row is that of the next draft
 next_at : (g : given.Over) (c : After-reserve g)
@@ -130,18 +130,18 @@ returns-in_default-granted-clause-tried g c = λ path first.
 
 -- what is known is about the role of the client that was tried
 pub returns-clause-role : goal.returns-clause-role
-returns-clause-role g c = λ role path told first.
+returns-clause-role g c = λ role path reported first.
     let same : c.in-Some.client.now ≡ path = let e : Some c.in-Some.client.now ≡ Some path = (rw c.in-Some.is at c.first.ensures) ∙ first in cc in
-    c.in_ok-granted.ensures.role role told ∙ ap role_part same
+    c.in_ok-granted.ensures.role role reported ∙ ap role_part same
 
 pub returns-in_default-granted-clause-role : goal.returns-in_default-granted-clause-role
-returns-in_default-granted-clause-role g c = λ role path told first.
+returns-in_default-granted-clause-role g c = λ role path reported first.
     let same : c.in-Some.client.now ≡ path = let e : Some c.in-Some.client.now ≡ Some path = (rw c.in-Some.is at c.first.ensures) ∙ first in cc in
-    c.in_ok-granted.ensures.role role told ∙ ap role_part same
+    c.in_ok-granted.ensures.role role reported ∙ ap role_part same
 
 -- the queue is empty
 pub returns-in_default-clause-role : goal.returns-in_default-clause-role
-returns-in_default-clause-role g c = λ role path told first.
+returns-in_default-clause-role g c = λ role path reported first.
     let nothing : None ≡ Some path = (rw c.in_default.is at c.first.ensures) ∙ first in
     absurd cc
 
@@ -156,8 +156,8 @@ returns-clause-work g c = λ counted.
     let offer : OfferRow = c.in_ok-offer.offer in
     let items = c.push_reserved.ensures.items ∙ ap (λ os. os ++ offer ∷ []) c.reserve.ensures.items in
     let next = next_at g b in
-    let path : length c.in_ok-client.client ≡ length (path_of (of_offer offer).client) =
-    ap length next.joined ∙ sym (ap (λ (o : OfferRow). length (path_of (of_offer o).client)) next.made) in
+    let path : length c.in_ok-client.client ≡ length (path_of (holding_of_offer offer).client) =
+    ap length next.joined ∙ sym (ap (λ (o : OfferRow). length (path_of (holding_of_offer o).client)) next.made) in
     omega (
       arith,
       c.charge.ensures.spends.work counted,

@@ -3,12 +3,12 @@ use Rattle.drf_rows.specs.Step.{first_case, refusal_of}
 use Rattle.drf_rows.specs.declared.reply.Refusal.{Refusal}
 use Rattle.drf_core.specs.refusal.Cases.{late_cases_of}
 use Rattle.drf_core.proofs.refusing.Late.{if_ok}
-use Rattle.drf_core.proofs.refusing.Tests.{told_early, told_late}
+use Rattle.drf_core.proofs.refusing.Tests.{reported_early, reported_late}
 use Rattle.drf_core.proofs.refusal.refusal.Goals as goal
 
 pub returns-in-Some-clause-value : goal.returns-in-Some-clause-value
 returns-in-Some-clause-value c =
-    sym (told_early c.args.limits.now c.args.tables.now.rows c.args.event.now c.in-Some.refusal (sym c.refuse_early.ensures ∙ c.in-Some.is))
+    sym (reported_early c.args.limits.now c.args.tables.now.rows c.args.event.now c.in-Some.refusal (sym c.refuse_early.ensures ∙ c.in-Some.is))
 
 pub returns-in-None-clause-value : goal.returns-in-None-clause-value
 returns-in-None-clause-value c =
@@ -17,4 +17,4 @@ returns-in-None-clause-value c =
     let event = c.args.event.now in
     if_ok (λ (refusal : Option Refusal). refusal ≡ first_case (late_cases_of limits rows event))
     (λ (refusal : Option Refusal). refusal ≡ refusal_of limits rows event) c.refuse_late.result
-    (λ refusal is. is ∙ told_late limits rows event (sym c.refuse_early.ensures ∙ c.in-None.is)) c.refuse_late.ensures.value
+    (λ refusal is. is ∙ reported_late limits rows event (sym c.refuse_early.ensures ∙ c.in-None.is)) c.refuse_late.ensures.value

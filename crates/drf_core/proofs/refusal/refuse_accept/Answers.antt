@@ -2,7 +2,7 @@ use Rattle.std.proofs.Common.{◌∷◌, [], sym, ◌∙◌}
 use Rattle.drf_rows.specs.Step.{accept_is_too_much, refusal_of}
 use Rattle.drf_rows.specs.declared.reply.Refusal.TheVariants.{TooMany}
 use Rattle.drf_core.specs.refusal.Accepting.{cases_of_tasks}
-use Rattle.drf_core.proofs.refusing.Tests.{first_front, first_rest}
+use Rattle.drf_core.proofs.refusing.Tests.{first_prefix, first_rest}
 use Rattle.drf_laws.proofs.laws.Welcome.{no_case}
 use Rattle.drf_core.proofs.refusal.refuse_accept.Goals as goal
 
@@ -12,7 +12,7 @@ returns-in-Some c =
     let limits = c.args.limits.now in
     let rows = c.args.tables.now.rows in
     let accept = c.args.accept.now in
-    sym (first_front (cases_of_tasks limits rows accept) ((accept_is_too_much limits rows accept, TooMany) ∷ []) c.in-Some.refusal (sym c.in-Some.ensures))
+    sym (first_prefix (cases_of_tasks limits rows accept) ((accept_is_too_much limits rows accept, TooMany) ∷ []) c.in-Some.refusal (sym c.in-Some.ensures))
 
 pub refuse_rest-requires-clause-covered : goal.refuse_rest-requires-clause-covered
 refuse_rest-requires-clause-covered c =

@@ -3,7 +3,7 @@ use Rattle.std.specs.Prelude.{is_some}
 use Rattle.std.specs.Option.{option_map_or}
 use Rattle.drf_role.specs.Text.{same_text}
 use Rattle.drf_rows.specs.Step.{first_case, refusal_of}
-use Rattle.drf_rows.specs.declared.limits.TheConstants.{LATEST_MOMENT}
+use Rattle.drf_rows.specs.declared.limits.TheConstants.{LATEST_TIMESTAMP}
 use Rattle.drf_rows.specs.declared.reply.Refusal.TheVariants.{BadMoment, HistoryFull, NotYours, TooMany, UnknownFramework, UnknownOffer}
 use Rattle.drf_rows.specs.declared.rows.OfferRow.{OfferRow}
 use Rattle.drf_core.proofs.refusing.Known.{known_offer}
@@ -20,5 +20,5 @@ unfolding refusal_of
 returns c =
     let d = c.args.decline.now in
     let stands = c.stands.ensures ∙ ap is_some c.offer-offer.ensures in
-    let others = c.is_anothers.ensures ∙ ap (λ (o : Option OfferRow). option_map_or (λ o. not (same_text o.framework d.framework)) o false) c.offer-offer.ensures in
-    c.first_case.ensures ∙ (λ i. first_case ((c.is_full.ensures i, HistoryFull) ∷ (nat_lt LATEST_MOMENT c.args.decline.now.at, BadMoment) ∷ (c.is_unknown.ensures i, UnknownFramework) ∷ (not (stands i), UnknownOffer) ∷ (others i, NotYours) ∷ (c.decline_is_too_much.ensures i, TooMany) ∷ []))
+    let others = c.belongs_to_another.ensures ∙ ap (λ (o : Option OfferRow). option_map_or (λ o. not (same_text o.framework d.framework)) o false) c.offer-offer.ensures in
+    c.first_case.ensures ∙ (λ i. first_case ((c.is_full.ensures i, HistoryFull) ∷ (nat_lt LATEST_TIMESTAMP c.args.decline.now.at, BadMoment) ∷ (c.is_unknown.ensures i, UnknownFramework) ∷ (not (stands i), UnknownOffer) ∷ (others i, NotYours) ∷ (c.decline_is_too_much.ensures i, TooMany) ∷ []))

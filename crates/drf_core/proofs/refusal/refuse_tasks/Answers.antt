@@ -3,7 +3,7 @@ use Rattle.std.specs.Prelude.{is_some}
 use Rattle.std.specs.Option.{option_map_or}
 use Rattle.drf_role.specs.Text.{same_text}
 use Rattle.drf_rows.specs.Step.{first_case}
-use Rattle.drf_rows.specs.declared.limits.TheConstants.{LATEST_MOMENT}
+use Rattle.drf_rows.specs.declared.limits.TheConstants.{LATEST_TIMESTAMP}
 use Rattle.drf_rows.specs.declared.reply.Refusal.TheVariants.{BadMoment, Empty, HistoryFull, KnownTask, NotCovered, NotYours, UnknownFramework, UnknownOffer}
 use Rattle.drf_rows.specs.Tasks.{uses, covers_all}
 use Rattle.drf_rows.specs.declared.rows.OfferRow.{OfferRow}
@@ -20,6 +20,6 @@ pub returns : goal.returns
 returns c =
     let a = c.args.accept.now in
     let stands = c.stands.ensures ∙ ap is_some c.requires in
-    let others = c.is_anothers.ensures ∙ ap (λ (o : Option OfferRow). option_map_or (λ o. not (same_text o.framework a.framework)) o false) c.requires in
-    let beyond = c.is_beyond.ensures ∙ ap (λ (o : Option OfferRow). option_map_or (λ o. not (covers_all o.bundle (uses a.tasks))) o false) c.requires in
-    c.first_case.ensures ∙ (λ i. first_case ((c.is_full.ensures i, HistoryFull) ∷ (nat_lt LATEST_MOMENT c.args.accept.now.at, BadMoment) ∷ (c.is_unknown.ensures i, UnknownFramework) ∷ (not (stands i), UnknownOffer) ∷ (others i, NotYours) ∷ (c.is_task_known.ensures i, KnownTask) ∷ (c.has_empty.ensures i, Empty) ∷ (beyond i, NotCovered) ∷ []))
+    let others = c.belongs_to_another.ensures ∙ ap (λ (o : Option OfferRow). option_map_or (λ o. not (same_text o.framework a.framework)) o false) c.requires in
+    let beyond = c.exceeds_offer.ensures ∙ ap (λ (o : Option OfferRow). option_map_or (λ o. not (covers_all o.bundle (uses a.tasks))) o false) c.requires in
+    c.first_case.ensures ∙ (λ i. first_case ((c.is_full.ensures i, HistoryFull) ∷ (nat_lt LATEST_TIMESTAMP c.args.accept.now.at, BadMoment) ∷ (c.is_unknown.ensures i, UnknownFramework) ∷ (not (stands i), UnknownOffer) ∷ (others i, NotYours) ∷ (c.is_task_known.ensures i, KnownTask) ∷ (c.has_empty.ensures i, Empty) ∷ (beyond i, NotCovered) ∷ []))

@@ -12,14 +12,14 @@ returns-in-Err-clause-fault g c =
     let names = map g.S.AsStr.text c.args.names.now in
     let fault = c.in-Err.fault in
     let read = c.loop-name.contents.items in
-    let told = subst (λ (name : List ℕ). IsFileFault (known name) fault) c.as_str.ensures
+    let reported = subst (λ (name : List ℕ). IsFileFault (known name) fault) c.as_str.ensures
     (subst (λ (k : Known). IsFileFault (k c.as_str.result.now) fault) c.loop-name.invariant.same c.in-Err.ensures.fault) in
     let count = ap length c.reserve.ensures.items in
     let place : c.len.result ≡ length (bytes_of read) =
     omega (arith, c.len.ensures, c.reserve.new.self.ok.0, count, length-map read (λ (bytes : Vec ℕ). bytes.items)) in
     subst (IsUnread known names) (sym (c.fault_of.ensures ∙ ap (λ (n : ℕ). fault_of n fault) place))
     (contents-fault g.S.AsStr.text known c.args.names.now c.loop-name.name-index c.name-item.result c.loop-name-test.true c.name-item.is
-    (bytes_of read) c.loop-name.invariant.read fault told)
+    (bytes_of read) c.loop-name.invariant.read fault reported)
 
 pub loop-name-preserved : goal.loop-name-preserved
 loop-name-preserved g c =

@@ -5,7 +5,7 @@ use Rattle.drf_board.specs.declared.entry.Entry.{Entry}
 use Rattle.drf_core.specs.Machine.{live}
 use Rattle.drf_rows.specs.LimitNumbers.{LimitNumbers}
 use Rattle.drf_drive.specs.Driven.{IsRunFault, IsShuffleOf}
-use Rattle.drf_drive.proofs.Endings.{live-limits, unrun-ends, written-ends}
+use Rattle.drf_drive.proofs.Releases.{live-limits, unrun-ends, written-ends}
 use Rattle.drf_drive.proofs.run.drive_scripts.Goals as goal
 
 pub returns-clause-driven : goal.returns-clause-driven

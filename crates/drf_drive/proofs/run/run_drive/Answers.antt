@@ -2,7 +2,7 @@ use Rattle.std.proofs.Common.{◌≡◌, ◌≤◌, [], length, map, refl, ◌�
 use Rattle.std.proofs.lemmas.Bool.Decides.{nat_tests}
 use Rattle.std.proofs.lemmas.List.{length-map}
 use Rattle.drf_core.specs.Machine.{live}
-use Rattle.drf_drive.proofs.Endings.{journal-none, scripts-few, scripts-none, written-ends}
+use Rattle.drf_drive.proofs.Releases.{journal-none, scripts-few, scripts-none, written-ends}
 use Rattle.drf_drive.proofs.run.run_drive.Goals as goal
 
 pub returns-then-is_empty-clause-driven : goal.returns-then-is_empty-clause-driven

@@ -4,7 +4,7 @@ use Rattle.std.proofs.lemmas.List.Elements.{All-weaker}
 use Rattle.drf_board.specs.declared.entry.Entry.{Entry}
 use Rattle.drf_master.specs.Receipts.{Held, IsNewPass}
 use Rattle.drf_drive.specs.Driven.{IsShuffleOf}
-use Rattle.drf_drive.proofs.Endings.{no-journal, tellable}
+use Rattle.drf_drive.proofs.Releases.{no-journal, tellable}
 use Rattle.drf_drive.proofs.run.run_named.Goals as goal
 
 pub returns-in-Ok-clause-shuffle : goal.returns-in-Ok-clause-shuffle
@@ -19,8 +19,8 @@ returns-in-Ok-clause-shuffle g c =
       driven = c.in-Ok.ensures.driven;
     })
 
-pub tell_undriven-requires : goal.tell_undriven-requires
-tell_undriven-requires g c =
+pub undriven_error-requires : goal.undriven_error-requires
+undriven_error-requires g c =
     let key = c.in_ok-master.master.key in
     let passes = c.in_ok-master.passes.items in
     let new = subst (λ (k : ℕ). All (IsNewPass k) passes) (sym c.in_ok-master.ensures.key) c.in_ok-master.ensures.passes.1 in
@@ -32,4 +32,4 @@ returns-clause-fault g c =
     let passes = c.in_ok-master.passes.items in
     let new = subst (λ (k : ℕ). All (IsNewPass k) passes) (sym c.in_ok-master.ensures.key) c.in_ok-master.ensures.passes.1 in
     no-journal g.K.Naming.slate.limits g.K.Naming.start _ key passes c.args.scripts.items new c.in-Err.undriven c.in-Err.ensures.undriven
-    c.tell_undriven.result c.tell_undriven.ensures
+    c.undriven_error.result c.undriven_error.ensures

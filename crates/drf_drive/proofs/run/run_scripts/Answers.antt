@@ -1,5 +1,5 @@
 use Rattle.std.proofs.Common.{sym, ◌∙◌}
-use Rattle.drf_drive.proofs.Endings.{begins-live}
+use Rattle.drf_drive.proofs.Releases.{begins-live}
 use Rattle.drf_drive.proofs.run.run_scripts.Goals as goal
 
 pub run_named-requires-clause-start : goal.run_named-requires-clause-start

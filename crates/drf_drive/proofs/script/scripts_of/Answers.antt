@@ -27,5 +27,5 @@ returns g c =
     let each = slice-AllZip chain.0 files (chain.1 ∙ slice) (λ (file : Vec ℕ) (script : Script). IsScriptOf file.items script) h.0 chain.2 in
     let of = subst (AreScriptsOf files) (sym h.2) each in
     let scripts = c.in_ok-scripts.scripts.items in
-    let told = c.all_whole.ensures in
-    record { ok = all-whole files scripts of c.all_whole.result told.ok; err = one-stopped files scripts of c.all_whole.result told.err }
+    let reported = c.all_whole.ensures in
+    record { ok = all-whole files scripts of c.all_whole.result reported.ok; err = one-stopped files scripts of c.all_whole.result reported.err }

@@ -13,4 +13,4 @@ loop-filter-preserved c =
 pub returns : goal.returns
 returns c =
     fold_over _ _ c.args.filters.now c.loop-filter.filter-index _ c.loop-filter-test.false c.loop-filter.invariant
-    ∙ found_all (holds_back c.args.moment (client_at c.args.client.now) c.args.agent.now c.args.bundle.now) (λ f. f.until) max c.args.filters.now
+    ∙ found_all (holds_back c.args.timestamp (client_at c.args.client.now) c.args.agent.now c.args.bundle.now) (λ f. f.until) max c.args.filters.now

@@ -7,5 +7,5 @@ use Rattle.drf_explain.proofs.gates.held_until.Given as goal
 -- the result so far, continued over the remaining filters, is the result for all
 abbrev pub invariant-loop-filter : goal.invariant-loop-filter
 invariant-loop-filter l =
-    fold (reduced (holds_back l.moment (client_at l.client) l.agent l.bundle) (λ f. f.until) max) l.until (drop l.filter-index l.filters)
-    ≡ fold (reduced (holds_back l.moment (client_at l.client) l.agent l.bundle) (λ f. f.until) max) None l.filters
+    fold (reduced (holds_back l.timestamp (client_at l.client) l.agent l.bundle) (λ f. f.until) max) l.until (drop l.filter-index l.filters)
+    ≡ fold (reduced (holds_back l.timestamp (client_at l.client) l.agent l.bundle) (λ f. f.until) max) None l.filters

@@ -1,6 +1,6 @@
 use Rattle.std.proofs.Common.{refl, sym, ◌∙◌}
 use Rattle.drf_holdings.proofs.Slots.{order_same}
-use Rattle.drf_holdings.proofs.Slotted.{order_off, gap_off, thing_off}
+use Rattle.drf_holdings.proofs.Slotted.{order_off, free_slot_off, thing_off}
 use Rattle.drf_holdings.proofs.by_number.pop_thing.Goals as goal
 
 pub loop-slot-init : goal.loop-slot-init
@@ -12,7 +12,7 @@ loop-slot-preserved g c =
     let at = c.loop-slot in
     let left = c.pop.new.self.items in
     record {
-      things = gap_off first at.slots.items left c.in-Some.slot c.in-Some.ensures.items at.invariant.things at.invariant.order
+      things = free_slot_off first at.slots.items left c.in-Some.slot c.in-Some.ensures.items at.invariant.things at.invariant.order
           (sym c.in_default-into_thing.is ∙ c.into_thing.ensures);
       order = order_off first at.slots.items left c.in-Some.slot c.in-Some.ensures.items at.invariant.things at.invariant.order;
     }

@@ -15,8 +15,8 @@ move_some-requires c =
 
 pub move_back-requires-clause-within : goal.move_back-requires-clause-within
 move_back-requires-clause-within c =
-    let front = c.move_some.ensures.front in
-    let long = ap (λ (os : List OfferRow). length os) front.1 ∙ length-append c.args.rows.now front.0 in
+    let prefix = c.move_some.ensures.prefix in
+    let long = ap (λ (os : List OfferRow). length os) prefix.1 ∙ length-append c.args.rows.now prefix.0 in
     omega (arith, long, c.len-count.ensures.len)
 
 pub move_back-requires-clause-room : goal.move_back-requires-clause-room
@@ -34,9 +34,9 @@ returns-in-Ok-clause-ok c =
 pub returns-in-Err-clause-err : goal.returns-in-Err-clause-err
 returns-in-Err-clause-err c =
     let old : List OfferRow = c.args.rows.now in
-    let front = c.move_some.ensures.front in
+    let prefix = c.move_some.ensures.prefix in
     let rows : c.move_back.new.rows ≡ old =
-    c.move_back.ensures.rows ∙ (λ i. take (c.len-count.ensures.len i) (front.1 i)) ∙ take-append_seam old front.0 in (
+    c.move_back.ensures.rows ∙ (λ i. take (c.len-count.ensures.len i) (prefix.1 i)) ∙ take-append_seam old prefix.0 in (
       rows,
       moved_back old c.move_some.new.rows c.move_back.new.rows c.args.offers.now.items c.reverse.new.self.items c.move_some.new.offers.items
           c.move_back.new.offers.items c.reverse-in-Err.new.self.items c.reverse.ensures.items c.move_some.ensures.all c.move_back.ensures.all rows

@@ -8,7 +8,7 @@ use Rattle.drf_holdings.proofs.offers.move_some.Goals as goal
 pub loop-offer-init : goal.loop-offer-init
 loop-offer-init c = record {
   all = search rules;
-  front = ([], sym (append-nil c.args.rows.now));
+  prefix = ([], sym (append-nil c.args.rows.now));
   room = search rules;
 }
 
@@ -26,9 +26,9 @@ loop-offer-preserved c =
     let put : c.push.new.self ≡ at.rows ++ offer ∷ [] = c.in_default-push.ensures.ok in
     record {
       all = ap (λ (os : List OfferRow). os ++ reverse left) put ∙ sym (whole_next at.rows at.offers.items left offer c.in-Some.ensures.items) ∙ at.invariant.all;
-      front = (
-        at.invariant.front.0 ++ offer ∷ [],
-        put ∙ ap (λ (os : List OfferRow). os ++ offer ∷ []) at.invariant.front.1 ∙ append_assoc c.args.rows.now at.invariant.front.0 (offer ∷ []),
+      prefix = (
+        at.invariant.prefix.0 ++ offer ∷ [],
+        put ∙ ap (λ (os : List OfferRow). os ++ offer ∷ []) at.invariant.prefix.1 ∙ append_assoc c.args.rows.now at.invariant.prefix.0 (offer ∷ []),
       );
       room = c.pop.ensures.capacity ∙ at.invariant.room;
     }
@@ -41,8 +41,8 @@ returns-in-Err-clause-all c =
     c.push_reserved.ensures.items ∙ ap (λ (o : OfferRow). left ++ o ∷ []) c.in-Err.ensures.back ∙ sym c.in-Some.ensures.items in
     (λ i. c.in-Err.ensures.err i ++ reverse (back i)) ∙ at.invariant.all
 
-pub returns-in-Err-clause-front : goal.returns-in-Err-clause-front
-returns-in-Err-clause-front c = (c.loop-offer.invariant.front.0, c.in-Err.ensures.err ∙ c.loop-offer.invariant.front.1)
+pub returns-in-Err-clause-prefix : goal.returns-in-Err-clause-prefix
+returns-in-Err-clause-prefix c = (c.loop-offer.invariant.prefix.0, c.in-Err.ensures.err ∙ c.loop-offer.invariant.prefix.1)
 
 pub returns-in-Err-clause-room : goal.returns-in-Err-clause-room
 returns-in-Err-clause-room c = c.push_reserved.ensures.capacity ∙ c.pop.ensures.capacity ∙ c.loop-offer.invariant.room
@@ -54,8 +54,8 @@ returns-clause-all c =
     let same : at.offers.items ≡ left = c.in_default.ensures.items ∙ append-nil left in
     ap (λ (os : List OfferRow). at.rows ++ reverse os) (sym same) ∙ at.invariant.all
 
-pub returns-clause-front : goal.returns-clause-front
-returns-clause-front c = c.loop-offer.invariant.front
+pub returns-clause-prefix : goal.returns-clause-prefix
+returns-clause-prefix c = c.loop-offer.invariant.prefix
 
 pub returns-clause-moved : goal.returns-clause-moved
 returns-clause-moved c =

@@ -5,7 +5,7 @@ use Rattle.drf_holdings.proofs.offers.move_some.Given as goal
 abbrev pub invariant-loop-offer : goal.invariant-loop-offer
 invariant-loop-offer l = record {
   all : l.rows ++ reverse l.offers.items ≡ l.fn.rows ++ reverse l.fn.offers.items;
-  front : (moved : List OfferRow) × (l.rows ≡ l.fn.rows ++ moved);
+  prefix : (moved : List OfferRow) × (l.rows ≡ l.fn.rows ++ moved);
   room : vec_capacity l.offers ≡ vec_capacity l.fn.offers;
 }
 

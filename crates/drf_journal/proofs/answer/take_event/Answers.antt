@@ -11,11 +11,11 @@ at_ok : {T E A B : Type 0} (r : Result T E) → (A → B) → OnOk r A → OnOk 
 at_ok (Ok x) f h = f h
 at_ok (Err e) f h = h
 
-pub returns-clause-told : goal.returns-clause-told
-returns-clause-told g c =
+pub returns-clause-reported : goal.returns-clause-reported
+returns-clause-reported g c =
     IfOk-weaker c.step.result (λ reply. reply ≡ reply_to c.args.core.now.limits c.args.core.now.rows c.args.event)
     (λ reply. reply ≡ reply_to (live c.args.core.now).limits (live c.args.core.now).rows c.args.event)
-    (λ reply told. told ∙ reply_to-seen c.args.core.now c.args.event) c.step.ensures.reply
+    (λ reply reported. reported ∙ reply_to-seen c.args.core.now c.args.event) c.step.ensures.reply
 
 pub returns-clause-ok : goal.returns-clause-ok
 returns-clause-ok g c = at_ok c.step.result (live-after c.args.core.now c.step.new.self c.args.event) c.step.ensures.ok

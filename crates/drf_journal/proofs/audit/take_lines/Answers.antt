@@ -49,20 +49,20 @@ returns-then-count-eq0-clause-taken g c =
     omega arith in
     lines-ended _ c.requires.session _ _ _ _ c.loop-turn.invariant.serving _ bytes.0 (bytes.1 refl some) c.in_ok-close.ensures.ok
 
-pub returns-in_err-take_piece-clause-taken : goal.returns-in_err-take_piece-clause-taken
-returns-in_err-take_piece-clause-taken g c =
-    let p = err_from_is_err_and c.from_residual-in_err-take_piece.result c.from_residual-in_err-take_piece.ensures.1 in
+pub returns-in_err-take_chunk-clause-taken : goal.returns-in_err-take_chunk-clause-taken
+returns-in_err-take_chunk-clause-taken g c =
+    let p = err_from_is_err_and c.from_residual-in_err-take_chunk.result c.from_residual-in_err-take_chunk.ensures.1 in
     rw p.1 (lines-stopped _ c.requires.session _ _ _ _ c.loop-turn.invariant.serving _ p.0 (take c.in-Ok.count c.read.new.buf) c.in-Ok.ensures.bytes.0)
 
-pub returns-in_err-take_piece-clause-cause : goal.returns-in_err-take_piece-clause-cause
-returns-in_err-take_piece-clause-cause g c =
-    let p = err_from_is_err_and c.from_residual-in_err-take_piece.result c.from_residual-in_err-take_piece.ensures.1 in
+pub returns-in_err-take_chunk-clause-cause : goal.returns-in_err-take_chunk-clause-cause
+returns-in_err-take_chunk-clause-cause g c =
+    let p = err_from_is_err_and c.from_residual-in_err-take_chunk.result c.from_residual-in_err-take_chunk.ensures.1 in
     rw (p.1, p.2) (rw c.loop-turn.invariant.sound at c.in-Ok.ensures.failed, refl)
 
 pub loop-turn-preserved : goal.loop-turn-preserved
 loop-turn-preserved g c =
     let piece = take c.in-Ok.count c.read.new.buf in
-    let next = c.in_ok-take_piece.ensures in
+    let next = c.in_ok-take_chunk.ensures in
     record {
       serving = serving-takes _ c.requires.session _ _ _ None None None _ c.loop-turn.invariant.serving piece _
           c.in-Ok.ensures.bytes.0 tt next;

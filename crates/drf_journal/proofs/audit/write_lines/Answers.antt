@@ -1,6 +1,6 @@
 use Rattle.std.proofs.lemmas.Result.{err_from_is_err_and}
 use Rattle.drf_audit.specs.AuditText.{audit_text}
-use Rattle.drf_journal.proofs.Audits.{wrote-begins, wrote-element, wrote-element-front, wrote-all}
+use Rattle.drf_journal.proofs.Audits.{wrote-begins, wrote-element, wrote-element-prefix, wrote-all}
 use Rattle.drf_journal.proofs.audit.write_lines.Goals as goal
 
 pub loop-line-init : goal.loop-line-init
@@ -17,7 +17,7 @@ loop-line-preserved g c = record {
 pub returns-in_err-write_line-clause-err : goal.returns-in_err-write_line-clause-err
 returns-in_err-write_line-clause-err g c =
     let p = err_from_is_err_and c.from_residual.result c.from_residual.ensures.1 in
-    rw p.1 (wrote-element-front audit_text c.args.lines.now c.loop-line.line-index c.line-item.result c.loop-line-test.true c.line-item.is
+    rw p.1 (wrote-element-prefix audit_text c.args.lines.now c.loop-line.line-index c.line-item.result c.loop-line-test.true c.line-item.is
     _ _ _ _ c.loop-line.invariant.wrote c.in_err-write_line.ensures.err)
 
 pub returns-clause-ok : goal.returns-clause-ok

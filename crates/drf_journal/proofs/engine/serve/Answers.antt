@@ -85,9 +85,9 @@ returns-then-count-eq0-clause-read g c =
     omega arith in
     bytes.1 refl some
 
-pub returns-in_err-answer_piece-clause-served : goal.returns-in_err-answer_piece-clause-served
-returns-in_err-answer_piece-clause-served g c =
-    let p = err_from_is_err_and c.from_residual-in_err-answer_piece.result c.from_residual-in_err-answer_piece.ensures.1 in
+pub returns-in_err-reply_to_chunk-clause-served : goal.returns-in_err-reply_to_chunk-clause-served
+returns-in_err-reply_to_chunk-clause-served g c =
+    let p = err_from_is_err_and c.from_residual-in_err-reply_to_chunk.result c.from_residual-in_err-reply_to_chunk.ensures.1 in
     let piece = take c.in-Ok.count c.read.new.buf in
     let short : length piece ≤ 65536 =
     let bound = c.in-Ok.ensures.bound in
@@ -95,14 +95,14 @@ returns-in_err-answer_piece-clause-served g c =
     let a = c.read.auto.buf in let b = c.loop-turn.invariant.chunk in omega arith in
     rw (p.1, p.2)
     (run-stops _ c.requires.session _ _ _ _ _ _ _ c.loop-turn.invariant.serving _ piece _ short c.in-Ok.ensures.bytes.0
-    c.in_err-answer_piece.ensures.err)
+    c.in_err-reply_to_chunk.ensures.err)
 
-pub returns-in_err-answer_piece-clause-cause : goal.returns-in_err-answer_piece-clause-cause
-returns-in_err-answer_piece-clause-cause g c =
-    let p = err_from_is_err_and c.from_residual-in_err-answer_piece.result c.from_residual-in_err-answer_piece.ensures.1 in
+pub returns-in_err-reply_to_chunk-clause-cause : goal.returns-in_err-reply_to_chunk-clause-cause
+returns-in_err-reply_to_chunk-clause-cause g c =
+    let p = err_from_is_err_and c.from_residual-in_err-reply_to_chunk.result c.from_residual-in_err-reply_to_chunk.ensures.1 in
     rw (p.1, p.2)
     (cause-stopped _ _ _ _ (rw c.loop-turn.invariant.reader_sound at c.in-Ok.ensures.failed)
-    (c.in_err-answer_piece.ensures.cause c.loop-turn.invariant.writer_sound))
+    (c.in_err-reply_to_chunk.ensures.cause c.loop-turn.invariant.writer_sound))
 
 pub returns-in_err-close-clause-flushed : goal.returns-in_err-close-clause-flushed
 returns-in_err-close-clause-flushed g c = λ begun.
@@ -118,25 +118,25 @@ returns-then-count-eq0-clause-flushed g c = λ begun. c.in_ok-send.ensures.flush
 pub returns-clause-flushed : goal.returns-clause-flushed
 returns-clause-flushed g c = λ begun. c.loop-turn.invariant.flushed begun
 
-pub returns-in_err-answer_piece-clause-flushed : goal.returns-in_err-answer_piece-clause-flushed
-returns-in_err-answer_piece-clause-flushed g c = λ begun.
-    let p = err_from_is_err_and c.from_residual-in_err-answer_piece.result c.from_residual-in_err-answer_piece.ensures.1 in
+pub returns-in_err-reply_to_chunk-clause-flushed : goal.returns-in_err-reply_to_chunk-clause-flushed
+returns-in_err-reply_to_chunk-clause-flushed g c = λ begun.
+    let p = err_from_is_err_and c.from_residual-in_err-reply_to_chunk.result c.from_residual-in_err-reply_to_chunk.ensures.1 in
     rw (p.1, p.2)
-    (flushed-stopped (Unit {0}) ℕ _ _ (c.in_err-answer_piece.ensures.flushed (c.loop-turn.invariant.flushed begun)))
+    (flushed-stopped (Unit {0}) ℕ _ _ (c.in_err-reply_to_chunk.ensures.flushed (c.loop-turn.invariant.flushed begun)))
 
 pub loop-turn-preserved : goal.loop-turn-preserved
 loop-turn-preserved g c =
     let piece = take c.in-Ok.count c.read.new.buf in
-    let sent = c.in_ok-answer_piece.ensures.sent in
-    let next = c.in_ok-answer_piece.ensures.ok in
+    let sent = c.in_ok-reply_to_chunk.ensures.sent in
+    let next = c.in_ok-reply_to_chunk.ensures.ok in
     record {
       serving = serving-takes _ c.requires.session _ _ _ _ _ _ _ c.loop-turn.invariant.serving piece _
           c.in-Ok.ensures.bytes.0 sent next;
       reads = let a = c.in-Ok.ensures.calls in let b = c.loop-turn.invariant.reads in let d = c.loop-turn-test.true in
           omega arith;
       reader_sound = rw c.loop-turn.invariant.reader_sound at c.in-Ok.ensures.failed;
-      writer_sound = (c.in_ok-answer_piece.ensures.cause c.loop-turn.invariant.writer_sound).1;
-      flushed = λ begun. c.in_ok-answer_piece.ensures.flushed (c.loop-turn.invariant.flushed begun);
+      writer_sound = (c.in_ok-reply_to_chunk.ensures.cause c.loop-turn.invariant.writer_sound).1;
+      flushed = λ begun. c.in_ok-reply_to_chunk.ensures.flushed (c.loop-turn.invariant.flushed begun);
       chunk = let a = c.read.auto.buf in let b = c.loop-turn.invariant.chunk in omega arith;
       few =
           let same = ap (λ (s : State). s.lines) next in

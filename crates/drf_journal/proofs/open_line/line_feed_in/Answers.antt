@@ -6,8 +6,8 @@ use Rattle.memchr.specs.Find.{IsFirstByte, Nowhere, Passes, is_byte}
 use Rattle.drf_journal.specs.Lines.{IsWithinLine, is_line_feed}
 use Rattle.drf_journal.proofs.open_line.line_feed_in.Goals as goal
 
-within-front : (bytes : List ℕ) (n : ℕ) → Nowhere (Passes (is_byte 10) bytes) 0 n → IsWithinLine (take n bytes)
-within-front bytes n none =
+within-prefix : (bytes : List ℕ) (n : ℕ) → Nowhere (Passes (is_byte 10) bytes) 0 n → IsWithinLine (take n bytes)
+within-prefix bytes n none =
     All-from_get_or (λ (b : ℕ). is_line_feed b ≡ false) (take n bytes) 0
     (λ i below.
     let small : i < n = omega (arith, length-take n bytes, below) in
@@ -17,10 +17,10 @@ within-front bytes n none =
 found : (bytes : List ℕ) (place : Option ℕ) → IsFirstByte (is_byte 10) bytes place
     → IfSome place (λ at. (at < length bytes) × (get_or bytes at 0 ≡ 10) × IsWithinLine (take at bytes))
 found bytes None first = tt
-found bytes (Some at) first = (first.0.high, eqb-true (get_or bytes at 0) 10 first.1, within-front bytes at first.0.before)
+found bytes (Some at) first = (first.0.high, eqb-true (get_or bytes at 0) 10 first.1, within-prefix bytes at first.0.before)
 
 none : (bytes : List ℕ) (place : Option ℕ) → IsFirstByte (is_byte 10) bytes place → IfNone place (IsWithinLine bytes)
-none bytes None first = subst IsWithinLine (take_all (length bytes) bytes (omega arith)) (within-front bytes (length bytes) first)
+none bytes None first = subst IsWithinLine (take_all (length bytes) bytes (omega arith)) (within-prefix bytes (length bytes) first)
 none bytes (Some at) first = tt
 
 pub returns-clause-found : goal.returns-clause-found

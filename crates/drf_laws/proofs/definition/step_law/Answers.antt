@@ -1,4 +1,4 @@
-use Rattle.drf_row_laws.proofs.StepLaws.{cases_rise, least_is_told, reply_to-refused, rows_after-refused, reply_to-accepted, rows_after-accepted}
+use Rattle.drf_row_laws.proofs.StepLaws.{cases_rise, least_is_reported, reply_to-refused, rows_after-refused, reply_to-accepted, rows_after-accepted}
 use Rattle.drf_row_laws.proofs.RunLaws.{replies_to-append, rows_after_all-append}
 use Rattle.drf_laws.proofs.definition.step_law.Goals as goal
 
@@ -6,7 +6,7 @@ pub returns-clause-rising : goal.returns-clause-rising
 returns-clause-rising c = cases_rise
 
 pub returns-clause-least : goal.returns-clause-least
-returns-clause-least c = least_is_told
+returns-clause-least c = least_is_reported
 
 pub returns-clause-refused : goal.returns-clause-refused
 returns-clause-refused c = λ limits rows event refusal case.

@@ -12,5 +12,5 @@ pub returns-clause-text : goal.returns-clause-text
 unfolding IsText
 returns-clause-text c =
     let text = bundle_text c.args.bundle.now in
-    let written = c.as_str.ensures.value ∙ c.in_ok-push_bundle.ensures ∙ ap (λ (front : List ℕ). front ++ text) c.clear.ensures.bytes in
+    let written = c.as_str.ensures.value ∙ c.in_ok-push_bundle.ensures ∙ ap (λ (prefix : List ℕ). prefix ++ text) c.clear.ensures.bytes in
     holds_at_ok c.put_text.result _ (subst IsUtf8 written c.as_str.utf8)

@@ -4,7 +4,7 @@ use Rattle.std.specs.Str.Parse.{AllDigits, digits_value}
 use Rattle.std.proofs.lemmas.Int.Digits.{digits_more, digits_value_more}
 use Rattle.serde_json.specs.Data.{unsigned}
 use Rattle.serde_json.specs.Read.{number_of}
-use Rattle.drf_lines.proofs.LineNumbers.{number_of-few, front_below, digit_is}
+use Rattle.drf_lines.proofs.LineNumbers.{number_of-few, prefix_below, digit_is}
 use Rattle.drf_lines.proofs.number.read_digits.Goals as goal
 
 pub loop-byte-init : goal.loop-byte-init
@@ -13,13 +13,13 @@ loop-byte-init c = (tt, refl)
 pub overflow_mul-whole : goal.overflow_mul-whole
 overflow_mul-whole c =
     let bytes = c.as_bytes-bytes.result.now in
-    let below = front_below bytes c.loop-byte.byte-index c.loop-byte-test.true c.if-bytes-gt-FEW_DIGITS.false c.loop-byte.invariant.0 in
+    let below = prefix_below bytes c.loop-byte.byte-index c.loop-byte-test.true c.if-bytes-gt-FEW_DIGITS.false c.loop-byte.invariant.0 in
     omega (arith, c.loop-byte.invariant.1, below)
 
 pub overflow_add-whole : goal.overflow_add-whole
 overflow_add-whole c =
     let bytes = c.as_bytes-bytes.result.now in
-    let below = front_below bytes c.loop-byte.byte-index c.loop-byte-test.true c.if-bytes-gt-FEW_DIGITS.false c.loop-byte.invariant.0 in
+    let below = prefix_below bytes c.loop-byte.byte-index c.loop-byte-test.true c.if-bytes-gt-FEW_DIGITS.false c.loop-byte.invariant.0 in
     let digit = digit_is (get_or bytes c.loop-byte.byte-index 0) (sym c.is_ascii_digit.ensures.value ∙ c.if-not-is_ascii_digit.false) in
     omega (arith, c.loop-byte.invariant.1, below, c.from.ensures, digit.0, digit.1)
 

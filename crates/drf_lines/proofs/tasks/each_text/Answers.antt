@@ -7,19 +7,19 @@ use Rattle.drf_lines.specs.declared.tasks.TaskText.{TaskText}
 use Rattle.drf_lines.proofs.EachIn.{each_after-refused, each_after-one, each_after-all}
 use Rattle.drf_lines.proofs.tasks.each_text.Goals as goal
 
-abbrev told : TaskText → List ℕ × List ℕ
-told t = (t.name.now, t.used.now)
+abbrev reported : TaskText → List ℕ × List ℕ
+reported t = (t.name.now, t.used.now)
 
 pub returns-in_err-task_text : goal.returns-in_err-task_text
 returns-in_err-task_text c =
     let p = err_from_is_err_and c.from_residual-in_err-task_text.result c.from_residual-in_err-task_text.ensures.1 in
-    rw (p.1, p.2) (each_after-refused task_text line_view (map told c.loop-value.texts.items) _ _ c.loop-value.invariant
-    c.value-item.result _ c.loop-value-test.true c.value-item.is told (map told) c.in_err-task_text.field-0.0 c.in_err-task_text.ensures)
+    rw (p.1, p.2) (each_after-refused task_text line_view (map reported c.loop-value.texts.items) _ _ c.loop-value.invariant
+    c.value-item.result _ c.loop-value-test.true c.value-item.is reported (map reported) c.in_err-task_text.field-0.0 c.in_err-task_text.ensures)
 
 pub loop-value-preserved : goal.loop-value-preserved
 loop-value-preserved c =
-    rw (c.in_ok-push.ensures.items, map-append told c.loop-value.texts.items (c.in_ok-task_text.field-0 ∷ []))
-    (each_after-one task_text line_view _ _ _ c.loop-value.invariant _ _ c.loop-value-test.true c.value-item.is (told c.in_ok-task_text.field-0) c.in_ok-task_text.ensures)
+    rw (c.in_ok-push.ensures.items, map-append reported c.loop-value.texts.items (c.in_ok-task_text.field-0 ∷ []))
+    (each_after-one task_text line_view _ _ _ c.loop-value.invariant _ _ c.loop-value-test.true c.value-item.is (reported c.in_ok-task_text.field-0) c.in_ok-task_text.ensures)
 
 pub returns : goal.returns
 returns c = rw c.from_vec.ensures (each_after-all task_text line_view _ _ _ c.loop-value.invariant c.loop-value-test.false)

@@ -59,10 +59,10 @@ returns-in_err-close-clause-flushed g c = λ begun.
     let p = err_from_is_err_and c.from_residual-in_err-close.result c.from_residual-in_err-close.ensures.1 in
     rw (p.1, p.2) (c.in_err-close.ensures.flushed (c.loop-turn.invariant.flushed begun))
 
-pub returns-in_err-close-clause-told_flushed : goal.returns-in_err-close-clause-told_flushed
-returns-in_err-close-clause-told_flushed g c = λ begun.
+pub returns-in_err-close-clause-reported_flushed : goal.returns-in_err-close-clause-reported_flushed
+returns-in_err-close-clause-reported_flushed g c = λ begun.
     let p = err_from_is_err_and c.from_residual-in_err-close.result c.from_residual-in_err-close.ensures.1 in
-    rw (p.1, p.2) (c.in_err-close.ensures.told_flushed (c.loop-turn.invariant.errors_flushed begun))
+    rw (p.1, p.2) (c.in_err-close.ensures.reported_flushed (c.loop-turn.invariant.errors_flushed begun))
 
 pub returns-then-count-eq0-clause-linted : goal.returns-then-count-eq0-clause-linted
 returns-then-count-eq0-clause-linted g c =
@@ -75,8 +75,8 @@ returns-then-count-eq0-clause-linted g c =
 pub returns-then-count-eq0-clause-flushed : goal.returns-then-count-eq0-clause-flushed
 returns-then-count-eq0-clause-flushed g c = λ begun. c.in_ok-close.ensures.flushed (c.loop-turn.invariant.flushed begun)
 
-pub returns-then-count-eq0-clause-told_flushed : goal.returns-then-count-eq0-clause-told_flushed
-returns-then-count-eq0-clause-told_flushed g c = λ begun. c.in_ok-close.ensures.told_flushed (c.loop-turn.invariant.errors_flushed begun)
+pub returns-then-count-eq0-clause-reported_flushed : goal.returns-then-count-eq0-clause-reported_flushed
+returns-then-count-eq0-clause-reported_flushed g c = λ begun. c.in_ok-close.ensures.reported_flushed (c.loop-turn.invariant.errors_flushed begun)
 
 pub returns-in_err-take-clause-linted : goal.returns-in_err-take-clause-linted
 returns-in_err-take-clause-linted g c =
@@ -101,10 +101,10 @@ returns-in_err-take-clause-flushed g c = λ begun.
     let p = err_from_is_err_and c.from_residual-in_err-take.result c.from_residual-in_err-take.ensures.1 in
     rw (p.1, p.2) (c.in_err-take.ensures.flushed (c.loop-turn.invariant.flushed begun))
 
-pub returns-in_err-take-clause-told_flushed : goal.returns-in_err-take-clause-told_flushed
-returns-in_err-take-clause-told_flushed g c = λ begun.
+pub returns-in_err-take-clause-reported_flushed : goal.returns-in_err-take-clause-reported_flushed
+returns-in_err-take-clause-reported_flushed g c = λ begun.
     let p = err_from_is_err_and c.from_residual-in_err-take.result c.from_residual-in_err-take.ensures.1 in
-    rw (p.1, p.2) (c.in_err-take.ensures.told_flushed (c.loop-turn.invariant.errors_flushed begun))
+    rw (p.1, p.2) (c.in_err-take.ensures.reported_flushed (c.loop-turn.invariant.errors_flushed begun))
 
 pub loop-turn-preserved : goal.loop-turn-preserved
 loop-turn-preserved g c =
@@ -120,7 +120,7 @@ loop-turn-preserved g c =
       writer_sound = sound.0;
       errors_sound = sound.1;
       flushed = λ begun. next.flushed (now.flushed begun);
-      errors_flushed = λ begun. next.told_flushed (now.errors_flushed begun);
+      errors_flushed = λ begun. next.reported_flushed (now.errors_flushed begun);
       chunk = let a = c.read.auto.buf in let b = now.chunk in omega arith;
       few =
           let more = next.ok.few in

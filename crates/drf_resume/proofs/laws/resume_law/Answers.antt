@@ -1,6 +1,6 @@
 use Rattle.std.proofs.Common.{ℕ, List, sym, ap, subst, ◌∙◌, ◌++◌}
 use Rattle.drf_core.specs.Machine.{Machine}
-use Rattle.drf_journal.specs.Audited.{agents_text, cycle_text, told_of_lines}
+use Rattle.drf_journal.specs.Audited.{agents_text, cycle_text, reported_of_lines}
 use Rattle.drf_journal.specs.Lines.{lines_of}
 use Rattle.drf_journal.specs.Output.{output_of}
 use Rattle.drf_journal.specs.Resumed.{resumed}
@@ -34,13 +34,13 @@ pub returns-clause-audit : goal.returns-clause-audit
 returns-clause-audit c =
     λ machine start first second text saved from.
     c.cut_law.ensures.audit machine (with_last_feed first) second (fed first).cut
-    ∙ ap (λ (m : Machine). told_of_lines agents_text m (lines_of second)) (left_is_read machine start first text saved from)
+    ∙ ap (λ (m : Machine). reported_of_lines agents_text m (lines_of second)) (left_is_read machine start first text saved from)
 
 pub returns-clause-explanation : goal.returns-clause-explanation
 returns-clause-explanation c =
     λ machine start first second text saved from at.
     c.cut_law.ensures.explanation machine at (with_last_feed first) second (fed first).cut
-    ∙ ap (λ (m : Machine). told_of_lines (cycle_text at) m (lines_of second)) (left_is_read machine start first text saved from)
+    ∙ ap (λ (m : Machine). reported_of_lines (cycle_text at) m (lines_of second)) (left_is_read machine start first text saved from)
 
 pub returns-clause-saved : goal.returns-clause-saved
 returns-clause-saved c =

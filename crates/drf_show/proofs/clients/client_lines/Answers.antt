@@ -1,7 +1,7 @@
 use Rattle.std.proofs.Common.{◌≡◌, List, IfOk, flat_map, map, subst, sym, ap, ◌∙◌}
 use Rattle.std.specs.List.{Contains}
 use Rattle.drf_role.specs.Path.{Path}
-use Rattle.drf_rows.specs.Holdings.{of_offer, of_task}
+use Rattle.drf_rows.specs.Holdings.{holding_of_offer, holding_of_task}
 use Rattle.drf_rows.specs.Held.{client_of, standing_of}
 use Rattle.drf_rows.specs.Report.{terms_of}
 use Rattle.drf_rows.specs.Share.{Standing, weighted_share_of}
@@ -28,14 +28,14 @@ pub lines_of-requires-clause-offered : goal.lines_of-requires-clause-offered
 lines_of-requires-clause-offered g c = λ name.
     let rows = c.args.rows.now in
     subst AreSmall
-    (sym (c.in_ok-offered.ensures name ∙ ap (λ os. parts_for name (map of_offer os)) c.as_slice.ensures))
+    (sym (c.in_ok-offered.ensures name ∙ ap (λ os. parts_for name (map holding_of_offer os)) c.as_slice.ensures))
     (offers_small rows c.requires.fit name)
 
 pub lines_of-requires-clause-used : goal.lines_of-requires-clause-used
 lines_of-requires-clause-used g c = λ name.
     let rows = c.args.rows.now in
     subst AreSmall
-    (sym (c.in_ok-used.ensures name ∙ ap (λ ts. parts_for name (map of_task ts)) c.as_slice-2.ensures))
+    (sym (c.in_ok-used.ensures name ∙ ap (λ ts. parts_for name (map holding_of_task ts)) c.as_slice-2.ensures))
     (tasks_small rows c.requires.fit name)
 
 pub lines_of-requires-clause-known : goal.lines_of-requires-clause-known
@@ -56,8 +56,8 @@ returns g c =
     ∙ ap (λ (s : Standing). terms_of (weighted_share_of s node)) (standing-content_of rows c.requires.fit.consistent) in
     let each : (f : FrameworkRow) → lines_by weighted offered used f ≡ map (client_line rows f) f.clients =
     λ f i. map (λ k. client_line_is rows weighted offered used f k shares
-    (λ name. c.in_ok-offered.ensures name ∙ ap (λ os. parts_for name (map of_offer os)) c.as_slice.ensures)
-    (λ name. c.in_ok-used.ensures name ∙ ap (λ ts. parts_for name (map of_task ts)) c.as_slice-2.ensures) i) f.clients in
+    (λ name. c.in_ok-offered.ensures name ∙ ap (λ os. parts_for name (map holding_of_offer os)) c.as_slice.ensures)
+    (λ name. c.in_ok-used.ensures name ∙ ap (λ ts. parts_for name (map holding_of_task ts)) c.as_slice-2.ensures) i) f.clients in
     subst (λ (ls : List ClientLine). IfOk c.lines_of.result (λ lines. lines.items ≡ ls))
     (ap (flat_map (lines_by weighted offered used)) c.as_slice-3.ensures
     ∙ (λ i. flat_map (λ f. each f i) rows.frameworks))

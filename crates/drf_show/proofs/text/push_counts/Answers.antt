@@ -12,7 +12,7 @@ table_lines-requires-clause-names c = ap length (c.entries.ensures.value ∙ ap 
 
 pub returns : goal.returns
 returns c =
-    on_ok_weaker c.push_behind.result
+    on_ok_weaker c.push_table.result
     (λ wrote. wrote ∙ ap (λ (ls : List TableLine). c.args.text.now.items ++ behind c.args.form (record { heads = table_heads; rows = map table_shown ls }))
     (c.deref.ensures.value ∙ c.in_ok-lines.ensures))
-    c.push_behind.ensures
+    c.push_table.ensures

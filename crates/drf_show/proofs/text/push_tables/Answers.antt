@@ -16,14 +16,14 @@ returns g c =
     let nodes : c.as_slice.result.now ≡ (report_of rows).nodes = c.as_slice.ensures ∙ ap (λ (r : Report). r.nodes) c.requires.report in
     let agents = c.in_ok-push_agents.ensures ∙ ap (λ text. add text (agent_table rows)) c.in_ok-push_head.ensures in
     let clients = c.in_ok-push_clients.ensures ∙ ap (λ text. add text (client_table rows)) agents in
-    let told = c.in_ok-push_behind.ensures
+    let reported = c.in_ok-push_table.ensures
     ∙ (λ i. add (clients i) (record { heads = node_heads; rows = map node_shown (nodes i) })) in
-    let weights = c.in_ok-push_behind-2.ensures
-    ∙ (λ i. add (told i) (record { heads = weight_heads; rows = map weight_shown (c.as_slice-2.ensures i) })) in
+    let weights = c.in_ok-push_table-2.ensures
+    ∙ (λ i. add (reported i) (record { heads = weight_heads; rows = map weight_shown (c.as_slice-2.ensures i) })) in
     let limited = c.in_ok-push_limits.ensures ∙ ap (λ text. add text (limit_table rows)) weights in
-    let offers = c.in_ok-push_behind-3.ensures
+    let offers = c.in_ok-push_table-3.ensures
     ∙ (λ i. add (limited i) (record { heads = offer_heads; rows = map offer_shown (c.as_slice-3.ensures i) })) in
-    let tasks = c.in_ok-push_behind-4.ensures
+    let tasks = c.in_ok-push_table-4.ensures
     ∙ (λ i. add (offers i) (record { heads = task_heads; rows = map task_shown (c.as_slice-4.ensures i) })) in
     let filters = c.in_ok-push_filters.ensures ∙ ap (λ text. add text (filter_table rows)) tasks in
     on_ok_weaker c.push_counts.result

@@ -21,10 +21,10 @@ returns-in-Err-clause-err g c =
     let at = c.in-Some.at in
     let found = c.in-Some.ensures.found in
     let more : Rows → Said = λ rows. rest_says limits (take (at + 1) bytes) 1 rows (parts_of_text (drop (at + 1) bytes)) in
-    let says : state_in limits bytes ≡ says_first more (rows_begun limits (said_by c.front.result.now)) =
-    says_begun limits bytes at found.1 c.in-Some.ensures.one ∙ ap (λ line. says_first more (rows_begun limits (said_by line))) (sym c.front.ensures) in
+    let says : state_in limits bytes ≡ says_first more (rows_begun limits (said_by c.prefix.result.now)) =
+    says_begun limits bytes at found.1 c.in-Some.ensures.one ∙ ap (λ line. says_first more (rows_begun limits (said_by line))) (sym c.prefix.ensures) in
     subst (IsFaultOf (state_in limits bytes)) (sym c.stopped_at.ensures)
-    (stopped_first (state_in limits bytes) more (rows_begun limits (said_by c.front.result.now)) c.in-Err.stop says c.in-Err.ensures.err)
+    (stopped_first (state_in limits bytes) more (rows_begun limits (said_by c.prefix.result.now)) c.in-Err.stop says c.in-Err.ensures.err)
 
 pub returns-in_err-whole-clause-err : goal.returns-in_err-whole-clause-err
 returns-in_err-whole-clause-err g c =
@@ -34,15 +34,15 @@ returns-in_err-whole-clause-err g c =
     let found = c.in-Some.ensures.found in
     let begun = c.in-Ok.begun in
     let more : Rows → Said = λ rows. rest_says limits (take (at + 1) bytes) 1 rows (parts_of_text (drop (at + 1) bytes)) in
-    let says : state_in limits bytes ≡ says_first more (rows_begun limits (said_by c.front.result.now)) =
-    says_begun limits bytes at found.1 c.in-Some.ensures.one ∙ ap (λ line. says_first more (rows_begun limits (said_by line))) (sym c.front.ensures) in
+    let says : state_in limits bytes ≡ says_first more (rows_begun limits (said_by c.prefix.result.now)) =
+    says_begun limits bytes at found.1 c.in-Some.ensures.one ∙ ap (λ line. says_first more (rows_begun limits (said_by line))) (sym c.prefix.ensures) in
     let first : state_in limits bytes ≡ more begun.rows = says ∙ ap (says_first more) c.in-Ok.ensures.rows in
     let rest : Said = rest_says begun.limits (take (at + 1) bytes) 1 begun.rows (parts_of_text (drop (at + 1) bytes)) in
     let whole : state_in limits bytes ≡ rest =
     first ∙ ap (λ (l : LimitNumbers). rest_says l (take (at + 1) bytes) 1 begun.rows (parts_of_text (drop (at + 1) bytes))) (sym c.in-Ok.ensures.limits) in
-    let told : IsFaultOf (state_in limits bytes) c.in_err-whole.field-0.0 =
+    let reported : IsFaultOf (state_in limits bytes) c.in_err-whole.field-0.0 =
     subst (λ (said : Said). IsFaultOf said c.in_err-whole.field-0.0) (sym whole) c.in_err-whole.ensures.err in
-    passed_on (state_in limits bytes) c.in_err-whole.field-0.0 c.from_residual.result told c.from_residual.ensures.1
+    passed_on (state_in limits bytes) c.in_err-whole.field-0.0 c.from_residual.result reported c.from_residual.ensures.1
 
 pub returns-clause-ok : goal.returns-clause-ok
 returns-clause-ok g c =
@@ -52,8 +52,8 @@ returns-clause-ok g c =
     let found = c.in-Some.ensures.found in
     let begun = c.in-Ok.begun in
     let more : Rows → Said = λ rows. rest_says limits (take (at + 1) bytes) 1 rows (parts_of_text (drop (at + 1) bytes)) in
-    let says : state_in limits bytes ≡ says_first more (rows_begun limits (said_by c.front.result.now)) =
-    says_begun limits bytes at found.1 c.in-Some.ensures.one ∙ ap (λ line. says_first more (rows_begun limits (said_by line))) (sym c.front.ensures) in
+    let says : state_in limits bytes ≡ says_first more (rows_begun limits (said_by c.prefix.result.now)) =
+    says_begun limits bytes at found.1 c.in-Some.ensures.one ∙ ap (λ line. says_first more (rows_begun limits (said_by line))) (sym c.prefix.ensures) in
     let first : state_in limits bytes ≡ more begun.rows = says ∙ ap (says_first more) c.in-Ok.ensures.rows in
     let rest : rest_says begun.limits (take (at + 1) bytes) 1 begun.rows (parts_of_text (drop (at + 1) bytes)) ≡ Ok c.in_ok-whole.whole.rows = c.in_ok-whole.ensures.rows in
     let whole : state_in limits bytes ≡ Ok c.in_ok-core.core.rows =

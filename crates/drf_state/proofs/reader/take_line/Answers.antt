@@ -14,10 +14,10 @@ returns-in_ok-put-in-Row-clause-ok g c =
     let old = c.args.restoring in
     let put = c.in_ok-put-in-Row.ensures in
     let said = c.in_ok-said_by.ensures ∙ ap Ok c.in-Row.is in
-    let told : Option RowFault → Result (Option Rows) StateFault = λ fault. option_map_or (λ f. Err (Row f)) fault (Ok (Some (with_row old.rows c.in-Row.row))) in
+    let reported : Option RowFault → Result (Option Rows) StateFault = λ fault. option_map_or (λ f. Err (Row f)) fault (Ok (Some (with_row old.rows c.in-Row.row))) in
     record {
       limits = put.limits;
       more = λ goes. ap (rows_behind old.limits c.args.text.now c.args.lines old.rows c.args.line.now) said
-          ∙ ap told put.fits ∙ ap (λ r. Ok (Some r)) (sym put.rows);
+          ∙ ap reported put.fits ∙ ap (λ r. Ok (Some r)) (sym put.rows);
       end = λ last. absurd (true≢false (sym last));
     }

@@ -4,7 +4,7 @@ use Rattle.std.specs.Prelude.{not}
 use Rattle.drf_explain.specs.declared.finding.Finding.{Finding}
 use Rattle.drf_rows.specs.Offers.{is_empty}
 use Rattle.drf_summary.specs.Passers.{taker_in}
-use Rattle.drf_summary.proofs.Found.{lent-takers}
+use Rattle.drf_summary.proofs.Found.{borrowed-takers}
 use Rattle.drf_summary.proofs.Passed.{any_client}
 use Rattle.drf_summary.proofs.taking.has_taker.Goals as goal
 
@@ -12,4 +12,4 @@ pub returns : goal.returns
 returns c =
     c.any_taker.ensures
     ∙ any_client (λ (f : Bor Finding). taker_in c.args.bundle.now f.now) c.args.findings.now
-    ∙ ap (λ paths. not (is_empty paths)) (sym (lent-takers c.args.bundle.now c.args.findings.now))
+    ∙ ap (λ paths. not (is_empty paths)) (sym (borrowed-takers c.args.bundle.now c.args.findings.now))

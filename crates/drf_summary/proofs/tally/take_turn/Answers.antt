@@ -6,7 +6,7 @@ use Rattle.drf_summary.proofs.tally.take_turn.Goals as goal
 
 pub returns : goal.returns
 returns c = λ rows turns so.
-    let turn : Turn = (c.args.turn.now.told.items, c.args.turn.now.untouched.items) in
+    let turn : Turn = (c.args.turn.now.reported.items, c.args.turn.now.untouched.items) in
     c.in_ok-take_in_each.ensures
-    ∙ (λ i. map (with_turn ((c.in_ok-found.ensures.turn i).told.items, (c.in_ok-found.ensures.turn i).untouched.items)) (so i))
+    ∙ (λ i. map (with_turn ((c.in_ok-found.ensures.turn i).reported.items, (c.in_ok-found.ensures.turn i).untouched.items)) (so i))
     ∙ tallies-next rows turns turn

@@ -1,7 +1,7 @@
 use Rattle.std.proofs.Common.{◌≡◌, Result, ap, ◌∙◌, arith}
 use Rattle.std.proofs.lemmas.Bool.Decides.{nat_tests}
 use Rattle.std.proofs.lemmas.Result.{err_from_is_err_and, on_ok_weaker, IfErr-weaker}
-use Rattle.drf_text.proofs.Names.{IsTold, TextFault}
+use Rattle.drf_text.proofs.Names.{IsReported, TextFault}
 use Rattle.drf_text.specs.Steps.{◌>>=◌, put_said, bundle_step}
 use Rattle.drf_text.specs.declared.said.Said.{Said}
 use Rattle.drf_text.proofs.Named.{said_named}
@@ -31,8 +31,8 @@ returns-clause-ok c = on_ok_weaker c.put_said.result (λ put. step (goal.at.retu
 
 pub returns-clause-fault : goal.returns-clause-fault
 returns-clause-fault c =
-    IfErr-weaker c.put_said.result (IsTold (put_said c.args.bundle.now c.in_ok-said.said)) (IsTold (bundle_step c.args.text.now c.args.bundle.now))
-    (λ fault told known. step (goal.at.returns-clause-fault c).In_ok-said ∙ told known) c.put_said.ensures.fault
+    IfErr-weaker c.put_said.result (IsReported (put_said c.args.bundle.now c.in_ok-said.said)) (IsReported (bundle_step c.args.text.now c.args.bundle.now))
+    (λ fault reported known. step (goal.at.returns-clause-fault c).In_ok-said ∙ reported known) c.put_said.ensures.fault
 
 pub returns-clause-memory : goal.returns-clause-memory
 returns-clause-memory c = λ _. rw (← c.trim-piece.ensures) (said_named c.trim-piece.result.now c.in_ok-said.said c.in_ok-said.ensures.read)

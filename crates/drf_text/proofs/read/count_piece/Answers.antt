@@ -1,7 +1,7 @@
 use Rattle.std.proofs.Common.{◌≡◌, Result, ap, ◌∙◌, arith}
 use Rattle.std.proofs.lemmas.Bool.Decides.{nat_tests}
 use Rattle.std.proofs.lemmas.Result.{err_from_is_err_and, on_ok_weaker, IfErr-weaker}
-use Rattle.drf_text.proofs.Names.{IsTold, TextFault}
+use Rattle.drf_text.proofs.Names.{IsReported, TextFault}
 use Rattle.drf_text.specs.Steps.{◌>>=◌, put_counted, quantities_step}
 use Rattle.drf_text.specs.declared.said.Counted.{Counted}
 use Rattle.drf_text.proofs.Named.{counted_named}
@@ -31,8 +31,8 @@ returns-clause-ok c = on_ok_weaker c.put_counted.result (λ put. step (goal.at.r
 
 pub returns-clause-fault : goal.returns-clause-fault
 returns-clause-fault c =
-    IfErr-weaker c.put_counted.result (IsTold (put_counted c.args.quantities.now c.in_ok-said.said)) (IsTold (quantities_step c.args.text.now c.args.quantities.now))
-    (λ fault told known. step (goal.at.returns-clause-fault c).In_ok-said ∙ told known) c.put_counted.ensures.fault
+    IfErr-weaker c.put_counted.result (IsReported (put_counted c.args.quantities.now c.in_ok-said.said)) (IsReported (quantities_step c.args.text.now c.args.quantities.now))
+    (λ fault reported known. step (goal.at.returns-clause-fault c).In_ok-said ∙ reported known) c.put_counted.ensures.fault
 
 pub returns-clause-memory : goal.returns-clause-memory
 returns-clause-memory c = λ _. rw (← c.trim-piece.ensures) (counted_named c.trim-piece.result.now c.in_ok-said.said c.in_ok-said.ensures.read)

@@ -1,12 +1,12 @@
 use Rattle.std.proofs.Common.{ap, arith, subst, sym, ◌∙◌, Some}
 use Rattle.drf_role.specs.Path.{IsClientPath, Path}
 use Rattle.drf_tree.proofs.shape.Find.{take_whole}
-use Rattle.drf_tree.proofs.growth.Grow.{front_no_client}
+use Rattle.drf_tree.proofs.growth.Grow.{prefix_no_client}
 use Rattle.drf_tree.proofs.members.client_of.Goals as goal
 
 pub returns-then-len-clause-client : goal.returns-then-len-clause-client
 returns-then-len-clause-client c client =
-    absurd (front_no_client c.args.path.now c.args.len c.len.ensures.right (omega (arith, c.if-len.true, c.len.ensures.len)) client)
+    absurd (prefix_no_client c.args.path.now c.args.len c.len.ensures.right (omega (arith, c.if-len.true, c.len.ensures.len)) client)
 
 pub returns-clause-client : goal.returns-clause-client
 returns-clause-client c client =

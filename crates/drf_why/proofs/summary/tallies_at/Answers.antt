@@ -10,9 +10,9 @@ pub returns : goal.returns
 returns c =
     let rows = c.args.rows.now in
     let turns = turns_by_agent rows c.args.at in
-    let told = c.in_ok-telling.ensures ∙ ap (λ (r : Rows). turns_by_agent r c.args.at) (sym c.requires.rows) in
+    let reported = c.in_ok-explanations.ensures ∙ ap (λ (r : Rows). turns_by_agent r c.args.at) (sym c.requires.rows) in
     let first = c.as_mut_slice.ensures.value ∙ c.in_ok-found.ensures in
-    let counted = c.in_ok-count_agents.ensures rows [] first ∙ ap (tallies_of rows) told in
+    let counted = c.in_ok-count_agents.ensures rows [] first ∙ ap (tallies_of rows) reported in
     let as_many : length c.as_mut_slice.result.now ≡ length c.count_agents.new.tallies =
     ap length first ∙ length-tallies rows [] turns ∙ sym (ap length counted) in
     let len : c.in_ok-found.found.len ≡ length c.count_agents.new.tallies = let a = c.as_mut_slice.ensures.len in omega (arith, a, as_many) in

@@ -2,7 +2,7 @@ use Rattle.std.proofs.Common.{◌≡◌, ◌+◌, ℕ, List, IsTrue, OnOk, refl,
 use Rattle.drf_bundle.specs.declared.quantities.Entry.{Entry}
 use Rattle.drf_bundle.specs.Quantities.{amount_of, is_in_order, with_amount}
 use Rattle.drf_bundle.proofs.laws.QuantitiesLaws.{in_order-with}
-use Rattle.drf_bundle.proofs.PlaceLemmas.{amount_here, set_here, sum_in_gap}
+use Rattle.drf_bundle.proofs.PlaceLemmas.{amount_here, set_here, sum_in_free_slot}
 use Rattle.drf_bundle.proofs.quantities.Quantities.add.Goals as goal
 
 pub overflow_add-sum : goal.overflow_add-sum
@@ -30,4 +30,4 @@ invariant_of-self c =
 pub returns-in-Err-clause-ok : goal.returns-in-Err-clause-ok
 returns-in-Err-clause-ok c =
     subst (λ (n : ℕ). OnOk c.name_at.result (c.name_at.new.self ≡ with_amount c.args.self.now c.args.label.now n))
-    (sum_in_gap _ _ _ c.args.thousandths c.in-Err.ensures.absent) c.name_at.ensures.ok
+    (sum_in_free_slot _ _ _ c.args.thousandths c.in-Err.ensures.absent) c.name_at.ensures.ok

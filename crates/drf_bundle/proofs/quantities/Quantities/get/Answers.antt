@@ -1,7 +1,7 @@
 use Rattle.std.proofs.Common.{List, IsTrue, sym, subst}
 use Rattle.drf_bundle.specs.declared.quantities.Entry.{Entry}
 use Rattle.drf_bundle.specs.Quantities.{is_in_order}
-use Rattle.drf_bundle.proofs.PlaceLemmas.{amount_at, amount_in_gap}
+use Rattle.drf_bundle.proofs.PlaceLemmas.{amount_at, amount_in_free_slot}
 use Rattle.drf_bundle.proofs.quantities.Quantities.get.Goals as goal
 
 -- the label is at its place, and the entry there is the one that was read
@@ -13,4 +13,4 @@ returns-in-Ok c =
 
 -- the label is not there
 pub returns-in-Err : goal.returns-in-Err
-returns-in-Err c = sym (amount_in_gap _ _ _ c.in-Err.ensures.absent)
+returns-in-Err c = sym (amount_in_free_slot _ _ _ c.in-Err.ensures.absent)

@@ -1,7 +1,7 @@
 use Rattle.std.proofs.Common.{◌≡◌, List, IsTrue, Some, refl, ap, subst}
 use Rattle.drf_bundle.specs.declared.quantities.Entry.{Entry}
 use Rattle.drf_bundle.specs.Quantities.{amount_of, is_in_order}
-use Rattle.drf_bundle.proofs.PlaceLemmas.{amount_at, named_at, named_in_gap}
+use Rattle.drf_bundle.proofs.PlaceLemmas.{amount_at, named_at, named_in_free_slot}
 use Rattle.drf_bundle.proofs.quantities.Quantities.known_amount.Goals as goal
 
 -- the label is at its place, and the entry there is the one that was read
@@ -14,4 +14,4 @@ returns-in-Ok c =
 
 -- the label is not there
 pub returns-in-Err : goal.returns-in-Err
-returns-in-Err c = rw (named_in_gap c.args.self.now c.args.label.now _ c.in-Err.ensures.absent) refl
+returns-in-Err c = rw (named_in_free_slot c.args.self.now c.args.label.now _ c.in-Err.ensures.absent) refl

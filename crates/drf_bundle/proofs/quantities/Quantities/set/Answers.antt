@@ -3,7 +3,7 @@ use Rattle.std.proofs.lemmas.Bool.{false≢true}
 use Rattle.drf_bundle.specs.declared.quantities.Entry.{Entry}
 use Rattle.drf_bundle.specs.Quantities.{is_in_order}
 use Rattle.drf_bundle.proofs.laws.QuantitiesLaws.{in_order-with}
-use Rattle.drf_bundle.proofs.PlaceLemmas.{set_here, added_here, named_in_gap}
+use Rattle.drf_bundle.proofs.PlaceLemmas.{set_here, added_here, named_in_free_slot}
 use Rattle.drf_bundle.proofs.quantities.Quantities.set.Goals as goal
 
 -- the label was named, and its amount is overwritten
@@ -29,5 +29,5 @@ invariant_of-self-in-Err c =
 -- memory runs out only for a label that was not named
 pub returns-in_err-insert-in-Err-clause-named : goal.returns-in_err-insert-in-Err-clause-named
 returns-in_err-insert-in-Err-clause-named c named =
-    let absent = named_in_gap _ _ _ c.in-Err.ensures.absent in
+    let absent = named_in_free_slot _ _ _ c.in-Err.ensures.absent in
     absurd (false≢true (sym absent ∙ named))

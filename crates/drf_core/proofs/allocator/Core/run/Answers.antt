@@ -32,7 +32,7 @@ returns-in_err-reserve-clause-stopped g c =
     let at = slice_get_read events (length events) i c.event-item.result refl c.loop-event-test.true c.event-item.is in
     on_err c.from_residual.result
     (HasStopped-at c.args.self.now c.loop-event.self c.loop-event.self events i c.event-item.result c.args.replies.now.items c.reserve.new.self.items _
-    at c.loop-event.invariant.after (record { limits = refl; rows = refl }) (c.reserve.ensures.items ∙ c.loop-event.invariant.told)
+    at c.loop-event.invariant.after (record { limits = refl; rows = refl }) (c.reserve.ensures.items ∙ c.loop-event.invariant.reported)
     (λ room. absurd (omega (arith, room, c.in_err-reserve.ensures.full, c.in_err-reserve.ensures.err, c.reserve.ensures.len))))
 
 pub returns-in_err-reserve-clause-keys : goal.returns-in_err-reserve-clause-keys
@@ -46,8 +46,8 @@ returns-in_err-reply-clause-stopped g c =
     let i = c.loop-event.event-index in
     let at = slice_get_read events (length events) i c.event-item.result refl c.loop-event-test.true c.event-item.is in
     on_err c.from_residual-in_err-reply.result
-    (HasStopped-at c.args.self.now c.loop-event.self c.step_lent.new.self events i c.event-item.result c.args.replies.now.items c.reserve.new.self.items _
-    at c.loop-event.invariant.after c.in_err-reply.ensures.err (c.reserve.ensures.items ∙ c.loop-event.invariant.told)
+    (HasStopped-at c.args.self.now c.loop-event.self c.step_borrowed.new.self events i c.event-item.result c.args.replies.now.items c.reserve.new.self.items _
+    at c.loop-event.invariant.after c.in_err-reply.ensures.err (c.reserve.ensures.items ∙ c.loop-event.invariant.reported)
     (λ room. c.in_err-reply.ensures.not_refused))
 
 pub returns-in_err-reply-clause-keys : goal.returns-in_err-reply-clause-keys
@@ -59,7 +59,7 @@ returns-in_err-reply-clause-keys g c none =
     let each = or_false (list_any may_make_keys (take i events)) (may_make_keys c.event-item.result || false)
     (sym (list_any-append may_make_keys (take i events) (c.event-item.result ∷ []))
     ∙ ap (list_any may_make_keys) (sym more) ∙ none_before events (i + 1) none) in
-    c.step_lent.ensures.keys (or_false (may_make_keys c.event-item.result) false each.1).0 ∙ c.loop-event.invariant.keys each.0
+    c.step_borrowed.ensures.keys (or_false (may_make_keys c.event-item.result) false each.1).0 ∙ c.loop-event.invariant.keys each.0
 
 pub loop-event-preserved : goal.loop-event-preserved
 loop-event-preserved g c =
@@ -69,15 +69,15 @@ loop-event-preserved g c =
     let before : List Event = take i events in
     let at = slice_get_read events (length events) i event refl c.loop-event-test.true c.event-item.is in
     let more : take (i + 1) events ≡ before ++ event ∷ [] = take_one_more events i event at in
-    let told : c.push_reserved.new.self.items ≡ (c.args.replies.now.items ++ replies_to c.args.self.now.limits c.args.self.now.rows before) ++ c.in_ok-reply.reply ∷ [] =
-    c.push_reserved.ensures.items ∙ ap (λ (rs : List Reply). rs ++ c.in_ok-reply.reply ∷ []) (c.reserve.ensures.items ∙ c.loop-event.invariant.told) in
+    let reported : c.push_reserved.new.self.items ≡ (c.args.replies.now.items ++ replies_to c.args.self.now.limits c.args.self.now.rows before) ++ c.in_ok-reply.reply ∷ [] =
+    c.push_reserved.ensures.items ∙ ap (λ (rs : List Reply). rs ++ c.in_ok-reply.reply ∷ []) (c.reserve.ensures.items ∙ c.loop-event.invariant.reported) in
     let after = c.loop-event.invariant.after in
     rw more (record {
-      after = IsAfterAll-more c.args.self.now c.loop-event.self c.step_lent.new.self before event after c.in_ok-reply.ensures.ok;
-      safe = c.step_lent.ensures.safe;
+      after = IsAfterAll-more c.args.self.now c.loop-event.self c.step_borrowed.new.self before event after c.in_ok-reply.ensures.ok;
+      safe = c.step_borrowed.ensures.safe;
       spends = spends-more c.args.self.now.limits c.loop-event.self.limits c.args.self.now.rows c.loop-event.self.rows before event
           after.limits after.rows c.loop-event.invariant.spends (spends-at_ok c.in_ok-reply.ensures.spends);
-      told = told
+      reported = reported
           ∙ append_assoc c.args.replies.now.items (replies_to c.args.self.now.limits c.args.self.now.rows before) (c.in_ok-reply.reply ∷ [])
           ∙ ap (λ (rs : List Reply). c.args.replies.now.items ++ rs)
           (reply-more c.args.self.now c.loop-event.self before event c.in_ok-reply.reply after c.in_ok-reply.ensures.reply);
@@ -85,5 +85,5 @@ loop-event-preserved g c =
       keys = λ none.
           let each = or_false (list_any may_make_keys before) (may_make_keys event || false)
           (sym (list_any-append may_make_keys before (event ∷ [])) ∙ none) in
-          c.step_lent.ensures.keys (or_false (may_make_keys event) false each.1).0 ∙ c.loop-event.invariant.keys each.0;
+          c.step_borrowed.ensures.keys (or_false (may_make_keys event) false each.1).0 ∙ c.loop-event.invariant.keys each.0;
     })

@@ -14,7 +14,7 @@ invariant-loop-event g l = record {
   safe : IsSafe (live_rows l.self.rows);
   spends : Spends g.S.Sorter.COUNTED l.initial.self.work l.self.work
       (allowance_of_all l.initial.self.limits l.initial.self.rows (take l.event-index l.events));
-  told : l.replies.items ≡ l.initial.replies.items ++ replies_to l.initial.self.limits l.initial.self.rows (take l.event-index l.events);
+  reported : l.replies.items ≡ l.initial.replies.items ++ replies_to l.initial.self.limits l.initial.self.rows (take l.event-index l.events);
   capacity : vec_capacity l.initial.replies ≤ vec_capacity l.replies;
   keys : list_any may_make_keys (take l.event-index l.events) ≡ false → l.self.work.made ≡ l.initial.self.work.made;
 }

@@ -24,9 +24,9 @@ abbrev engine_of : LimitNumbers → ClusterState → Engine
 engine_of limits cluster = record { limits = limits; rows = cluster.rows; work = cluster.work }
 
 -- what callers see is decided by the borrowed cluster
-seen : (limits : LimitNumbers) (lent inside : ClusterState) (engine : Engine) → lent ≡ inside → engine_of limits inside ≡ engine
-    → engine_of limits lent ≡ engine
-seen limits lent inside engine same view = ap (engine_of limits) same ∙ view
+seen : (limits : LimitNumbers) (borrowed inside : ClusterState) (engine : Engine) → borrowed ≡ inside → engine_of limits inside ≡ engine
+    → engine_of limits borrowed ≡ engine
+seen limits borrowed inside engine same view = ap (engine_of limits) same ∙ view
 
 pub refusal-requires : goal.refusal-requires
 refusal-requires g c =

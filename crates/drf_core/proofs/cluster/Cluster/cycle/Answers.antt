@@ -1,6 +1,6 @@
 use Rattle.std.proofs.Common.{◌≡◌, List, map, ap, subst, sym, ◌∙◌, arith}
 use Rattle.std.specs.Prelude.{max}
-use Rattle.drf_rows.specs.Step.{line_told, new_offers, effect}
+use Rattle.drf_rows.specs.Step.{line_reported, new_offers, effect}
 use Rattle.drf_rows.specs.declared.event.Event.TheVariants.{Cycle}
 use Rattle.drf_rows.specs.declared.reply.Reply.TheVariants.{Offers}
 use Rattle.drf_rows.specs.declared.rows.Rows.{Rows}
@@ -9,7 +9,7 @@ use Rattle.drf_content.specs.Content.{content_of}
 use Rattle.drf_rows.specs.declared.rows.OfferRow.{OfferRow}
 use Rattle.drf_core.specs.cycle.Drafting.{turns_of}
 use Rattle.drf_core.specs.Working.{nodes_of, offered_to}
-use Rattle.drf_row_laws.proofs.OfferLaws.{moment_early}
+use Rattle.drf_row_laws.proofs.OfferLaws.{timestamp_early}
 use Rattle.drf_laws.proofs.laws.Welcome.{early_cycle}
 use Rattle.drf_core.proofs.drafting.Cycle.{drafting-begins, turns_of-cycle, new_offers-cycle, content_of-clock}
 use Rattle.drf_core.proofs.cluster.Cluster.cycle.Goals.{After-offer_all}
@@ -19,7 +19,7 @@ use Rattle.drf_core.proofs.cluster.Cluster.cycle.Goals as goal
 pub set_clock-requires : goal.set_clock-requires
 set_clock-requires g c =
     let kept = rw (← c.self.view_is) at c.requires.kept in
-    moment_early c.self.inside.tables.rows c.args.at c.max.result kept.consistent
+    timestamp_early c.self.inside.tables.rows c.args.at c.max.result kept.consistent
     (early_cycle c.args.limits.now c.self.inside.tables.rows c.args.at (rw (← c.self.view_is) at c.requires.welcome))
     (c.max.ensures ∙ ap (λ n. max n c.args.at) c.clock-before.ensures)
 
@@ -27,7 +27,7 @@ pub offer_all-requires-clause-drafting : goal.offer_all-requires-clause-drafting
 offer_all-requires-clause-drafting g c =
     let kept = rw (← c.self.view_is) at c.requires.kept in
     drafting-begins (g.S.Sorter.content c.self.inside.sorter) c.args.limits.now c.self.inside.tables.rows c.set_clock.new.self.rows c.max.result c.new.result.items
-    c.self.invariant kept (moment_early c.self.inside.tables.rows c.args.at c.max.result kept.consistent
+    c.self.invariant kept (timestamp_early c.self.inside.tables.rows c.args.at c.max.result kept.consistent
     (early_cycle c.args.limits.now c.self.inside.tables.rows c.args.at (rw (← c.self.view_is) at c.requires.welcome)) (c.max.ensures ∙ ap (λ n. max n c.args.at) c.clock-before.ensures)) c.set_clock.ensures c.new.ensures.items
 
 pub invariant_of-self : goal.invariant_of-self
@@ -57,7 +57,7 @@ pub returns-in-Ok-clause-reply : goal.returns-in-Ok-clause-reply
 returns-in-Ok-clause-reply g c =
     let rows : Rows = c.self.inside.tables.rows in
     rw (← c.self.view_is) (c.in-Ok.ensures.reply
-    ∙ ap (λ os. Offers (map line_told os)) (new_offers-cycle rows c.set_clock.new.self.rows c.max.result (turns_of c.set_clock.new.self.rows) c.set_clock.ensures
+    ∙ ap (λ os. Offers (map line_reported os)) (new_offers-cycle rows c.set_clock.new.self.rows c.max.result (turns_of c.set_clock.new.self.rows) c.set_clock.ensures
     ∙ ap (new_offers rows) (turned g (goal.at.returns-in-Ok-clause-reply g c).After-offer_all)))
 
 pub returns-in-Ok-clause-spends : goal.returns-in-Ok-clause-spends

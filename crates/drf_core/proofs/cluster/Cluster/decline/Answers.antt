@@ -1,7 +1,7 @@
 use Rattle.std.proofs.Common.{ap, arith}
 use Rattle.std.specs.Prelude.{max}
-use Rattle.drf_rows.specs.Cycle.{at_moment}
-use Rattle.drf_rows.specs.Endings.{one_offer}
+use Rattle.drf_rows.specs.Cycle.{at_timestamp}
+use Rattle.drf_rows.specs.Releases.{one_offer}
 use Rattle.drf_rows.specs.Offers.{filters_with, filters_all}
 use Rattle.drf_rows.specs.declared.rows.Rows.{Rows}
 use Rattle.drf_sorter.proofs.laws.SpendLaws.{defers-on_ok, defers-within}
@@ -15,7 +15,7 @@ invariant_of-self-2 g c =
     let rows : Rows = c.self.inside.tables.rows in
     let d = c.args.decline.now in
     let one = some_offer rows d.offer (rw (← c.self.view_is) at c.requires.offer) in
-    sorted-declined rows c.filter_declined.new.self.rows (filters_with (at_moment rows d.at) (filters_all d.refuse_ms) one.offer one.offer.bundle d.refuse_ms)
+    sorted-declined rows c.filter_declined.new.self.rows (filters_with (at_timestamp rows d.at) (filters_all d.refuse_ms) one.offer one.offer.bundle d.refuse_ms)
     (max rows.clock d.at) (g.S.Sorter.content c.self.inside.sorter) c.self.invariant (c.in_ok-filter_declined.ensures.ok one.offer one.at)
 
 pub returns-clause-ok : goal.returns-clause-ok

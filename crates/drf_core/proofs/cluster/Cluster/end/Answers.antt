@@ -1,6 +1,6 @@
 use Rattle.std.proofs.Common.{sym, ap, ◌∙◌, length, arith}
 use Rattle.drf_sorter.specs.Content.{with_change, refunded}
-use Rattle.drf_rows.specs.Ended.{ending_of}
+use Rattle.drf_rows.specs.Ended.{release_of}
 use Rattle.drf_core.proofs.effects.Ended.{known-ended, held-ended, sorted-ended}
 use Rattle.drf_core.proofs.effects.Once.{all_ended}
 use Rattle.drf_core.proofs.stepping.Work.{losers-ended}
@@ -9,13 +9,13 @@ use Rattle.drf_core.proofs.cluster.Cluster.end.Goals as goal
 pub refund-requires-clause-known : goal.refund-requires-clause-known
 refund-requires-clause-known g c =
     rw c.from_parts-client.ensures
-    (known-ended c.loop-taken.self-inside.tables.rows c.end.new.self.rows (ending_of c.args.ending) c.in-Some.taken c.in-Some.ensures.some
+    (known-ended c.loop-taken.self-inside.tables.rows c.end.new.self.rows (release_of c.args.release) c.in-Some.taken c.in-Some.ensures.some
     (g.S.Sorter.content c.loop-taken.self-inside.sorter) c.loop-taken.invariant.sorted)
 
 pub refund-requires-clause-held : goal.refund-requires-clause-held
 refund-requires-clause-held g c =
     rw (c.from_parts-client.ensures, c.quantities.ensures.value)
-    (held-ended c.loop-taken.self-inside.tables.rows c.end.new.self.rows (ending_of c.args.ending) c.in-Some.taken c.in-Some.ensures.some
+    (held-ended c.loop-taken.self-inside.tables.rows c.end.new.self.rows (release_of c.args.release) c.in-Some.taken c.in-Some.ensures.some
     (g.S.Sorter.content c.loop-taken.self-inside.sorter) c.loop-taken.invariant.sorted)
 
 pub loop-taken-preserved : goal.loop-taken-preserved
@@ -23,7 +23,7 @@ loop-taken-preserved g c =
     let content = g.S.Sorter.content c.loop-taken.self-inside.sorter in
     record {
       sorted =
-          sorted-ended c.loop-taken.self-inside.tables.rows c.end.new.self.rows (ending_of c.args.ending) c.in-Some.taken c.in-Some.ensures.some
+          sorted-ended c.loop-taken.self-inside.tables.rows c.end.new.self.rows (release_of c.args.release) c.in-Some.taken c.in-Some.ensures.some
           content c.loop-taken.invariant.sorted (g.S.Sorter.content c.refund.new.self)
           (c.refund.ensures.content ∙ (λ i. with_change content (c.from_parts-client.ensures i) (refunded (c.quantities.ensures.value i))));
       work = λ counted. omega (
@@ -31,7 +31,7 @@ loop-taken-preserved g c =
         c.refund.ensures.spends.work counted,
         ap length c.from_parts-client.ensures,
         c.loop-taken.invariant.work counted,
-        losers-ended c.loop-taken.self-inside.tables.rows c.end.new.self.rows (ending_of c.args.ending) c.in-Some.taken c.in-Some.ensures.some,
+        losers-ended c.loop-taken.self-inside.tables.rows c.end.new.self.rows (release_of c.args.release) c.in-Some.taken c.in-Some.ensures.some,
       );
       later = c.in-Some.ensures.some.later ∙ c.loop-taken.invariant.later;
       consistent = c.end.ensures.consistent;
@@ -43,7 +43,7 @@ loop-taken-preserved g c =
 pub invariant_of-self : goal.invariant_of-self
 invariant_of-self g c =
     let content = g.S.Sorter.content c.loop-taken.self-inside.sorter in
-    sorted-ended c.loop-taken.self-inside.tables.rows c.end.new.self.rows (ending_of c.args.ending) c.in-Some.taken c.in-Some.ensures.some
+    sorted-ended c.loop-taken.self-inside.tables.rows c.end.new.self.rows (release_of c.args.release) c.in-Some.taken c.in-Some.ensures.some
     content c.loop-taken.invariant.sorted (g.S.Sorter.content c.refund.new.self)
     (c.refund.ensures.content ∙ (λ i. with_change content (c.from_parts-client.ensures i) (refunded (c.quantities.ensures.value i))))
 
@@ -51,7 +51,7 @@ pub returns-then-is_one-clause-rows : goal.returns-then-is_one-clause-rows
 returns-then-is_one-clause-rows g c =
     let once = c.is_one.ensures c.if-is_one.true c.loop-taken.self-inside.tables.rows c.loop-taken.invariant.consistent in
     rw (← c.self.view_is)
-    (sym (all_ended c.loop-taken.self-inside.tables.rows c.end.new.self.rows (ending_of c.args.ending) c.in-Some.taken c.in-Some.ensures.some once)
+    (sym (all_ended c.loop-taken.self-inside.tables.rows c.end.new.self.rows (release_of c.args.release) c.in-Some.taken c.in-Some.ensures.some once)
     ∙ c.in-Some.ensures.some.later ∙ c.loop-taken.invariant.later)
 
 pub returns-then-is_one-clause-spends : goal.returns-then-is_one-clause-spends
@@ -63,7 +63,7 @@ returns-then-is_one-clause-spends g c =
         c.refund.ensures.spends.work counted,
         ap length c.from_parts-client.ensures,
         c.loop-taken.invariant.work counted,
-        losers-ended c.loop-taken.self-inside.tables.rows c.end.new.self.rows (ending_of c.args.ending) c.in-Some.taken c.in-Some.ensures.some,
+        losers-ended c.loop-taken.self-inside.tables.rows c.end.new.self.rows (release_of c.args.release) c.in-Some.taken c.in-Some.ensures.some,
       );
     })
 

@@ -2,7 +2,7 @@ use Rattle.std.proofs.Common.{◌≡◌, List, ap, ◌∙◌, sym, not, arith}
 use Rattle.std.specs.Prelude.{filter}
 use Rattle.drf_role.specs.Text.{same_text}
 use Rattle.drf_bundle.specs.declared.quantities.Entry.{Entry}
-use Rattle.drf_rows.specs.Endings.{all_on, without_ended}
+use Rattle.drf_rows.specs.Releases.{all_on, without_ended}
 use Rattle.drf_rows.specs.Held.{cluster_total}
 use Rattle.drf_rows.specs.Report as report
 use Rattle.drf_rows.specs.declared.rows.Rows.{Rows}

@@ -3,7 +3,7 @@ use Rattle.std.specs.Prelude.{filter, find, sum_by}
 use Rattle.drf_role.specs.Path.{Path}
 use Rattle.drf_role.specs.Text.{same_text}
 use Rattle.drf_rows.specs.Consistent.{AreFrameworks}
-use Rattle.drf_rows.specs.Endings.{all_of, without_ended}
+use Rattle.drf_rows.specs.Releases.{all_of, without_ended}
 use Rattle.drf_rows.specs.Held.{clients_of}
 use Rattle.drf_rows.specs.declared.rows.FrameworkRow.{FrameworkRow}
 use Rattle.drf_rows.specs.declared.rows.Rows.{Rows}

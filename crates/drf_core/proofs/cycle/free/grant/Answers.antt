@@ -22,4 +22,4 @@ returns-then-is_for_all-clause-known c =
     (λ later. c.take_all.ensures.known (option_copied c.args.quota) later c.requires)
 
 pub returns-then-is_for_all-clause-role : goal.returns-then-is_for_all-clause-role
-returns-then-is_for_all-clause-role c = λ role told. let none : None ≡ Some role = sym (ap known_role c.take_all.ensures.nothing) ∙ told in absurd cc
+returns-then-is_for_all-clause-role c = λ role reported. let none : None ≡ Some role = sym (ap known_role c.take_all.ensures.nothing) ∙ reported in absurd cc

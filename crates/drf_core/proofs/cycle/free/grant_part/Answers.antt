@@ -61,7 +61,7 @@ returns-clause-left c =
 pub returns-clause-known : goal.returns-clause-known
 returns-clause-known c =
     known_each _ _ _
-    (λ later. record { worth = c.is_worth_an_offer-free.ensures.value; unreserved = λ told. cc; everyone = tt; right = rw c.take_part.ensures.nothing tt })
+    (λ later. record { worth = c.is_worth_an_offer-free.ensures.value; unreserved = λ reported. cc; everyone = tt; right = rw c.take_part.ensures.nothing tt })
 
 pub returns-clause-role : goal.returns-clause-role
-returns-clause-role c = λ role told. let none : None ≡ Some role = sym (ap known_role c.take_part.ensures.nothing) ∙ told in absurd cc
+returns-clause-role c = λ role reported. let none : None ≡ Some role = sym (ap known_role c.take_part.ensures.nothing) ∙ reported in absurd cc

@@ -7,6 +7,6 @@ use Rattle.drf_core.proofs.drafting.Granted.{no_limits}
 use Rattle.drf_core.proofs.cycle.free.is_unlimited.Goals as goal
 
 pub returns-in-Some : goal.returns-in-Some
-returns-in-Some c = λ told rows counted.
+returns-in-Some c = λ reported rows counted.
     let its : IsAllowanceOf rows c.in-Some.quota.now = subst (λ o. IsQuotaOf rows (option_copied o)) c.in-Some.is counted in
-    sym its.limits ∙ no_limits c.in-Some.quota.now.limits c.has_limits.result c.has_limits.ensures (not-true c.has_limits.result told)
+    sym its.limits ∙ no_limits c.in-Some.quota.now.limits c.has_limits.result c.has_limits.ensures (not-true c.has_limits.result reported)

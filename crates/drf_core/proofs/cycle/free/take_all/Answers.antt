@@ -42,4 +42,4 @@ returns-clause-left c =
 pub returns-clause-known : goal.returns-clause-known
 returns-clause-known c = λ quota later known.
     let none = nothing_at (goal.at.returns-clause-known c).After-replace in
-    record { worth = ap is_allocatable (sym none); unreserved = λ told. ap is_unreserved none; everyone = tt; right = tt }
+    record { worth = ap is_allocatable (sym none); unreserved = λ reported. ap is_unreserved none; everyone = tt; right = tt }

@@ -22,11 +22,11 @@ returns-in-Some c = λ rows agent of gates counted joined.
     outcome-worth rows agent of c.args.self.now c.args.client.now gates joined c.args.free.now c.args.part.now c.args.bundle (Some c.in-Some.until)
     (sym c.is_worth_an_offer.ensures.value ∙ c.if-not-is_worth_an_offer.false)
     (sym c.in-Some.is ∙ c.held_until.ensures
-    ∙ ap (λ (fs : List FilterRow). held_until fs c.args.self.now.moment (client_at c.args.client.now) c.args.self.now.agent.now c.args.bundle) c.deref.ensures.value)
+    ∙ ap (λ (fs : List FilterRow). held_until fs c.args.self.now.timestamp (client_at c.args.client.now) c.args.self.now.agent.now c.args.bundle) c.deref.ensures.value)
 
 pub returns-in-None : goal.returns-in-None
 returns-in-None c = λ rows agent of gates counted joined.
     outcome-worth rows agent of c.args.self.now c.args.client.now gates joined c.args.free.now c.args.part.now c.args.bundle None
     (sym c.is_worth_an_offer.ensures.value ∙ c.if-not-is_worth_an_offer.false)
     (sym c.in-None.is ∙ c.held_until.ensures
-    ∙ ap (λ (fs : List FilterRow). held_until fs c.args.self.now.moment (client_at c.args.client.now) c.args.self.now.agent.now c.args.bundle) c.deref.ensures.value)
+    ∙ ap (λ (fs : List FilterRow). held_until fs c.args.self.now.timestamp (client_at c.args.client.now) c.args.self.now.agent.now c.args.bundle) c.deref.ensures.value)

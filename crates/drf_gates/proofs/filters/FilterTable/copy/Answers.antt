@@ -1,4 +1,4 @@
-use Rattle.drf_gates.proofs.filters.Gaps.{more-all}
+use Rattle.drf_gates.proofs.filters.FreeSlots.{more-all}
 use Rattle.drf_gates.proofs.filters.FilterTable.copy.Goals as goal
 
 pub loop-slot-preserved : goal.loop-slot-preserved

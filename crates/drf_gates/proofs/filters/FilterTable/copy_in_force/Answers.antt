@@ -1,5 +1,5 @@
 use Rattle.drf_rows.specs.Filters.{is_in_force}
-use Rattle.drf_gates.proofs.filters.Gaps.{more-filter}
+use Rattle.drf_gates.proofs.filters.FreeSlots.{more-filter}
 use Rattle.drf_gates.proofs.filters.FilterTable.copy_in_force.Goals as goal
 
 pub loop-slot-preserved : goal.loop-slot-preserved

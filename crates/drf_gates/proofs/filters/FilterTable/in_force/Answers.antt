@@ -3,7 +3,7 @@ use Rattle.std.proofs.lemmas.List.Sums.{length-filter}
 use Rattle.drf_rows.specs.Filters.{is_in_force, number_in_force}
 use Rattle.drf_rows.specs.declared.rows.FilterRow.{FilterRow}
 use Rattle.drf_gates.specs.filters.Slots.{slot_passes, filters_in}
-use Rattle.drf_gates.proofs.filters.Gaps.{count-filled}
+use Rattle.drf_gates.proofs.filters.FreeSlots.{count-filled}
 use Rattle.drf_gates.proofs.filters.Held.{all_in_force}
 use Rattle.drf_gates.proofs.filters.FilterTable.in_force.Goals as goal
 

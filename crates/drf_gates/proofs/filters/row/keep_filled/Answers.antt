@@ -1,6 +1,6 @@
 use Rattle.std.proofs.Common.{is_some, rules, ◌∙◌}
 use Rattle.std.proofs.lemmas.Fn.{filter_same}
-use Rattle.drf_hash.proofs.GapLaws.{keep-some}
+use Rattle.drf_hash.proofs.FreeSlotLaws.{keep-some}
 use Rattle.drf_gates.proofs.filters.row.keep_filled.Goals as goal
 
 pub returns : goal.returns

@@ -6,10 +6,10 @@ pub loop-len-init : goal.loop-len-init
 loop-len-init c = λ old new changed exact. carried_start old new c.args.role.now c.args.totals.now.entries exact
 
 pub loop-len-preserved : goal.loop-len-preserved
-loop-len-preserved c = λ old new changed exact. c.lower_front.ensures old new changed (c.loop-len.invariant old new changed exact)
+loop-len-preserved c = λ old new changed exact. c.lower_prefix.ensures old new changed (c.loop-len.invariant old new changed exact)
 
 pub returns : goal.returns
 returns c = λ old new changed exact.
-    carried_end old new c.args.role.now c.loop-len.len (omega (arith, c.len-fronts.ensures.len, c.loop-len-test.false)) c.loop-len.totals.entries
+    carried_end old new c.args.role.now c.loop-len.len (omega (arith, c.len-prefixes.ensures.len, c.loop-len-test.false)) c.loop-len.totals.entries
     (λ outer past label. sym (raised_same new old c.args.role.now c.args.amounts.now changed outer past label))
     (c.loop-len.invariant old new changed exact)

@@ -38,7 +38,7 @@ invariant_of-self g c =
     let its = subst (λ (ss : List (Slot g.row.T.Denot)). IsPlaceOf c.args.number ss place) c.deref.ensures.value c.in_ok-place.ensures in
     subst (λ (ss : List (Slot g.row.T.Denot)). IsByNumber number ss c.self.inside.count)
     (sym (same_here number c.args.number slots place c.self.inside.count its c.self.invariant c.index_mut.result.now c.index_mut.ensures.value
-    c.empty.new.self c.empty.ensures.gap c.in_err-thing.ensures.thing))
+    c.empty.new.self c.empty.ensures.free_slot c.in_err-thing.ensures.thing))
     c.self.invariant
 
 pub returns-in_err-thing-clause-found : goal.returns-in_err-thing-clause-found
@@ -60,7 +60,7 @@ returns-in_err-thing-clause-taken g c =
     let its = subst (λ (ss : List (Slot g.row.T.Denot)). IsPlaceOf c.args.number ss place) c.deref.ensures.value c.in_ok-place.ensures in
     let none =
     none_here number c.args.number slots place c.self.inside.count its c.self.invariant c.index_mut.result.now c.index_mut.ensures.value
-    c.empty.new.self c.empty.ensures.gap c.in_err-thing.ensures.thing in
+    c.empty.new.self c.empty.ensures.free_slot c.in_err-thing.ensures.thing in
     rw c.from_residual-in_err-thing.ensures (
     subst (λ (xs : List g.row.T.Denot). HasNone (λ x. number x == c.args.number) xs (things_in (set slots place c.empty.new.self))) c.self.view_is none)
 
@@ -70,7 +70,7 @@ overflow_sub-self g c =
     let place = c.in_ok-place.place in
     let its = subst (λ (ss : List (Slot g.row.T.Denot)). IsPlaceOf c.args.number ss place) c.deref.ensures.value c.in_ok-place.ensures in
     some_here g.T.Numbered.number c.args.number slots place c.self.inside.count its c.self.invariant c.index_mut.result.now c.index_mut.ensures.value
-    c.empty.new.self c.empty.ensures.gap c.in_ok-thing.thing c.in_ok-thing.ensures.thing
+    c.empty.new.self c.empty.ensures.free_slot c.in_ok-thing.thing c.in_ok-thing.ensures.thing
 
 pub invariant_of-self-2 : goal.invariant_of-self-2
 invariant_of-self-2 g c =
@@ -81,7 +81,7 @@ invariant_of-self-2 g c =
     kept_same number (set slots place c.empty.new.self) c.close_up_if_many.new.slots.items (c.self.inside.count - 1)
     c.close_up_if_many.ensures.order
     (kept_here number c.args.number slots place c.self.inside.count its c.self.invariant c.index_mut.result.now c.index_mut.ensures.value
-    c.empty.new.self c.empty.ensures.gap c.in_ok-thing.thing c.in_ok-thing.ensures.thing)
+    c.empty.new.self c.empty.ensures.free_slot c.in_ok-thing.thing c.in_ok-thing.ensures.thing)
     c.close_up_if_many.ensures.things
 
 pub returns-clause-found : goal.returns-clause-found
@@ -102,7 +102,7 @@ returns-clause-taken g c =
     let its = subst (λ (ss : List (Slot g.row.T.Denot)). IsPlaceOf c.args.number ss place) c.deref.ensures.value c.in_ok-place.ensures in
     let taken =
     taken_here number c.args.number slots place c.self.inside.count its c.self.invariant c.index_mut.result.now c.index_mut.ensures.value
-    c.empty.new.self c.empty.ensures.gap c.in_ok-thing.thing c.in_ok-thing.ensures.thing in
+    c.empty.new.self c.empty.ensures.free_slot c.in_ok-thing.thing c.in_ok-thing.ensures.thing in
     subst (λ (xs : List g.row.T.Denot). IsTaken (λ x. number x == c.args.number) c.args.self.now xs c.in_ok-thing.thing) (sym c.close_up_if_many.ensures.things)
     (subst (λ (xs : List g.row.T.Denot). IsTaken (λ x. number x == c.args.number) xs (things_in (set slots place c.empty.new.self)) c.in_ok-thing.thing)
     c.self.view_is taken)

@@ -3,7 +3,7 @@ use Rattle.std.proofs.lemmas.List.{take_all, take_more, take-append-drop}
 use Rattle.drf_rows.specs.declared.rows.OfferRow.{OfferRow}
 use Rattle.drf_holdings.specs.Listed.{offer_number, AreOffersListed, AreOffersKept}
 use Rattle.drf_holdings.specs.Rising.{IsRising}
-use Rattle.drf_holdings.proofs.RisingLists.{rising_front}
+use Rattle.drf_holdings.proofs.RisingLists.{rising_prefix}
 use Rattle.drf_holdings.proofs.offers.OfferIndex.add_all.Goals as goal
 
 pub loop-place-preserved : goal.loop-place-preserved
@@ -27,15 +27,15 @@ returns-in-Err-clause-err c before rising listed =
     ap (λ (os : List OfferRow). before ++ os)
     (take_more offers i offer c.loop-place-test.true ∙ (λ j. take i offers ++ sym c.index-offers-place.is j ∷ []))
     ∙ sym (append_assoc before (take i offers) (offer ∷ [])) in
-    let front : (n : ℕ) → IsRising (map offer_number (before ++ take n offers)) = λ n.
+    let prefix : (n : ℕ) → IsRising (map offer_number (before ++ take n offers)) = λ n.
     let whole : before ++ offers ≡ (before ++ take n offers) ++ drop n offers =
     ap (λ (os : List OfferRow). before ++ os) (sym (take-append-drop n offers)) ∙ sym (append_assoc before (take n offers) (drop n offers)) in
-    rising_front offer_number (before ++ take n offers) (drop n offers)
+    rising_prefix offer_number (before ++ take n offers) (drop n offers)
     (subst (λ (os : List OfferRow). IsRising (map offer_number os)) whole rising) in
     let here : AreOffersKept c.add.new.self (before ++ take i offers) = record {
-      rising = front i;
+      rising = prefix i;
       listed = c.in-Err.ensures.err (before ++ take i offers)
-          (subst (λ (os : List OfferRow). IsRising (map offer_number os)) more (front (i + 1)))
+          (subst (λ (os : List OfferRow). IsRising (map offer_number os)) more (prefix (i + 1)))
           (c.loop-place.invariant before listed);
     } in
     c.remove_all.ensures before here

@@ -2,7 +2,7 @@ use Rattle.std.proofs.Common.{◌≡◌, ◌∷◌, [], ◌++◌, List, map, sym
 use Rattle.drf_rows.specs.declared.rows.OfferRow.{OfferRow}
 use Rattle.drf_holdings.specs.Listed.{offer_number, AreOffersKept}
 use Rattle.drf_holdings.specs.Rising.{IsRising}
-use Rattle.drf_holdings.proofs.RisingLists.{rising_front}
+use Rattle.drf_holdings.proofs.RisingLists.{rising_prefix}
 use Rattle.drf_holdings.proofs.offers.OfferTable.copy.Goals as goal
 
 pub push-requires : goal.push-requires
@@ -15,7 +15,7 @@ push-requires c =
     ∙ ap (λ (o : OfferRow). at.rows ++ (o ∷ rest)) c.in_ok-row.ensures
     ∙ ap (λ (os : List OfferRow). at.rows ++ os) (sym c.in-Some.ensures.steps)
     ∙ at.invariant.rows ∙ sym c.self.view_is in
-    rising_front offer_number (at.rows ++ row ∷ []) rest
+    rising_prefix offer_number (at.rows ++ row ∷ []) rest
     (subst (λ (os : List OfferRow). IsRising (map offer_number os)) (sym split) c.self.invariant.rising)
 
 pub loop-offer-preserved : goal.loop-offer-preserved
@@ -30,7 +30,7 @@ loop-offer-preserved c =
     ∙ at.invariant.rows in
     let put : c.push.new.self ≡ at.rows ++ row ∷ [] = c.in_ok-push.ensures.ok in
     let rising : IsRising (map offer_number (at.rows ++ row ∷ [])) =
-    rising_front offer_number (at.rows ++ row ∷ []) rest
+    rising_prefix offer_number (at.rows ++ row ∷ []) rest
     (subst (λ (os : List OfferRow). IsRising (map offer_number os)) (c.self.view_is ∙ sym split) c.self.invariant.rising) in
     record {
       rows = ap (λ (os : List OfferRow). os ++ rest) put ∙ split;

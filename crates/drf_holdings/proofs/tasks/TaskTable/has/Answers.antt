@@ -1,6 +1,6 @@
 use Rattle.std.proofs.Common.{ap, ◌∙◌}
 use Rattle.std.specs.List.{list_any}
-use Rattle.drf_rows.specs.Endings.{is_task}
+use Rattle.drf_rows.specs.Releases.{is_task}
 use Rattle.drf_holdings.specs.Listed.{task_serial, task_row}
 use Rattle.drf_holdings.proofs.Removed.{some_listed}
 use Rattle.drf_holdings.proofs.tasks.TaskTable.has.Goals as goal

@@ -16,8 +16,8 @@ invariant_of-self c =
     (record { before = left; after = []; whole = whole; left = sym (append-nil left); passes = eq-eqb task.serial task.serial refl })
     c.remove.ensures c.self.invariant
 
-pub returns-in-Some-clause-front : goal.returns-in-Some-clause-front
-returns-in-Some-clause-front c = λ count below.
+pub returns-in-Some-clause-prefix : goal.returns-in-Some-clause-prefix
+returns-in-Some-clause-prefix c = λ count below.
     let left : List Task = c.pop.new.self in
     let task : Task = c.in-Some.task in
     let whole : c.args.self.now ≡ map task_row left ++ task.row ∷ [] =
@@ -33,8 +33,8 @@ returns-in-Some-clause-fewer c =
     sym c.self.view_is ∙ ap (map task_row) c.in-Some.ensures.items ∙ map-append task_row left (task ∷ []) in
     omega (arith, ap (λ (ts : List TaskRow). length ts) whole, length-append (map task_row left) (task.row ∷ []))
 
-pub returns-in_default-clause-front : goal.returns-in_default-clause-front
-returns-in_default-clause-front c = λ count below.
+pub returns-in_default-clause-prefix : goal.returns-in_default-clause-prefix
+returns-in_default-clause-prefix c = λ count below.
     absurd (omega (arith, below, ap (λ (ts : List TaskRow). length ts) (sym c.self.view_is ∙ ap (map task_row) c.in_default.ensures.none.0)))
 
 pub returns-in_default-clause-fewer : goal.returns-in_default-clause-fewer

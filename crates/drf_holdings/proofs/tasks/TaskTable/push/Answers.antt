@@ -1,6 +1,6 @@
 use Rattle.std.proofs.Common.{ap, ◌∙◌}
 use Rattle.std.specs.List.{list_any}
-use Rattle.drf_rows.specs.Endings.{is_task}
+use Rattle.drf_rows.specs.Releases.{is_task}
 use Rattle.drf_holdings.proofs.tasks.TaskTable.push.Goals as goal
 
 pub put_task-requires-clause-kept : goal.put_task-requires-clause-kept

@@ -1,6 +1,6 @@
 use Rattle.std.proofs.Common.{◌≡◌, [], ◌∷◌, List, Some, map, filter, refl, sym, subst, ◌∙◌}
 use Rattle.std.proofs.lemmas.Bool.{false≢true}
-use Rattle.drf_rows.specs.Endings.{is_task}
+use Rattle.drf_rows.specs.Releases.{is_task}
 use Rattle.drf_rows.specs.declared.rows.TaskRow.{TaskRow}
 use Rattle.drf_holdings.specs.Listed.{TaskKey, task_serial, task_row, task_named}
 use Rattle.drf_holdings.specs.Taking.{IsTaken, HasNone}

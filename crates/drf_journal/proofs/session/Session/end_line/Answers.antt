@@ -8,14 +8,14 @@ pub returns-clause-ok : goal.returns-clause-ok
 returns-clause-ok g c =
     let inside = c.self.inside in
     let old : State = record { machine = live inside.core; echo = inside.echo; pending = inside.pending; unsent = inside.unsent.items; lines = inside.lines } in
-    let machine = c.in_ok-answer_end.ensures.ok in
+    let machine = c.in_ok-reply_to_parted_line.ensures.ok in
     let pending = c.clear.ensures in
-    let unsent = c.in_ok-answer_end.ensures.told in
+    let unsent = c.in_ok-reply_to_parted_line.ensures.reported in
     let new : State = record {
-      machine = live c.answer_end.new.core;
+      machine = live c.reply_to_parted_line.new.core;
       echo = inside.echo;
       pending = c.clear.new.self;
-      unsent = c.answer_end.new.text.items;
+      unsent = c.reply_to_parted_line.new.text.items;
       lines = inside.lines + 1;
     } in
     let step : new ≡ with_line old (old.pending ++ c.args.end.now) = λ i. record {

@@ -14,7 +14,7 @@ use Rattle.drf_lines.proofs.last_report.LastReport.put_list.Goals as goal
 
 pub loop-i-init : goal.loop-i-init
 loop-i-init c = record {
-  told = items_begun node_value c.args.nodes.now c.args.text.now.items c.put_byte.new.line.items c.in_ok-put_byte.ensures.ok;
+  reported = items_begun node_value c.args.nodes.now c.args.text.now.items c.put_byte.new.line.items c.in_ok-put_byte.ensures.ok;
   count = ap (λ (s : List Span). length s) c.requires.none;
   lies = no_texts c.put_byte.new.line.items c.args.spans.now.items c.args.nodes.now c.requires.none;
 }
@@ -35,8 +35,8 @@ loop-i-preserved c =
     let so_far : AreTexts after spans nodes =
     texts_more mid _ spans nodes c.in_ok-put_node.ensures.ok (texts_more before _ spans nodes c.in_ok-put_comma.ensures.ok c.loop-i.invariant.lies) in
     record {
-      told = item_more node_value nodes c.loop-i.i node total before mid after
-          c.loop-i-test.true c.index-nodes-i.is c.loop-i.invariant.told c.in_ok-put_comma.ensures.ok c.in_ok-put_node.ensures.ok;
+      reported = item_more node_value nodes c.loop-i.i node total before mid after
+          c.loop-i-test.true c.index-nodes-i.is c.loop-i.invariant.reported c.in_ok-put_comma.ensures.ok c.in_ok-put_node.ensures.ok;
       count = ap (λ (s : List Span). length s) c.in_ok-push.ensures.items ∙ length-append spans (span ∷ []) ∙ ap (λ n. n + 1) c.loop-i.invariant.count;
       lies = subst (λ (s : List Span). AreTexts after s nodes) (sym c.in_ok-push.ensures.items)
           (texts_pushed after spans span nodes node here so_far (text_written mid span node c.in_ok-put_node.ensures.ok (c.len-start.ensures ∙ c.put_comma.new.line.ok.0) (c.len-end.ensures ∙ c.put_node.new.text.ok.0)));
@@ -46,7 +46,7 @@ pub returns-clause-ok : goal.returns-clause-ok
 returns-clause-ok c =
     let total = c.args.text.now.items ++ compact_text (array (items_of (map node_value c.args.nodes.now))) in
     on_ok_weaker c.put_byte-2.result
-    (λ end. items_ended node_value c.args.nodes.now c.loop-i.i total c.loop-i.text.items c.put_byte-2.new.line.items c.loop-i-test.false c.loop-i.invariant.told end)
+    (λ end. items_ended node_value c.args.nodes.now c.loop-i.i total c.loop-i.text.items c.put_byte-2.new.line.items c.loop-i-test.false c.loop-i.invariant.reported end)
     c.put_byte-2.ensures.ok
 
 pub returns-clause-texts : goal.returns-clause-texts

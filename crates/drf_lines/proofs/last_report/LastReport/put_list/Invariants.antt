@@ -11,7 +11,7 @@ use Rattle.drf_lines.proofs.last_report.LastReport.put_list.Given as goal
 -- node's text
 abbrev pub invariant-loop-i : goal.invariant-loop-i
 invariant-loop-i l = record {
-  told : l.text.items ++ left_text node_value l.i (drop l.i l.nodes) ≡ l.fn.text.items ++ compact_text (array (items_of (map node_value l.nodes)));
+  reported : l.text.items ++ left_text node_value l.i (drop l.i l.nodes) ≡ l.fn.text.items ++ compact_text (array (items_of (map node_value l.nodes)));
   count : length l.spans.items ≡ l.i;
   lies : AreTexts l.text.items l.spans.items l.nodes;
 }

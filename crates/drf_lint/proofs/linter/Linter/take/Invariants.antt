@@ -1,12 +1,12 @@
 use Rattle.std.proofs.Common.{◌≡◌, ◌+◌, ◌≤◌, true, false, length}
 use Rattle.drf_lint.specs.Lint.{lint_of}
-use Rattle.drf_lint.proofs.Pieces.{Laws, TookFront}
+use Rattle.drf_lint.proofs.Pieces.{Laws, TookPrefix}
 use Rattle.drf_lint.proofs.linter.Linter.take.Given as goal
 
 abbrev pub invariant-loop-at : goal.invariant-loop-at
 invariant-loop-at g l = record {
   laws : Laws;
-  front : TookFront (lint_of l.fn.self) (lint_of l.self) l.fn.piece l.rest
+  prefix : TookPrefix (lint_of l.fn.self) (lint_of l.self) l.fn.piece l.rest
       (g.W.Write.contents l.fn.writer.inner) (g.W.Write.contents l.writer.inner)
       (g.E.Write.contents l.fn.errors.inner) (g.E.Write.contents l.errors.inner);
   few : l.self.lines + length l.rest ≤ l.fn.self.lines + length l.fn.piece;

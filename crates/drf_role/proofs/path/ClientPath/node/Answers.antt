@@ -5,4 +5,4 @@ use Rattle.drf_role.proofs.path.ClientPath.node.Goals as goal
 
 pub invariant_of-result : goal.invariant_of-result
 invariant_of-result c =
-    subst IsNodePath (sym c.in_ok-front.ensures.parts) (node_from_path c.args.self.now c.args.len c.in_ok-front.ensures.right c.requires.some c.requires.within)
+    subst IsNodePath (sym c.in_ok-prefix.ensures.parts) (node_from_path c.args.self.now c.args.len c.in_ok-prefix.ensures.right c.requires.some c.requires.within)

@@ -15,6 +15,6 @@ returns c =
     let same : c.deref-task-items.result.now ≡ tasks = c.deref-task-items.ensures.value ∙ c.self.view_is in
     let past : length tasks ≤ i = subst (λ (ss : List Start). length ss ≤ i) same c.loop-task-test.false in
     let none : of (drop i tasks) ≡ 0 = at_drop_all of tasks i past in
-    let told : c.loop-task.left ≡ amount whole - of tasks = omega (arith, c.loop-task.invariant, none) in
+    let reported : c.loop-task.left ≡ amount whole - of tasks = omega (arith, c.loop-task.invariant, none) in
     leaves whole (uses tasks) c.loop-task.left c.amount-left.ensures.given
-    (subst (λ (ss : List Start). AllByRecursion IsBundle (uses ss)) c.self.view_is c.self.invariant.bundles) c.requires told
+    (subst (λ (ss : List Start). AllByRecursion IsBundle (uses ss)) c.self.view_is c.self.invariant.bundles) c.requires reported

@@ -6,14 +6,14 @@ use Rattle.drf_sorter.specs.Content.{has_node}
 use Rattle.drf_sorter.proofs.laws.LineLaws.{each-with, has_line-others}
 use Rattle.drf_sorter.specs.Lines.{IsLineOf, has_line}
 use Rattle.drf_sorter.specs.Plain.{plain_content}
-use Rattle.drf_sorter.proofs.LineLemmas.{fronts-more, has_line-fronts, has_node-front}
+use Rattle.drf_sorter.proofs.LineLemmas.{prefixes-more, has_line-prefixes, has_node-prefix}
 use Rattle.drf_sorter.proofs.plain.PlainSorter.put_lines.Goals as goal
 
 pub line-requires-clause-clients : goal.line-requires-clause-clients
 line-requires-clause-clients c =
     let content = plain_content c.args.self.now in
     subst (λ (n : Path). has_node content n ≡ true) (sym c.in_ok-node.ensures)
-    (has_node-front content c.args.path.now (c.loop-i.i + 1) c.requires.client)
+    (has_node-prefix content c.args.path.now (c.loop-i.i + 1) c.requires.client)
 
 pub loop-i-preserved : goal.loop-i-preserved
 loop-i-preserved c =
@@ -29,11 +29,11 @@ loop-i-preserved c =
           (has_line-others old line node (c.loop-i.invariant.stay node had));
       put = λ k some within.
           subst (λ (ls : List NodeLine). has_line ls (take k c.args.path.now) ≡ true) new
-          (fronts-more old line c.args.path.now c.loop-i.i (c.in_ok-line.ensures.path ∙ c.in_ok-node.ensures)
+          (prefixes-more old line c.args.path.now c.loop-i.i (c.in_ok-line.ensures.path ∙ c.in_ok-node.ensures)
           c.loop-i.invariant.put k some within);
     }
 
 pub returns-clause-put : goal.returns-clause-put
 returns-clause-put c node some begins =
-    has_line-fronts c.loop-i.lines c.args.path.now node some begins
+    has_line-prefixes c.loop-i.lines c.args.path.now node some begins
     (λ k first within. c.loop-i.invariant.put k first (omega (arith, within, c.len-i-end.ensures.len, c.loop-i-test.false)))

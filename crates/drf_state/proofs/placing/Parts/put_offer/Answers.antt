@@ -1,5 +1,5 @@
 use Rattle.std.proofs.Common.{◌≡◌, ◌∙◌, sym, subst}
-use Rattle.drf_rows.specs.Holdings.{of_offer}
+use Rattle.drf_rows.specs.Holdings.{holding_of_offer}
 use Rattle.drf_sorter.specs.Content.{Content, IsSound, charged, with_change}
 use Rattle.drf_content.specs.Putting.{with_put}
 use Rattle.drf_saved.specs.declared.saved.SavedRow.TheVariants.{Offer}
@@ -9,7 +9,7 @@ use Rattle.drf_state.proofs.placing.Parts.put_offer.Goals as goal
 pub charge-requires-clause-known : goal.charge-requires-clause-known
 charge-requires-clause-known g c =
     let parts = c.args.self.now in
-    known_client parts.tables.rows (of_offer c.args.offer) (g.S.Sorter.content parts.sorter) c.in_ok-path.path c.requires.agree.sorted c.in_ok-path.ensures
+    known_client parts.tables.rows (holding_of_offer c.args.offer) (g.S.Sorter.content parts.sorter) c.in_ok-path.path c.requires.agree.sorted c.in_ok-path.ensures
     (offer_held parts.tables.rows c.args.offer c.requires.fits.together)
 
 pub charge-requires-clause-sound : goal.charge-requires-clause-sound

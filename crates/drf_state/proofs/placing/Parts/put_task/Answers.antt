@@ -1,5 +1,5 @@
 use Rattle.std.proofs.Common.{◌≡◌, ◌∙◌, sym, subst}
-use Rattle.drf_rows.specs.Holdings.{of_task}
+use Rattle.drf_rows.specs.Holdings.{holding_of_task}
 use Rattle.drf_sorter.specs.Content.{Content, IsSound, charged, with_change}
 use Rattle.drf_content.specs.Putting.{with_put}
 use Rattle.drf_saved.specs.declared.saved.SavedRow.TheVariants.{Task}
@@ -9,7 +9,7 @@ use Rattle.drf_state.proofs.placing.Parts.put_task.Goals as goal
 pub charge-requires-clause-known : goal.charge-requires-clause-known
 charge-requires-clause-known g c =
     let parts = c.args.self.now in
-    known_client parts.tables.rows (of_task c.args.task) (g.S.Sorter.content parts.sorter) c.in_ok-path.path c.requires.agree.sorted c.in_ok-path.ensures
+    known_client parts.tables.rows (holding_of_task c.args.task) (g.S.Sorter.content parts.sorter) c.in_ok-path.path c.requires.agree.sorted c.in_ok-path.ensures
     (task_held parts.tables.rows c.args.task c.requires.fits.together)
 
 pub charge-requires-clause-sound : goal.charge-requires-clause-sound

@@ -3,7 +3,7 @@ use Rattle.std.specs.Borrow.{Bor}
 use Rattle.std.specs.Prelude.{fold}
 use Rattle.drf_explain.specs.declared.finding.Finding.{Finding}
 use Rattle.drf_summary.specs.Passers.{taker_in, with_passer}
-use Rattle.drf_summary.proofs.Found.{lent-takers}
+use Rattle.drf_summary.proofs.Found.{borrowed-takers}
 use Rattle.drf_summary.proofs.Passed.{counted_more, counted_over}
 use Rattle.drf_summary.proofs.passer.Passers.count_takers.Goals as goal
 
@@ -16,4 +16,4 @@ pub returns : goal.returns
 returns c =
     counted_over (λ (f : Bor Finding). taker_in c.args.bundle.now f.now) _ c.args.findings.now c.loop-finding.finding-index _ c.loop-finding-test.false
     c.loop-finding.invariant
-    ∙ ap (fold with_passer c.args.self.now) (sym (lent-takers c.args.bundle.now c.args.findings.now))
+    ∙ ap (fold with_passer c.args.self.now) (sym (borrowed-takers c.args.bundle.now c.args.findings.now))

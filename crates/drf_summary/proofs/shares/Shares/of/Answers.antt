@@ -8,7 +8,7 @@ use Rattle.drf_lines.specs.ReportLine.{fraction_text}
 use Rattle.drf_role.specs.Parts.{text_of}
 use Rattle.drf_role.specs.Text.{same_text}
 use Rattle.drf_rows.specs.declared.report.NodeLine.{NodeLine}
-use Rattle.drf_summary.specs.Shares.{told_share}
+use Rattle.drf_summary.specs.Shares.{reported_share}
 use Rattle.drf_summary.proofs.Shared.{share_more}
 use Rattle.drf_summary.proofs.shares.Shares.of.Goals as goal
 
@@ -16,7 +16,7 @@ pub loop-i-init : goal.loop-i-init
 loop-i-init c = λ node.
     let nodes = c.as_slice-nodes.result.now in
     ap (λ entries. option_map string_bytes (lookup (λ key. bytes_eq node (string_bytes key)) entries)) c.with_hasher-by_node.ensures.empty
-    ∙ sym (ap (λ (lines : List NodeLine). told_share lines node) (drop_all (length nodes) nodes (omega arith)))
+    ∙ sym (ap (λ (lines : List NodeLine). reported_share lines node) (drop_all (length nodes) nodes (omega arith)))
 
 pub loop-i-preserved : goal.loop-i-preserved
 loop-i-preserved c = λ node.
@@ -30,4 +30,4 @@ pub returns-clause-shares : goal.returns-clause-shares
 returns-clause-shares c = λ node.
     let done : c.loop-i.i ≡ 0 = omega arith in
     c.loop-i.invariant node
-    ∙ (λ k. told_share (drop (done k) (c.as_slice-nodes.ensures k)) node)
+    ∙ (λ k. reported_share (drop (done k) (c.as_slice-nodes.ensures k)) node)

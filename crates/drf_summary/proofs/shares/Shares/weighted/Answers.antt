@@ -3,7 +3,7 @@ use Rattle.std.specs.HashMap.{get_by_text}
 use Rattle.std.specs.Option.{option_copied, option_map_or}
 use Rattle.std.specs.Prelude.{string_bytes}
 use Rattle.drf_role.specs.Parts.{text_of}
-use Rattle.drf_summary.proofs.Shared.{share-told}
+use Rattle.drf_summary.proofs.Shared.{share-reported}
 use Rattle.drf_summary.proofs.shares.Shares.weighted.Goals as goal
 
 pub returns-in-Some : goal.returns-in-Some
@@ -13,7 +13,7 @@ returns-in-Some c =
     let found = sym (ap option_copied c.in-Some.is) ∙ c.get.ensures.value ∙ ap (get_by_text by_node) c.text.ensures.text in
     c.as_str.ensures.value
     ∙ ap (λ share. option_map_or string_bytes share []) found
-    ∙ share-told (get_by_text by_node node) c.args.self.now.report.now.nodes node (c.requires node)
+    ∙ share-reported (get_by_text by_node node) c.args.self.now.report.now.nodes node (c.requires node)
 
 pub returns-in-None : goal.returns-in-None
 returns-in-None c =
@@ -21,4 +21,4 @@ returns-in-None c =
     let by_node = c.args.self.now.by_node in
     let none = sym (ap option_copied c.in-None.is) ∙ c.get.ensures.value ∙ ap (get_by_text by_node) c.text.ensures.text in
     ap (λ share. option_map_or string_bytes share []) none
-    ∙ share-told (get_by_text by_node node) c.args.self.now.report.now.nodes node (c.requires node)
+    ∙ share-reported (get_by_text by_node node) c.args.self.now.report.now.nodes node (c.requires node)

@@ -10,5 +10,5 @@ pub returns-in_default : goal.returns-in_default
 returns-in_default c =
     let own = c.args.own.now in
     let earlier = findings_of c.args.earlier.now in
-    let bundle : option_map_or (λ b. b) (option_copied c.args.bundle) [] ≡ [] = ap (λ lent. option_map_or (λ b. b) (option_copied lent) []) c.in_default.is in
+    let bundle : option_map_or (λ b. b) (option_copied c.args.bundle) [] ≡ [] = ap (λ borrowed. option_map_or (λ b. b) (option_copied borrowed) []) c.in_default.is in
     ap (λ paths. with_passed paths c.args.self.now) (sym (ap (passers_by own earlier) bundle ∙ no_passers own earlier))

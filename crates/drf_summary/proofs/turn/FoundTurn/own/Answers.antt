@@ -9,7 +9,7 @@ pub own_at-requires : goal.own_at-requires
 own_at-requires c =
     let found = c.args.self.now in
     subst (λ (findings : List Finding). IfSome c.get.result (λ place. place < length findings)) (sym c.as_slice.ensures.value)
-    (place-within found.turn.now.told.items found.told c.args.client.now c.get.result c.requires.told c.get.ensures)
+    (place-within found.turn.now.reported.items found.reported c.args.client.now c.get.result c.requires.reported c.get.ensures)
 
 pub returns : goal.returns
-returns c = c.own_at.ensures ∙ (λ i. own_at (c.as_slice.ensures.value i) ((c.get.ensures ∙ c.requires.told c.args.client.now) i))
+returns c = c.own_at.ensures ∙ (λ i. own_at (c.as_slice.ensures.value i) ((c.get.ensures ∙ c.requires.reported c.args.client.now) i))

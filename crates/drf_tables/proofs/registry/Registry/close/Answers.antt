@@ -1,6 +1,6 @@
 use Rattle.std.proofs.Common.{Some, length, ap, sym, ◌∙◌, arith}
 use Rattle.std.proofs.lemmas.List.{length-map}
-use Rattle.drf_hash.proofs.GapLaws.{filled-all, registry-closed}
+use Rattle.drf_hash.proofs.FreeSlotLaws.{filled-all, registry-closed}
 use Rattle.drf_hash.proofs.SlotLaws.{filled-short}
 use Rattle.drf_tables.proofs.tables.Names.{filled, same_text, name_of, Registered}
 use Rattle.drf_tables.proofs.registry.Slots.{Slots}
@@ -9,19 +9,19 @@ use Rattle.drf_tables.proofs.registry.Registry.close.Goals as goal
 pub invariant_of-self : goal.invariant_of-self
 invariant_of-self g c =
     let t = c.self.inside in
-    let closed = c.in_ok-close_gaps.ensures in
+    let closed = c.in_ok-close_free_slots.ensures in
     rw (closed.slots, closed.places) (registry-closed same_text name_of t.slots.items t.places.entries t.live c.self.invariant)
 
-pub returns-in_ok-close_gaps-clause-closed : goal.returns-in_ok-close_gaps-clause-closed
-returns-in_ok-close_gaps-clause-closed g c =
+pub returns-in_ok-close_free_slots-clause-closed : goal.returns-in_ok-close_free_slots-clause-closed
+returns-in_ok-close_free_slots-clause-closed g c =
     let left = filled c.self.inside.slots.items in
-    let closed = c.in_ok-close_gaps.ensures.slots in
+    let closed = c.in_ok-close_free_slots.ensures.slots in
     ap length closed ∙ length-map left Some
     ∙ sym (ap (λ (ss : Slots g.row.T.Denot). length (filled ss)) closed ∙ ap length (filled-all left))
 
-pub returns-in_ok-close_gaps-clause-same : goal.returns-in_ok-close_gaps-clause-same
-returns-in_ok-close_gaps-clause-same g c =
-    ap (λ (ss : Slots g.row.T.Denot). filled ss) c.in_ok-close_gaps.ensures.slots
+pub returns-in_ok-close_free_slots-clause-same : goal.returns-in_ok-close_free_slots-clause-same
+returns-in_ok-close_free_slots-clause-same g c =
+    ap (λ (ss : Slots g.row.T.Denot). filled ss) c.in_ok-close_free_slots.ensures.slots
     ∙ filled-all (filled c.self.inside.slots.items)
     ∙ ap (λ (r : Registered g.row.T.Denot). r.entries) c.self.view_is
 

@@ -2,7 +2,7 @@ use Rattle.std.proofs.Common.{◌≡◌, None, sym, ap, ◌∙◌, arith}
 use Rattle.std.specs.Map.{lookup}
 use Rattle.std.specs.Option.{option_copied}
 use Rattle.drf_tables.proofs.tables.Names.{same_text, Registered, name_of, slot_of}
-use Rattle.drf_tables.proofs.registry.Slots.{IsFound, found_in, no_gap, read_slot, slot_none, value_found}
+use Rattle.drf_tables.proofs.registry.Slots.{IsFound, found_in, no_free_slot, read_slot, slot_none, value_found}
 use Rattle.drf_tables.proofs.registry.Registry.get.Given as given
 use Rattle.drf_tables.proofs.registry.Registry.get.Goals.{In-Some}
 use Rattle.drf_tables.proofs.registry.Registry.get.Goals as goal
@@ -23,7 +23,7 @@ index-requires g c = omega (arith, (here_at g (goal.at.index-requires g c).In-So
 pub returns-in_default-index : goal.returns-in_default-index
 returns-in_default-index g c =
     let here = (here_at g (goal.at.returns-in_default-index g c).In-Some).here in
-    absurd (no_gap c.self.inside.slots.items c.in-Some.place.now c.index.result.now here.entry here.below c.index.ensures here.there c.in_default-index.is)
+    absurd (no_free_slot c.self.inside.slots.items c.in-Some.place.now c.index.result.now here.entry here.below c.index.ensures here.there c.in_default-index.is)
 
 pub returns : goal.returns
 returns g c =

@@ -1,7 +1,7 @@
 use Rattle.std.proofs.Common.{◌≡◌, ◌≤◌, None, sym, ap, ◌∙◌, arith}
 use Rattle.std.specs.Map.{remove_entry}
 use Rattle.std.specs.Cmp.Lexicographic.{bytes_decides}
-use Rattle.drf_hash.proofs.SlotLaws.{filled-gap, live_one, registry-gap}
+use Rattle.drf_hash.proofs.SlotLaws.{filled-free_slot, live_one, registry-free_slot}
 use Rattle.drf_tables.proofs.tables.Names.{filled, same_text, Registered, name_of, slot_of}
 use Rattle.drf_tables.proofs.registry.Entries.{removed-none, removed_entry}
 use Rattle.drf_tables.proofs.registry.Slots.{IsFound, found_in, names_apart, slot_none}
@@ -33,7 +33,7 @@ pub invariant_of-self-2 : goal.invariant_of-self-2
 invariant_of-self-2 g c =
     let t = c.self.inside in
     let b = (goal.at.invariant_of-self-2 g c).In-Some in
-    registry-gap same_text bytes_decides name_of t.slots.items t.places.entries c.swap_remove.new.self.entries t.live _ c.args.name.now c.in-Some.place
+    registry-free_slot same_text bytes_decides name_of t.slots.items t.places.entries c.swap_remove.new.self.entries t.live _ c.args.name.now c.in-Some.place
     c.self.invariant (here_at g b).found (omega (arith, one_at g b)) c.swap_remove.ensures.updates.0
 
 pub returns : goal.returns
@@ -41,6 +41,6 @@ returns g c =
     let name = c.args.name.now in
     let slots = c.self.inside.slots.items in
     let apart = c.self.invariant.apart in
-    filled-gap same_text bytes_decides name_of name slots c.in-Some.place apart (here_at g (goal.at.returns g c).In-Some).found
+    filled-free_slot same_text bytes_decides name_of name slots c.in-Some.place apart (here_at g (goal.at.returns g c).In-Some).found
     ∙ sym (removed_entry name (filled slots) (names_apart _ apart))
     ∙ ap (λ (r : Registered g.row.T.Denot). remove_entry (same_text name) r.entries) c.self.view_is

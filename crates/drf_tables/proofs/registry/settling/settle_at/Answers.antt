@@ -23,9 +23,9 @@ returns-clause-known c =
     let place = c.args.place in
     let free = c.new.result in
     let e : Entry Agent = c.at-entry.result.now in
-    let told : set_value_at entries place (record e.1 { free = Some free }) ≡ c.set_free_at.new.self.entries =
+    let reported : set_value_at entries place (record e.1 { free = Some free }) ≡ c.set_free_at.new.self.entries =
     written_free entries place e free c.at-entry.ensures ∙ sym c.set_free_at.ensures in
-    subst (AllByRecursion (IsKnown (holdings_in c.args.holdings.now))) told
+    subst (AllByRecursion (IsKnown (holdings_in c.args.holdings.now))) reported
     (known-set (holdings_in c.args.holdings.now) entries place e free c.at-entry.ensures c.requires.known (c.new.ensures ∙ c.in_ok-free.ensures))
 
 pub returns-clause-settled : goal.returns-clause-settled
@@ -34,9 +34,9 @@ returns-clause-settled c =
     let place = c.args.place in
     let free = c.new.result in
     let e : Entry Agent = c.at-entry.result.now in
-    let told : set_value_at entries place (record e.1 { free = Some free }) ≡ c.set_free_at.new.self.entries =
+    let reported : set_value_at entries place (record e.1 { free = Some free }) ≡ c.set_free_at.new.self.entries =
     written_free entries place e free c.at-entry.ensures ∙ sym c.set_free_at.ensures in
-    ap (are_settled (place + 1)) (sym told)
+    ap (are_settled (place + 1)) (sym reported)
     ∙ settled-set entries place e.1 (record e.1 { free = Some free }) c.requires.settled (value_at entries place e c.at-entry.ensures) refl
 
 pub returns-clause-number : goal.returns-clause-number

@@ -4,7 +4,7 @@ use Rattle.std.specs.Option.{option_copied, option_map}
 use Rattle.drf_role.specs.TextLaws.{test_from_same}
 use Rattle.drf_tables.proofs.tables.Names.{each_at, filled, Text, same_text, CanExchangeAt, changed, with_exchanged, Registered, Agent}
 use Rattle.drf_tables.proofs.registry.Changes.{IsRewritten, rewritten, unchanged_slots}
-use Rattle.drf_tables.proofs.registry.Slots.{Entry, IsFound, filled_at, found_in, named_at, no_gap, read_slot}
+use Rattle.drf_tables.proofs.registry.Slots.{Entry, IsFound, filled_at, found_in, named_at, no_free_slot, read_slot}
 use Rattle.drf_tables.proofs.reservations.Registry+Agent.exchange.Goals.{In-Some, In-Some-index}
 use Rattle.drf_tables.proofs.reservations.Registry+Agent.exchange.Goals as goal
 
@@ -24,7 +24,7 @@ index-requires c = omega (arith, (here_at (goal.at.index-requires c).In-Some).he
 pub returns-in_default-index-clause-ok : goal.returns-in_default-index-clause-ok
 returns-in_default-index-clause-ok c =
     let here = (here_at (goal.at.returns-in_default-index-clause-ok c).In-Some).here in
-    absurd (no_gap c.self.inside.slots.items c.in-Some.place.now c.index.result.now here.entry here.below c.index.ensures here.there c.in_default-index.is)
+    absurd (no_free_slot c.self.inside.slots.items c.in-Some.place.now c.index.result.now here.entry here.below c.index.ensures here.there c.in_default-index.is)
 
 there_at : (c : In-Some-index) → IsFound c.args.name.now c.self.inside.slots.items c.in-Some.place.now
     → get_or c.self.inside.slots.items c.in-Some.place.now None ≡ Some c.in-Some-index.entry

@@ -2,7 +2,7 @@ use Rattle.std.proofs.Common.{◌≡◌, Bool, Option, true, false, get_or, map,
 use Rattle.std.specs.Option.{option_copied, option_map}
 use Rattle.drf_tables.proofs.tables.Names.{changed, with_other, Registered, Agent}
 use Rattle.drf_tables.proofs.registry.Changes.{IsRewritten, rewritten, unchanged_slots}
-use Rattle.drf_tables.proofs.registry.Slots.{Entry, IsFound, found_in, no_gap, read_slot}
+use Rattle.drf_tables.proofs.registry.Slots.{Entry, IsFound, found_in, no_free_slot, read_slot}
 use Rattle.drf_tables.proofs.reservations.Registry+Agent.set_total.Goals.{In-Some, In-Some-index}
 use Rattle.drf_tables.proofs.reservations.Registry+Agent.set_total.Goals as goal
 
@@ -25,7 +25,7 @@ index-requires c = omega (arith, (here_at (goal.at.index-requires c).In-Some).he
 pub returns-in_default-index : goal.returns-in_default-index
 returns-in_default-index c =
     let here = (here_at (goal.at.returns-in_default-index c).In-Some).here in
-    absurd (no_gap c.self.inside.slots.items c.in-Some.place.now c.index.result.now here.entry here.below c.index.ensures here.there c.in_default-index.is)
+    absurd (no_free_slot c.self.inside.slots.items c.in-Some.place.now c.index.result.now here.entry here.below c.index.ensures here.there c.in_default-index.is)
 
 pub index_mut-requires : goal.index_mut-requires
 index_mut-requires c = omega (arith, (here_at (goal.at.index_mut-requires c).In-Some).here.below, c.self.inside.slots.ok.0)

@@ -66,19 +66,19 @@ invariant_of-self-2 c =
     let entries = c.add.new.self.entries in
     let after = c.consume_total.new.consumption in
     let rows : Rows = rows_of entries t.frameworks.entries t.holdings t.filters t.weights.entries t.limits t.clock t.next_offer t.events in
-    let told : rows ≡ agent_added (rows_in t) name total = rows_of-agent t entries name agent last refl in
+    let reported : rows ≡ agent_added (rows_in t) name total = rows_of-agent t entries name agent last refl in
     let all : agent.free ≡ Some total = ap (λ (free : List Resource). Some free) (c.new.ensures ∙ c.in_ok-free.ensures.same) in
     let right : IsAgent (new_agent name total) = record {
       total = c.quantities.ensures.bundle;
       small = c.requires.small;
     } in
     let sum : c.in_ok-sum.sum ≡ plus t.total (quantities_of total) = c.in_ok-sum.ensures ∙ ap (plus t.total) c.quantities.ensures.value in
-    let kept : AreDerived rows entries c.in_ok-sum.sum t.clients = rw (told, last, sum) (
+    let kept : AreDerived rows entries c.in_ok-sum.sum t.clients = rw (reported, last, sum) (
     AreDerived-agent_added (rows_in t) t.agents.entries t.total t.clients name agent c.self.invariant.kept few new right all
     ) in
     record {
       kept = kept;
-      consumed = subst (λ (r : Rows). CountsAll r after) (sym told)
+      consumed = subst (λ (r : Rows). CountsAll r after) (sym reported)
           (counts-consumed (rows_in t) t.consumption c.self.invariant.consumed (agent_added (rows_in t) name total) after
           (λ test label. reserved_in test label total) c.in_ok-consume_total.ensures.ok (consumption-agent_added (rows_in t) name total));
     }

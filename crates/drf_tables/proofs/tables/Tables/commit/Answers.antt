@@ -97,7 +97,7 @@ invariant_of-self-2 c =
     (agents_in t) c.put_lefts.ensures.rows (settled_at at.After-first_number-first) c.self.invariant.kept.free c.put_lefts.ensures.free (left_at at.After-first_number-first) in
     let counts : CountsAll (with_offers (rows_in t) offers) c.args.consumption =
     subst (λ (s : Stored). CountsAll (with_offers s.rows offers) c.args.consumption) (sym c.self.view_is) c.requires.consumption in
-    let told : ℕ → Rows = λ made.
+    let reported : ℕ → Rows = λ made.
     rows_of c.put_lefts.new.agents.entries c.count_offers.new.frameworks.entries c.append.new.self t.filters t.weights.entries
     t.limits t.clock (t.next_offer + made) t.events in
     record {
@@ -105,7 +105,7 @@ invariant_of-self-2 c =
           AreDerived-with_offers (rows_in t) t.agents.entries c.put_lefts.new.agents.entries t.total t.clients offers
           c.self.invariant.kept (consistent_at at.After-first_number-first) known
           );
-      consumed = subst (λ (r : Rows). CountsAll r c.args.consumption) (sym (ap told long ∙ rows)) counts;
+      consumed = subst (λ (r : Rows). CountsAll r c.args.consumption) (sym (ap reported long ∙ rows)) counts;
     }
 
 pub returns-clause-ok : goal.returns-clause-ok

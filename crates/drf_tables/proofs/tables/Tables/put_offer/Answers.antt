@@ -9,7 +9,7 @@ use Rattle.drf_tables.proofs.limits.Counts.{none_counted}
 use Rattle.drf_tables.proofs.registry.Entries.{is_some-copied}
 use Rattle.drf_tables.proofs.tables.Fields.{has_agent-rows_in}
 use Rattle.drf_tables.proofs.registry.Held.{settled-held}
-use Rattle.drf_tables.proofs.tables.PutBack.{agent_of-offer, kept-offer_put, offer_put, rows-offer_put, told_held}
+use Rattle.drf_tables.proofs.tables.PutBack.{agent_of-offer, kept-offer_put, offer_put, rows-offer_put, reported_held}
 use Rattle.drf_tables.proofs.tables.Tables.put_offer.Goals.{After-get, After-set_free}
 use Rattle.drf_tables.proofs.tables.Tables.put_offer.Goals as goal
 
@@ -21,9 +21,9 @@ last_at c =
     c.in_ok-append.ensures.ok
     ∙ ap (λ (os : List OfferRow). c.self.inside.holdings.offers ++ os) (c.in_ok-push.ensures.items ∙ ap (λ (os : List OfferRow). os ++ c.args.offer ∷ []) c.new-offers.ensures.items)
 
-told_at : (c : After-set_free) → c.set_free.new.self.entries ≡ map (changed c.args.offer.agent (with_held c.args.offer.bundle)) c.self.inside.agents.entries
-told_at c =
-    told_held _ _ _ _ _ _ c.unwrap-agent.result.now (sym c.get.ensures.value ∙ ap option_copied c.unwrap-agent.ensures) c.in_ok-left.ensures
+reported_at : (c : After-set_free) → c.set_free.new.self.entries ≡ map (changed c.args.offer.agent (with_held c.args.offer.bundle)) c.self.inside.agents.entries
+reported_at c =
+    reported_held _ _ _ _ _ _ c.unwrap-agent.result.now (sym c.get.ensures.value ∙ ap option_copied c.unwrap-agent.ensures) c.in_ok-left.ensures
     c.in_ok-name.ensures c.set_free.ensures
 
 pub unwrap-agent-requires : goal.unwrap-agent-requires
@@ -47,7 +47,7 @@ invariant_of-self-2 c =
     let at = goal.at.invariant_of-self-2 c in
     record {
       kept = kept-offer_put t c.self.invariant.kept c.set_free.new.self.entries c.append.new.self
-          c.args.offer (told_at at.After-set_free) (last_at at.After-set_free) c.append.ensures.tasks (consistent_at at.After-get);
+          c.args.offer (reported_at at.After-set_free) (last_at at.After-set_free) c.append.ensures.tasks (consistent_at at.After-get);
       consumed = none_counted _ t.consumption (ap (λ (s : Stored). s.counted) c.self.view_is ∙ c.requires.uncounted);
     }
 
@@ -55,10 +55,10 @@ pub returns-clause-ok : goal.returns-clause-ok
 returns-clause-ok c =
     let at = goal.at.returns-clause-ok c in
     rows-offer_put c.self.inside c.self.invariant.kept c.set_free.new.self.entries c.append.new.self
-    c.args.offer (told_at at.After-set_free) (last_at at.After-set_free) c.append.ensures.tasks
+    c.args.offer (reported_at at.After-set_free) (last_at at.After-set_free) c.append.ensures.tasks
     ∙ ap (λ (s : Stored). offer_put s.rows c.args.offer) c.self.view_is
 
 pub returns-clause-settled : goal.returns-clause-settled
 returns-clause-settled c =
-    ap is_settled (told_at (goal.at.returns-clause-settled c).After-set_free)
+    ap is_settled (reported_at (goal.at.returns-clause-settled c).After-set_free)
     ∙ settled-held c.args.offer.agent c.args.offer.bundle c.self.inside.agents.entries ∙ ap (λ (s : Stored). s.settled) c.self.view_is

@@ -6,16 +6,16 @@ use Rattle.drf_tables.proofs.limits.Counts.{none_counted}
 use Rattle.drf_tables.proofs.registry.Entries.{is_some-copied}
 use Rattle.drf_tables.proofs.tables.Fields.{has_agent-rows_in}
 use Rattle.drf_tables.proofs.registry.Held.{settled-held}
-use Rattle.drf_tables.proofs.tables.PutBack.{agent_of-task, kept-task_put, new_task, rows-task_put, task_put, told_held}
+use Rattle.drf_tables.proofs.tables.PutBack.{agent_of-task, kept-task_put, new_task, rows-task_put, task_put, reported_held}
 use Rattle.drf_tables.proofs.tables.Tables.put_task.Goals.{After-get, After-set_free}
 use Rattle.drf_tables.proofs.tables.Tables.put_task.Goals as goal
 
 consistent_at : (c : After-get) → IsConsistent (task_put (rows_in c.self.inside) c.args.task)
 consistent_at c = subst (λ (s : Stored). IsConsistent (task_put s.rows c.args.task)) (sym c.self.view_is) c.requires.consistent
 
-told_at : (c : After-set_free) → c.set_free.new.self.entries ≡ map (changed c.args.task.agent (with_held c.args.task.bundle)) c.self.inside.agents.entries
-told_at c =
-    told_held _ _ _ _ _ _ c.unwrap-agent.result.now (sym c.get.ensures.value ∙ ap option_copied c.unwrap-agent.ensures) c.in_ok-left.ensures
+reported_at : (c : After-set_free) → c.set_free.new.self.entries ≡ map (changed c.args.task.agent (with_held c.args.task.bundle)) c.self.inside.agents.entries
+reported_at c =
+    reported_held _ _ _ _ _ _ c.unwrap-agent.result.now (sym c.get.ensures.value ∙ ap option_copied c.unwrap-agent.ensures) c.in_ok-left.ensures
     c.in_ok-name.ensures c.set_free.ensures
 
 pub unwrap-agent-requires : goal.unwrap-agent-requires
@@ -34,17 +34,17 @@ invariant_of-self-2 c =
     let at = goal.at.invariant_of-self-2 c in
     record {
       kept = kept-task_put t c.self.invariant.kept c.set_free.new.self.entries c.put_task.new.self
-          c.args.task (told_at at.After-set_free) c.in_ok-put_task.ensures.ok c.put_task.ensures.offers (consistent_at at.After-get);
+          c.args.task (reported_at at.After-set_free) c.in_ok-put_task.ensures.ok c.put_task.ensures.offers (consistent_at at.After-get);
       consumed = none_counted _ t.consumption (ap (λ (s : Stored). s.counted) c.self.view_is ∙ c.requires.uncounted);
     }
 
 pub returns-clause-ok : goal.returns-clause-ok
 returns-clause-ok c =
     rows-task_put c.self.inside c.self.invariant.kept c.set_free.new.self.entries c.put_task.new.self
-    c.args.task (told_at (goal.at.returns-clause-ok c).After-set_free) c.in_ok-put_task.ensures.ok c.put_task.ensures.offers
+    c.args.task (reported_at (goal.at.returns-clause-ok c).After-set_free) c.in_ok-put_task.ensures.ok c.put_task.ensures.offers
     ∙ ap (λ (s : Stored). task_put s.rows c.args.task) c.self.view_is
 
 pub returns-clause-settled : goal.returns-clause-settled
 returns-clause-settled c =
-    ap is_settled (told_at (goal.at.returns-clause-settled c).After-set_free)
+    ap is_settled (reported_at (goal.at.returns-clause-settled c).After-set_free)
     ∙ settled-held c.args.task.agent c.args.task.bundle c.self.inside.agents.entries ∙ ap (λ (s : Stored). s.settled) c.self.view_is

@@ -1,6 +1,6 @@
 use Rattle.std.proofs.Common.{◌≡◌, not, filter, sym, ap, ◌∙◌, subst}
 use Rattle.drf_tables.proofs.tables.Names.{same_text, cluster_total, agent_removed, rows_in, Stored}
-use Rattle.drf_rows.specs.Endings.{without_ended, all_on}
+use Rattle.drf_rows.specs.Releases.{without_ended, all_on}
 use Rattle.drf_tables.proofs.agents.Changes.{rows-left, kept-left}
 use Rattle.drf_tables.proofs.limits.Running.{agent_fits, counts-left}
 use Rattle.drf_tables.proofs.tables.Tables.remove_agent.Goals as goal

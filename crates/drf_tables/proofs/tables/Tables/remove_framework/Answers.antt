@@ -1,5 +1,5 @@
 use Rattle.std.proofs.Common.{◌≡◌, sym, ap, ◌∙◌, subst, arith, refl}
-use Rattle.drf_rows.specs.Endings.{without_ended, all_of}
+use Rattle.drf_rows.specs.Releases.{without_ended, all_of}
 use Rattle.drf_tables.proofs.tables.Names.{framework_removed, Stored}
 use Rattle.drf_tables.specs.Inside.{rows_of, rows_in}
 use Rattle.drf_tables.proofs.agents.Changes.{rows-gone, kept-gone}

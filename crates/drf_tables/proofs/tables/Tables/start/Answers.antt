@@ -1,6 +1,6 @@
 use Rattle.std.proofs.Common.{◌≡◌, ◌==◌, Bool, List, [], ◌∷◌, Some, Option, map, refl, sym, ap, ◌∙◌, subst}
 use Rattle.std.specs.Option.{option_map_or}
-use Rattle.drf_row_laws.proofs.EndingLaws.{new_starts}
+use Rattle.drf_row_laws.proofs.ReleaseLaws.{new_starts}
 use Rattle.drf_rows.specs.Consistent.{IsFilter}
 use Rattle.drf_rows.specs.Offers.{CanAccept, left_of_offer, offer_at, task_of, AreNew}
 use Rattle.drf_rows.specs.declared.rows.FilterRow.{FilterRow}
@@ -84,17 +84,17 @@ invariant_of-self-in-Ok c =
     let more : List FilterRow = option_map_or (λ f. f ∷ []) c.args.filter [] in
     let rows : Rows = rows_of entries t.frameworks.entries held filters t.weights.entries t.limits t.clock t.next_offer t.events in
     let back = subst (λ (r : List Resource). HasFreed c.in-Ok.offer.agent r t.agents.entries entries) rest c.give_back.ensures in
-    let told = accepted-rows t entries held filters number c.args.tasks c.args.filter can.offer c.in-Ok.offer c.self.invariant.kept can.at
+    let reported = accepted-rows t entries held filters number c.args.tasks c.args.filter can.offer c.in-Ok.offer c.self.invariant.kept can.at
     c.in-Ok.ensures.ok back c.in_ok-add_if.ensures.ok in
     let counts : CountsAll (with_accepted (rows_in t) can.offer c.args.tasks c.args.filter) after =
     counts-accepted (rows_in t) t.consumption c.self.invariant.consumed number can.offer c.in-Ok.offer c.args.tasks c.args.rest
     c.self.invariant.kept.consistent can.at c.requires.bundles can.can same rest more after c.release_held.ensures.raised in
     record {
-      kept = AreDerived-clocked rows entries t.total t.clients c.args.moment t.events c.requires.early
+      kept = AreDerived-clocked rows entries t.total t.clients c.args.timestamp t.events c.requires.early
           (accepted-kept t entries held filters number c.args.tasks c.args.filter
           can.offer c.in-Ok.offer c.self.invariant.kept can.at c.in-Ok.ensures.ok back c.in_ok-add_if.ensures.ok
           c.requires.bundles can.can allowed);
-      consumed = counts-same rows _ after (subst (λ (r : Rows). CountsAll r after) (sym told) counts) refl (λ test label. refl);
+      consumed = counts-same rows _ after (subst (λ (r : Rows). CountsAll r after) (sym reported) counts) refl (λ test label. refl);
     }
 
 pub returns-in-Ok-clause-ok : goal.returns-in-Ok-clause-ok
@@ -110,7 +110,7 @@ returns-in-Ok-clause-ok c = λ o at.
     = accepted-rows t entries c.start.new.self c.add_if.new.filters number c.args.tasks c.args.filter
     o c.in-Ok.offer c.self.invariant.kept found c.in-Ok.ensures.ok back c.in_ok-add_if.ensures.ok
     ∙ ap (λ (s : Stored). with_accepted s.rows o c.args.tasks c.args.filter) c.self.view_is in
-    λ i. record (same i) { clock = c.args.moment }
+    λ i. record (same i) { clock = c.args.timestamp }
 
 pub returns-in-Ok-clause-taken : goal.returns-in-Ok-clause-taken
 unfolding rows_of

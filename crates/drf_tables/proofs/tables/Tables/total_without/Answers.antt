@@ -2,7 +2,7 @@ use Rattle.std.proofs.Common.{◌≡◌, Bool, refl, false, not, Some, List, fil
 use Rattle.std.specs.Option.{option_copied, option_map}
 use Rattle.drf_tables.proofs.tables.Names.{Text, same_text, quantities_of, Entry, cluster_total, has_agent, AgentRow, Stored, Agent}
 use Rattle.drf_bundle.specs.Quantities.{covers, minus, without_zeros}
-use Rattle.drf_row_laws.proofs.EndingLaws.{each_past, filter-none}
+use Rattle.drf_row_laws.proofs.ReleaseLaws.{each_past, filter-none}
 use Rattle.drf_tables.specs.Inside.{rows_of, rows_in, agent_row}
 use Rattle.drf_tables.proofs.registry.Entries.{found-lookup}
 use Rattle.drf_tables.proofs.tables.Fields.{has_agent-rows_in}

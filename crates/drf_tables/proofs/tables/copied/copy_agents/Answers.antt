@@ -5,7 +5,7 @@ use Rattle.std.specs.Map.{keys_of, lookup}
 use Rattle.drf_hash.proofs.SlotLaws.{new_to_come}
 use Rattle.drf_tables.proofs.tables.Names.{filled, same_text, name_of, Agent}
 use Rattle.drf_tables.proofs.registry.Entries.{any-lookup}
-use Rattle.drf_hash.proofs.GapLaws.{filled-more}
+use Rattle.drf_hash.proofs.FreeSlotLaws.{filled-more}
 use Rattle.drf_tables.proofs.registry.Slots.{Entry, Slots, read_slot}
 use Rattle.drf_tables.proofs.tables.copied.copy_agents.Goals as goal
 

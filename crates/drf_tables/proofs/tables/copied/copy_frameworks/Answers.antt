@@ -8,7 +8,7 @@ use Rattle.drf_bundle.proofs.ListLaws.{list_any-map}
 use Rattle.drf_hash.proofs.SlotLaws.{new_to_come}
 use Rattle.drf_tables.proofs.tables.Names.{filled, same_text, name_of, framework_row, framework_rows, ClientRow, FrameworkRow}
 use Rattle.drf_tables.proofs.registry.Entries.{known-lookup}
-use Rattle.drf_hash.proofs.GapLaws.{filled-more}
+use Rattle.drf_hash.proofs.FreeSlotLaws.{filled-more}
 use Rattle.drf_tables.proofs.registry.Slots.{Entry, Slots, read_slot}
 use Rattle.drf_tables.proofs.tables.copied.copy_frameworks.Goals as goal
 

@@ -1,7 +1,7 @@
 use Rattle.std.proofs.Common.{List, [], ◌∷◌, ◌++◌, map, take, sym, ap, ◌∙◌}
 use Rattle.std.proofs.lemmas.List.{map-append, take_all}
 use Rattle.drf_tables.proofs.tables.Names.{filled, AgentRow, agent_row, Agent}
-use Rattle.drf_hash.proofs.GapLaws.{filled-more}
+use Rattle.drf_hash.proofs.FreeSlotLaws.{filled-more}
 use Rattle.drf_tables.proofs.registry.Slots.{Slots}
 use Rattle.drf_tables.proofs.tables.listing.agent_rows.Goals as goal
 

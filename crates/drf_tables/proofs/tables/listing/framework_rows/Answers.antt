@@ -2,7 +2,7 @@ use Rattle.std.proofs.Common.{List, [], ◌∷◌, ◌++◌, take, sym, ap, ◌�
 use Rattle.std.specs.Global.{Vec}
 use Rattle.std.proofs.lemmas.List.{map-append, take_all}
 use Rattle.drf_tables.proofs.tables.Names.{filled, framework_row, framework_rows, ClientRow, FrameworkRow}
-use Rattle.drf_hash.proofs.GapLaws.{filled-more}
+use Rattle.drf_hash.proofs.FreeSlotLaws.{filled-more}
 use Rattle.drf_tables.proofs.registry.Slots.{Slots}
 use Rattle.drf_tables.proofs.tables.listing.framework_rows.Goals as goal
 

@@ -1,6 +1,6 @@
 use Rattle.std.proofs.Common.{ap, ◌∙◌}
 use Rattle.drf_tree.proofs.Names.{ledger_content}
-use Rattle.drf_tree.proofs.ledger.Rows.{copied_gap, copied_some, copy_is_new}
+use Rattle.drf_tree.proofs.ledger.Rows.{copied_free_slot, copied_some, copy_is_new}
 use Rattle.drf_tree.proofs.ledger.Ledger.copy.Goals as goal
 use Rattle.drf_tree.proofs.ledger.Ledger.copy.Goals.{in-Some+in_ok-copy+in_ok-push, in_default}
 
@@ -19,6 +19,6 @@ loop-slot-preserved c =
           w.in_ok-copy.ensures w.in_ok-push.ensures.ok
       | in_default w ↦
           ap ledger_content w.copy-is
-          ∙ copied_gap c.args.self.now c.loop-slot.copy c.deref-slot-items.result.now c.deref-slot-items.ensures.value c.loop-slot.slot-index
+          ∙ copied_free_slot c.args.self.now c.loop-slot.copy c.deref-slot-items.result.now c.deref-slot-items.ensures.value c.loop-slot.slot-index
           c.slot-item.result c.loop-slot-test.true c.slot-item.is c.loop-slot.invariant w.in_default.is
     ]

@@ -1,7 +1,7 @@
 use Rattle.std.proofs.Common.{◌≡◌, ◌-◌, None, Some, sym, ap, ◌∙◌, subst, arith, List, Option}
 use Rattle.std.proofs.lemmas.List.{map-set}
 use Rattle.drf_hash.specs.Slots.{filled, slot_of, IsRegistry}
-use Rattle.drf_hash.proofs.SlotLaws.{filled-gap, live_one, registry-gap}
+use Rattle.drf_hash.proofs.SlotLaws.{filled-free_slot, live_one, registry-free_slot}
 use Rattle.drf_tree.proofs.Names.{same_path, path_decides, Ranked}
 use Rattle.drf_tree.proofs.ledger.Rows.{here, here_below, row_missed, with_clients}
 use Rattle.drf_tree.specs.Booked.{path_of, seen_slot}
@@ -43,7 +43,7 @@ invariant_of-self-2 c =
       registry =
           subst (λ (rows : List (Option Ranked)). IsRegistry same_path path_of rows c.swap_remove.new.self.entries (l.live - 1))
           (sym (map-set seen_slot l.slots.items c.in-Some.place None))
-          (registry-gap same_path path_decides path_of (rows_in l) l.places.entries c.swap_remove.new.self.entries l.live (l.live - 1) c.args.path.now c.in-Some.place
+          (registry-free_slot same_path path_decides path_of (rows_in l) l.places.entries c.swap_remove.new.self.entries l.live (l.live - 1) c.args.path.now c.in-Some.place
           l.registry at (omega (arith, some)) c.swap_remove.ensures.updates.0);
     }
 
@@ -52,4 +52,4 @@ returns c =
     let l = c.args.self.now in
     ap (with_clients l)
     (ap (λ (rows : List (Option Ranked)). filled rows) (map-set seen_slot l.slots.items c.in-Some.place None)
-    ∙ filled-gap same_path path_decides path_of c.args.path.now (rows_in l) c.in-Some.place l.registry.apart (at_row (goal.at.returns c).In-Some))
+    ∙ filled-free_slot same_path path_decides path_of c.args.path.now (rows_in l) c.in-Some.place l.registry.apart (at_row (goal.at.returns c).In-Some))

@@ -12,23 +12,23 @@ invariant_of-self c =
     let stale = m.stale.items in
     let listed = m.listed.items in
     let room = vec_capacity m.waiting in
-    let front = c.pop.new.self.items in
+    let prefix = c.pop.new.self.items in
     let node = c.in-Some.node in
-    let now : AreWaiting stale listed (front ++ node ∷ []) room =
+    let now : AreWaiting stale listed (prefix ++ node ∷ []) room =
     subst (λ (ns : List ℕ). AreWaiting stale listed ns room) c.in-Some.ensures.items c.loop-node.invariant.kept in
-    subst (λ (n : ℕ). AreWaiting (slice_set stale node false) (slice_set listed node false) front n) (sym c.in-Some.ensures.capacity)
-    (unlisted (slice_set stale node false) listed front node room (forgotten stale listed (front ++ node ∷ []) room now node)
+    subst (λ (n : ℕ). AreWaiting (slice_set stale node false) (slice_set listed node false) prefix n) (sym c.in-Some.ensures.capacity)
+    (unlisted (slice_set stale node false) listed prefix node room (forgotten stale listed (prefix ++ node ∷ []) room now node)
     (down_at stale node node refl))
 
 pub returns-then-index-clause-found : goal.returns-then-index-clause-found
 returns-then-index-clause-found c =
     let m = c.loop-node.self-inside in
     let stale = m.stale.items in
-    let front = c.pop.new.self.items in
+    let prefix = c.pop.new.self.items in
     let node = c.in-Some.node in
-    let now : AreWaiting stale m.listed.items (front ++ node ∷ []) (vec_capacity m.waiting) =
+    let now : AreWaiting stale m.listed.items (prefix ++ node ∷ []) (vec_capacity m.waiting) =
     subst (λ (ns : List ℕ). AreWaiting stale m.listed.items ns (vec_capacity m.waiting)) c.in-Some.ensures.items c.loop-node.invariant.kept in
-    let within = last_within stale m.listed.items front node (vec_capacity m.waiting) now in
+    let within = last_within stale m.listed.items prefix node (vec_capacity m.waiting) now in
     ap (λ (fs : List Bool). slice_index_or fs node false) (sym c.loop-node.invariant.stale)
     ∙ sym (get_or_read stale node c.index.result.now within c.index.ensures false) ∙ c.if-index.true
 

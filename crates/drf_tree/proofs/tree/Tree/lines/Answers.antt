@@ -3,7 +3,7 @@ use Rattle.std.specs.List.{list_any}
 use Rattle.drf_tree.proofs.Names.{Path, has_node, ledger_content, is_live, path_at}
 use Rattle.drf_sorter.specs.Lines.{AreLinesOf, has_line}
 use Rattle.drf_tree.proofs.lines.Nodes.{node_of}
-use Rattle.drf_tree.proofs.lines.Numbers.{front_parts}
+use Rattle.drf_tree.proofs.lines.Numbers.{prefix_parts}
 use Rattle.drf_tree.proofs.shape.Node.{live_within}
 use Rattle.drf_tree.proofs.tree.Tree.lines.Goals as goal
 
@@ -14,7 +14,7 @@ loop-node-preserved c =
     record {
       each = c.in_ok-put_line.ensures.each;
       every = λ i some live has.
-          elim (front_parts c.deref-node-items.result.now c.loop-node.node-index i c.loop-node-test.true some) [
+          elim (prefix_parts c.deref-node-items.result.now c.loop-node.node-index i c.loop-node-test.true some) [
             | inl before ↦
                 c.in_ok-put_line.ensures.stay (path_at places i) (c.loop-node.invariant.every i before live has)
             | inr last ↦

@@ -55,13 +55,13 @@ returns-clause-each c =
     let held = c.in_ok-held.held in
     let same = c.node_line.ensures.line
     ∙ (λ i. line_with (c.total.ensures i) sum.weight (c.in_ok-path.ensures i) held sum.count) in
-    let told : IsLineOf content c.node_line.result =
+    let reported : IsLineOf content c.node_line.result =
     subst (IsLineOf content) (sym same)
     (line_is content c.args.self.now c.requires.tree c.args.node c.in-Some.place.now at sum held c.sum-sum.ensures
     (omega (arith, c.if-sum-eq0.false)) c.node_line.ensures.in_order c.in_ok-held.ensures) in
     on_ok_weaker c.put.result
     (λ new. subst (AllByRecursion (IsLineOf content)) (sym new)
-    (each-with (IsLineOf content) c.args.lines.now c.node_line.result c.requires.each told))
+    (each-with (IsLineOf content) c.args.lines.now c.node_line.result c.requires.each reported))
     c.put.ensures.ok
 
 pub returns-clause-stay : goal.returns-clause-stay

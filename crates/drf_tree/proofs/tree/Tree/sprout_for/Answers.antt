@@ -1,12 +1,12 @@
 use Rattle.std.proofs.Common.{ap, subst, sym, ◌∙◌, OnOk}
 use Rattle.drf_tree.proofs.Names.{IsNodePath, Path, IsOneMore, has_node, ledger_content}
-use Rattle.drf_tree.proofs.growth.Grow.{front_right}
+use Rattle.drf_tree.proofs.growth.Grow.{prefix_right}
 use Rattle.drf_tree.proofs.tree.Tree.sprout_for.Goals as goal
 
 pub sprout-requires-clause-right : goal.sprout-requires-clause-right
 sprout-requires-clause-right c =
     subst IsNodePath (sym c.in_ok-node.ensures)
-    (front_right c.args.path.now c.args.len c.requires.right c.requires.some c.requires.within)
+    (prefix_right c.args.path.now c.args.len c.requires.right c.requires.some c.requires.within)
 
 pub returns-clause-tree : goal.returns-clause-tree
 returns-clause-tree c =

@@ -3,7 +3,7 @@ use Rattle.std.proofs.Common.{ap, arith, refl, subst, sym, ◌∙◌, ◌≡◌,
 use Rattle.std.proofs.lemmas.List.{drop_all, nil_from_length}
 use Rattle.std.proofs.lemmas.Option.{same_Some, slice_get_read}
 use Rattle.drf_tree.proofs.Names.{Path, Content, Family, Place, Tree, Frame, IsShapeOf, numbers_of, client_at, path_at, place_at, AreFrames, IsAtClient, IsSettled, frames_queue, IsTreeOf}
-use Rattle.drf_row_laws.proofs.EndingLaws.{split_at}
+use Rattle.drf_row_laws.proofs.ReleaseLaws.{split_at}
 use Rattle.drf_tree.proofs.shape.Node.{read_at}
 use Rattle.drf_tree.proofs.walk.Step.{first_is, frames_last, nobody_left, settled_last}
 use Rattle.drf_tree.proofs.walk.Walk.first.Goals as goal
@@ -21,27 +21,27 @@ module _ (tree : Tree) (shape : IsShapeOf tree) (frames : List Frame) (are : Are
     (family : Family) (read : family ≡ slice_index_or tree.families.items f.node family)
     (content : Content) (of : IsTreeOf content tree)
     (settled : IsSettled content tree.places.items tree.families.items frames) where
-  abbrev front : List Frame
-  front = take (length frames - 1) frames
+  abbrev prefix : List Frame
+  prefix = take (length frames - 1) frames
 
-  apart : frames ≡ front ++ f ∷ []
+  apart : frames ≡ prefix ++ f ∷ []
   apart = last_apart frames f some at
 
-  all : AreFrames tree.places.items (front ++ f ∷ [])
+  all : AreFrames tree.places.items (prefix ++ f ∷ [])
   all = subst (AreFrames tree.places.items) apart are
 
-  stands : IsSettled content tree.places.items tree.families.items (front ++ f ∷ [])
+  stands : IsSettled content tree.places.items tree.families.items (prefix ++ f ∷ [])
   stands = subst (IsSettled content tree.places.items tree.families.items) apart settled
 
   abbrev client : IsAtClient content tree.places.items tree.families.items f
-  client = settled_last content tree.places.items tree.families.items front f stands
+  client = settled_last content tree.places.items tree.families.items prefix f stands
 
   head : slice_get (frames_queue content tree frames) 0 ≡ Some (path_at tree.places.items client.node)
-  head = ap (λ (fs : List Frame). slice_get (frames_queue content tree fs) 0) apart ∙ first_is tree shape front f all content of stands
+  head = ap (λ (fs : List Frame). slice_get (frames_queue content tree fs) 0) apart ∙ first_is tree shape prefix f all content of stands
 
   number : (o : Option ℕ) → o ≡ slice_get (numbers_of family.children.items) f.next → o ≡ Some client.node
   number o is =
-      sym (read_at tree shape f.node f.next family (frames_last tree.places.items front f all).node read o is) ∙ client.next
+      sym (read_at tree shape f.node f.next family (frames_last tree.places.items prefix f all).node read o is) ∙ client.next
 
   -- the client at the position that was read
   shown : (i : ℕ) → Some i ≡ slice_get (numbers_of family.children.items) f.next → (o : Option Place)

@@ -14,16 +14,16 @@ pub record IsPassed (tree : Tree) (old new : List Frame) : Type 0 where
       → frames_queue content tree new ≡ drop 1 (frames_queue content tree old)
 
 module _ (tree : Tree) (shape : IsShapeOf tree) (old new : List Frame) (are : AreFrames tree.places.items old) where
-  moved : (front : List Frame) (f g : Frame) → old ≡ front ++ f ∷ [] → g ≡ onward f → new ≡ front ++ g ∷ []
+  moved : (prefix : List Frame) (f g : Frame) → old ≡ prefix ++ f ∷ [] → g ≡ onward f → new ≡ prefix ++ g ∷ []
       → IsPassed tree old new
-  moved front f g old_is g_is new_is =
-      let all : AreFrames tree.places.items (front ++ f ∷ []) = subst (AreFrames tree.places.items) old_is are in
-      let made : new ≡ front ++ onward f ∷ [] = new_is ∙ ap (λ (h : Frame). front ++ h ∷ []) g_is in
+  moved prefix f g old_is g_is new_is =
+      let all : AreFrames tree.places.items (prefix ++ f ∷ []) = subst (AreFrames tree.places.items) old_is are in
+      let made : new ≡ prefix ++ onward f ∷ [] = new_is ∙ ap (λ (h : Frame). prefix ++ h ∷ []) g_is in
       record {
-        frames = subst (AreFrames tree.places.items) (sym made) (frames_onward tree.places.items front f all);
+        frames = subst (AreFrames tree.places.items) (sym made) (frames_onward tree.places.items prefix f all);
         queue = λ content of settled.
             ap (frames_queue content tree) made
-            ∙ passed_on tree shape front f all content of
+            ∙ passed_on tree shape prefix f all content of
             (subst (IsSettled content tree.places.items tree.families.items) old_is settled)
             ∙ ap (λ (fs : List Frame). drop 1 (frames_queue content tree fs)) (sym old_is);
       }

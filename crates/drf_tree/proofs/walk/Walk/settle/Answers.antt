@@ -5,35 +5,35 @@ use Rattle.drf_tree.proofs.walk.Step.{IsStep, settled_at, step_down, step_end, s
 use Rattle.drf_tree.proofs.walk.Walk.settle.Goals as goal
 
 -- one step of the walk, for the lists in the code
-module _ (tree : Tree) (shape : IsShapeOf tree) (old front : List Frame) (f : Frame) (old_is : old ≡ front ++ f ∷ [])
+module _ (tree : Tree) (shape : IsShapeOf tree) (old prefix : List Frame) (f : Frame) (old_is : old ≡ prefix ++ f ∷ [])
     (are : AreFrames tree.places.items old) where
-  all : AreFrames tree.places.items (front ++ f ∷ [])
+  all : AreFrames tree.places.items (prefix ++ f ∷ [])
   all = subst (AreFrames tree.places.items) old_is are
 
-  between : (new new' : List Frame) → new ≡ new' → IsStep tree (front ++ f ∷ []) new' → IsStep tree old new
+  between : (new new' : List Frame) → new ≡ new' → IsStep tree (prefix ++ f ∷ []) new' → IsStep tree old new
   between new new' new_is step =
-      subst (λ (fs : List Frame). IsStep tree fs new) (sym old_is) (subst (IsStep tree (front ++ f ∷ [])) (sym new_is) step)
+      subst (λ (fs : List Frame). IsStep tree fs new) (sym old_is) (subst (IsStep tree (prefix ++ f ∷ [])) (sym new_is) step)
 
-  ended : IsNext tree f End → IsStep tree old front
-  ended next = subst (λ (fs : List Frame). IsStep tree fs front) (sym old_is) (step_end tree shape front f all next)
+  ended : IsNext tree f End → IsStep tree old prefix
+  ended next = subst (λ (fs : List Frame). IsStep tree fs prefix) (sym old_is) (step_end tree shape prefix f all next)
 
-  passed : (new : List Frame) (g : Frame) → g ≡ onward f → new ≡ front ++ g ∷ [] → IsNext tree f Nobody → IsStep tree old new
+  passed : (new : List Frame) (g : Frame) → g ≡ onward f → new ≡ prefix ++ g ∷ [] → IsNext tree f Nobody → IsStep tree old new
   passed new g moved new_is next =
-      between new (front ++ onward f ∷ []) (new_is ∙ ap (λ (h : Frame). front ++ h ∷ []) moved)
-      (step_nobody tree shape front f all next)
+      between new (prefix ++ onward f ∷ []) (new_is ∙ ap (λ (h : Frame). prefix ++ h ∷ []) moved)
+      (step_nobody tree shape prefix f all next)
 
-  entered : (new mid : List Frame) (g : Frame) (i : ℕ) → g ≡ onward f → mid ≡ front ++ g ∷ []
+  entered : (new mid : List Frame) (g : Frame) (i : ℕ) → g ≡ onward f → mid ≡ prefix ++ g ∷ []
       → new ≡ mid ++ record { node = i; next = 0 } ∷ [] → IsNext tree f (Node i) → IsStep tree old new
   entered new mid g i moved mid_is new_is next =
-      between new ((front ++ onward f ∷ []) ++ record { node = i; next = 0 } ∷ [])
+      between new ((prefix ++ onward f ∷ []) ++ record { node = i; next = 0 } ∷ [])
       (new_is ∙ ap (λ (fs : List Frame). fs ++ record { node = i; next = 0 } ∷ [])
-      (mid_is ∙ ap (λ (h : Frame). front ++ h ∷ []) moved))
-      (step_down tree shape front f all i next)
+      (mid_is ∙ ap (λ (h : Frame). prefix ++ h ∷ []) moved))
+      (step_down tree shape prefix f all i next)
 
-  stood : (new : List Frame) → new ≡ front ++ f ∷ [] → IsNext tree f Client → (content : Content) → IsTreeOf content tree
+  stood : (new : List Frame) → new ≡ prefix ++ f ∷ [] → IsNext tree f Client → (content : Content) → IsTreeOf content tree
       → IsSettled content tree.places.items tree.families.items new
   stood new new_is next content of =
-      subst (IsSettled content tree.places.items tree.families.items) (sym new_is) (settled_at tree shape front f all next content of)
+      subst (IsSettled content tree.places.items tree.families.items) (sym new_is) (settled_at tree shape prefix f all next content of)
 
 pub loop-frame-smaller-in-End : goal.loop-frame-smaller-in-End
 loop-frame-smaller-in-End c =

@@ -2,7 +2,7 @@ use Rattle.std.proofs.Common.{◌≡◌, ◌+◌, ◌==◌, ℕ, List, true, fal
 use Rattle.std.proofs.lemmas.Bool.Decides.{nat_tests}
 use Rattle.std.proofs.lemmas.List.{get_or_default, length-take}
 use Rattle.drf_gates.specs.filters.Index.{buckets_in}
-use Rattle.drf_gates.proofs.filters.Held.{tidy-gap, tidy-next}
+use Rattle.drf_gates.proofs.filters.Held.{tidy-free_slot, tidy-next}
 use Rattle.drf_gates.proofs.filters.index.Index.chain.Goals as goal
 
 pub set_before-requires-clause-before : goal.set_before-requires-clause-before
@@ -17,8 +17,8 @@ set_before-requires-clause-before c =
 pub returns-then-link-clause-chained : goal.returns-then-link-clause-chained
 returns-then-link-clause-chained c =
     let index = c.args.self.now in
-    let gap : (c.link-link.result.before == 18446744073709551615) ≡ true = grind (arith, nat_tests, c.if-link.true) in
-    tidy-gap index c.args.place c.link-link.result c.requires.chained c.requires.within c.link-link.ensures.hash gap
+    let free_slot : (c.link-link.result.before == 18446744073709551615) ≡ true = grind (arith, nat_tests, c.if-link.true) in
+    tidy-free_slot index c.args.place c.link-link.result c.requires.chained c.requires.within c.link-link.ensures.hash free_slot
 
 pub returns-clause-chained : goal.returns-clause-chained
 returns-clause-chained c =

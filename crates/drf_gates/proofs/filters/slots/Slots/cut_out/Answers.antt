@@ -1,7 +1,7 @@
 use Rattle.std.proofs.Common.{◌≡◌, ◌-◌, Option, None, length, set, sym, ap, ◌∙◌, arith}
 use Rattle.drf_rows.specs.declared.rows.FilterRow.{FilterRow}
 use Rattle.drf_hash.specs.Slots.{filled}
-use Rattle.drf_gates.proofs.filters.Gaps.{taken-one}
+use Rattle.drf_gates.proofs.filters.FreeSlots.{taken-one}
 use Rattle.drf_gates.proofs.filters.Held.{marks-without}
 use Rattle.drf_gates.proofs.filters.slots.Slots.cut_out.Goals as goal
 

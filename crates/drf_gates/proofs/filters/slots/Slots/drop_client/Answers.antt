@@ -6,7 +6,7 @@ use Rattle.drf_gates.specs.filters.Index.{befores, client_hash, hash_bucket}
 use Rattle.drf_gates.specs.filters.Slots.{slot_passes}
 use Rattle.drf_gates.specs.declared.filters.slots.Slots.{Slots}
 use Rattle.drf_gates.specs.declared.filters.index.Key.TheVariants.{Client as ByClient}
-use Rattle.drf_gates.proofs.filters.Gaps.{no_slot}
+use Rattle.drf_gates.proofs.filters.FreeSlots.{no_slot}
 use Rattle.drf_gates.proofs.filters.Held.{IsRevived, of_client_hash, revived-more, walk-start, walk-less}
 use Rattle.drf_gates.proofs.filters.slots.Slots.drop_client.Goals as goal
 

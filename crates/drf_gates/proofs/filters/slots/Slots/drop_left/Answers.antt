@@ -23,6 +23,6 @@ loop-place-preserved c =
 
 pub returns-clause-others : goal.returns-clause-others
 returns-clause-others c =
-    c.close_gaps_if_many.ensures.same
+    c.close_free_slots_if_many.ensures.same
     ∙ c.chain_if_many.ensures.same
     ∙ swept-all (is_of_left c.args.framework.now c.args.roles.now) c.args.self.now c.loop-place.self c.loop-place.place c.loop-place.few (omega (arith, c.loop-place-test.false, c.len-place-end.ensures)) c.loop-place.invariant

@@ -5,7 +5,7 @@ use Rattle.drf_bundle.specs.Bundle.{IsBundle}
 use Rattle.drf_bundle.specs.declared.resource.Resource.{Resource}
 use Rattle.drf_rows.specs.Quota.{reserved_in}
 use Rattle.drf_gates.specs.quota.Allowance.{IsRaisedBy, Usage, used_where}
-use Rattle.drf_gates.proofs.quota.Resources.{front_back, front_fits, used_fits, used_more, resource_at}
+use Rattle.drf_gates.proofs.quota.Resources.{prefix_back, prefix_fits, used_fits, used_more, resource_at}
 use Rattle.drf_gates.proofs.quota.consumption.Consumption.consume_reserved.Goals as goal
 
 pub consume_resource-requires-clause-right : goal.consume_resource-requires-clause-right
@@ -29,7 +29,7 @@ release_each-requires-clause-fits c = λ role label.
     omega (
       arith,
       ap (λ (rs : List Resource). reserved_in (same_path role) label (take c.loop-place.place rs)) c.entries-resources.ensures.value,
-      front_fits c.args.total.now c.args.self.now c.loop-place.self c.loop-place.place c.loop-place.invariant (same_path role) label,
+      prefix_fits c.args.total.now c.args.self.now c.loop-place.self c.loop-place.place c.loop-place.invariant (same_path role) label,
       ap (λ (us : List Usage). used_where (same_path role) us label) c.in-Err.ensures.err,
     )
 
@@ -45,7 +45,7 @@ loop-place-preserved c =
 
 pub returns-in-Err-clause-err : goal.returns-in-Err-clause-err
 returns-in-Err-clause-err c =
-    front_back c.args.total.now c.args.self.now c.loop-place.self c.loop-place.place c.loop-place.invariant c.release_each.new.self
+    prefix_back c.args.total.now c.args.self.now c.loop-place.self c.loop-place.place c.loop-place.invariant c.release_each.new.self
     (subst (λ (us : List Usage). IsRaisedBy c.release_each.new.self us (λ test label. reserved_in test label (take c.loop-place.place c.args.total.now)))
     c.in-Err.ensures.err
     (subst (λ (rs : List Resource). IsRaisedBy c.release_each.new.self c.consume_resource.new.self

@@ -1,7 +1,7 @@
 use Rattle.std.proofs.Common.{List, [], sym, ap, ◌∙◌}
 use Rattle.drf_rows.specs.declared.rows.LimitRow.{LimitRow}
-use Rattle.drf_gates.specs.quota.Front.{limits_at}
-use Rattle.drf_gates.proofs.quota.Front.{none_at}
+use Rattle.drf_gates.specs.quota.Prefix.{limits_at}
+use Rattle.drf_gates.proofs.quota.Prefix.{none_at}
 use Rattle.drf_gates.proofs.quota.limits.QuotaLimits.recall.Goals as goal
 
 pub returns : goal.returns

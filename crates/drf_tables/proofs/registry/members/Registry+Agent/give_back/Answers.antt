@@ -4,7 +4,7 @@ use Rattle.drf_role.specs.TextLaws.{test_from_same}
 use Rattle.drf_tables.proofs.tables.Names.{Resource, each_at, filled, Text, same_text, changed, Registered, Agent}
 use Rattle.drf_tables.specs.registry.Changing.{freed, CanGiveBack, CanTakeBack}
 use Rattle.drf_tables.proofs.registry.Changes.{IsRewritten, rewritten, unchanged_slots}
-use Rattle.drf_tables.proofs.registry.Slots.{Entry, IsFound, filled_at, found_in, named_at, no_gap, read_slot}
+use Rattle.drf_tables.proofs.registry.Slots.{Entry, IsFound, filled_at, found_in, named_at, no_free_slot, read_slot}
 use Rattle.drf_tables.proofs.registry.members.Registry+Agent.give_back.Goals.{In-Some, In-Some-index}
 use Rattle.drf_tables.proofs.registry.members.Registry+Agent.give_back.Goals as goal
 
@@ -27,7 +27,7 @@ index-requires c = omega (arith, (here_at (goal.at.index-requires c).In-Some).he
 pub returns-in_default-index : goal.returns-in_default-index
 returns-in_default-index c =
     let here = (here_at (goal.at.returns-in_default-index c).In-Some).here in
-    absurd (no_gap c.self.inside.slots.items c.in-Some.place.now c.index.result.now here.entry here.below c.index.ensures here.there c.in_default-index.is)
+    absurd (no_free_slot c.self.inside.slots.items c.in-Some.place.now c.index.result.now here.entry here.below c.index.ensures here.there c.in_default-index.is)
 
 there_at : (c : In-Some-index) → IsFound c.args.name.now c.self.inside.slots.items c.in-Some.place.now
     → get_or c.self.inside.slots.items c.in-Some.place.now None ≡ Some c.in-Some-index.entry

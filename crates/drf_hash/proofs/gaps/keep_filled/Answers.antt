@@ -1,7 +1,0 @@
-use Rattle.std.proofs.Common.{is_some, rules, ◌∙◌}
-use Rattle.std.proofs.lemmas.Fn.{filter_same}
-use Rattle.drf_hash.proofs.GapLaws.{keep-some}
-use Rattle.drf_hash.proofs.gaps.keep_filled.Goals as goal
-
-pub returns : goal.returns
-returns g c = filter_same _ (λ s. is_some s) _ (λ x b f k. search rules) _ _ c.retain.ensures.filtered ∙ keep-some c.args.slots.now.items

@@ -1,9 +1,0 @@
-use Rattle.std.proofs.Common.{subst, sym}
-use Rattle.drf_sorter.specs.Passed.{IsPassedFront}
-use Rattle.drf_sorter.proofs.laws.PassedLaws.{one_is_front}
-use Rattle.drf_sorter.proofs.sorter.Sorter.pass_front.Goals as goal
-
-pub returns-clause-queue : goal.returns-clause-queue
-returns-clause-queue g c =
-    let old = g.Self.Sorter.queue c.args.self.now in
-    subst (IsPassedFront c.args.len old) (sym c.pass.ensures.queue) (one_is_front c.args.len old)

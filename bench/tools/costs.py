@@ -4,8 +4,8 @@ the memory of the proof, the processor seconds of mutants and of builds, and whe
 
     bench/tools/costs.py [--out FILE] COMMAND..
 
-It looks at the processes of the prover twice a second, and changes nothing. A process that ends is counted as it was seen last, so the sum is a little low;
-what `rt ci` took from an earlier run costs nothing, and is not in the table."""
+It looks twice a second at the processes of the prover that the command started, and changes nothing. A process that ends is counted as it was seen last, so
+the sum is a little low. What `rt ci` took from an earlier run costs nothing, and is not in the table."""
 import collections
 import os
 import subprocess
@@ -24,12 +24,24 @@ class Check:
         self.crate, self.work, self.seconds, self.megabytes = crate, work, 0.0, 0
 
 
-def look(checks):
-    """Updates the checks by the processes that run now."""
+def is_below(number, top):
+    """Returns whether a process was started by the process `top`, or by one that it started."""
+    while number > 1:
+        if number == top:
+            return True
+        try:
+            number = int(open(f"/proc/{number}/stat").read().rsplit(")", 1)[1].split()[1])
+        except (OSError, IndexError):
+            return False
+    return False
+
+
+def look(checks, top):
+    """Updates the checks by the processes of the command that run now."""
     for number in filter(str.isdigit, os.listdir("/proc")):
         try:
             words = open(f"/proc/{number}/cmdline", "rb").read().decode(errors="replace").split("\0")
-            if os.path.basename(words[0]) != "rattle" or "--crate-name" not in words:
+            if os.path.basename(words[0]) != "rattle" or "--crate-name" not in words or not is_below(int(number), top):
                 continue
             fields = open(f"/proc/{number}/stat").read().rsplit(")", 1)[1].split()
             peak = [line for line in open(f"/proc/{number}/status") if line.startswith("VmHWM")]
@@ -102,7 +114,7 @@ def main(words):
         sys.exit(__doc__)
     checks, ran = {}, subprocess.Popen(words)
     while ran.poll() is None:
-        look(checks)
+        look(checks, ran.pid)
         time.sleep(PAUSE)
     text = table(checks)
     print(text)

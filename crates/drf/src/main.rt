@@ -2,7 +2,7 @@
 #![tactic(auto)]
 
 use drf_app::{command, report_no_arguments};
-use drf_files::{SystemFiles, random_key};
+use drf_journal::{SystemFiles, random_key};
 use drf_journal::Device;
 use std::env::Env;
 use std::process::ExitCode;

@@ -3,3 +3,7 @@ mod Entered
 mod Flushed
 mod Started
 mod Bounds
+pub mod Live
+pub mod Wrote
+pub mod Feeds
+pub mod Left

@@ -1,7 +1,7 @@
 -- Lemmas about the allocator that a task starts from, as callers see it.
 use Rattle.std.specs.Prelude.{◌≡◌, ℕ, List, Ok}
 use Rattle.drf_core.specs.Machine.{Engine, IsOpened, live, opened}
-use Rattle.drf_files.specs.Files.{Known, MayHave}
+use Rattle.drf_journal.specs.Files.{Known, MayHave}
 use Rattle.drf_rows.specs.LimitNumbers.{ceilings}
 use Rattle.drf_state.specs.Reading.{IsReadState}
 use Rattle.std.proofs.Common.{ap, sym, ◌∙◌}

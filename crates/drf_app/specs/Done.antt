@@ -8,7 +8,7 @@ use Rattle.drf_core.specs.Machine.{Machine}
 use Rattle.drf_drive.specs.Driven.{HasDrivenFiles}
 use Rattle.drf_drive.specs.JournalText.{is_write_fault}
 use Rattle.drf_drive.specs.declared.script.ScriptFault.{ScriptFault}
-use Rattle.drf_files.specs.Files.{Known}
+use Rattle.drf_journal.specs.Files.{Known}
 use Rattle.drf_journal.specs.Audited.{HasAudited, HasReportedOfRows, cycle_text}
 use Rattle.drf_journal.specs.Ended.{HasAnswered, HasCause}
 use Rattle.drf_journal.specs.declared.fault.RunFault.{RunFault}
@@ -17,11 +17,11 @@ use Rattle.drf_rows.specs.declared.rows.Rows.{Rows}
 use Rattle.drf_show.specs.Showing.{HasShown as HasShownRows}
 use Rattle.drf_show.specs.declared.form.Form.{Form}
 use Rattle.drf_show.specs.declared.form.Form.TheVariants.{Aligned, Json}
-use Rattle.drf_resume.specs.Saving.{HasSaved as HasSavedState}
+use Rattle.drf_app.specs.Saving.{HasSaved as HasSavedState}
 use Rattle.drf_app.specs.Starts.{HasNotStarted, IsStart}
 use Rattle.drf_app.specs.Refused.{HasRefused}
 use Rattle.drf_app.specs.Streams.{Streams}
-use Rattle.drf_app.specs.Told.{IsReported, IsReportedOf, status_of}
+use Rattle.drf_app.specs.Reported.{IsReported, IsReportedOf, status_of}
 use Rattle.drf_why.specs.Asked.{asked_text, summed_text}
 use Rattle.drf_app.specs.Drives.{HasReportedDrive}
 use Rattle.drf_app.specs.Line.{Asks, AsksDrive, Drive, IsRefused, drive_of}

@@ -4,7 +4,7 @@ use Rattle.drf_drive.specs.declared.script.BadLine.{BadLine}
 use Rattle.drf_drive.specs.declared.script.ScriptFault.{ScriptFault}
 use Rattle.drf_drive.specs.declared.script.ScriptFault.TheVariants.{Run, Unread, Line, Close}
 use Rattle.drf_lines.specs.Fault.{fault_name, fault_number}
-use Rattle.drf_app.specs.Told.{HasReportedLine, HasReportedUnread, IsReported, fault_line, refused_line}
+use Rattle.drf_app.specs.Reported.{HasReportedLine, HasReportedUnread, IsReported, fault_line, refused_line}
 
 -- the name of the file at this index
 abbrev pub name_at : List (List ℕ) → ℕ → List ℕ

@@ -1,7 +1,7 @@
 -- What the command line does, as its contracts describe it.
 pub mod Arguments
 pub mod FileNames
-pub mod Told
+pub mod Reported
 pub mod Streams
 pub mod Refused
 pub mod Starts
@@ -10,3 +10,5 @@ pub mod Verdicts
 pub mod Lints
 pub mod Drives
 pub mod Done
+pub mod Saving
+pub mod ResumeLaws

@@ -5,7 +5,7 @@ use Rattle.drf_journal.specs.Ended.{HasCause}
 use Rattle.drf_journal.specs.declared.fault.RunFault.{RunFault}
 use Rattle.drf_lint.specs.Linted.{HasLinted}
 use Rattle.drf_app.specs.Streams.{Stream, Streams}
-use Rattle.drf_app.specs.Told.{IsReported, fault_line}
+use Rattle.drf_app.specs.Reported.{IsReported, fault_line}
 
 -- 0 if all lines are events, 3 if some are not, 1 after an error
 abbrev pub lint_status : Result ℕ RunFault → ℕ

@@ -5,7 +5,7 @@ use Rattle.clap.specs.declared.error.kind.ErrorKind.TheVariants.{OutOfMemory, Di
 use Rattle.drf_journal.specs.declared.fault.RunFault.{RunFault}
 use Rattle.drf_journal.specs.declared.fault.RunFault.TheVariants.{Write, Memory}
 use Rattle.drf_app.specs.Streams.{Streams}
-use Rattle.drf_app.specs.Told.{IsReported, IsReportedOf, fault_line, status_of}
+use Rattle.drf_app.specs.Reported.{IsReported, IsReportedOf, fault_line, status_of}
 
 -- memory ran out before anything was written
 pub record HasNoMemory (old new : Streams) (answer : ℕ) : Type 0 where

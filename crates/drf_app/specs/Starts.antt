@@ -1,7 +1,7 @@
 -- The state that a task starts from, and why it could not start.
 use Rattle.std.specs.Prelude.{◌≡◌, ℕ, Bool, List, [], Option, Some, None, Ok, Err, unwrap_or}
 use Rattle.drf_core.specs.Machine.{Machine, opened}
-use Rattle.drf_files.specs.Files.{Known, IsFileFault, MayHave}
+use Rattle.drf_journal.specs.Files.{Known, IsFileFault, MayHave}
 use Rattle.drf_journal.specs.declared.fault.RunFault.TheVariants.{Memory}
 use Rattle.drf_rows.specs.LimitNumbers.{ceilings}
 use Rattle.drf_state.specs.Fault.{state_fault_name, state_fault_number}
@@ -10,7 +10,7 @@ use Rattle.drf_state.specs.declared.fault.StateError.{StateError}
 use Rattle.drf_state.specs.declared.fault.StateError.TheVariants as error
 use Rattle.drf_state.specs.declared.fault.StateFault.{StateFault}
 use Rattle.drf_app.specs.Streams.{Streams}
-use Rattle.drf_app.specs.Told.{HasReportedFile, HasReportedLine, refused_line}
+use Rattle.drf_app.specs.Reported.{HasReportedFile, HasReportedLine, refused_line}
 use Rattle.drf_app.specs.declared.start.StartFault.{StartFault}
 use Rattle.drf_app.specs.declared.start.StartFault.TheVariants.{Run, Line}
 

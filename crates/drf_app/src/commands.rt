@@ -6,8 +6,7 @@ ghost use Rattle.drf_app.specs.Streams.{stream_of};
 
 use crate::drive::drive;
 use crate::tasks::perform;
-use drf_files::FileBytes;
-use drf_journal::Device;
+use drf_journal::{Device, FileBytes};
 use std::alloc::Global;
 use std::convert::AsStr;
 use std::io::{Read, Write};

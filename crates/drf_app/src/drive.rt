@@ -3,7 +3,7 @@ ghost use Rattle.std.specs.Prelude.{◌≡◌, ◌≤◌, true, false, length, m
 ghost use Rattle.drf_core.specs.Machine.{live};
 ghost use Rattle.drf_rows.specs.LimitNumbers.{ceilings};
 ghost use Rattle.drf_app.specs.Streams.{Stream, stream_of};
-ghost use Rattle.drf_app.specs.Told.{HasReportedUnread};
+ghost use Rattle.drf_app.specs.Reported.{HasReportedUnread};
 ghost use Rattle.clap.specs.Words.{found_of, rows_of};
 ghost use Rattle.drf_app.specs.Done.{HasDoneDrive, HasDriven, HasObeyed};
 ghost use Rattle.drf_app.specs.Line.{AsksDrive, drive_of};
@@ -19,8 +19,7 @@ use crate::unread::report_file;
 use clap::ArgMatches;
 use drf_core::Core;
 use drf_drive::{ScriptFault, run_drive};
-use drf_files::FileBytes;
-use drf_journal::{Device, ProgramSorter, RunFault};
+use drf_journal::{Device, FileBytes, ProgramSorter, RunFault};
 use drf_rows::Limits;
 use std::alloc::Global;
 use std::convert::AsStr;

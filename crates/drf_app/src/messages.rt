@@ -2,7 +2,7 @@
 ghost use Rattle.std.specs.Prelude.{◌≡◌, false, Err};
 ghost use Rattle.drf_journal.specs.declared.fault.RunFault.{RunFault};
 ghost use Rattle.std.specs.IoError.{error_kind};
-ghost use Rattle.drf_app.specs.Told.{fault_line, no_text_line, status_of, IsReported, IsReportedOf};
+ghost use Rattle.drf_app.specs.Reported.{fault_line, no_text_line, status_of, IsReported, IsReportedOf};
 
 use drf_journal::{Device, RunFault, write_whole};
 use std::io;

@@ -1,6 +1,6 @@
 //! The report of a wrong line in a file.
 ghost use Rattle.std.specs.Prelude.{◌≡◌, ◌∷◌, ◌++◌, [], false, OnOk, IfOk, codes, decimal};
-ghost use Rattle.drf_app.specs.Told.{HasReportedLine, refused_line};
+ghost use Rattle.drf_app.specs.Reported.{HasReportedLine, refused_line};
 
 use crate::file_name::push_name;
 use crate::messages::{finish, report_bytes};

@@ -1,6 +1,6 @@
 //! The report of a file that cannot be read.
 ghost use Rattle.std.specs.Prelude.{◌≡◌, false, IfOk};
-ghost use Rattle.drf_app.specs.Told.{HasReportedFile, HasReportedUnread, unread_line};
+ghost use Rattle.drf_app.specs.Reported.{HasReportedFile, HasReportedUnread, unread_line};
 
 use crate::file_name::push_name;
 use crate::messages::{finish, report_bytes};

@@ -5,11 +5,11 @@ use Rattle.drf_rows.specs.declared.reply.Refusal.TheVariants.{UnknownAgent, Know
 use Rattle.drf_rows.specs.declared.reply.Reply.TheVariants.{Done, Refused}
 use Rattle.drf_worked.specs.Examples.{cpus, mem, gpus, framework_in, offer}
 use Rattle.drf_worked.specs.LifeExamples.{one}
-use Rattle.drf_cases.specs.Told.{Told, too_large}
+use Rattle.drf_cases.specs.Dialogue.{Dialogue, too_large}
 
 -- an agent registers, is activated and deactivated (each also twice), gets another total, and is removed with its offer
-abbrev pub agents_reported : Told
-agents_reported =
+abbrev pub agents_dialogue : Dialogue
+agents_dialogue =
     (RemoveAgent (codes "n1"), Refused UnknownAgent)
     ∷ (ActivateAgent (codes "n1"), Refused UnknownAgent)
     ∷ (DeactivateAgent (codes "n1"), Refused UnknownAgent)

@@ -8,7 +8,7 @@ use Rattle.drf_rows.specs.declared.reply.Reply.TheVariants.{Done, Refused}
 use Rattle.drf_worked.specs.Examples.{cpus, framework_in, offer}
 use Rattle.drf_worked.specs.LifeExamples.{one, accept}
 use Rattle.drf_worked.specs.OrderExamples.{role_a, role_b}
-use Rattle.drf_cases.specs.Told.{Told}
+use Rattle.drf_cases.specs.Dialogue.{Dialogue}
 
 abbrev role_c : Path
 role_c = codes "c" ∷ []
@@ -18,8 +18,8 @@ role_d = codes "d" ∷ []
 
 -- a framework registers, is suppressed and revived (each also twice), and is removed; the capacities for roles,
 -- frameworks and clients are each exceeded alone
-abbrev pub frameworks_reported : Told
-frameworks_reported =
+abbrev pub frameworks_dialogue : Dialogue
+frameworks_dialogue =
     (RemoveFramework (codes "f1"), Refused UnknownFramework)
     ∷ (Suppress (codes "f1") role_a, Refused UnknownFramework)
     ∷ (Revive (codes "f1") role_a, Refused UnknownFramework)
@@ -49,8 +49,8 @@ frameworks_reported =
 abbrev roles_set : List Path → Event
 roles_set roles = SetFramework (codes "f1") roles
 
-abbrev pub set_framework_reported : Told
-set_framework_reported =
+abbrev pub set_framework_dialogue : Dialogue
+set_framework_dialogue =
     (roles_set (role_a ∷ []), Refused UnknownFramework)
     ∷ (framework_in (codes "f1") (codes "a"), Done)
     ∷ (roles_set [], Refused Empty)

@@ -9,7 +9,7 @@ use Rattle.drf_rows.specs.declared.reply.Refusal.TheVariants.{HistoryFull}
 use Rattle.drf_rows.specs.declared.reply.Reply.TheVariants.{Done, Refused}
 use Rattle.drf_rows.specs.declared.rows.Rows.{Rows}
 use Rattle.drf_worked.specs.Examples.{cpus}
-use Rattle.drf_cases.specs.Told.{Told, few, too_late}
+use Rattle.drf_cases.specs.Dialogue.{Dialogue, few, too_late}
 
 abbrev pub FullRefusesAll : Type 0
 FullRefusesAll =
@@ -20,8 +20,8 @@ abbrev pub one_event : LimitNumbers
 one_event = record few { events = 1 }
 
 -- an event that would be accepted, one that is wrong in another way too, and the first event again
-abbrev pub full_reported : Told
-full_reported =
+abbrev pub full_dialogue : Dialogue
+full_dialogue =
     (AddAgent (codes "n1") (cpus 1000 ∷ []), Done)
     ∷ (event.Report, Refused HistoryFull)
     ∷ (Cycle too_late, Refused HistoryFull)

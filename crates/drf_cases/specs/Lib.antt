@@ -1,5 +1,5 @@
 -- Runs with the expected replies, which contain each refusal.
-pub mod Told
+pub mod Dialogue
 pub mod AgentCases
 pub mod FrameworkCases
 pub mod OfferCases

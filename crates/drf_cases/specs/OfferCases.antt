@@ -5,10 +5,10 @@ use Rattle.drf_rows.specs.declared.reply.Refusal.TheVariants.{BadMoment, Unknown
 use Rattle.drf_rows.specs.declared.reply.Reply.TheVariants.{Done, Offers, Refused}
 use Rattle.drf_worked.specs.Examples.{cpus, mem, framework_in, offer}
 use Rattle.drf_worked.specs.LifeExamples.{one, accept, accept_for, decline, decline_for}
-use Rattle.drf_cases.specs.Told.{Told, too_late}
+use Rattle.drf_cases.specs.Dialogue.{Dialogue, too_late}
 
 -- two frameworks have an offer each
-abbrev two_offers : Told
+abbrev two_offers : Dialogue
 two_offers =
     (AddAgent (codes "n1") (cpus 2000 ∷ mem 64000 ∷ []), Done)
     ∷ (AddAgent (codes "n2") (cpus 1000 ∷ []), Done)
@@ -29,8 +29,8 @@ all_there_is = 18446744073709551615
 
 -- an offer is accepted, what is left is offered and accepted as a whole, an offer is declined, and a task finishes;
 -- while there are too many filters, accepts and declines that set none are accepted
-abbrev pub offers_reported : Told
-offers_reported =
+abbrev pub offers_dialogue : Dialogue
+offers_dialogue =
     two_offers
     ++ (Cycle too_late, Refused BadMoment)
     ∷ (accept_for (codes "f1") 1 ((codes "t", cpus 1000 ∷ []) ∷ []) too_late 0, Refused BadMoment)

@@ -31,8 +31,8 @@ every_refusal =
     ∷ []
 
 -- their numbers and names in the definition
-abbrev pub refusals_reported : List (ℕ × Text)
-refusals_reported = map (λ r. (refusal_number r, refusal_name r)) every_refusal
+abbrev pub refusals_dialogue : List (ℕ × Text)
+refusals_dialogue = map (λ r. (refusal_number r, refusal_name r)) every_refusal
 
 -- their numbers and names in the documents
 abbrev pub refusals_documented : List (ℕ × Text)

@@ -9,11 +9,11 @@ use Rattle.drf_worked.specs.Examples.{cpus, cpus_for}
 use Rattle.drf_worked.specs.OrderExamples.{eng, ops, role_a, role_b}
 use Rattle.drf_worked.specs.QuotaExamples.{cpus_limit}
 use Rattle.drf_worked.specs.ReportExamples.{reported_cpus}
-use Rattle.drf_cases.specs.Told.{Told}
+use Rattle.drf_cases.specs.Dialogue.{Dialogue}
 
 -- a part of an inactive agent is reserved and unreserved
-abbrev pub reservations_reported : Told
-reservations_reported =
+abbrev pub reservations_dialogue : Dialogue
+reservations_dialogue =
     (Reserve (codes "n1") eng (cpus 1000 ∷ []), Refused UnknownAgent)
     ∷ (Unreserve (codes "n1") eng (cpus 1000 ∷ []), Refused UnknownAgent)
     ∷ (AddAgent (codes "n1") (cpus 2000 ∷ []), Done)
@@ -40,8 +40,8 @@ abbrev three_scalars : List Entry
 three_scalars = reported_cpus 0 ++ record { label = codes "gpus"; amount = 0 } ∷ record { label = codes "mem"; amount = 0 } ∷ []
 
 -- one role has a weight, which is replaced, and one has a limit, which is replaced and removed
-abbrev pub roles_reported : Told
-roles_reported =
+abbrev pub roles_dialogue : Dialogue
+roles_dialogue =
     (SetWeight role_a 0, Refused BadWeight)
     ∷ (SetWeight role_a 1000001, Refused BadWeight)
     ∷ (SetWeight role_a 1000000, Done)

@@ -5,7 +5,7 @@ use Rattle.std.proofs.lemmas.List.{map-append}
 use Rattle.std.specs.Global.{Vec}
 use Rattle.drf_journal.specs.declared.fault.RunFault.{RunFault}
 use Rattle.drf_journal.specs.declared.fault.RunFault.TheVariants.{Read, Write, Memory}
-use Rattle.drf_files.specs.Files.{Known, IsFileFault, MayHave}
+use Rattle.drf_journal.specs.Files.{Known, IsFileFault, MayHave}
 use Rattle.drf_drive.specs.Files.{AreContents, IsUnread, bytes_of, fault_of}
 
 -- ---- a list up to an element

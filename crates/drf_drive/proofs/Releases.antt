@@ -25,7 +25,7 @@ use Rattle.drf_rows.specs.declared.event.Event.{Event}
 use Rattle.drf_rows.specs.declared.rows.Rows.{Rows}
 use Rattle.drf_row_laws.proofs.LiveLaws.{live_rows-twice}
 use Rattle.drf_drive.specs.Driven.{HasDrivenFiles, HasMisfit, IsHandedOn, IsJournalOfFiles, IsRunFault, IsShuffleOf, IsTellable, IsReportedAs, IsReportedUnfit}
-use Rattle.drf_files.specs.Files.{Known}
+use Rattle.drf_journal.specs.Files.{Known}
 use Rattle.drf_drive.specs.JournalText.{IsCutOff, journal_text}
 use Rattle.drf_drive.specs.Scripts.{HasScripts}
 use Rattle.drf_drive.specs.declared.script.Misfit.{Misfit}

@@ -19,7 +19,7 @@ use Rattle.drf_rows.specs.LimitNumbers.{LimitNumbers}
 use Rattle.drf_rows.specs.declared.event.Event.{Event}
 use Rattle.drf_rows.specs.declared.reply.Reply.{Reply}
 use Rattle.drf_rows.specs.declared.rows.Rows.{Rows}
-use Rattle.drf_files.specs.Files.{Known}
+use Rattle.drf_journal.specs.Files.{Known}
 use Rattle.drf_drive.specs.Files.{HasUnread}
 use Rattle.drf_drive.specs.JournalText.{journal_text}
 use Rattle.drf_drive.specs.Scripts.{HasRefused, HasScripts}

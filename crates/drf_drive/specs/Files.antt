@@ -1,7 +1,7 @@
 -- The bytes of files.
 use Rattle.std.specs.Prelude.{◌≡◌, ⊤, ℕ, List, [], ◌∷◌, ◌++◌, length, map}
 use Rattle.std.specs.Global.{Vec}
-use Rattle.drf_files.specs.Files.{Known, MayBeUnreadable, MayHave}
+use Rattle.drf_journal.specs.Files.{Known, MayBeUnreadable, MayHave}
 use Rattle.drf_journal.specs.declared.fault.RunFault.{RunFault}
 use Rattle.drf_journal.specs.declared.fault.RunFault.TheVariants.{Read, Write, Memory}
 use Rattle.drf_drive.specs.declared.script.ScriptFault.{ScriptFault}

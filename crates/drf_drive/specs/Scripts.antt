@@ -9,7 +9,7 @@ use Rattle.drf_lines.specs.declared.fault.LineError.TheVariants.{Fault}
 use Rattle.drf_lines.specs.declared.fault.LineError.TheVariants as errors
 use Rattle.drf_lines.specs.declared.fault.LineFault.{LineFault}
 use Rattle.drf_rows.specs.declared.event.Event.{Event}
-use Rattle.drf_files.specs.Files.{Known}
+use Rattle.drf_journal.specs.Files.{Known}
 use Rattle.drf_drive.specs.Files.{AreContents, HasUnread}
 use Rattle.drf_drive.specs.declared.script.BadLine.{BadLine}
 use Rattle.drf_drive.specs.declared.script.Script.{Script}

@@ -2,7 +2,7 @@
 ghost use Rattle.std.specs.Prelude.{◌≡◌, ◌<◌, ◌≤◌, ℕ, List, length, map, true, false, IfOk, IfErr};
 ghost use Rattle.drf_board.specs.History.{IsLegal};
 ghost use Rattle.drf_core.specs.Machine.{live};
-ghost use Rattle.drf_files.specs.Files.{Known};
+ghost use Rattle.drf_journal.specs.Files.{Known};
 ghost use Rattle.drf_master.specs.Journal.{Begins};
 ghost use Rattle.drf_drive.specs.Driven.{HasDrivenFiles, IsRunFault, IsShuffleOf, IsTellable, IsReportedAs, IsReportedUnfit};
 ghost use Rattle.drf_drive.specs.JournalText.{is_write_fault};
@@ -12,7 +12,7 @@ use crate::journal::{write_journal, write_nothing};
 use crate::script::{Misfit, ScriptFault, read_scripts};
 use drf_board::{Brand, Entry, Naming, Slate};
 use drf_core::Core;
-use drf_files::FileBytes;
+use drf_journal::FileBytes;
 use drf_journal::{Device, RunFault};
 use drf_master::{
     CloseFault, CloseRefused, DriveFault, Master, MasterSorter, OpenGate, Undriven, drive,

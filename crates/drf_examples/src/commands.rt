@@ -3,7 +3,7 @@
 //! whole text. `?VERDICT` is for a journal whose lines can be in different orders: `check`, from the same state, must give this verdict.
 use crate::streams::{Bounds, Full, NO_BOUNDS, Slow};
 use drf_app::command;
-use drf_files::{FileBytes, SystemFiles};
+use drf_journal::{FileBytes, SystemFiles};
 use drf_hash::HashKey;
 use drf_journal::{Device, RunFault};
 use std::alloc::{AllocError, Global};

@@ -9,3 +9,4 @@ pub mod Checking
 pub mod Audited
 pub mod Resumed
 pub mod JournalLaws
+pub mod Files

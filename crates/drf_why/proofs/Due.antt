@@ -18,9 +18,9 @@ use Rattle.drf_journal.specs.Lines.{lines_of}
 use Rattle.drf_journal.specs.Resumed.{resumed}
 use Rattle.drf_journal.specs.declared.fault.RunFault.{RunFault}
 use Rattle.drf_journal.specs.declared.fault.RunFault.TheVariants.{Read, Write, Memory}
-use Rattle.drf_summary.specs.Pick.{picked, picked_of}
-use Rattle.drf_summary.specs.Tally.{tally_lines, tallies_of}
-use Rattle.drf_summary.specs.declared.pick.Pick.{Pick}
+use Rattle.drf_why.specs.Pick.{picked, picked_of}
+use Rattle.drf_why.specs.Tally.{tally_lines, tallies_of}
+use Rattle.drf_why.specs.declared.pick.Pick.{Pick}
 use Rattle.drf_why.specs.Asked.{absent_text, asked_text, pick_of, summed_text}
 use Rattle.drf_why.specs.Written.{Output, HasWritten}
 use Rattle.drf_why.specs.declared.whom.Whom.{Whom}

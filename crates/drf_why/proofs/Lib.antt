@@ -3,3 +3,11 @@ mod Writes
 mod Due
 mod Lists
 mod Found
+mod Picked
+mod Tallied
+mod Firsts
+mod PassersFound
+mod Passed
+mod Sums
+mod Passing
+mod Shared

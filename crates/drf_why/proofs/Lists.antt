@@ -10,11 +10,11 @@ use Rattle.drf_journal.specs.declared.fault.RunFault.TheVariants.{Memory}
 use Rattle.drf_rows.specs.Client.{Client, path_of}
 use Rattle.drf_rows.specs.Held.{active_clients}
 use Rattle.drf_rows.specs.declared.rows.Rows.{Rows}
-use Rattle.drf_summary.specs.Passers.{Turn}
-use Rattle.drf_summary.specs.Pick.{picked}
-use Rattle.drf_summary.specs.Tally.{tallies_of, tally_of}
-use Rattle.drf_summary.specs.declared.pick.Pick.{Pick}
-use Rattle.drf_summary.specs.declared.tally.Tally.{Tally}
+use Rattle.drf_why.specs.Passers.{Turn}
+use Rattle.drf_why.specs.Pick.{picked}
+use Rattle.drf_why.specs.Tally.{tallies_of, tally_of}
+use Rattle.drf_why.specs.declared.pick.Pick.{Pick}
+use Rattle.drf_why.specs.declared.tally.Tally.{Tally}
 use Rattle.drf_why.specs.Written.{Output, HasWritten}
 use Rattle.drf_why.proofs.Writes.{and_then, nothing_written, stopped, unwritten}
 

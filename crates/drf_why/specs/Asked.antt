@@ -12,10 +12,10 @@ use Rattle.drf_rows.specs.Members.{has_agent, has_framework}
 use Rattle.drf_rows.specs.declared.rows.FrameworkRow.{FrameworkRow}
 use Rattle.drf_rows.specs.declared.rows.Rows.{Rows}
 use Rattle.drf_explain.specs.ExplainedText.{explained_text}
-use Rattle.drf_summary.specs.Pick.{picked_of}
-use Rattle.drf_summary.specs.Tally.{summary_text}
-use Rattle.drf_summary.specs.declared.pick.Pick.{Pick}
-use Rattle.drf_summary.specs.declared.pick.Pick.TheVariants as pick
+use Rattle.drf_why.specs.Pick.{picked_of}
+use Rattle.drf_why.specs.Tally.{summary_text}
+use Rattle.drf_why.specs.declared.pick.Pick.{Pick}
+use Rattle.drf_why.specs.declared.pick.Pick.TheVariants as pick
 use Rattle.drf_why.specs.declared.whom.Whom.{Whom}
 use Rattle.drf_why.specs.declared.whom.Whom.TheVariants as whom
 

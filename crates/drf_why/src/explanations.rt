@@ -8,16 +8,16 @@ ghost use Rattle.drf_journal.specs.Device.{IsNew};
 ghost use Rattle.drf_journal.specs.Ended.{HasCause, HasFlushed};
 ghost use Rattle.drf_rows.specs.Step.{live_rows};
 ghost use Rattle.drf_rows.specs.declared.limits.TheConstants.{LATEST_TIMESTAMP};
-ghost use Rattle.drf_summary.specs.Pick.{picked, picked_of};
+ghost use Rattle.drf_why.specs.Pick.{picked, picked_of};
 ghost use Rattle.drf_why.specs.Asked.{absent_text, asked_text};
 ghost use Rattle.drf_why.specs.Written.{HasWritten, output_of};
 
+use crate::pick::{Pick, write_picked};
 use crate::whom::{Whom, absent_text, pick_of};
 use drf_core::{Core, Explanations};
 use drf_explain::{Finding, suppressed};
 use drf_journal::{Device, ProgramSorter, RunFault, advance, write_whole};
 use drf_rows::Rows;
-use drf_summary::{Pick, write_picked};
 use std::alloc::Global;
 use std::io::{Read, Write};
 

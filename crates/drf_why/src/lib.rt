@@ -2,9 +2,20 @@
 #![tactic(auto)]
 
 mod explanations;
+mod grants;
+mod laws;
+mod passer;
+mod passer_line;
+mod pick;
+mod places;
+mod shares;
 mod summary;
+mod taking;
+mod tally;
+mod turn;
 mod whom;
 
 pub use explanations::write_each;
+pub use laws::{passers_law, summary_law};
 pub use summary::write_cycle_summary;
 pub use whom::Whom;

@@ -8,17 +8,17 @@ ghost use Rattle.drf_journal.specs.Ended.{HasCause, HasFlushed};
 ghost use Rattle.drf_rows.specs.Step.{live_rows};
 ghost use Rattle.drf_rows.specs.declared.limits.TheConstants.{LATEST_TIMESTAMP};
 ghost use Rattle.drf_rows.specs.declared.rows.Rows.{Rows};
-ghost use Rattle.drf_summary.specs.Passers.{Turn};
-ghost use Rattle.drf_summary.specs.Tally.{tallies_of};
+ghost use Rattle.drf_why.specs.Passers.{Turn};
+ghost use Rattle.drf_why.specs.Tally.{tallies_of};
 ghost use Rattle.drf_why.specs.Asked.{summed_text};
 ghost use Rattle.drf_why.specs.Written.{HasWritten, output_of};
 
+use crate::tally::{Tally, take_turn, tallies, write_tallies};
 use drf_core::{Core, Explanations};
 use drf_explain::{suppressed, write_explained_lines};
 use drf_hash::HashKey;
 use drf_journal::{Device, ProgramSorter, RunFault, advance, write_whole};
 use drf_rows::Rows;
-use drf_summary::{Tally, take_turn, tallies, write_tallies};
 use std::alloc::{AllocError, Global};
 use std::io::{Read, Write};
 

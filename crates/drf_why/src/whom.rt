@@ -6,13 +6,13 @@ ghost use Rattle.drf_role.specs.Path.{client_path, same_path};
 ghost use Rattle.drf_role.specs.Parts.{parts_of};
 ghost use Rattle.drf_rows.specs.Client.{path_of};
 ghost use Rattle.drf_rows.specs.Members.{has_framework};
-ghost use Rattle.drf_summary.specs.declared.pick.Pick.TheVariants.{Agent, Client};
+ghost use Rattle.drf_why.specs.declared.pick.Pick.TheVariants.{Agent, Client};
 ghost use Rattle.serde_json.specs.View.{view};
 ghost use Rattle.drf_why.specs.Asked.{absent_text, client_named, has_client, no_agent_value, no_client_value, pick_of, why_no_client};
 
+use crate::pick::Pick;
 use drf_role::{ClientPath, Name, Role};
 use drf_rows::{AgentRow, FrameworkRow, Rows};
-use drf_summary::Pick;
 use serde_json::{Value, json};
 use std::alloc::{AllocError, Global};
 

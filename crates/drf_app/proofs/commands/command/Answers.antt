@@ -1,5 +1,5 @@
 use Rattle.std.proofs.Common.{map, subst}
-use Rattle.drf_files.specs.Files.{Known}
+use Rattle.drf_journal.specs.Files.{Known}
 use Rattle.drf_app.specs.Done.{HasObeyed}
 use Rattle.drf_app.specs.Streams.{Streams, stream_of}
 use Rattle.drf_app.proofs.commands.command.Goals as goal

@@ -3,7 +3,7 @@ use Rattle.std.specs.Prelude.{Option}
 use Rattle.clap.specs.Words.{Text, found_of}
 use Rattle.clap.proofs.WalkLemmas.{first_value-rows}
 use Rattle.drf_core.specs.Machine.{live}
-use Rattle.drf_files.specs.Files.{Known}
+use Rattle.drf_journal.specs.Files.{Known}
 use Rattle.drf_app.specs.Streams.{Streams, stream_of}
 use Rattle.drf_app.specs.Starts.{HasNotStarted, IsStart}
 use Rattle.drf_app.specs.Done.{HasDriven}

@@ -1,5 +1,5 @@
 use Rattle.std.proofs.Common.{ℕ, List, subst}
-use Rattle.drf_app.specs.Told.{HasReportedUnread}
+use Rattle.drf_app.specs.Reported.{HasReportedUnread}
 use Rattle.drf_app.proofs.drive.report_unread.Goals as goal
 
 pub returns : goal.returns

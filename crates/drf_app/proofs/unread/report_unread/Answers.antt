@@ -1,5 +1,5 @@
 use Rattle.std.proofs.Common.{ℕ, List, refl, subst, inl, ◌∙◌}
-use Rattle.drf_app.specs.Told.{IsReported}
+use Rattle.drf_app.specs.Reported.{IsReported}
 use Rattle.drf_app.proofs.unread.report_unread.Goals as goal
 
 pub returns-in-Ok : goal.returns-in-Ok

@@ -1,7 +1,7 @@
 use Rattle.std.proofs.Common.{◌≡◌, ℕ, ◌+◌, List, [], ◌∷◌, ◌++◌, length, map, take, ◌∙◌, sym, ap, subst, arith}
 use Rattle.std.specs.Global.{Vec}
 use Rattle.std.proofs.lemmas.List.{length-map}
-use Rattle.drf_files.specs.Files.{Known, IsFileFault, MayHave}
+use Rattle.drf_journal.specs.Files.{Known, IsFileFault, MayHave}
 use Rattle.drf_drive.specs.Files.{AreContents, IsUnread, bytes_of, fault_of}
 use Rattle.drf_drive.proofs.Contents.{contents-fault, contents-next}
 use Rattle.drf_drive.proofs.files.read_files.Goals as goal

@@ -4,7 +4,7 @@ use Rattle.drf_explain.specs.Each.{each_by_agent, turns_by_agent}
 use Rattle.drf_explain.proofs.EachLaws.{turns_are_reported}
 use Rattle.drf_explain.specs.Explained.{suppressed_of}
 use Rattle.drf_explain.specs.ExplainedText.{explained_text}
-use Rattle.drf_summary.specs.Pick.{picked}
+use Rattle.drf_why.specs.Pick.{picked}
 use Rattle.drf_rows.specs.declared.rows.Rows.{Rows}
 use Rattle.drf_why.proofs.Lists.{text_of, text_of_lists, reported_in}
 use Rattle.drf_why.proofs.Writes.{and_then, stopped, unwritten}

@@ -1,7 +1,7 @@
 use Rattle.std.proofs.Common.{ℕ, List, ◌++◌, ap, subst, ◌∙◌}
 use Rattle.std.proofs.lemmas.Result.{err_from_is_err_and}
 use Rattle.drf_explain.specs.ExplainedText.{explained_text}
-use Rattle.drf_summary.specs.Pick.{picked}
+use Rattle.drf_why.specs.Pick.{picked}
 use Rattle.drf_why.specs.Written.{HasWritten, output_of}
 use Rattle.drf_why.proofs.Writes.{unwritten, written_whole}
 use Rattle.drf_why.proofs.explanations.write_list.Goals as goal

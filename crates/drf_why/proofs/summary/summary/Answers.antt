@@ -5,7 +5,7 @@ use Rattle.drf_explain.specs.Explained.{suppressed_of}
 use Rattle.drf_explain.specs.ExplainedText.{explained_text}
 use Rattle.drf_row_laws.proofs.LiveLaws.{report_of-live}
 use Rattle.drf_rows.specs.declared.rows.Rows.{Rows}
-use Rattle.drf_summary.specs.Tally.{tally_lines, tallies_of}
+use Rattle.drf_why.specs.Tally.{tally_lines, tallies_of}
 use Rattle.drf_why.specs.Asked.{summed_text}
 use Rattle.drf_why.proofs.summary.summary.Goals as goal
 

@@ -2,7 +2,7 @@ use Rattle.std.proofs.Common.{◌≡◌, ◌++◌, [], ap, sym, ◌∙◌, lengt
 use Rattle.std.proofs.Math.Seq.{take-append_seam}
 use Rattle.drf_explain.specs.Each.{turns_by_agent}
 use Rattle.drf_rows.specs.declared.rows.Rows.{Rows}
-use Rattle.drf_summary.specs.Tally.{tallies_of}
+use Rattle.drf_why.specs.Tally.{tallies_of}
 use Rattle.drf_why.proofs.Lists.{length-tallies}
 use Rattle.drf_why.proofs.summary.tallies_at.Goals as goal
 

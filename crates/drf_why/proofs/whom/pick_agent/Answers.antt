@@ -2,7 +2,7 @@ use Rattle.std.proofs.Common.{◌≡◌, Bool, Some, true, ap, sym, ◌∙◌}
 use Rattle.std.specs.Cmp.Lexicographic.{bytes_decides}
 use Rattle.drf_role.specs.Text.{Text, same_text}
 use Rattle.drf_rows.specs.declared.rows.AgentRow.{AgentRow}
-use Rattle.drf_summary.specs.declared.pick.Pick.TheVariants as pick
+use Rattle.drf_why.specs.declared.pick.Pick.TheVariants as pick
 use Rattle.drf_why.proofs.Found.{any_found, any_over, any_passed, none_if, picked_if}
 use Rattle.drf_why.proofs.whom.pick_agent.Goals as goal
 

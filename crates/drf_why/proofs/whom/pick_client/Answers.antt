@@ -1,6 +1,6 @@
 use Rattle.std.proofs.Common.{sym, ◌∙◌}
 use Rattle.drf_rows.specs.Client.{path_of}
-use Rattle.drf_summary.specs.declared.pick.Pick.TheVariants as pick
+use Rattle.drf_why.specs.declared.pick.Pick.TheVariants as pick
 use Rattle.drf_why.specs.Asked.{client_named, has_client}
 use Rattle.drf_why.proofs.Found.{any_found, any_over, any_passed, none_if, picked_if, picked_no, picked_yes}
 use Rattle.drf_why.proofs.whom.pick_client.Goals as goal

@@ -5,7 +5,7 @@ use Rattle.drf_role.specs.Parts.{parts_of}
 use Rattle.drf_role.specs.Path.{Path, client_path, same_path}
 use Rattle.drf_role.specs.PathLaws.{same_path-true}
 use Rattle.drf_rows.specs.declared.rows.ClientRow.{ClientRow}
-use Rattle.drf_summary.specs.declared.pick.Pick.TheVariants as pick
+use Rattle.drf_why.specs.declared.pick.Pick.TheVariants as pick
 use Rattle.drf_why.proofs.Found.{any_found, any_over, any_passed, none_if, picked_if}
 use Rattle.drf_why.proofs.whom.pick_in_role.Goals as goal
 

@@ -4,7 +4,7 @@ use Rattle.std.specs.Cmp.Lexicographic.{bytes_decides}
 use Rattle.drf_role.specs.Text.{Text, same_text}
 use Rattle.drf_role.specs.Parts.{parts_of}
 use Rattle.drf_role.specs.Path.{client_path}
-use Rattle.drf_summary.specs.declared.pick.Pick.TheVariants as pick
+use Rattle.drf_why.specs.declared.pick.Pick.TheVariants as pick
 use Rattle.drf_why.proofs.whom.pick_in_row.Goals as goal
 
 -- if the framework has this name

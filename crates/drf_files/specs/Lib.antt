@@ -1,2 +1,0 @@
--- What is known of files.
-pub mod Files

@@ -1,5 +1,0 @@
--- Lemmas for the theorems about resuming.
-pub mod Live
-pub mod Wrote
-pub mod Feeds
-pub mod Left

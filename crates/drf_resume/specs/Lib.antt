@@ -1,3 +1,0 @@
--- Definitions and theorems of saving and resuming.
-pub mod Saving
-pub mod ResumeLaws

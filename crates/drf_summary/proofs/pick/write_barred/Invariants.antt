@@ -1,9 +1,0 @@
-use Rattle.std.proofs.Common.{◌≡◌, ◌++◌, drop}
-use Rattle.std.specs.Prelude.{filter}
-use Rattle.drf_explain.specs.ExplainedText.{explained_text}
-use Rattle.drf_summary.specs.Pick.{bars_all}
-use Rattle.drf_summary.proofs.pick.write_barred.Given as goal
-
-abbrev pub invariant-loop-finding : goal.invariant-loop-finding
-invariant-loop-finding l =
-    l.text.items ++ explained_text (filter bars_all (drop l.finding-index l.findings)) ≡ l.fn.text.items ++ explained_text (filter bars_all l.findings)

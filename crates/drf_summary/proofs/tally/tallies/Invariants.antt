@@ -1,8 +1,0 @@
-use Rattle.std.proofs.Common.{◌≡◌, ◌++◌, drop}
-use Rattle.std.specs.List.{flat_map}
-use Rattle.drf_summary.proofs.Tallied.{blank_in}
-use Rattle.drf_summary.proofs.tally.tallies.Given as goal
-
-abbrev pub invariant-loop-framework : goal.invariant-loop-framework
-invariant-loop-framework l =
-    l.tallies.items ++ flat_map blank_in (drop l.framework-index l.frameworks) ≡ flat_map blank_in l.frameworks

@@ -87,7 +87,8 @@ func readOptions(arguments []string) (*options, error) {
 	flags.DurationVar(&o.frameworkTimeout, "framework-timeout", 0, "silence after which a framework that sent heartbeats is removed (0: never)")
 	flags.Float64Var(&o.removalRate, "removal-rate", 1, "silent agents and frameworks that are ended a second, at most")
 	flags.Int64Var(&o.allocator.SnapshotMessages, "save-every", 20_000, "messages between snapshots")
-	flags.DurationVar(&o.allocator.SnapshotApart, "save-apart", time.Minute, "least time between snapshots: replies are kept for that long")
+	flags.DurationVar(&o.allocator.SnapshotApart, "save-apart", time.Minute, "least time between snapshots, and for which replies are kept")
+	flags.Int64Var(&o.allocator.SnapshotMost, "save-most", 20_000, "messages since a snapshot, at which the next one is made at any time (0: no bound)")
 	flags.Int64Var(&o.allocator.EpochLines, "epoch-every", 4_000_000_000, "lines of an epoch, at most 4294967295")
 	flags.StringVar(&o.archive.Folder, "archive", "", "folder of this gateway's archive of the journal and the audit (none: there is no archive)")
 	flags.DurationVar(&o.archive.Every, "archive-every", time.Hour, "time after which a segment of the archive ends, at the latest")
@@ -128,6 +129,7 @@ func readOptions(arguments []string) (*options, error) {
 		{o.archive.Bytes < 1<<10, fmt.Sprintf("-archive-segment %d: expected at least 1KiB", o.archive.Bytes)},
 		{o.removalRate <= 0, fmt.Sprintf("-removal-rate %v: expected more than 0", o.removalRate)},
 		{o.allocator.SnapshotMessages < 1, fmt.Sprintf("-save-every %d: expected at least 1", o.allocator.SnapshotMessages)},
+		{o.allocator.SnapshotMost < 0, fmt.Sprintf("-save-most %d: expected 0 or more", o.allocator.SnapshotMost)},
 		{o.allocator.EpochLines < 1 || o.allocator.EpochLines > 1<<32-1, fmt.Sprintf("-epoch-every %d: expected 1 to 4294967295", o.allocator.EpochLines)},
 		{o.limits.Requests < 0 || o.limits.Bytes < 0 || o.limits.Lines < 0 || o.limits.Streams < 0, "-limit-..: expected 0 or more"},
 		{o.mesos.AgentGone < time.Second || o.mesos.Silence < time.Second || o.mesos.GatewayGrace < 0 || o.mesos.MaxRefuse < 0 || o.mesos.MaxFrameworks < 0, "-mesos-..: expected at least 1s for -mesos-agent-gone and -mesos-silence, and nothing negative"},

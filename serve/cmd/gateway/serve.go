@@ -28,6 +28,7 @@ import (
 	"gateway/internal/etcd"
 	"gateway/internal/limit"
 	"gateway/internal/members"
+	"gateway/internal/memory"
 	"gateway/internal/mesos/operator"
 	mesosserver "gateway/internal/mesos/server"
 	"gateway/internal/metrics"
@@ -117,6 +118,7 @@ func (o *options) serve(ctx context.Context) error {
 		g.runParts(parts, journal)
 	}()
 	go g.reload(parts)
+	go memory.Run(parts)
 	daemon.SdNotify(true, daemon.SdNotifyReady) // it listens, and its files and tokens are right: systemctl start returns
 	select {
 	case err = <-g.ends:

@@ -22,7 +22,8 @@ type Config struct {
 
 	SnapshotMessages int64         // messages between snapshots
 	SnapshotBytes    int64         // bytes of the journal between snapshots, at which one is due whatever else
-	SnapshotApart    time.Duration // the least time between snapshots, unless one is due by bytes
+	SnapshotApart    time.Duration // the least time between snapshots, unless one is due by bytes or by SnapshotMost; replies are kept for that long
+	SnapshotMost     int64         // messages between snapshots, at which one is due whatever the time
 	EpochLines       int64         // lines of an epoch
 
 	Archive Archive // or nil
@@ -152,6 +153,20 @@ func (a *Allocator) Reply(ctx context.Context, at oplog.Revision) (Reply, error)
 	if err != nil {
 		return Reply{}, err
 	}
+	return a.read(before, after)
+}
+
+// ReplyTo returns the replies to the message with a number, which may have left the list. Error: ErrForgotten.
+func (a *Allocator) ReplyTo(message int64) (Reply, error) {
+	before, after, is := a.positions.ofMessage(message)
+	if !is {
+		return Reply{}, ErrForgotten
+	}
+	return a.read(before, after)
+}
+
+// read reads the replies between two positions.
+func (a *Allocator) read(before, after oplog.Position) (Reply, error) {
 	text := make([]byte, after.Bytes-before.Bytes)
 	if _, err := a.journal.ReadAt(text, before.Bytes); err != nil {
 		return Reply{}, fmt.Errorf("%w: %v", ErrForgotten, err)

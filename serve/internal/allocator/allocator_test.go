@@ -238,3 +238,63 @@ func TestResume(t *testing.T) {
 		})
 	}
 }
+
+// Many messages make a snapshot due whatever the time. What is pruned then leaves the list, and its replies are kept for their time.
+func TestManyMessages(t *testing.T) {
+	r := run(t, etcdtest.Start(t, 1<<30), t.TempDir(), Config{SnapshotMessages: 1000, SnapshotMost: 10, SnapshotApart: time.Hour, EpochLines: 1 << 32})
+	for n, made := 0, 0; made < 3; n++ {
+		r.send(t, fmt.Sprintf("a/%d", n), fmt.Sprintf("x%d", n))
+		if marker, is := r.Marker(time.Now()); is {
+			made++
+			if since := r.Status().Messages; since < int64(made*10) {
+				t.Fatalf("snapshot %d after %d messages", made, since)
+			}
+			if _, err := r.log.Append(context.Background(), marker); err != nil {
+				t.Fatal(err)
+			}
+			until(t, "a snapshot", func() bool { return r.Status().Snapshot == made })
+		}
+	}
+	until(t, "pruning", func() bool {
+		_, is, err := r.log.Kept.Find(context.Background(), "a/0")
+		return is && err == nil
+	})
+	for n := 0; n < 10; n++ {
+		b, applied := &oplog.Batch{Key: fmt.Sprintf("a/%d", n)}, (*oplog.AppliedError)(nil)
+		b.Add([]byte(fmt.Sprintf("x%d", n)), false)
+		if _, err := r.log.Append(context.Background(), b); !errors.As(err, &applied) {
+			t.Fatal(err)
+		}
+		if reply, err := r.ReplyTo(applied.Message); err != nil || reply.Message != int64(n+1) || string(reply.Lines) != "{\"ok\":true}\n" {
+			t.Errorf("message %d: %+v %v", applied.Message, reply, err)
+		}
+	}
+	if _, err := r.ReplyTo(1 << 40); !errors.Is(err, ErrForgotten) {
+		t.Error(err)
+	}
+}
+
+// Replies are kept for their time, and the journal's file has a bound.
+func TestKeptReplies(t *testing.T) {
+	const second = 1000
+	s := &snapshots{allocator: &Allocator{config: Config{SnapshotApart: time.Minute, SnapshotBytes: 100}}, kept: []oplog.Snapshot{{}}}
+	at := func(number int, seconds, bytes int64) oplog.Snapshot {
+		return oplog.Snapshot{Number: number, At: seconds * second, Position: oplog.Position{Messages: int64(number), Bytes: bytes}}
+	}
+	for _, one := range []struct {
+		pruned, now oplog.Snapshot
+		want        int64
+	}{
+		{at(1, 10, 10), at(2, 20, 20), 0}, // 1 is younger than a minute
+		{at(2, 20, 20), at(3, 69, 30), 0},
+		{at(3, 69, 30), at(4, 71, 40), 1},
+		{at(4, 71, 40), at(5, 131, 50), 4},
+		{at(4, 71, 40), at(5, 131, 50), 4},
+		{at(5, 131, 50), at(6, 140, 241), 5}, // 4 is 201 bytes before
+		{at(6, 140, 241), at(7, 150, 242), 5},
+	} {
+		if kept := s.keepFrom(one.pruned, one.now); kept.Messages != one.want {
+			t.Errorf("pruned up to %d at %d: replies are kept from %d, want %d", one.pruned.Number, one.now.Number, kept.Messages, one.want)
+		}
+	}
+}

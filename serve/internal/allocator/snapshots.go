@@ -30,8 +30,10 @@ type snapshots struct {
 	pruned    int64      // etcd's revision after the last pruning here
 
 	mu     sync.Mutex
-	marked oplog.Snapshot // at the last marker
-	made   oplog.Snapshot // the last whose files exist
+	marked oplog.Snapshot   // at the last marker
+	made   oplog.Snapshot   // the last whose files exist
+	size   int64            // of the last that was made here, in bytes
+	kept   []oplog.Snapshot // from the first of these on, replies are kept; the list begins at the last, when this gateway makes snapshots
 }
 
 func (s *snapshots) path(kind string, number int) string {
@@ -62,7 +64,7 @@ func (s *snapshots) start(ctx context.Context) (from oplog.Snapshot, revision in
 	}
 	s.mu.Lock()
 	defer s.mu.Unlock()
-	s.marked, s.made = from, from
+	s.marked, s.made, s.kept = from, from, []oplog.Snapshot{from}
 	s.removeBelow(from.Number)
 	return from, revision, nil
 }
@@ -184,11 +186,14 @@ func (s *snapshots) registryAt(marked oplog.Snapshot) ([]byte, error) {
 
 const markerKey = "state/"
 
+// bytesPerMessage is how large a snapshot may be for each message since the last one: large ones take long, and are made less often.
+const bytesPerMessage = 256
+
 // shortApart is the time between snapshots while callers are refused because space is short.
 const shortApart = 2 * time.Second
 
-// due returns the marker that is to be appended now, if there is one. Snapshots are some time apart, because the replies before a snapshot are soon
-// forgotten, unless the list grows too large for that.
+// due returns the marker that is to be appended now, if there is one. Snapshots are some time apart, unless the list grows too large for that: etcd
+// holds each message's key in memory.
 func (s *snapshots) due(now oplog.Position, at time.Time) (*oplog.Batch, bool) {
 	c := s.allocator.config
 	s.mu.Lock()
@@ -200,7 +205,8 @@ func (s *snapshots) due(now oplog.Position, at time.Time) (*oplog.Batch, bool) {
 	isLate := now.Messages-s.marked.Messages >= c.SnapshotMessages && at.UnixMilli()-s.marked.At >= c.SnapshotApart.Milliseconds()
 	isLarge := c.SnapshotBytes > 0 && now.Bytes-s.marked.Bytes >= c.SnapshotBytes
 	isShort := s.allocator.log.Space.IsShort() && at.UnixMilli()-s.marked.At >= shortApart.Milliseconds()
-	return b, isLate || isLarge || isShort || b.Marker == oplog.MarkerEpoch
+	isLong := c.SnapshotMost > 0 && now.Messages-s.marked.Messages >= c.SnapshotMost+s.size/bytesPerMessage && s.made.Number == s.marked.Number // one is made at a time
+	return b, isLate || isLarge || isShort || isLong || b.Marker == oplog.MarkerEpoch
 }
 
 // epoch returns the epoch that the last marker began or was in.
@@ -249,7 +255,7 @@ func (s *snapshots) make(ctx context.Context, marked oplog.Snapshot, registry []
 	}
 	s.mu.Lock()
 	if marked.Number > s.made.Number {
-		s.made = marked
+		s.made, s.size = marked, int64(len(text)+len(registry))
 	}
 	s.mu.Unlock()
 	if isFirst {
@@ -259,8 +265,9 @@ func (s *snapshots) make(ctx context.Context, marked oplog.Snapshot, registry []
 		}
 		err = s.prune(ctx, last)
 	}
-	a.positions.forget(last.Revision)
-	messages, end := a.prunable(last.Position)
+	kept := s.keepFrom(last, marked)
+	a.positions.forget(kept.Revision)
+	messages, end := a.prunable(kept)
 	if fault := a.journal.prune(end); fault != nil {
 		log.Printf("the journal keeps its space on the disk: %v", fault)
 	}
@@ -269,6 +276,22 @@ func (s *snapshots) make(ctx context.Context, marked oplog.Snapshot, registry []
 	}
 	s.removeBelow(last.Number)
 	return marked, err
+}
+
+// keepFrom returns the position from which replies are kept, when the list is pruned up to a snapshot and a later one is made: they may be
+// younger than the time for which they are kept. The file of the journal has a bound all the same.
+func (s *snapshots) keepFrom(pruned, now oplog.Snapshot) oplog.Position {
+	c := s.allocator.config
+	s.mu.Lock()
+	defer s.mu.Unlock()
+	if pruned.Number > s.kept[len(s.kept)-1].Number {
+		s.kept = append(s.kept, pruned)
+	}
+	isLarge := func() bool { return c.SnapshotBytes > 0 && now.Bytes-s.kept[0].Bytes > 2*c.SnapshotBytes }
+	for len(s.kept) > 1 && (now.At-s.kept[1].At >= c.SnapshotApart.Milliseconds() || isLarge()) {
+		s.kept = s.kept[1:]
+	}
+	return s.kept[0].Position
 }
 
 // prune removes from etcd what is older than a snapshot. The space of what was pruned the last time can then be used again.

@@ -55,14 +55,7 @@ func (q *request) events() error {
 	if err := disk.CheckFree(q.Folder); err != nil {
 		return err
 	}
-	at, err := q.Log.Append(ctx, b)
-	if err != nil {
-		return err
-	}
-	reply, err := q.Allocator.Reply(ctx, at)
-	if errors.Is(err, allocator.ErrForgotten) {
-		return q.forgotten(ctx, key)
-	}
+	reply, err := q.apply(ctx, b)
 	if err != nil {
 		return err
 	}
@@ -71,6 +64,24 @@ func (q *request) events() error {
 	q.write("application/x-ndjson", reply.Message, reply.Lines)
 	q.server.metrics.Answered(time.Since(start))
 	return nil
+}
+
+// apply appends a batch, and returns the replies to it, or to the message that it was before.
+func (q *request) apply(ctx context.Context, b *oplog.Batch) (allocator.Reply, error) {
+	at, err := q.Log.Append(ctx, b)
+	if pruned := (*oplog.AppliedError)(nil); errors.As(err, &pruned) {
+		if reply, fault := q.Allocator.ReplyTo(pruned.Message); fault == nil {
+			return reply, nil
+		}
+	}
+	if err != nil {
+		return allocator.Reply{}, err
+	}
+	reply, err := q.Allocator.Reply(ctx, at)
+	if errors.Is(err, allocator.ErrForgotten) {
+		err = q.forgotten(ctx, b.Key)
+	}
+	return reply, err
 }
 
 // forgotten returns the answer to a batch that was applied and whose replies are no longer kept here. Its number is that of its kept key, once its

@@ -7,6 +7,7 @@ import (
 	"io"
 	"log"
 	"sync"
+	"sync/atomic"
 	"time"
 
 	"go.etcd.io/etcd/clientv3"
@@ -41,6 +42,7 @@ type Cluster struct {
 	quota      int64
 	member     *embed.Etcd   // or nil
 	closed     chan struct{} // closed when an embedded member has stopped, or has had its time to
+	counted    atomic.Int64  // bytes that were appended since entries of raft's log were last bounded
 
 	mu      sync.Mutex
 	clients []*clientv3.Client

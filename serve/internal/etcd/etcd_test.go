@@ -116,3 +116,25 @@ func TestLeave(t *testing.T) {
 		t.Error("the next member was left for an error of the one before")
 	}
 }
+
+// Few large entries are held, and many small ones.
+func TestEntries(t *testing.T) {
+	for _, one := range []struct {
+		average float64
+		want    uint64
+	}{{0, mostEntries}, {1000, mostEntries}, {entryBytes / 100, 99}, {4 << 20, leastEntries}} {
+		if got := entriesOf(one.average); got != one.want {
+			t.Errorf("%.0f bytes: %d entries, want %d", one.average, got, one.want)
+		}
+	}
+	average := weigh(1000, 1<<20)
+	if average != 1<<20 {
+		t.Error("a large entry does not count at once:", average)
+	}
+	for n := 0; n < 100; n++ {
+		average = weigh(average, 1000)
+	}
+	if average > 2000 {
+		t.Error("large entries are not forgotten:", average)
+	}
+}

@@ -20,7 +20,7 @@ import (
 
 const (
 	maxSocketPath = 100   // of a Unix socket's path, which the system limits to 107 bytes
-	raftEntries   = 1_000 // applied entries after which a member writes a snapshot of its own, and those that it then still holds in memory
+	batchLimit    = 1_000 // writes after which the store is written to its file: etcd copies the room for them at each transaction
 )
 
 // embed starts a member in this process. Without other members it listens on no port: its only socket is in the data folder, for etcdctl.
@@ -30,7 +30,7 @@ func (c *Cluster) embed(ctx context.Context, o Config) error {
 	config.Logger, config.LogLevel, config.LogOutputs = "zap", "error", []string{filepath.Join(o.Folder, "etcd.log")}
 	config.MaxRequestBytes, config.QuotaBackendBytes = 10<<20, o.Quota
 	config.PreVote, config.EnableGRPCGateway = true, false
-	config.SnapshotCount = raftEntries
+	config.SnapshotCount, config.BackendBatchLimit = mostEntries, batchLimit
 	config.AutoCompactionMode, config.AutoCompactionRetention = embed.CompactorModePeriodic, "1h"
 	config.LPUrls, config.LCUrls = nil, nil
 	config.InitialCluster = config.InitialClusterFromName(o.Name)
@@ -49,7 +49,7 @@ func (c *Cluster) embed(ctx context.Context, o Config) error {
 	if err != nil {
 		return fmt.Errorf("the embedded etcd member: %w", err)
 	}
-	limitCatchUp(server)
+	setEntries(server, mostEntries)
 	c.member = server
 	c.clients = []*clientv3.Client{v3client.New(server.Server)}
 	if o.Members == "" {
@@ -58,15 +58,9 @@ func (c *Cluster) embed(ctx context.Context, o Config) error {
 		c.setProblem("this member waits for a majority of the members " + o.Members)
 	}
 	go c.follow(ctx, server, o)
+	go c.boundEntries(ctx, server)
 	return nil
 }
-
-// limitCatchUp bounds the applied entries that a member holds in memory after a snapshot of its own, for which etcd 3.4 has no flag: 5,000
-// groups of batches may be more than 100 MB. The server reads it with its first snapshot; another goroutine copies the whole configuration
-// without using it, which is why the race detector must not look.
-//
-//go:norace
-func limitCatchUp(server *embed.Etcd) { server.Server.Cfg.SnapshotCatchUpEntries = raftEntries }
 
 // follow records why the member does not work.
 func (c *Cluster) follow(ctx context.Context, server *embed.Etcd, o Config) {

@@ -129,6 +129,7 @@ func (l *Log) watch(ctx context.Context, after *int64, hand func([]Message) erro
 				return err
 			}
 			messages, *after = append(messages, m), m.Revision.Main
+			l.cluster.Count(len(event.Kv.Key) + len(event.Kv.Value))
 		}
 		if len(messages) == 0 {
 			continue

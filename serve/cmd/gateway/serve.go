@@ -225,6 +225,7 @@ func (g *gateway) runParts(ctx context.Context, journal *allocator.Journal) {
 	}
 	clock := oplog.NewClock(cluster, g.prefix, g.etcd.Name, g.bound, g.etcd.IsAlone())
 	list := oplog.New(cluster, g.prefix, clock, oplog.NewSpace(cluster, g.etcd.Quota), g.maxKept)
+	list.Kept.SetFolder(g.data)
 	if !g.prepare(ctx, list) {
 		return
 	}

@@ -6,9 +6,7 @@ import (
 	"bytes"
 	"context"
 	"crypto/sha256"
-	"encoding/binary"
 	"fmt"
-	"sort"
 	"sync"
 	"time"
 
@@ -57,60 +55,13 @@ func (e keptEntry) compare(b *Batch) error {
 	return &AppliedError{e.message}
 }
 
-// encodeSegment sorts entries by their digests and writes them one after another.
-func encodeSegment(entries []keptEntry) []byte {
-	sort.Slice(entries, func(i, j int) bool { return bytes.Compare(entries[i].key[:], entries[j].key[:]) < 0 })
-	text := make([]byte, 0, len(entries)*entrySize)
-	for _, e := range entries {
-		text = append(append(text, e.key[:]...), e.body[:]...)
-		text = binary.BigEndian.AppendUint64(text, uint64(e.at))
-		text = binary.BigEndian.AppendUint64(text, uint64(e.owner)<<messageBits|uint64(e.message))
-	}
-	return text
-}
-
-// segment is an encoded segment.
-type segment []byte
-
-func (s segment) count() int { return len(s) / entrySize }
-
-func (s segment) entry(k int) (e keptEntry) {
-	text := s[k*entrySize : (k+1)*entrySize]
-	copy(e.key[:], text)
-	copy(e.body[:], text[16:])
-	e.at, e.message = int64(binary.BigEndian.Uint64(text[24:])), int64(binary.BigEndian.Uint64(text[32:])&(1<<messageBits-1))
-	e.owner = s.owner(k)
-	return e
-}
-
-func (s segment) owner(k int) ownerNumber {
-	return ownerNumber(binary.BigEndian.Uint64(s[k*entrySize+32:]) >> messageBits)
-}
-
-func (s segment) find(key [16]byte) (keptEntry, bool) {
-	k := sort.Search(s.count(), func(k int) bool { return bytes.Compare(s[k*entrySize:k*entrySize+16], key[:]) >= 0 })
-	if k == s.count() || !bytes.Equal(s[k*entrySize:k*entrySize+16], key[:]) {
-		return keptEntry{}, false
-	}
-	return s.entry(k), true
-}
-
-// newest returns the latest timestamp of a segment.
-func (s segment) newest() (at int64) {
-	for k := 0; k < s.count(); k++ {
-		if e := s.entry(k); e.at > at {
-			at = e.at
-		}
-	}
-	return at
-}
-
 // keptSet is all kept keys as of a revision of the guard, a key in etcd that each change of the kept keys writes.
 type keptSet struct {
 	guard    string
 	revision int64
-	segments map[string]segment
-	table    []uint64 // open addressing over the first 8 bytes of the digests, so that a new key costs one look
+	segments map[string]*heldSegment
+	file     *segmentFile
+	slots    slots
 	entries  int
 	owned    map[ownerNumber]int // entries of each owner
 }
@@ -122,48 +73,45 @@ func (s *keptSet) isCurrent() clientv3.Cmp {
 	return clientv3.Compare(clientv3.ModRevision(s.guard), "=", s.revision)
 }
 
-func (s *keptSet) index() {
-	for _, one := range s.segments {
-		s.entries += one.count()
-	}
-	size := 16
-	for size < s.entries+s.entries/2 {
-		size *= 2
-	}
-	s.table, s.owned = make([]uint64, size), map[ownerNumber]int{}
-	for _, one := range s.segments {
-		for k := 0; k < one.count(); k++ {
-			s.owned[one.owner(k)]++
-			tag := tagOf(one[k*entrySize:])
-			for at := tag; ; at++ {
-				slot := &s.table[at&uint64(size-1)]
-				if *slot == 0 || *slot == tag {
-					*slot = tag
-					break
-				}
+// index makes the set findable: with the slots of an older set, as far as its segments are in this one too, and with the contents of new ones.
+func (s *keptSet) index(old *keptSet, new map[string]segment) {
+	s.owned = map[ownerNumber]int{}
+	stays := map[uint64]bool{}
+	for name, one := range s.segments {
+		s.entries += one.count
+		for owner, count := range one.owned {
+			s.owned[owner] += count
+		}
+		if new[name] == nil {
+			for _, block := range one.blocks {
+				stays[uint64(block)] = true
 			}
+		}
+	}
+	s.slots = newSlots(s.entries)
+	for _, slot := range old.slots {
+		if slot != 0 && stays[(slot&(1<<placeBits-1)-1)/segmentSize] {
+			s.slots.add(slot)
+		}
+	}
+	for name, content := range new {
+		for k := 0; k < content.count(); k++ {
+			place := uint64(s.segments[name].blocks[k/segmentSize]*segmentSize + k%segmentSize)
+			s.slots.add(tagOf(content.entry(k).key)<<placeBits | (place + 1))
 		}
 	}
 }
 
-func tagOf(digest []byte) uint64 { return binary.BigEndian.Uint64(digest) | 1<<63 } // never 0, which is a free slot
-
-func (s *keptSet) find(key string) (keptEntry, bool) {
+// find returns the entry of a key. The error is of the file.
+func (s *keptSet) find(key string) (found keptEntry, is bool, err error) {
 	digest := digestOf([]byte(key))
-	tag := tagOf(digest[:])
-	for at := tag; ; at++ {
-		switch s.table[at&uint64(len(s.table)-1)] {
-		case 0:
-			return keptEntry{}, false
-		case tag:
-			for _, one := range s.segments {
-				if e, is := one.find(digest); is {
-					return e, true
-				}
-			}
-			return keptEntry{}, false
+	s.slots.places(digest, func(place uint64) bool {
+		if found, err = s.file.entry(place); err == nil && found.key == digest {
+			is = true
 		}
-	}
+		return err == nil && !is
+	})
+	return found, is, err
 }
 
 // Kept is this gateway's copy of the kept keys. A transaction that appends messages fails when the copy is out of date.
@@ -171,6 +119,7 @@ type Kept struct {
 	cluster *etcd.Cluster
 	prefix  string
 	max     int
+	file    segmentFile
 
 	mu  sync.Mutex
 	set *keptSet // nil before it is read
@@ -180,6 +129,9 @@ type Kept struct {
 func newKept(cluster *etcd.Cluster, prefix string, max int) *Kept {
 	return &Kept{cluster: cluster, prefix: prefix, max: max, old: &keptSet{}}
 }
+
+// SetFolder sets where the keys are held beside memory. It is called before the list is used.
+func (k *Kept) SetFolder(folder string) { k.file.folder = folder }
 
 func (k *Kept) guard() string { return k.prefix + "kept" }
 
@@ -200,8 +152,8 @@ func (k *Kept) Find(ctx context.Context, key string) (message int64, is bool, er
 	if err != nil {
 		return 0, false, err
 	}
-	e, is := set.find(key)
-	return e.message, is, nil
+	e, is, err := set.find(key)
+	return e.message, is, err
 }
 
 // forget drops a copy that is out of date or, for nil, whatever copy there is.
@@ -226,10 +178,11 @@ func (k *Kept) load(ctx context.Context) (*keptSet, error) {
 	if err != nil {
 		return nil, err
 	}
-	set := &keptSet{guard: k.guard(), segments: map[string]segment{}}
+	set := &keptSet{guard: k.guard(), segments: map[string]*heldSegment{}, file: &k.file}
 	if found := answer.Responses[0].GetResponseRange().Kvs; len(found) > 0 {
 		set.revision = found[0].ModRevision
 	}
+	new := map[string]segment{}
 	for _, kv := range answer.Responses[1].GetResponseRange().Kvs {
 		name := string(kv.Key)
 		if known, is := k.old.segments[name]; is { // a segment never changes
@@ -237,15 +190,28 @@ func (k *Kept) load(ctx context.Context) (*keptSet, error) {
 			continue
 		}
 		one, err := client.Get(ctx, name, clientv3.WithRev(answer.Header.Revision))
+		if err == nil && (len(one.Kvs) == 0 || len(one.Kvs[0].Value)%entrySize != 0) {
+			err = &FatalError{fmt.Errorf("the segment of kept keys %s is damaged", name)}
+		}
+		if err == nil {
+			new[name] = one.Kvs[0].Value
+			set.segments[name], err = k.file.add(new[name])
+		}
 		if err != nil {
+			for name := range new {
+				if held := set.segments[name]; held != nil {
+					k.file.remove(held)
+				}
+			}
 			return nil, err
 		}
-		if len(one.Kvs) == 0 || len(one.Kvs[0].Value)%entrySize != 0 {
-			return nil, &FatalError{fmt.Errorf("the segment of kept keys %s is damaged", name)}
-		}
-		set.segments[name] = one.Kvs[0].Value
 	}
-	set.index()
+	set.index(k.old, new)
+	for name, held := range k.old.segments {
+		if set.segments[name] == nil {
+			k.file.remove(held)
+		}
+	}
 	k.set, k.old = set, &keptSet{}
 	return set, nil
 }
@@ -266,7 +232,7 @@ func (k *Kept) DropExpired(ctx context.Context, now time.Time, window time.Durat
 	}
 	var ops []clientv3.Op
 	for name, one := range set.segments {
-		if one.newest() < now.Add(-window-maxAhead).UnixMilli() && len(ops) < maxGroup {
+		if one.newest < now.Add(-window-maxAhead).UnixMilli() && len(ops) < maxGroup {
 			ops = append(ops, clientv3.OpDelete(name))
 		}
 	}

@@ -197,7 +197,10 @@ func (l *Log) tryCommit(ctx context.Context, group []*pending, patience time.Dur
 	for index, p := range group {
 		ours := l.messages(p.Key)
 		get := []clientv3.Op{clientv3.OpGet(ours)}
-		if p.err = l.check(kept, p); p.err != nil {
+		if p.err, err = l.check(kept, p); err != nil {
+			return err
+		}
+		if p.err != nil {
 			ops = append(ops, clientv3.OpTxn(nil, get, nil))
 			continue
 		}
@@ -233,26 +236,29 @@ func (l *Log) tryCommit(ctx context.Context, group []*pending, patience time.Dur
 	return nil
 }
 
-// check returns why a batch cannot be put now, whatever the list has: its key is that of a pruned message, or there is no room.
-func (l *Log) check(kept *keptSet, b *pending) error {
-	if entry, is := kept.find(b.Key); is {
-		return entry.compare(b.Batch)
-	}
-	if b.Internal {
-		return nil
-	}
-	if !isAnonymous(b.Key) && kept.count() >= l.Kept.max {
-		return &FullError{What: fmt.Sprintf("%d idempotency keys are kept, which is -max-kept-keys: send this later, or without a key", kept.count()), Keys: true}
+// check returns why a batch cannot be put now, whatever the list has: its key is that of a pruned message, or there is no room. The second error is
+// of the kept keys.
+func (l *Log) check(kept *keptSet, b *pending) (refused, err error) {
+	entry, is, err := kept.find(b.Key)
+	switch {
+	case err != nil:
+		return nil, err
+	case is:
+		return entry.compare(b.Batch), nil
+	case b.Internal:
+		return nil, nil
+	case !isAnonymous(b.Key) && kept.count() >= l.Kept.max:
+		return &FullError{What: fmt.Sprintf("%d idempotency keys are kept, which is -max-kept-keys: send this later, or without a key", kept.count()), Keys: true}, nil
 	}
 	if err := l.Space.check(); err != nil {
-		return err
+		return err, nil
 	}
 	if most := l.mostOfOne(); b.isLimited() && !b.hasShare {
 		if b.hasShare = l.owners.take(ownerOf(b.Key), most); !b.hasShare {
-			return &FullError{What: fmt.Sprintf("this caller has used %d idempotency keys that are still known, half of -max-kept-keys: send this later, or without a key", most), Keys: true}
+			return &FullError{What: fmt.Sprintf("this caller has used %d idempotency keys that are still known, half of -max-kept-keys: send this later, or without a key", most), Keys: true}, nil
 		}
 	}
-	return nil
+	return nil, nil
 }
 
 // settle records the result for a batch. If the list still has the message, that takes precedence.

@@ -105,16 +105,16 @@ func TestKeptKeysAreSmall(t *testing.T) {
 	if err != nil || set.count() != count {
 		t.Fatal(set.count(), err)
 	}
-	if each := float64(heap()-start) / count; each > 64 {
+	if each := float64(heap()-start) / count; each > 32 {
 		t.Errorf("%.1f bytes of memory each", each)
 	}
 	for _, n := range []int{0, 1, 77_777, count - 1} {
-		if e, is := set.find(fmt.Sprint("a/", n)); !is || e.message != int64(n) {
-			t.Errorf("key %d: %v %v", n, e, is)
+		if e, is, err := set.find(fmt.Sprint("a/", n)); err != nil || !is || e.message != int64(n) {
+			t.Errorf("key %d: %v %v %v", n, e, is, err)
 		}
 	}
 	for n := 0; n < 10_000; n++ {
-		if _, is := set.find(fmt.Sprint("b/", n)); is {
+		if _, is, err := set.find(fmt.Sprint("b/", n)); err != nil || is {
 			t.Errorf("b/%d was found", n)
 		}
 	}
@@ -122,19 +122,23 @@ func TestKeptKeysAreSmall(t *testing.T) {
 }
 
 func BenchmarkNewKey(b *testing.B) {
-	set := &keptSet{segments: map[string]segment{}}
+	set, contents := &keptSet{segments: map[string]*heldSegment{}, file: &segmentFile{}}, map[string]segment{}
 	for first := 0; first < 1_000_000; first += segmentSize {
 		entries := make([]keptEntry, segmentSize)
 		for n := range entries {
 			entries[n].key = digestOf([]byte(fmt.Sprint("a/", first+n)))
 		}
-		set.segments[fmt.Sprint(first)] = encodeSegment(entries)
+		name, err := fmt.Sprint(first), error(nil)
+		contents[name] = encodeSegment(entries)
+		if set.segments[name], err = set.file.add(contents[name]); err != nil {
+			b.Fatal(err)
+		}
 	}
-	set.index()
+	set.index(&keptSet{}, contents)
 	b.ResetTimer()
 	for n := 0; n < b.N; n++ {
-		if _, is := set.find("b/new"); is {
-			b.Fatal("it was found")
+		if _, is, err := set.find("b/new"); err != nil || is {
+			b.Fatal("it was found", err)
 		}
 	}
 }

@@ -37,7 +37,7 @@ fn misfit_of<K: Naming>(refused: CloseRefused<K>) -> Misfit
     let CloseRefused {
         fault,
         book,
-        reported: _reported,
+        told: _told,
         passes,
     } = refused;
     Misfit {

@@ -9,8 +9,8 @@ use std::rt::{Files, Runtime};
 use std::{fs, io};
 
 /// Returns the bytes of an example's file.
-pub fn bytes<R: Files + AllocGlobal>(rt: &R, name: &str, release: &str) -> io::Result<Vec<u8>> {
-    let path = format!(in rt.alloc(); "{name}.{ending}")?;
+pub fn bytes<R: Files + AllocGlobal>(rt: &R, name: &str, extension: &str) -> io::Result<Vec<u8>> {
+    let path = format!(in rt.alloc(); "{name}.{extension}")?;
     fs::read(rt, path.as_str())
 }
 

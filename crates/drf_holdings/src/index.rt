@@ -16,7 +16,7 @@ use std::collections::VecDeque;
 fn is_first(numbers: &VecDeque<u64>, number: u64) -> bool
     ensures { result ≡ true → (rest : List ℕ) × (numbers.now.items ≡ number ∷ rest) }
 {
-    match numbers.prefix() {
+    match numbers.front() {
         Some(first) => *first == number,
         None => false,
     }

@@ -1,7 +1,7 @@
 //! Files that are read by name.
 
+use crate::fault::RunFault;
 use drf_hash::HashKey;
-use drf_journal::RunFault;
 use std::fs;
 use std::io::ErrorKind;
 use std::random::RandomSource;

@@ -6,7 +6,7 @@ use Rattle.std.proofs.lemmas.Bool.{le-leb, lt-leb, cases_lt, true≢false}
 use Rattle.drf_kinds.specs.declared.interval.Interval.{Interval}
 use Rattle.drf_kinds.specs.Intervals.{AreMaximal, AreMaximalFrom, is_in, is_within}
 use Rattle.drf_kinds.specs.Sweep.{Steps, steps_of}
-use Rattle.drf_kinds.proofs.Sweep.{AreFrom, is_member}
+use Rattle.drf_kinds.proofs.SweepLemmas.{AreFrom, is_member}
 use Rattle.drf_kinds.specs.Sets.{is_kept}
 use Rattle.drf_kinds.proofs.Steps.{PassesBoth, AreFrom-lower, member_of_places, places_from}
 

@@ -7,4 +7,4 @@ pub mod Names
 pub mod Steps
 pub mod IntervalLaws
 pub mod ListedLaws
-pub mod Sweep
+pub mod SweepLemmas

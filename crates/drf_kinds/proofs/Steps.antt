@@ -4,7 +4,7 @@ use Rattle.std.proofs.lemmas.Bool.{lt-ltb, le-ltb, eq-eqb, ne_eqb, le-leb, lt-le
 use Rattle.drf_kinds.specs.declared.interval.Interval.{Interval}
 use Rattle.drf_kinds.specs.Intervals.{AreMaximal, AreMaximalFrom, is_in}
 use Rattle.drf_kinds.specs.Sweep.{Steps, next_place, passed, places_of, steps_of, rest}
-use Rattle.drf_kinds.proofs.Sweep.{AreFrom, is_member}
+use Rattle.drf_kinds.proofs.SweepLemmas.{AreFrom, is_member}
 use Rattle.drf_kinds.specs.Sets.{is_met}
 
 -- the steps t are the steps s after a place that is at most all places of s

@@ -78,7 +78,7 @@ fn ask<R: Runtime + AllocGlobal>(rt: &R, question: &str) -> io::Result<()> {
     let mut answer = Answer::new(rt.alloc());
     answer_to(&mut answer, kind, text);
     let reported = answer.text();
-    println!(rt; "{question} -> {told}")
+    println!(rt; "{question} -> {reported}")
 }
 
 fn main(rt: HostRuntime) -> io::Result<()> {

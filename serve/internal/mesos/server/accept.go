@@ -319,7 +319,7 @@ func (s *Server) putAccept(ctx context.Context, a *acceptance, refuseMS int64) e
 	if len(m.lines) == 0 && len(a.note.Refused) == 0 {
 		return nil
 	}
-	answers, err := s.put(ctx, m)
+	answers, err := s.putFor(ctx, a.framework, m)
 	if err != nil {
 		return err
 	}
@@ -333,7 +333,7 @@ func (s *Server) putAccept(ctx context.Context, a *acceptance, refuseMS int64) e
 		}
 	}
 	if len(again.lines) > 0 {
-		if _, err := s.put(ctx, again); err != nil {
+		if _, err := s.putFor(ctx, a.framework, again); err != nil {
 			return err
 		}
 	}

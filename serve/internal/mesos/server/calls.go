@@ -34,7 +34,7 @@ func (s *Server) kill(ctx context.Context, f *framework, call codec.Message) err
 	if n.GraceMS = graceOf(policy); isRunBy { // a custom executor has the task's policy, or its own
 		n.GraceMS = -1
 	}
-	return s.note(ctx, n)
+	return s.noteFor(ctx, f, n)
 }
 
 // graceOf returns the time between SIGTERM and SIGKILL in milliseconds. A negative time means 0.
@@ -49,12 +49,12 @@ func graceOf(policy codec.Message) int64 {
 }
 
 func (s *Server) shutdown(ctx context.Context, f *framework, call codec.Message) error {
-	return s.note(ctx, &mesos.Note{Kind: mesos.NoteShutdown, Framework: f.id, Agent: call.Text("shutdown.agent_id.value"), Executor: call.Text("shutdown.executor_id.value"), GraceMS: defaultGrace})
+	return s.noteFor(ctx, f, &mesos.Note{Kind: mesos.NoteShutdown, Framework: f.id, Agent: call.Text("shutdown.agent_id.value"), Executor: call.Text("shutdown.executor_id.value"), GraceMS: defaultGrace})
 }
 
 // message passes a message on. As in Mesos, delivery is not guaranteed.
 func (s *Server) message(ctx context.Context, f *framework, call codec.Message) error {
-	return s.note(ctx, &mesos.Note{Kind: mesos.NoteMessage, Framework: f.id, Agent: call.Text("message.agent_id.value"), Executor: call.Text("message.executor_id.value"), Data: call.Bytes("message.data")})
+	return s.noteFor(ctx, f, &mesos.Note{Kind: mesos.NoteMessage, Framework: f.id, Agent: call.Text("message.agent_id.value"), Executor: call.Text("message.executor_id.value"), Data: call.Bytes("message.data")})
 }
 
 func (s *Server) reconcile(ctx context.Context, f *framework, call codec.Message) error {
@@ -62,7 +62,7 @@ func (s *Server) reconcile(ctx context.Context, f *framework, call codec.Message
 	for _, one := range call.List("reconcile.tasks") {
 		n.Asked = append(n.Asked, mesos.Asked{Task: one.Text("task_id.value"), Agent: one.Text("agent_id.value")})
 	}
-	return s.note(ctx, n)
+	return s.noteFor(ctx, f, n)
 }
 
 // acknowledge answers before the acknowledgement is in the list: a status whose acknowledgement is lost is sent again.
@@ -118,26 +118,32 @@ func (s *Server) ofRoles(ctx context.Context, f *framework, event string, roles 
 		}
 		m.add(event, "framework", f.Name, "role", role)
 	}
-	_, err := s.put(ctx, m)
+	_, err := s.putFor(ctx, f, m)
 	return err
 }
 
 func (s *Server) teardown(ctx context.Context, f *framework, _ codec.Message) error {
-	return s.remove(ctx, f.id, "", "teardown")
+	return s.remove(ctx, f.id, "teardown", func(known *mesos.Framework) (bool, error) {
+		err := f.check(known)
+		return err == nil, err
+	})
 }
 
-// remove removes a framework. If a stream is named, it does so only if this is the framework's last stream and has ended.
-func (s *Server) remove(ctx context.Context, id, stream, why string) error {
+// remove removes a framework, if it exists and is due to be removed.
+func (s *Server) remove(ctx context.Context, id, why string, isDue func(*mesos.Framework) (bool, error)) error {
 	_, err := s.putGuarded(ctx, guardOf("framework", id), func() (m *message, err error) {
 		s.state.Read(func() {
-			f := s.state.Frameworks[id]
-			if f == nil || stream != "" && (f.Stream != stream || f.IsConnected) {
+			f, is := s.state.Frameworks[id], false
+			if f == nil {
+				return
+			}
+			if is, err = isDue(f); !is {
 				return
 			}
 			m = &message{key: why + "/" + f.Stream, isInternal: true}
 			m.add("remove_framework", "framework", f.Name)
 		})
-		return m, nil
+		return m, err
 	})
 	if isSettled(err) {
 		return nil

@@ -97,7 +97,7 @@ func (s *Server) dueNow() (deeds []deed) {
 			case f.IsConnected && s.hasEnded(f.Gateway, f.Stream, live):
 				deeds = append(deeds, func(ctx context.Context) error { return s.leave(ctx, id, stream, true) })
 			case !f.IsConnected && isOver(f.Left, wait):
-				deeds = append(deeds, func(ctx context.Context) error { return s.remove(ctx, id, stream, "failover") })
+				deeds = append(deeds, func(ctx context.Context) error { return s.removeSilent(ctx, id, stream) })
 			case !f.IsConnected:
 				deeds = append(deeds, s.rescinds(id)...)
 			}
@@ -156,6 +156,11 @@ func (s *Server) deed(m *message) deed {
 		_, err := s.put(ctx, m)
 		return err
 	}
+}
+
+// removeSilent removes a framework that did not subscribe again after a stream.
+func (s *Server) removeSilent(ctx context.Context, id, stream string) error {
+	return s.remove(ctx, id, "failover", func(f *mesos.Framework) (bool, error) { return f.Stream == stream && !f.IsConnected, nil })
 }
 
 // removeAgent removes an agent that stayed away for too long. Its tasks are lost.

@@ -4,15 +4,20 @@ package server
 
 import (
 	"context"
+	"crypto/sha256"
+	"encoding/hex"
 	"errors"
+	"fmt"
 	"log"
 	"net/http"
+	"strconv"
 	"strings"
 	"time"
 
 	"gateway/internal/api"
 	"gateway/internal/mesos/codec"
 	"gateway/internal/mesos/resources"
+	"gateway/internal/oplog"
 	"gateway/internal/registry/mesos"
 )
 
@@ -185,7 +190,7 @@ func (s *Server) update(ctx context.Context, agent string, call codec.Message) e
 		status.Set("source", "SOURCE_AGENT")
 	}
 	status.Set("agent_id.value", agent)
-	m := &message{note: &mesos.Note{Kind: mesos.NoteStatus, Framework: call.Text("framework_id.value"), Task: task, Agent: agent, Launch: call.Int("launch"),
+	m := &message{key: statusKey(agent, call), note: &mesos.Note{Kind: mesos.NoteStatus, Framework: call.Text("framework_id.value"), Task: task, Agent: agent, Launch: call.Int("launch"),
 		Status: &mesos.Status{State: state, UUID: status.Bytes("uuid"), Raw: status.Protobuf()}}}
 	isFull := false
 	s.state.Read(func() {
@@ -210,5 +215,18 @@ func (s *Server) update(ctx context.Context, agent string, call codec.Message) e
 		return api.Refuse(http.StatusTooManyRequests, "the task %q has %d statuses that its framework did not acknowledge", task, maxUnacked)
 	}
 	_, err := s.put(ctx, m)
+	if conflict := (*oplog.ConflictError)(nil); errors.As(err, &conflict) { // the list has it, with other lines
+		return nil
+	}
 	return err
+}
+
+// statusKey returns the key of a status. An agent sends a status again if it gets no answer, perhaps to another gateway. If both gateways append it,
+// the later copy must not count, because the agent may have sent further statuses in between.
+func statusKey(agent string, call codec.Message) string {
+	sum := sha256.New()
+	for _, one := range []string{agent, call.Text("framework_id.value"), call.Text("status.task_id.value"), strconv.FormatInt(call.Int("launch"), 10), string(call.Bytes("status.uuid"))} {
+		fmt.Fprintf(sum, "%d %s", len(one), one)
+	}
+	return "status/" + hex.EncodeToString(sum.Sum(nil)[:20])
 }

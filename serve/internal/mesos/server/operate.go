@@ -37,7 +37,7 @@ func (s *Server) AppendFor(ctx context.Context, agent string, build func() (*mes
 
 // Teardown removes a framework.
 func (s *Server) Teardown(ctx context.Context, id string) error {
-	return s.remove(ctx, id, "", "teardown")
+	return s.remove(ctx, id, "teardown", func(*mesos.Framework) (bool, error) { return true, nil })
 }
 
 // CatchUp waits until this gateway has applied everything that any gateway answered before. A message that this needs is recorded as the

@@ -125,7 +125,7 @@ func (s *Server) scheduler(c *api.Call) error {
 	return nil
 }
 
-// caller finds the framework of a call. The texts are Mesos'.
+// caller finds the framework of a call.
 func (s *Server) caller(c *api.Call, call codec.Message) (*framework, error) {
 	id, stream := call.Text("framework_id.value"), c.R.Header.Get(streamHeader)
 	found := mesos.Framework{}
@@ -134,17 +134,38 @@ func (s *Server) caller(c *api.Call, call codec.Message) (*framework, error) {
 			found = *f
 		}
 	})
+	f := &framework{id, stream, found.Subscription, c.By()}
+	return f, f.check(&found)
+}
+
+// check returns why a framework's call cannot have an effect now, given what is known of the framework. The texts are Mesos'.
+func (f *framework) check(known *mesos.Framework) error {
 	switch {
-	case found.ID == "":
-		return nil, api.Refuse(http.StatusBadRequest, "Framework cannot be found")
-	case found.Principal != c.By().Name:
-		return nil, api.Refuse(http.StatusBadRequest, "Authenticated principal '%s' does not match the principal that subscribed the framework", c.By().Name)
-	case !found.IsConnected:
-		return nil, api.Refuse(http.StatusForbidden, "Framework is not subscribed")
-	case stream == "":
-		return nil, api.Refuse(http.StatusBadRequest, "All non-subscribe calls should include the '%s' header", streamHeader)
-	case stream != found.Stream:
-		return nil, api.Refuse(http.StatusBadRequest, "The stream ID '%s' included in this request didn't match the stream ID currently associated with framework ID '%s'", stream, id)
+	case known == nil || known.ID == "":
+		return api.Refuse(http.StatusBadRequest, "Framework cannot be found")
+	case known.Principal != f.by.Name:
+		return api.Refuse(http.StatusBadRequest, "Authenticated principal '%s' does not match the principal that subscribed the framework", f.by.Name)
+	case !known.IsConnected:
+		return api.Refuse(http.StatusForbidden, "Framework is not subscribed")
+	case f.stream == "":
+		return api.Refuse(http.StatusBadRequest, "All non-subscribe calls should include the '%s' header", streamHeader)
+	case f.stream != known.Stream:
+		return api.Refuse(http.StatusBadRequest, "The stream ID '%s' included in this request didn't match the stream ID currently associated with framework ID '%s'", f.stream, f.id)
 	}
-	return &framework{id, stream, found.Subscription, c.By()}, nil
+	return nil
+}
+
+// putFor appends the message of a framework's call. If the framework's stream ends before that, the call is refused: one that was sent before a
+// failover has no effect after it, even if its gateway could not append it for a while.
+func (s *Server) putFor(ctx context.Context, f *framework, m *message) ([]string, error) {
+	return s.putWhile(ctx, guardOf("framework", f.id), func() (_ *message, err error) {
+		s.state.Read(func() { err = f.check(s.state.Frameworks[f.id]) })
+		return m, err
+	})
+}
+
+// noteFor appends the note of a framework's call.
+func (s *Server) noteFor(ctx context.Context, f *framework, n *mesos.Note) error {
+	_, err := s.putFor(ctx, f, &message{note: n})
+	return err
 }

@@ -193,16 +193,26 @@ func guardOf(kind, id string) string {
 	return fmt.Sprintf("mesos/%d", sum.Sum32()%guards)
 }
 
-// putGuarded builds a message from the current state and appends it if no other message came in between; otherwise it builds it again. Build
-// returns nil if there is nothing to do.
+// putGuarded builds a message from the current state and appends it if no message that touches the guard came in between; otherwise it builds it
+// again. The message touches the guard. Build returns nil if there is nothing to do.
 func (s *Server) putGuarded(ctx context.Context, guard string, build func() (*message, error)) ([]string, error) {
+	return s.putWhile(ctx, guard, func() (*message, error) {
+		m, err := build()
+		if m != nil {
+			m.guard = guard
+		}
+		return m, err
+	})
+}
+
+// putWhile does what putGuarded does, but its message does not touch the guard, so that messages of one framework do not wait for each other.
+func (s *Server) putWhile(ctx context.Context, guard string, build func() (*message, error)) ([]string, error) {
 	for try := 0; try < 8; try++ {
 		applied := s.registry.Info().Revision // before what is built from
 		m, err := build()
 		if m == nil || err != nil {
 			return nil, err
 		}
-		m.guard = guard
 		answers, err := s.put(ctx, m, s.log.Untouched(guard, applied))
 		if !errors.Is(err, oplog.ErrNotDue) {
 			return answers, err

@@ -19,10 +19,7 @@ import (
 	"gateway/internal/registry/mesos"
 )
 
-const (
-	maxRoles    = 8                // that the allocator takes of a framework
-	repeatAfter = 10 * time.Second // a status that is not acknowledged
-)
+const maxRoles = 8 // that the allocator takes of a framework
 
 // refusedSubscription is why a SUBSCRIBE is refused. As in Mesos, its stream has only an ERROR event, because clients would repeat the call after
 // an error status.
@@ -286,15 +283,13 @@ func (s *Server) write(c *api.Call, form codec.Form, one *stream, id string) (ha
 	beat, repeat := time.NewTicker(heartbeatSeconds*time.Second), time.NewTicker(repeatAfter/4)
 	defer beat.Stop()
 	defer repeat.Stop()
-	lost, sent := s.log.Clock.Lost(), map[string]sentStatus{}
+	lost, sent := s.log.Clock.Lost(), unacknowledged{}
 	for {
 		var text []byte
 		select {
 		case <-one.wake:
 			for _, e := range one.take() {
-				if e.Kind == "UPDATE" && len(e.Status.UUID) > 0 {
-					sent[e.Status.Task] = sentStatus{string(e.Status.UUID), time.Now()}
-				}
+				sent.add(e, time.Now())
 				for _, m := range s.render(e) {
 					text = append(text, form.Record(m)...)
 				}
@@ -319,7 +314,7 @@ func (s *Server) write(c *api.Call, form codec.Form, one *stream, id string) (ha
 		case <-beat.C:
 			text = form.Record(codec.New("mesos.scheduler.Event").Set("type", "HEARTBEAT"))
 		case <-repeat.C:
-			for _, status := range s.due(id, one.id, sent) {
+			for _, status := range sent.due(s.state, id, one.id, time.Now()) {
 				text = append(text, form.Record(codec.New("mesos.scheduler.Event").Set("type", "UPDATE").Set("update.status", renderStatus(status)))...)
 			}
 		case <-c.Replaced():
@@ -333,32 +328,6 @@ func (s *Server) write(c *api.Call, form codec.Form, one *stream, id string) (ha
 			return true
 		}
 	}
-}
-
-type sentStatus struct {
-	uuid string
-	at   time.Time
-}
-
-// due returns the statuses that were sent some time ago and are not acknowledged.
-func (s *Server) due(id, stream string, sent map[string]sentStatus) (list []mesos.Status) {
-	s.state.Read(func() {
-		f := s.state.Frameworks[id]
-		if f == nil || f.Stream != stream {
-			return
-		}
-		for name, last := range sent {
-			t := f.Tasks[name]
-			if t == nil || len(t.Unacked) == 0 {
-				delete(sent, name)
-				continue
-			}
-			if status := t.Unacked[0]; last.uuid == string(status.UUID) && time.Since(last.at) >= repeatAfter {
-				sent[name], list = sentStatus{last.uuid, time.Now()}, append(list, status)
-			}
-		}
-	})
-	return list
 }
 
 // leave ends a framework's stream in the registry: its offers end, and it gets no more offers.

@@ -94,7 +94,7 @@ pub(crate) struct Asking<S: Sorter> {
     text: Vec<u8>,
 }
 
-// Written by hand, so that the proof of code that drops one sees one call instead of the drop of each field.
+// Written out, so that the proof of code that drops one sees one call instead of the drop of each field.
 impl<S: Sorter> Drop for Asking<S> {
     fn drop(self) {
         let Asking {
@@ -217,7 +217,7 @@ impl<S: Sorter> Asking<S> {
         ensures cause { writer.old.failed ≡ false → HasCause result false 0 writer.new.failed }
         ensures flushed { writer.old.flushed ≡ true → HasFlushed result writer.new.flushed }
     {
-        // The contract of this call says what is kept of a line.
+        // The contract of this call says which part of a line is kept.
         line_law();
         if self.pending.is_empty() {
             return Ok(());

@@ -9,7 +9,7 @@ use Rattle.std.proofs.lemmas.List.Edits.{map_over_more}
 use Rattle.drf_role.specs.Text.{same_text}
 use Rattle.drf_role.proofs.TextLaws.{cases_same}
 use Rattle.drf_bundle.specs.Quantities.{amount_of, is_named, names_all, is_in_order, with_amount, plus, minus, covers}
-use Rattle.drf_bundle.proofs.laws.QuantitiesLaws.{stands_first, amount_first, amount_head, amount-with, covers_at, named-with, unnamed_in}
+use Rattle.drf_bundle.proofs.theorems.QuantitiesLaws.{stands_first, amount_first, amount_head, amount-with, covers_at, named-with, unnamed_in}
 use Rattle.drf_bundle.specs.KeyPlaces.{IsAt}
 use Rattle.drf_bundle.proofs.PlaceLemmas.{amount_at}
 use Rattle.drf_bundle.specs.declared.quantities.Entry.{Entry}

@@ -15,7 +15,7 @@ use Rattle.drf_role.specs.Text.{Text, same_text, text_below}
 use Rattle.drf_role.specs.TextLaws.{below_trans, cmp_itself, cmp_below, below_from_cmp, above_from_cmp}
 use Rattle.drf_role.proofs.TextLaws.{below_other, above_other}
 use Rattle.drf_bundle.specs.Value.{Point, Thousandths, IsGiven, is_same_kind, share_members}
-use Rattle.drf_bundle.proofs.laws.ValueLaws.{units-most}
+use Rattle.drf_bundle.proofs.theorems.ValueLaws.{units-most}
 use Rattle.drf_bundle.specs.Bundle.{Key, key_of, same_key, is_in_order, stock}
 use Rattle.drf_bundle.specs.laws.KeyLaws.{cases_below, below_from_name, Has, where-cons, unit-none}
 use Rattle.drf_bundle.specs.laws.SumLaws.{of_name}

@@ -1,4 +1,4 @@
--- What is left of a bundle after parts are removed one after another, resource by resource.
+-- The rest of a bundle after parts are removed one after another, resource by resource.
 use Rattle.std.specs.Prelude.{◌≡◌, ◌-◌, ◌≤◌, ◌<◌, List, [], ◌∷◌, map, Option, Some, None}
 use Rattle.std.specs.List.{AllByRecursion}
 use Rattle.std.proofs.Common.{refl, sym, ◌∙◌, arith}
@@ -6,11 +6,11 @@ use Rattle.std.proofs.lemmas.List.Sums.{sum_by-cons}
 use Rattle.drf_bundle.specs.Value.{Point, units_in, amount_in, IsGiven}
 use Rattle.drf_bundle.specs.Bundle.{Key, key_of, units, value_at, less_at, with_value, filled_of, IsResource, IsBundle}
 use Rattle.drf_bundle.specs.Taken.{less_all, rest_of_all, units_of_all}
-use Rattle.drf_bundle.proofs.laws.ValueLaws.{units-less, given-less}
-use Rattle.drf_bundle.proofs.laws.KeyLaws.{units_found, units_at}
-use Rattle.drf_bundle.proofs.laws.RestLaws.{KeepsKeys, bundle-changed, units-changed}
+use Rattle.drf_bundle.proofs.theorems.ValueLaws.{units-less, given-less}
+use Rattle.drf_bundle.proofs.theorems.KeyLaws.{units_found, units_at}
+use Rattle.drf_bundle.proofs.theorems.RestLaws.{KeepsKeys, bundle-changed, units-changed}
 use Rattle.drf_bundle.specs.laws.BundleLaws.{known_by_units}
-use Rattle.drf_bundle.proofs.laws.TakenLaws.{bundle-rest_of_all, units-rest_of_all}
+use Rattle.drf_bundle.proofs.theorems.TakenLaws.{bundle-rest_of_all, units-rest_of_all}
 use Rattle.drf_bundle.specs.declared.resource.Resource.{Resource}
 use Rattle.drf_bundle.specs.declared.value.Value.{Value}
 
@@ -60,7 +60,7 @@ module _ (whole : List Resource) (parts : List (List Resource)) (is : IsBundle w
         filled = filled;
       }
 
-  -- all of them together are what is left of the bundle
+  -- all of them together are the rest of the bundle
   pub left_after_all : filled_of (map (left_after parts) whole) ≡ rest_of_all whole parts
   left_after_all =
       known_by_units (filled_of (map (left_after parts) whole)) (rest_of_all whole parts) bundle-left_after (bundle-rest_of_all whole parts is)

@@ -11,5 +11,5 @@ pub mod NameLemmas
 pub mod SearchLemmas
 pub mod SumLemmas
 pub mod ValueAnswers
-pub mod laws
+pub mod theorems
 pub mod ListLaws

@@ -16,8 +16,8 @@ use Rattle.std.proofs.lemmas.Option.{get_or_from_slice_get}
 use Rattle.drf_role.specs.TextLaws.{below_trans, same_from_cmp, same_from_test, test_from_same, cmp_below, cmp_itself, above_from_cmp}
 use Rattle.drf_role.proofs.TextLaws.{cmp_above, below_other, above_other}
 use Rattle.drf_bundle.specs.Quantities.{amount_of, is_named, is_in_order, with_amount}
-use Rattle.drf_bundle.proofs.laws.ListLaws.{position-none}
-use Rattle.drf_bundle.proofs.laws.QuantitiesLaws.{stands_first, amount-with}
+use Rattle.drf_bundle.proofs.theorems.ListLaws.{position-none}
+use Rattle.drf_bundle.proofs.theorems.QuantitiesLaws.{stands_first, amount-with}
 use Rattle.drf_bundle.specs.KeyPlaces.{IsAt, IsFreeSlotFor}
 use Rattle.drf_bundle.specs.declared.quantities.Entry.{Entry}
 

@@ -9,7 +9,7 @@ use Rattle.drf_bundle.specs.Value.{Point, Thousandths, units_in}
 use Rattle.drf_bundle.specs.Bundle.{Key, key_of, key_below, is_in_order, units_where, stock, IsResource, IsBundle, HasSums, add_scalar, add_scalars, quantities_of}
 use Rattle.drf_bundle.specs.laws.KeyLaws.{stands_first, unit_of, where-cons, unit-here}
 use Rattle.drf_bundle.specs.laws.SumLaws.{of_name}
-use Rattle.drf_bundle.proofs.laws.SumLaws.{amount-add_scalar, amount-quantities_of, amount-kept}
+use Rattle.drf_bundle.proofs.theorems.SumLaws.{amount-add_scalar, amount-quantities_of, amount-kept}
 use Rattle.drf_bundle.specs.laws.FitLaws.{fits_less}
 use Rattle.drf_bundle.specs.Quantities.{amount_of}
 use Rattle.drf_bundle.specs.declared.quantities.Entry.{Entry}

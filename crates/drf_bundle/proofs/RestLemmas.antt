@@ -8,7 +8,7 @@ use Rattle.drf_bundle.specs.Value.{amount_in, less}
 use Rattle.drf_bundle.specs.Bundle.{Key, key_of, key_cmp, key_below, same_key, is_in_order, IsResource, IsBundle, value_at, with_value, less_at, filled_of, rest}
 use Rattle.drf_bundle.specs.Sides.{next_side}
 use Rattle.drf_bundle.specs.laws.KeyLaws.{stands_first, first_trans, key_less, key_greater, key_equal, same_key_itself, below_other}
-use Rattle.drf_bundle.proofs.laws.KeyLaws.{above_other}
+use Rattle.drf_bundle.proofs.theorems.KeyLaws.{above_other}
 use Rattle.drf_bundle.specs.declared.merge.Side.TheVariants.{Left, Right, Both}
 use Rattle.drf_bundle.specs.declared.resource.Resource.{Resource}
 use Rattle.drf_bundle.proofs.MergeLemmas.{tail, tail_is, side_less, side_equal, side_greater}

@@ -15,9 +15,9 @@ use Rattle.drf_role.specs.PathLaws.{same_path-true}
 use Rattle.drf_role.specs.TextLaws.{less_from_test, cmp_itself, same_from_test}
 use Rattle.drf_bundle.specs.Bundle.{Key, key_of, key_cmp, key_below, reservation, same_key, is_in_order, stock, HasSums, value_at, both_of, merged}
 use Rattle.drf_bundle.specs.laws.KeyLaws.{cases_key, key_trans, key_less, key_greater, key_equal, same_key_itself, below_other, Has, stands_first}
-use Rattle.drf_bundle.proofs.laws.KeyLaws.{above_other}
+use Rattle.drf_bundle.proofs.theorems.KeyLaws.{above_other}
 use Rattle.drf_bundle.specs.laws.JoinLaws.{merged-empty}
-use Rattle.drf_bundle.proofs.laws.SumLaws.{amount-kept}
+use Rattle.drf_bundle.proofs.theorems.SumLaws.{amount-kept}
 use Rattle.drf_bundle.specs.laws.FitLaws.{stock_has}
 use Rattle.drf_bundle.specs.Quantities.{amount_of}
 use Rattle.drf_bundle.specs.Value.{Thousandths, units_in}

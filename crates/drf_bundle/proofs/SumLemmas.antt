@@ -10,7 +10,7 @@ use Rattle.drf_bundle.specs.Quantities.{amount_of}
 use Rattle.drf_bundle.specs.declared.quantities.Entry.{Entry}
 use Rattle.drf_bundle.specs.declared.resource.Resource.{Resource}
 use Rattle.drf_bundle.specs.laws.SumLaws.{of_name}
-use Rattle.drf_bundle.proofs.laws.SumLaws.{amount-add_scalar}
+use Rattle.drf_bundle.proofs.theorems.SumLaws.{amount-add_scalar}
 use Rattle.drf_bundle.proofs.MergeLemmas.{next_of}
 
 pub record Summed (rs : List Resource) (sums : List Entry) (left : List Resource) : Type 0 where

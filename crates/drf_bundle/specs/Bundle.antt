@@ -166,7 +166,7 @@ left_of part r = with_value r (less_at (value_at part (key_of r)) r.value)
 abbrev pub filled_of : List Resource → List Resource
 filled_of rs = filter (λ r. nat_lt 0 (amount_in r.value)) rs
 
--- what is left of a bundle without a part
+-- the rest of a bundle without a part
 abbrev pub rest : List Resource → List Resource → List Resource
 rest whole part = filled_of (map (left_of part) whole)
 

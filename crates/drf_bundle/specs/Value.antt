@@ -73,7 +73,7 @@ united (Ranges a) (Ranges b) = Ranges (set.union a b)
 united (Items a) (Items b) = Items (set.union a b)
 united v w = v
 
--- what is left of a value without another
+-- the rest of a value without another
 abbrev pub less : Value → Value → Value
 less (Scalar a) (Scalar b) = Scalar (a - b)
 less (Ranges a) (Ranges b) = Ranges (set.difference a b)

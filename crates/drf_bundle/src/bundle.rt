@@ -149,7 +149,7 @@ fn covers_one(whole: &[Resource], resource: &Resource, hint: usize) -> bool
     }
 }
 
-/// Returns what is left of `thousandths` of a resource after the amounts in the parts are subtracted, one after
+/// Returns the rest of `thousandths` of a resource after the amounts in the parts are subtracted, one after
 /// another. The parts probably have the resource at the hint or soon after it.
 fn thousandths_left(
     thousandths: u64,
@@ -168,7 +168,7 @@ fn thousandths_left(
     left
 }
 
-/// Returns what is left of the value of a resource after its values in the parts are removed, one after another.
+/// Returns the rest of the value of a resource after its values in the parts are removed, one after another.
 fn members_left(
     resource: &Resource,
     parts: &[(Name, Bundle)],
@@ -446,14 +446,14 @@ impl Bundle {
         sum.is_none()
     }
 
-    /// Returns what is left of the bundle without `part`. The bundle need not cover the part.
+    /// Returns the rest of the bundle without `part`. The bundle need not cover the part.
     pub fn rest(&self, part: &Bundle) -> Result<Bundle, AllocError>
         ensures { IfOk result (λ left. left ≡ rest self.now part.now) }
     {
         Bundle::from_parts(rest(self.alloc(), self.entries(), part.entries())?)
     }
 
-    /// Returns what is left of the bundle after the parts are removed, one after another. The bundle need not cover
+    /// Returns the rest of the bundle after the parts are removed, one after another. The bundle need not cover
     /// them. Their names are ignored.
     pub fn rest_of_all(&self, parts: &[(Name, Bundle)]) -> Result<Bundle, AllocError>
         requires { AllByRecursion IsBundle (map (λ p. p.1) parts.now) }

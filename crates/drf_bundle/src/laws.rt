@@ -87,7 +87,7 @@ pub fn bundle_union_law()
     ensures units { UnionHasUnits }
 {}
 
-/// Proves that what is left of a bundle after parts are taken from it joins with them to the whole, and that nothing
+/// Proves that the rest of a bundle after parts are taken from it joins with them to the whole, and that nothing
 /// else does.
 pub fn taking_law()
     ensures joins { TakenAndLeftJoin }

@@ -39,7 +39,7 @@ fn next_side(left: &[Resource], right: &[Resource]) -> Option<Side>
     })
 }
 
-/// Appends what is left of the resource's value without `part`, unless nothing is left.
+/// Appends the rest of the resource's value without `part`, unless nothing is left.
 fn push_left(left: &mut Parts, resource: &Resource, part: &Value) -> Result<(), AllocError>
     requires { IsBundle (left.old ++ filled_of (with_value resource.now (less resource.now.value part.now) ∷ [])) }
     ensures { OnOk result (left.new ≡ left.old ++ filled_of (with_value resource.now (less resource.now.value part.now) ∷ [])) }
@@ -80,7 +80,7 @@ pub fn merged(alloc: Global, left: &[Resource], right: &[Resource]) -> Result<Pa
     Ok(found)
 }
 
-/// Returns what is left of the resources without those in `part`, which they need not cover.
+/// Returns the rest of the resources without those in `part`, which they need not cover.
 pub fn rest(alloc: Global, whole: &[Resource], part: &[Resource]) -> Result<Parts, AllocError>
     requires whole { IsBundle whole.now }
     requires part { IsTrue (is_in_order part.now) }

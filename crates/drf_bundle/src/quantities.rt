@@ -80,7 +80,7 @@ impl Quantities {
         }
     }
 
-    /// Returns the thousandths of the label with this text, or 0 if it is not named.
+    /// Returns the thousandths of the label with the given text, or 0 if it is not named.
     pub fn get(&self, label: &str) -> u64
         ensures { result ≡ amount_of self.now label.now }
     {
@@ -100,7 +100,7 @@ impl Quantities {
         self.amount_near(label, &mut 0)
     }
 
-    /// Returns the thousandths of the label with this text, or `None` if it is not named.
+    /// Returns the thousandths of the label with the given text, or `None` if it is not named.
     pub fn known_amount(&self, label: &str) -> Option<u64>
         ensures { result ≡ known_amount self.now label.now }
     {
@@ -401,7 +401,7 @@ impl Quantities {
         self.entries.retain(|entry| entry.amount.thousandths() > 0);
     }
 
-    // Returns whether the label with this text is at this place.
+    // Returns whether the label with the given text is at this place.
     fn text_is_at(&self, label: &str, at: usize) -> bool
         ensures { IsTrue result → IsAt self.now label.now at }
     {
@@ -481,7 +481,7 @@ impl Quantities {
         self.place_by_order(label.text())
     }
 
-    // Returns the place of the label with this text (`Ok`), or where it would be inserted (`Err`). The first three
+    // Returns the place of the label with the given text (`Ok`), or where it would be inserted (`Err`). The first three
     // places are tried first.
     fn place_of_text(&self, label: &str) -> Result<usize, usize>
         ensures found { IfOk result (IsAt self.now label.now) }
@@ -499,7 +499,7 @@ impl Quantities {
         self.place_by_order(label)
     }
 
-    // Returns the place of the label with this text (`Ok`), or where it would be inserted (`Err`). The end is tried
+    // Returns the place of the label with the given text (`Ok`), or where it would be inserted (`Err`). The end is tried
     // first, because entries are mostly added in order.
     fn place_by_order(&self, label: &str) -> Result<usize, usize>
         ensures found { IfOk result (IsAt self.now label.now) }
@@ -521,7 +521,7 @@ impl Quantities {
         }
     }
 
-    /// Returns the place of the label with this text (`Ok`), or where it would be inserted (`Err`), by binary search.
+    /// Returns the place of the label with the given text (`Ok`), or where it would be inserted (`Err`), by binary search.
     fn search(&self, label: &str) -> Result<usize, usize>
         ensures found { IfOk result (IsAt self.now label.now) }
         ensures absent { IfErr result (IsFreeSlotFor self.now label.now) }

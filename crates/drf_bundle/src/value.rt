@@ -126,7 +126,7 @@ impl Value {
         }
     }
 
-    /// Returns what is left without `part`, which this value need not cover.
+    /// Returns the rest without `part`, which this value need not cover.
     pub(crate) fn minus(&self, part: &Value) -> Result<Value, AllocError>
         ensures { IfOk result (λ value. value ≡ less self.now part.now) }
     {

@@ -27,7 +27,7 @@ two_offers =
 abbrev all_there_is : ℕ
 all_there_is = 18446744073709551615
 
--- an offer is accepted, what is left is offered and accepted as a whole, an offer is declined, and a task finishes;
+-- an offer is accepted, the rest is offered and accepted as a whole, an offer is declined, and a task finishes;
 -- while there are too many filters, accepts and declines that set none are accepted
 abbrev pub offers_dialogue : Dialogue
 offers_dialogue =

@@ -15,7 +15,7 @@ ghost use Rattle.drf_cases.specs.Dialogue.{IsRun, few};
 ghost use Rattle.drf_cases.specs.Untouched.{ClockStands, FiltersStand, LimitsStand, NumberStands, WeightsStand};
 
 /// Proves a run with the refusals about agents: unknown, already registered, too large, too many agents, too many names
-/// of scalars, and a total below what is held. An active agent can be activated, and an inactive one deactivated.
+/// of scalars, and a total below the held resources. An active agent can be activated, and an inactive one deactivated.
 pub fn agents_cases()
     ensures { IsRun few agents_dialogue }
 {}
@@ -58,7 +58,7 @@ pub fn full_cases()
 {}
 
 /// Proves what counts for the order of clients. What suppressed clients hold, and the offers that they received, count
-/// for the nodes above them; so does what is held on inactive agents. Reserved resources count for the least size of an
+/// for the nodes above them; so do the resources held on inactive agents. Reserved resources count for the least size of an
 /// offer, but only to clients that can use them.
 pub fn fairness_cases()
     ensures suppressed { served one_suppressed ≡ codes "f3" ∷ codes "f2" ∷ [] }

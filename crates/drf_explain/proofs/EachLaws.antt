@@ -11,8 +11,8 @@ use Rattle.drf_bundle.specs.Bundle.{part_for, is_for, quantities_of}
 use Rattle.drf_bundle.specs.Value.{Thousandths}
 use Rattle.drf_bundle.specs.Quantities.{amount_of}
 use Rattle.drf_bundle.specs.laws.SumLaws.{of_name}
-use Rattle.drf_bundle.proofs.laws.SumLaws.{amount-quantities_of}
-use Rattle.drf_bundle.proofs.laws.PartLaws.{where-some}
+use Rattle.drf_bundle.proofs.theorems.SumLaws.{amount-quantities_of}
+use Rattle.drf_bundle.proofs.theorems.PartLaws.{where-some}
 use Rattle.drf_bundle.specs.declared.resource.Resource.{Resource}
 use Rattle.drf_rows.specs.Client.{Client, path_of}
 use Rattle.drf_rows.specs.Cycle.{free_of, grant, is_allocatable, tried, all_tried, turn_order, turn, turns, at_timestamp}

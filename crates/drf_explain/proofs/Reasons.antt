@@ -9,11 +9,11 @@ use Rattle.drf_role.specs.TextLaws.{same_from_test}
 use Rattle.drf_role.specs.Path.{Path, begins_with}
 use Rattle.drf_bundle.specs.Bundle.{covers, clip, clipped, cut, is_default, is_for, part_for, quantities_of, stock}
 use Rattle.drf_bundle.specs.laws.KeyLaws.{unit_of, where-cons, unit-here, unit-none}
-use Rattle.drf_bundle.proofs.laws.PartLaws.{keeps-clipped}
+use Rattle.drf_bundle.proofs.theorems.PartLaws.{keeps-clipped}
 use Rattle.drf_bundle.specs.Quantities.{amount_of, is_named}
-use Rattle.drf_bundle.proofs.laws.RestLaws.{where-changed-cons}
+use Rattle.drf_bundle.proofs.theorems.RestLaws.{where-changed-cons}
 use Rattle.drf_bundle.specs.laws.SumLaws.{of_name}
-use Rattle.drf_bundle.proofs.laws.SumLaws.{amount-quantities_of}
+use Rattle.drf_bundle.proofs.theorems.SumLaws.{amount-quantities_of}
 use Rattle.drf_bundle.specs.Value.{Thousandths, units_in}
 use Rattle.drf_bundle.specs.declared.quantities.Entry.{Entry}
 use Rattle.drf_bundle.specs.declared.resource.Resource.{Resource}

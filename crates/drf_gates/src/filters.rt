@@ -1,4 +1,4 @@
-//! The filters of declined offers, and of what is left of accepted ones.
+//! The filters of declined offers, and of the rest of accepted ones.
 ghost use Rattle.std.specs.Prelude.{◌≡◌, [], ◌∷◌, ◌++◌, length, take, IfOk, OnOk, OnErr};
 ghost use Rattle.drf_rows.specs.Filters.{is_held_back, in_force, number_in_force, filters_without_client, filters_without_agent, filters_without_framework};
 ghost use Rattle.drf_rows.specs.Roles.{filters_without_left};

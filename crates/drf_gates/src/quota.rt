@@ -106,7 +106,7 @@ impl<'a> Quota<'a> {
         Some(lesser(known, self.room(place, limited, label, most)))
     }
 
-    /// Returns what is left of a scalar under a limit of `most`, in thousandths. `place` is the position of the limit.
+    /// Returns the rest of a scalar under a limit of `most`, in thousandths. `place` is the position of the limit.
     fn room(&self, place: usize, limited: &Role, label: &str, most: u64) -> u64
         ensures { result ≡ most - used_at self.now.used limited.now label.now }
     {

@@ -180,7 +180,7 @@ impl Holdings {
         self.tasks.has(framework, name)
     }
 
-    /// Returns `total` without what is held on the agent. It fails only when out of memory.
+    /// Returns `total` without the resources held on the agent. It fails only when out of memory.
     pub fn left_on(&self, agent: &Name, total: &Bundle) -> Result<Bundle, AllocError>
         ensures { IfOk result (λ left. left ≡ rest_of_all total.now (parts_on agent.now (holdings_in self.now))) }
     {

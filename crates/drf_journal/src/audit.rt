@@ -95,7 +95,7 @@ fn write_lines<W: Write>(
     Ok(())
 }
 
-/// Takes the events of all lines of a reader, and then writes a line for each agent: what it has, what is free, and how
+/// Takes the events of all lines of a reader, and then writes a line for each agent: what it has, the free resources, and how
 /// much is out. Lines that are not events are skipped.
 fn serve_audit<S: Sorter, R: Read, W: Write>(
     rt: &(impl Threads + Sync),

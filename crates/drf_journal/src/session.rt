@@ -40,7 +40,7 @@ pub struct Session<S: Sorter> {
     reader: LineReader,
 }
 
-// Written by hand, so that the proof of code that drops a session sees one call instead of the drop of each field.
+// Written out, so that the proof of code that drops a session sees one call instead of the drop of each field.
 impl<S: Sorter> Drop for Session<S> {
     fn drop(self) {
         let Session {

@@ -12,7 +12,7 @@ use Rattle.drf_role.specs.Path.{Path, begins_with}
 use Rattle.drf_role.specs.Parts.{parts_of}
 use Rattle.drf_bundle.specs.Value.{Thousandths, units_in}
 use Rattle.drf_bundle.specs.Bundle.{Key, IsBundle, key_of}
-use Rattle.drf_bundle.proofs.laws.TakenLaws.{units-rest_of_all}
+use Rattle.drf_bundle.proofs.theorems.TakenLaws.{units-rest_of_all}
 use Rattle.drf_bundle.specs.declared.resource.Resource.{Resource}
 use Rattle.drf_rows.specs.LimitNumbers.{LimitNumbers}
 use Rattle.drf_rows.specs.Holdings.{Holding, holding_of_offer, holding_of_task, holdings_of}

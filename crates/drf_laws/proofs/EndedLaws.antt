@@ -14,7 +14,7 @@ use Rattle.drf_bundle.specs.declared.resource.Resource.{Resource}
 use Rattle.drf_bundle.specs.Value.{Point}
 use Rattle.drf_bundle.specs.Bundle.{Key, IsBundle, units, join}
 use Rattle.drf_bundle.specs.laws.BundleLaws.{known_by_units}
-use Rattle.drf_bundle.proofs.laws.UnitProofs.{join_by_units}
+use Rattle.drf_bundle.proofs.theorems.UnitProofs.{join_by_units}
 use Rattle.drf_rows.specs.Filters.{is_of_client, is_on_agent}
 use Rattle.drf_rows.specs.Holdings.{Holding, holding_of_offer, holding_of_task, holdings_of, AreBundles}
 use Rattle.drf_row_laws.proofs.HoldingsLaws.{units_on, units_on-append, units_on-cons}
@@ -168,7 +168,7 @@ module _ (rows : Rows) (before later : List TaskRow) (t : TaskRow) (consistent :
         tasks = (ap (filter (λ u. not (ends u))) runs ∙ filter_only ends before later t differ.0 itself differ.1) i;
       }
 
-  -- what is held on an agent is what is held afterwards and the part of the task
+  -- the resources held on an agent is the resources held afterwards and the part of the task
   held_there : (agent : Text) (key : Key) (p : Point)
       → units_on agent (holdings_of rows) key p ≡ cond (same_text t.agent agent) (units t.bundle key p) 0 + units_on agent (holdings_of left) key p
   unfolding left

@@ -1,7 +1,7 @@
 pub mod EndedLaws
 pub mod OfferedLaws
 pub mod SuppressionLaws
-pub mod laws
+pub mod theorems
 pub mod ConsumptionLaws
 pub mod MovingLaws
 pub mod HeldForLaws

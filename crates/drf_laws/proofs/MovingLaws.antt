@@ -8,8 +8,8 @@ use Rattle.drf_role.specs.Text.{Text, same_text}
 use Rattle.drf_role.specs.TextLaws.{same_from_test}
 use Rattle.drf_role.specs.Path.{Path}
 use Rattle.drf_bundle.specs.Quantities.{amount_of, is_in_order, covers as covers_amounts}
-use Rattle.drf_bundle.proofs.laws.QuantitiesLaws.{covers_from}
-use Rattle.drf_bundle.proofs.laws.UnitProofs.{covers_by_units, quantities_no_zeros}
+use Rattle.drf_bundle.proofs.theorems.QuantitiesLaws.{covers_from}
+use Rattle.drf_bundle.proofs.theorems.UnitProofs.{covers_by_units, quantities_no_zeros}
 use Rattle.drf_bundle.specs.Bundle.{quantities_of, covers, is_default, is_unreserved, relabel}
 use Rattle.drf_bundle.specs.declared.quantities.Entry.{Entry}
 use Rattle.drf_bundle.specs.declared.resource.Resource.{Resource}

@@ -26,7 +26,7 @@ RolesAboveConsumeMore =
     → IsTrue (is_within outer role)
     → consumption rows role label ≤ consumption rows outer label
 
--- of an accepted offer only the tasks are consumed: what is left of it, as far as it is unreserved, is consumed no
+-- of an accepted offer only the tasks are consumed: the rest of it, as far as it is unreserved, is consumed no
 -- longer
 abbrev pub RestIsConsumedNoLonger : Type 0
 RestIsConsumedNoLonger =

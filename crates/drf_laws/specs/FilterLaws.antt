@@ -40,7 +40,7 @@ DeclinedSetsFilter =
     (0 < d.refuse_ms → after.filters ≡ one_more rows o o.bundle (end_of rows d.at d.refuse_ms))
     × (d.refuse_ms ≡ 0 → after.filters ≡ rows.filters)
 
--- the bundle is what is left of the offer: together with the parts of the tasks it joins to the whole offer
+-- the bundle is the rest of the offer: together with the parts of the tasks it joins to the whole offer
 pub record IsLeft (rows : Rows) (a : accepting.Accept) (o : OfferRow) (left : List Resource) : Type 0 where
   pub at : offer_at rows a.offer ≡ Some o
   pub bundle : IsBundle left
@@ -56,7 +56,7 @@ SomeRestIsLeft =
     → refusal_of limits rows (Accept a) ≡ None
     → (left : List Resource) × IsLeft rows a o left
 
--- an accept sets a filter with what is left, and none if `refuse_ms` is 0 or nothing is left
+-- an accept sets a filter with the rest, and none if `refuse_ms` is 0 or nothing is left
 abbrev pub AcceptedSetsFilter : Type 0
 AcceptedSetsFilter =
     (rows : Rows) (a : accepting.Accept) (o : OfferRow) (left : List Resource)
@@ -86,7 +86,7 @@ DeclinedIsHeldBack =
     ≡ (is_held_back rows.filters timestamp client agent bundle
     || is_filtered o o.bundle (end_of rows d.at d.refuse_ms) timestamp client agent bundle)
 
--- after an accept, filters cover exactly what is left of the offer (if anything is) and what they covered before
+-- after an accept, filters cover exactly the rest of the offer (if anything is) and what they covered before
 abbrev pub LeftIsHeldBack : Type 0
 LeftIsHeldBack =
     (rows : Rows) (a : accepting.Accept) (o : OfferRow) (left : List Resource) (timestamp : ℕ) (client : Client) (agent : Text) (bundle : List Resource)

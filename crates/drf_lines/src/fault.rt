@@ -44,7 +44,7 @@ impl LineFault {
     }
 }
 
-// Written by hand, because no contract describes a derived message.
+// Written out, because no contract describes a derived message.
 impl fmt::Display for LineFault {
     ghost use Rattle.std.specs.Prelude.{Some};
     ghost use Rattle.drf_lines.specs.Fault.{fault_text};

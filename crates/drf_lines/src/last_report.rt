@@ -102,7 +102,7 @@ impl Model for LastReport {
     ghost view = { λ _. tt };
 }
 
-// Written by hand, so that the proof of code that drops a report sees one call.
+// Written out, so that the proof of code that drops a report sees one call.
 impl Drop for LastReport {
     fn drop(self) {
         let LastReport {

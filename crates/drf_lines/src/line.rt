@@ -181,7 +181,7 @@ pub struct LineReader {
     last: LastReport,
 }
 
-// Written by hand, so that the proof of code that drops a reader sees one call.
+// Written out, so that the proof of code that drops a reader sees one call.
 impl Drop for LineReader {
     fn drop(self) {
         let LineReader {

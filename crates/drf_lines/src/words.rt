@@ -62,7 +62,7 @@ fn known_bundle(bundles: &Places<KnownBundle>, place: usize, text: &str) -> Opti
 /// Reads names, roles and bundles, and caches those that it has read. No contract says what it caches; for a single
 /// line it caches nothing.
 pub struct KnownWords {
-    /// The allocator for what is read.
+    /// The allocator for values that are read.
     pub alloc: Global,
     keeps: bool,
     names: Places<Name>,
@@ -70,7 +70,7 @@ pub struct KnownWords {
     bundles: Places<KnownBundle>,
 }
 
-// Written by hand, so that the proof of code that drops them sees one call.
+// Written out, so that the proof of code that drops them sees one call.
 impl Drop for KnownWords {
     fn drop(self) {
         let KnownWords {

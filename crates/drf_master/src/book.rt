@@ -25,12 +25,12 @@ use std::mem::replace;
 /// journal has room. If there is no slate, use `Book<Brand, S>`, which begins with an empty cluster.
 pub struct Book<K: Naming, S: Sorter> {
     core: Core<S>,
-    // A core that can be some entries behind the first. It computes the next step.
+    // A core that can be some entries later than the first. It computes the next step.
     second: Second<K, S>,
     entries: Vec<Entry>,
 }
 
-// Written by hand, so that a proof about dropping a book sees one call instead of the drop of each field.
+// Written out, so that a proof about dropping a book sees one call instead of the drop of each field.
 impl<K: Naming, S: Sorter> Drop for Book<K, S> {
     fn drop(self) {
         let Book {

@@ -38,7 +38,7 @@ impl<K: Naming, R: Wait + Drop> Model for Desk<K, R> {
     ghost invariant = { λ d. (d.board.entries ≡ d.book.entries) × (d.book.limits ≡ K.slate.limits) };
 }
 
-// Written by hand, so that a proof about dropping a desk sees two calls.
+// Written out, so that a proof about dropping a desk sees two calls.
 impl<K: Naming, R: Wait + Drop> Drop for Desk<K, R> {
     fn drop(self) {
         drop(self.into_book());

@@ -57,7 +57,7 @@ impl From<CallFault> for DriveFault {
     }
 }
 
-/// What is left when a drive does not return a book.
+/// The rest when a drive does not return a book.
 #[derive(Drop)]
 pub enum Undriven<K: Naming> {
     /// Not all calls were made (of `Memory` the contracts do not say this). The master and the passes are gone.

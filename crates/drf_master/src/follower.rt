@@ -48,7 +48,7 @@ impl<K: Naming, S: Sorter> Follower<K, S> {
     }
 }
 
-/// The second core of a book. It can be some entries behind the first: before it computes a step, it takes the entries that it lacks. So the rows
+/// The second core of a book. It can be some entries later than the first: before it computes a step, it takes the entries that it lacks. So the rows
 /// need not be copied for each event. It is absent while a prepared step owns it.
 #[derive(Drop)]
 pub struct Second<K: Naming, S: Sorter> {

@@ -73,7 +73,7 @@ AllIsHandedOut =
     → Has (active_clients rows) client
     → AllByRecursion (λ agent. is_allocatable (free_of (cycle rows at) agent) ≡ false) (active_agents rows)
 
--- ---- who comes first
+-- ---- who is served first
 
 -- when a client is tried in a turn, the clients tried before it would be granted nothing more
 abbrev pub NobodyIsPassed : Type 0

@@ -17,9 +17,9 @@ use Rattle.drf_role.specs.Role.{IsRole}
 use Rattle.drf_bundle.specs.Value.{Point, Thousandths}
 use Rattle.drf_bundle.specs.Bundle.{Key, IsBundle, units, stock, quantities_of}
 use Rattle.drf_bundle.specs.Quantities.{amount_of}
-use Rattle.drf_bundle.proofs.laws.SumLaws.{amount-quantities_of}
+use Rattle.drf_bundle.proofs.theorems.SumLaws.{amount-quantities_of}
 use Rattle.drf_bundle.specs.Taken.{units_of_all}
-use Rattle.drf_bundle.proofs.laws.TakenLaws.{joined-rest_of_all, sum-joined, stock-adds_up}
+use Rattle.drf_bundle.proofs.theorems.TakenLaws.{joined-rest_of_all, sum-joined, stock-adds_up}
 use Rattle.drf_bundle.specs.declared.resource.Resource.{Resource}
 use Rattle.drf_rows.specs.Client.{Client}
 use Rattle.drf_rows.specs.Holdings.{Holding, holding_of_offer, holding_of_task, holdings_of, held_where, is_on, parts_on, AreBundles}
@@ -269,7 +269,7 @@ numbers_within (o ∷ os) next bound rising within =
     let here : o.number ≤ bound = omega (arith, below, within) in
     (here, numbers_within os next bound parts.1 within)
 
--- ---- what is free and what is held
+-- ---- the free resources and the held resources
 
 pub bundles-consistent : (rows : Rows) → IsConsistent rows → AreBundles (holdings_of rows)
 bundles-consistent rows consistent =

@@ -15,11 +15,11 @@ use Rattle.drf_bundle.specs.declared.value.Value.TheVariants.{Scalar, Ranges, It
 use Rattle.drf_bundle.specs.Bundle.{Key, IsResource, IsBundle, same_key, units, units_where, rest, with_value, filled_of, quantities_of, is_default, is_for, part_for, cut, clipped, clip}
 use Rattle.drf_bundle.specs.Quantities.{amount_of, is_named}
 use Rattle.drf_bundle.specs.laws.SumLaws.{of_name}
-use Rattle.drf_bundle.proofs.laws.SumLaws.{amount-quantities_of}
-use Rattle.drf_bundle.proofs.laws.PartLaws.{where-some, bundle-part_for, keeps-clipped, cut-falls, bundle-clip}
-use Rattle.drf_bundle.proofs.laws.RestLaws.{where-changed-le}
+use Rattle.drf_bundle.proofs.theorems.SumLaws.{amount-quantities_of}
+use Rattle.drf_bundle.proofs.theorems.PartLaws.{where-some, bundle-part_for, keeps-clipped, cut-falls, bundle-clip}
+use Rattle.drf_bundle.proofs.theorems.RestLaws.{where-changed-le}
 use Rattle.drf_bundle.specs.Taken.{rest_of_all, units_of_all}
-use Rattle.drf_bundle.proofs.laws.TakenLaws.{bundle-rest_of_all, units-rest_of_all, rest_of_all-insert, rest-itself}
+use Rattle.drf_bundle.proofs.theorems.TakenLaws.{bundle-rest_of_all, units-rest_of_all, rest_of_all-insert, rest-itself}
 use Rattle.drf_bundle.specs.declared.quantities.Entry.{Entry}
 use Rattle.drf_bundle.specs.declared.resource.Resource.{Resource}
 use Rattle.drf_rows.specs.Client.{Client}
@@ -113,7 +113,7 @@ pub bundle-free_of : (rows : Rows) (agent : AgentRow) → IsBundle agent.total �
 unfolding free_of
 bundle-free_of rows agent total = bundle-rest_of_all agent.total (parts_on agent.name (holdings_of rows)) total
 
--- the units of the free resources: those of the total less those of what is held
+-- the units of the free resources: those of the total less those of the held resources
 pub units-free_of : (rows : Rows) (agent : AgentRow) (key : Key) (p : Point) → IsBundle agent.total → AreBundles (holdings_of rows)
     → units (free_of rows agent) key p ≡ units agent.total key p - units_of_all (parts_on agent.name (holdings_of rows)) key p
 unfolding free_of
@@ -140,7 +140,7 @@ free_of-with_offer rows offer agent total each one here =
     one
     ∙ ap (λ (parts : Parts). rest (rest_of_all agent.total parts) offer.bundle) (sym old)
 
--- on other agents an offer does not change what is free
+-- on other agents an offer does not change the free resources
 pub free_of-with_offer_other : (rows : Rows) (offer : OfferRow) (agent : AgentRow) → same_text offer.agent agent.name ≡ false
     → free_of (with_offer rows offer) agent ≡ free_of rows agent
 unfolding free_of

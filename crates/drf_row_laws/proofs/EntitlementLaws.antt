@@ -10,11 +10,11 @@ use Rattle.drf_role.specs.Path.{Path, begins_with}
 use Rattle.drf_role.specs.Parts.{parts_of, text_of}
 use Rattle.drf_bundle.specs.Value.{Point, Thousandths, Number, Member, units_in}
 use Rattle.drf_bundle.specs.Quantities.{amount_of, is_named, names_of}
-use Rattle.drf_bundle.proofs.laws.QuantitiesLaws.{named-with}
+use Rattle.drf_bundle.proofs.theorems.QuantitiesLaws.{named-with}
 use Rattle.drf_bundle.specs.Bundle.{Key, IsResource, IsBundle, is_default, key_of, is_in_order, same_key, units, is_for, part_for, clip, clipped, cut}
 use Rattle.drf_bundle.specs.laws.KeyLaws.{stands_first, unit_of, where-cons, unit-here, unit-none, units_first, same_key_true}
-use Rattle.drf_bundle.proofs.laws.PartLaws.{bundle-part_for, keeps-clipped, cut-falls}
-use Rattle.drf_bundle.proofs.laws.RestLaws.{where-changed-cons, where-changed-le}
+use Rattle.drf_bundle.proofs.theorems.PartLaws.{bundle-part_for, keeps-clipped, cut-falls}
+use Rattle.drf_bundle.proofs.theorems.RestLaws.{where-changed-cons, where-changed-le}
 use Rattle.drf_bundle.specs.declared.quantities.Entry.{Entry}
 use Rattle.drf_bundle.specs.declared.resource.Resource.{Resource}
 use Rattle.drf_bundle.specs.declared.value.Value.{Value}

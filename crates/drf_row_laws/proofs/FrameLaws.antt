@@ -90,7 +90,7 @@ with_tables t rows after = record {
 
 -- ---- from one offer of a cycle to the next
 
--- the entitlement of a client to what is free on an agent
+-- the entitlement of a client to the resources free on an agent
 abbrev pub its_part : Rows → AgentRow → Client → List Resource
 its_part rows agent client = entitlement rows (free_of rows agent) client
 

@@ -1,4 +1,4 @@
--- What is held after a holding ends or an offer is accepted; and that the state stays consistent.
+-- The resources held after a holding ends or an offer is accepted; and that the state stays consistent.
 use Rattle.std.specs.Prelude.{◌≡◌, ℕ, ◌+◌, ◌<◌, ◌≤◌, ◌==◌, Bool, true, false, not, ◌&&◌, List, [], ◌∷◌, ◌++◌, length, map, filter, find, take, drop, slice_get, sum_by, nat_lt, Option}
 use Rattle.std.specs.List.{list_all, list_any, count_by, AllByRecursion}
 use Rattle.std.proofs.Common.{refl, sym, ap, subst, ◌∙◌, inl, inr, cond, zero, suc, arith, Some, append_assoc}
@@ -10,10 +10,10 @@ use Rattle.drf_role.specs.Text.{Text, same_text}
 use Rattle.drf_bundle.specs.Value.{Point, Thousandths}
 use Rattle.drf_bundle.specs.Quantities.{amount_of}
 use Rattle.drf_bundle.specs.Bundle.{Key, IsBundle, units, quantities_of}
-use Rattle.drf_bundle.proofs.laws.SumLaws.{amount-quantities_of}
-use Rattle.drf_bundle.proofs.laws.UnitProofs.{stocks_add}
+use Rattle.drf_bundle.proofs.theorems.SumLaws.{amount-quantities_of}
+use Rattle.drf_bundle.proofs.theorems.UnitProofs.{stocks_add}
 use Rattle.drf_bundle.specs.Taken.{units_of_all, rest_of_all}
-use Rattle.drf_bundle.proofs.laws.TakenLaws.{bundle-rest_of_all, units-rest_of_all, joined-rest_of_all, AddsUp, sum-joined}
+use Rattle.drf_bundle.proofs.theorems.TakenLaws.{bundle-rest_of_all, units-rest_of_all, joined-rest_of_all, AddsUp, sum-joined}
 use Rattle.drf_bundle.specs.declared.resource.Resource.{Resource}
 use Rattle.drf_rows.specs.Holdings.{Holding, holding_of_offer, holding_of_task, holdings_of, amount_in, held_where, is_on, parts_on}
 use Rattle.drf_row_laws.proofs.HoldingsLaws.{held_where-append, held_where-cons, parts_on-append, units_on, units_on-append, units_on-cons}
@@ -266,7 +266,7 @@ module _ (rows : Rows) (before after : List TaskRow) (x : TaskRow) (stands : row
     ap (count_by (ends_task release)) stands ∙ count_by-out (ends_task release) before after x ends,
   )
 
--- ---- an ending that ends nothing
+-- ---- a release that ends nothing
 
 -- if no element passes a test, it fails at each
 pub each_past : {X : Type 0} (p : X → Bool) (xs : List X) → list_any p xs ≡ false → AllByRecursion (λ x. p x ≡ false) xs
@@ -556,7 +556,7 @@ new_starts rows o starts can =
     let known = or_parts (list_any (λ s. has_task rows o.framework s.0) starts) (not (are_distinct (names_of starts))) can.new in
     new_tasks o rows.tasks starts known.0 (not-false (are_distinct (names_of starts)) known.1)
 
--- ---- what is held afterwards
+-- ---- the resources held afterwards
 
 module _ (rows : Rows) (number : ℕ) (o : OfferRow) (starts : List Start) (filters : List FilterRow)
     (consistent : IsConsistent rows) (found : offer_at rows number ≡ Some o) where

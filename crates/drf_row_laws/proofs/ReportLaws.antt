@@ -19,9 +19,9 @@ use Rattle.drf_role.specs.TextLaws.{less_from_test}
 use Rattle.drf_role.specs.Path.{Path, same_path, begins_with}
 use Rattle.drf_role.specs.PathLaws.{same_path-true, same_path_itself}
 use Rattle.drf_bundle.specs.Quantities.{plus, amount_of, is_in_order, HasNoZeros}
-use Rattle.drf_bundle.proofs.laws.QuantitiesLaws.{amount-plus, in_order-plus, amount-without_zeros, no_zeros-without_zeros}
+use Rattle.drf_bundle.proofs.theorems.QuantitiesLaws.{amount-plus, in_order-plus, amount-without_zeros, no_zeros-without_zeros}
 use Rattle.drf_bundle.specs.Bundle.{IsBundle, quantities_of}
-use Rattle.drf_bundle.proofs.laws.UnitProofs.{quantities_no_zeros}
+use Rattle.drf_bundle.proofs.theorems.UnitProofs.{quantities_no_zeros}
 use Rattle.drf_bundle.specs.declared.quantities.Entry.{Entry}
 use Rattle.drf_rows.specs.Client.{Client, path_of}
 use Rattle.drf_rows.specs.Holdings.{Holding, holdings_of, held_where, amount_in, is_under, AreBundles}

@@ -9,7 +9,7 @@ use Rattle.drf_role.specs.Text.{Text, text_below}
 use Rattle.drf_role.proofs.TextLaws.{cases_same}
 use Rattle.drf_role.specs.Path.{Path}
 use Rattle.drf_bundle.specs.Quantities.{plus, amount_of, is_in_order}
-use Rattle.drf_bundle.proofs.laws.QuantitiesLaws.{amount_first, amount_head, in_order-plus}
+use Rattle.drf_bundle.proofs.theorems.QuantitiesLaws.{amount_first, amount_head, in_order-plus}
 use Rattle.drf_bundle.specs.Bundle.{quantities_of}
 use Rattle.drf_bundle.specs.declared.quantities.Entry.{Entry}
 use Rattle.drf_rows.specs.LimitNumbers.{ceilings}

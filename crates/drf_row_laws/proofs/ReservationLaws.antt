@@ -13,9 +13,9 @@ use Rattle.drf_bundle.specs.Quantities.{amount_of, is_named}
 use Rattle.drf_bundle.specs.Bundle.{same_key, IsBundle, units_where, stock, quantities_of, covers, is_default, is_unreserved, relabel}
 use Rattle.drf_bundle.specs.laws.KeyLaws.{unit_of, where-cons}
 use Rattle.drf_bundle.specs.laws.SumLaws.{of_name}
-use Rattle.drf_bundle.proofs.laws.SumLaws.{amount-quantities_of}
+use Rattle.drf_bundle.proofs.theorems.SumLaws.{amount-quantities_of}
 use Rattle.drf_bundle.specs.Taken.{units_of_all}
-use Rattle.drf_bundle.proofs.laws.TakenLaws.{joined-rest_of_all}
+use Rattle.drf_bundle.proofs.theorems.TakenLaws.{joined-rest_of_all}
 use Rattle.drf_bundle.specs.declared.quantities.Entry.{Entry}
 use Rattle.drf_bundle.specs.declared.resource.Resource.{Resource}
 use Rattle.drf_rows.specs.LimitNumbers.{LimitNumbers}

@@ -13,14 +13,14 @@ use Rattle.drf_role.specs.Parts.{parts_of, text_of}
 use Rattle.drf_role.specs.Role.{IsRole}
 use Rattle.drf_bundle.specs.Value.{Point, Thousandths}
 use Rattle.drf_bundle.specs.Quantities.{amount_of, plus, HasNoZeros}
-use Rattle.drf_bundle.proofs.laws.QuantitiesLaws.{same_quantities, no_zeros-empty, no_zeros-plus, amount-plus}
+use Rattle.drf_bundle.proofs.theorems.QuantitiesLaws.{same_quantities, no_zeros-empty, no_zeros-plus, amount-plus}
 use Rattle.drf_bundle.specs.Bundle.{Key, IsBundle, same_key, units, units_where, stock, merged, join, rest, covers, quantities_of, is_unreserved, relabel}
 use Rattle.drf_bundle.specs.laws.BundleLaws.{known_by_units}
 use Rattle.drf_bundle.specs.laws.FitLaws.{stock_of_both, fits_less, IsJoinOf, join_some, join_fits}
 use Rattle.drf_bundle.specs.laws.JoinLaws.{where-merged}
-use Rattle.drf_bundle.proofs.laws.RestLaws.{bundle-rest}
-use Rattle.drf_bundle.proofs.laws.UnitProofs.{covers_by_units, rest_and_part, moved_bundle, moved_stocks, quantities_no_zeros}
-use Rattle.drf_bundle.proofs.laws.SumLaws.{amount-quantities_of}
+use Rattle.drf_bundle.proofs.theorems.RestLaws.{bundle-rest}
+use Rattle.drf_bundle.proofs.theorems.UnitProofs.{covers_by_units, rest_and_part, moved_bundle, moved_stocks, quantities_no_zeros}
+use Rattle.drf_bundle.proofs.theorems.SumLaws.{amount-quantities_of}
 use Rattle.drf_bundle.specs.Taken.{units_of_all}
 use Rattle.drf_bundle.specs.declared.quantities.Entry.{Entry}
 use Rattle.drf_bundle.specs.declared.resource.Resource.{Resource}
@@ -47,7 +47,7 @@ module _ (whole old new : List Resource) (can : CanExchange whole old new) where
   left_bundle : IsBundle left
   left_bundle = bundle-rest whole old can.is_whole
 
-  -- the first part and what is left without it
+  -- the first part and the rest without it
   before_join : IsJoinOf left old whole
   before_join =
       join_some left old whole left_bundle can.is_old
@@ -171,7 +171,7 @@ module _ (rows : Rows) (name : Text) (made : List Resource → List Resource) wh
       ap (list_any (λ (a : AgentRow). same_text a.name agent)) with_total-is
       ∙ list_any-map (λ (a : AgentRow). same_text a.name agent) (total_as (total_reported name made)) rows.agents
 
-  -- the agent with the name gets a valid bundle that covers what is held there
+  -- the agent with the name gets a valid bundle that covers the resources held there
   pub record IsRightTotal (a : AgentRow) : Type 0 where
     pub agent : IsAgent (record a { total = made a.total })
     pub covered : IsCovered (holdings_of rows) (record a { total = made a.total })

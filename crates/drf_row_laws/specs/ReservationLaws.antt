@@ -61,7 +61,7 @@ MovedIsConsumed =
     → consumption_where test (effect rows (Unreserve agent role resources)) label + moved ≡ consumption_where test rows label)
 
 -- an agent that gets a new total keeps its name, its place, its activity and everything that is held there: the new
--- total is what is free afterwards, joined with what is held. Nothing else in the state changes
+-- total is the free resources afterwards, joined with the held resources. Nothing else in the state changes
 abbrev pub ChangedAgentKeepsAll : Type 0
 ChangedAgentKeepsAll =
     (limits : LimitNumbers) (rows : Rows) (agent : Text) (total : List Resource) (row : AgentRow)

@@ -11,13 +11,13 @@ use Rattle.drf_role.specs.Text.{Text, same_text}
 use Rattle.drf_bundle.specs.Value.{Point, Thousandths, Number, Member, units_in, most}
 use Rattle.drf_bundle.specs.Bundle.{Key, key_of, same_key, units, stock, Fits, IsBundle, amount, join, merged, covers, value_at}
 use Rattle.drf_bundle.specs.laws.BundleLaws.{bundle-empty, bundle_laws}
-use Rattle.drf_bundle.proofs.laws.BundleLaws.{covers_exact}
+use Rattle.drf_bundle.proofs.theorems.BundleLaws.{covers_exact}
 use Rattle.drf_bundle.specs.laws.FitLaws.{fits_less, join_some, join_fits, zero_or_some}
 use Rattle.drf_bundle.specs.laws.KeyLaws.{where-cons, units_other, cases_same}
-use Rattle.drf_bundle.proofs.laws.KeyLaws.{units_found, units_at}
-use Rattle.drf_bundle.proofs.laws.RestLaws.{covered_units, covers_units}
+use Rattle.drf_bundle.proofs.theorems.KeyLaws.{units_found, units_at}
+use Rattle.drf_bundle.proofs.theorems.RestLaws.{covered_units, covers_units}
 use Rattle.drf_bundle.specs.Taken.{joined, units_of_all, rest_of_all}
-use Rattle.drf_bundle.proofs.laws.TakenLaws.{joined-rest_of_all, bundle-rest_of_all, sum-joined, units-adds_up, stock-adds_up}
+use Rattle.drf_bundle.proofs.theorems.TakenLaws.{joined-rest_of_all, bundle-rest_of_all, sum-joined, units-adds_up, stock-adds_up}
 use Rattle.drf_bundle.specs.declared.resource.Resource.{Resource}
 use Rattle.drf_bundle.specs.declared.value.Value.{Value}
 use Rattle.drf_rows.specs.Offers.{is_empty}
@@ -103,7 +103,7 @@ covers_all-units whole parts is each has =
     ∙ covers_units whole join.whole is.in_order all.in_order all.each
     (λ key p. omega (arith, has key p, sum-joined (λ rs. units rs key p) (units-adds_up key p) [] join.whole parts bundle-empty each join.is))
 
--- ---- what is left
+-- ---- the rest
 
 not_empty : (r : Resource) (rs : List Resource) → r ∷ rs ≡ [] → ⊥
 not_empty r rs e = cc

@@ -85,7 +85,7 @@ pub record IsFilter (agents : List AgentRow) (frameworks : List FrameworkRow) (f
   pub bundle : IsBundle f.bundle
   pub until : f.until < 2 ^ 63
 
--- what is held on the agent is at most its total, unit by unit
+-- the resources held on the agent is at most its total, unit by unit
 abbrev pub IsCovered : List Holding → AgentRow → Type 0
 IsCovered holdings agent =
     (key : Key) (p : Point) → units_of_all (parts_on agent.name holdings) key p ≤ units agent.total key p

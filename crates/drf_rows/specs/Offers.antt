@@ -66,7 +66,7 @@ abbrev pub AreNew : List TaskRow → List TaskRow → Type 0
 AreNew old [] = ⊤
 AreNew old (t ∷ ts) = (list_any (is_task t.framework t.name) old ≡ false) × AreNew (old ++ t ∷ []) ts
 
--- what is left of the offer without the parts of the tasks
+-- the rest of the offer without the parts of the tasks
 abbrev pub left_of_offer : OfferRow → List Start → List Resource
 left_of_offer o starts = rest_of_all o.bundle (uses starts)
 

@@ -263,7 +263,7 @@ impl TaskList {
         0 < left
     }
 
-    /// Returns what is left of `whole` without the parts of the tasks. Fails with `AllocError` if memory runs out.
+    /// Returns the rest of `whole` without the parts of the tasks. Fails with `AllocError` if memory runs out.
     pub fn rest_of(&self, whole: &Bundle) -> Result<Bundle, AllocError>
         ensures { IfOk result (λ rest. rest ≡ rest_of_all whole.now (uses self.now)) }
     {

@@ -8,7 +8,7 @@ use Rattle.std.proofs.lemmas.List.Elements.{filter-append}
 use Rattle.std.proofs.lemmas.List.Sums.{fold-append, sum_by-append, sum_by-cons}
 use Rattle.drf_bundle.specs.Bundle.{quantities_of}
 use Rattle.drf_bundle.specs.Quantities.{amount_of, is_in_order, plus, without_zeros}
-use Rattle.drf_bundle.proofs.laws.QuantitiesLaws.{amount-plus}
+use Rattle.drf_bundle.proofs.theorems.QuantitiesLaws.{amount-plus}
 use Rattle.drf_bundle.specs.declared.quantities.Entry.{Entry}
 use Rattle.drf_bundle.specs.declared.resource.Resource.{Resource}
 use Rattle.drf_role.specs.Path.{Path, same_path}

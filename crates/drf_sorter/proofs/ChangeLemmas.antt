@@ -11,8 +11,8 @@ use Rattle.std.proofs.lemmas.List.{map_push, length-map, get_or-map, take_more}
 use Rattle.std.proofs.lemmas.Map.Keys.{IsDistinct-head, IsDistinct-tail, IsDistinct-push}
 use Rattle.indexmap.proofs.SetLemmas.{map-remove}
 use Rattle.drf_bundle.specs.Quantities.{amount_of, minus}
-use Rattle.drf_bundle.proofs.laws.ListLaws.{position-none}
-use Rattle.drf_bundle.proofs.laws.QuantitiesLaws.{amount-minus}
+use Rattle.drf_bundle.proofs.theorems.ListLaws.{position-none}
+use Rattle.drf_bundle.proofs.theorems.QuantitiesLaws.{amount-minus}
 use Rattle.drf_bundle.specs.declared.quantities.Entry.{Entry}
 use Rattle.drf_role.specs.Path.{same_path}
 use Rattle.drf_sorter.specs.declared.client.Client.{Client}

@@ -15,4 +15,4 @@ pub mod ServedLemmas
 pub mod TurnLemmas
 pub mod LineLemmas
 pub mod BehindLemmas
-pub mod laws
+pub mod theorems

@@ -24,8 +24,8 @@ use Rattle.drf_rows.specs.Share.{lowest_terms}
 use Rattle.drf_rows.specs.declared.report.NodeLine.{NodeLine}
 use Rattle.drf_sorter.specs.Content.{Content, Ranked, has_client, has_node}
 use Rattle.drf_sorter.specs.Fractions.{dominant_of, weigh}
-use Rattle.drf_sorter.proofs.laws.FractionLaws.{same_as_weighed}
-use Rattle.drf_sorter.proofs.laws.LineLaws.{each-with, has_line-new, has_line-others, same_from_tie}
+use Rattle.drf_sorter.proofs.theorems.FractionLaws.{same_as_weighed}
+use Rattle.drf_sorter.proofs.theorems.LineLaws.{each-with, has_line-new, has_line-others, same_from_tie}
 use Rattle.drf_sorter.specs.Lines.{AreRising, BelongsBehind, StandsAt, has_line, paths_of, with_line}
 use Rattle.drf_sorter.proofs.PrefixLemmas.{begins_short, begins_to}
 use Rattle.drf_sorter.specs.Share.{fraction_of}

@@ -19,7 +19,7 @@ use Rattle.drf_sorter.specs.declared.key.Key.{Key}
 use Rattle.drf_sorter.specs.declared.candidate.Candidate.{Candidate}
 use Rattle.drf_sorter.specs.Candidates.{HasKeys}
 use Rattle.drf_role.proofs.PathLaws.{client_paths-apart}
-use Rattle.drf_sorter.proofs.laws.OrderLaws.{is_lt-keys, stands_before-total}
+use Rattle.drf_sorter.proofs.theorems.OrderLaws.{is_lt-keys, stands_before-total}
 use Rattle.drf_sorter.specs.Keys.{key_by, key_cmp}
 use Rattle.drf_sorter.specs.laws.ShareLaws.{share_total}
 

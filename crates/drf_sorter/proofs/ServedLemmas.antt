@@ -11,7 +11,7 @@ use Rattle.drf_rows.specs.Cycle.{serving_order}
 use Rattle.drf_bundle.proofs.ListLaws.{each_map}
 use Rattle.drf_row_laws.proofs.ServingOrder.{serving_order-unique}
 use Rattle.drf_sorter.specs.Served.{AreClients, Weighs}
-use Rattle.drf_sorter.proofs.laws.SortedLaws.{sorted, moved_sorted, ordered_sorted}
+use Rattle.drf_sorter.proofs.theorems.SortedLaws.{sorted, moved_sorted, ordered_sorted}
 
 -- the client with a path
 abbrev client_at : Path → Client

@@ -10,14 +10,14 @@ use Rattle.std.proofs.lemmas.List.Sums.{AllPass-from_list_all}
 use Rattle.drf_role.specs.Text.{text_below}
 use Rattle.drf_role.proofs.TextLaws.{below_other}
 use Rattle.drf_bundle.specs.Quantities.{amount_of, is_in_order}
-use Rattle.drf_bundle.proofs.laws.QuantitiesLaws.{amount_head}
+use Rattle.drf_bundle.proofs.theorems.QuantitiesLaws.{amount_head}
 use Rattle.drf_bundle.specs.declared.quantities.Entry.{Entry}
 use Rattle.drf_rows.specs.Share.{Fraction, IsLowest, is_less, greater, lowest_terms}
 use Rattle.drf_row_laws.proofs.LowestLaws.{lowest_terms-is, lowest_terms-same}
 use Rattle.drf_sorter.specs.declared.share.Share.{Share}
 use Rattle.drf_sorter.specs.Fractions.{fraction_cmp, weigh, weighted, dominant_of}
 use Rattle.drf_sorter.specs.laws.FractionLaws.{nat_cmp-scale, product_above}
-use Rattle.drf_sorter.proofs.laws.FractionLaws.{is_lt-fraction_cmp, same_as_weighed}
+use Rattle.drf_sorter.proofs.theorems.FractionLaws.{is_lt-fraction_cmp, same_as_weighed}
 use Rattle.drf_sorter.specs.laws.ShareLaws.{above_zero, below_128}
 use Rattle.drf_sorter.specs.Share.{IsUnweighted, fraction_of, share_cmp}
 

@@ -19,7 +19,7 @@ use Rattle.drf_row_laws.proofs.WeightLaws.{weight_of-set}
 use Rattle.drf_sorter.specs.Content.{Content, standing_in, with_weight}
 use Rattle.drf_sorter.specs.Fractions.{dominant_of, weigh}
 use Rattle.drf_sorter.specs.laws.Laws.{ClientsHaveDefaultWeight}
-use Rattle.drf_sorter.proofs.laws.OrderLaws.{greatest_above}
+use Rattle.drf_sorter.proofs.theorems.OrderLaws.{greatest_above}
 
 -- ---- a node that holds something has a share above 0
 

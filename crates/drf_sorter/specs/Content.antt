@@ -120,7 +120,7 @@ standing_in content = record {
   weight = weight_of content.weights;
 }
 
--- what is held is within the total, and no number is too great
+-- the held resources is within the total, and no number is too great
 pub record IsSound (content : Content) : Type 0 where
   pub held : (label : Text) → sum_by (λ c. c.held label) content.clients ≤ amount_of content.total label
   pub total : (label : Text) → amount_of content.total label < 2 ^ 52

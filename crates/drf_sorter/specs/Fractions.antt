@@ -19,7 +19,7 @@ weighted part whole weight = record { part = part * 1000; whole = whole * weight
 abbrev pub weigh : Fraction → ℕ → Fraction
 weigh f weight = weighted f.part f.whole weight
 
--- what is held of each scalar whose total is above 0, as a fraction of the total
+-- the amount held of each scalar whose total is above 0, as a fraction of the total
 abbrev pub held_fractions : (Text → ℕ) → List Entry → List Fraction
 held_fractions held total =
     map (λ e. record { part = held e.label; whole = e.amount }) (filter (λ e. nat_lt 0 e.amount) total)

@@ -71,7 +71,7 @@ impl Client {
     }
 }
 
-/// Adds amounts to what is held. If all their labels are there already, it does not allocate. Otherwise the labels with the amount 0 are
+/// Adds amounts to the held resources. If all their labels are there already, it does not allocate. Otherwise the labels with the amount 0 are
 /// dropped, so that labels do not accumulate over time. When out of memory, nothing changes.
 fn raise(held: &mut Quantities, more: &Quantities) -> Result<(), AllocError>
     requires { (label : Text) → amount_of held.old label + amount_of more.now label < 2 ^ 64 }

@@ -16,8 +16,8 @@ use Rattle.drf_state.specs.declared.fault.StateError.{StateError}
 use Rattle.drf_state.specs.declared.fault.StateFault.{StateFault}
 use Rattle.drf_state.specs.declared.fault.StateFault.TheVariants.{Row}
 use Rattle.drf_state.specs.laws.Parts.{parts_of_text}
-use Rattle.drf_state.proofs.laws.Parts.{parts-joined, parts-some}
-use Rattle.drf_state.proofs.laws.Texts.{parts_say-more, rest_says-more}
+use Rattle.drf_state.proofs.theorems.Parts.{parts-joined, parts-some}
+use Rattle.drf_state.proofs.theorems.Texts.{parts_say-more, rest_says-more}
 
 -- ---- the end of a text
 

@@ -10,4 +10,4 @@ pub mod Meant
 pub mod Plain
 pub mod Readable
 pub mod Sayable
-pub mod laws
+pub mod theorems

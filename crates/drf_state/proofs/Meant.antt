@@ -29,8 +29,8 @@ use Rattle.drf_bundle.specs.Quantities.{amount_of, with_amount}
 use Rattle.drf_bundle.specs.Union.{IsPiece, has_other_kind, is_reserved_elsewhere, is_too_much, union_refusal, with_united}
 use Rattle.drf_bundle.specs.Value.{IsGiven, Thousandths, amount_in, units_in}
 use Rattle.drf_bundle.specs.laws.BundleLaws.{bundle-empty}
-use Rattle.drf_bundle.proofs.laws.QuantitiesLaws.{in_order-with}
-use Rattle.drf_bundle.proofs.laws.UnionLaws.{bundle-with_united}
+use Rattle.drf_bundle.proofs.theorems.QuantitiesLaws.{in_order-with}
+use Rattle.drf_bundle.proofs.theorems.UnionLaws.{bundle-with_united}
 use Rattle.drf_bundle.specs.declared.quantities.Entry.{Entry}
 use Rattle.drf_bundle.specs.declared.resource.Resource.{Resource}
 use Rattle.drf_bundle.specs.declared.value.Value.{Value}

@@ -32,18 +32,18 @@ use Rattle.drf_rows.specs.declared.rows.Rows.{Rows}
 use Rattle.drf_sorter.specs.Content.{Content, IsSound, has_client}
 use Rattle.drf_content.specs.Content.{content_of}
 use Rattle.drf_content.specs.Putting.{CanAllBeBack, IsNew, with_put}
-use Rattle.drf_content.proofs.laws.Back.{clients_can_be_back}
-use Rattle.drf_content.proofs.laws.Members.{has_client-registered}
-use Rattle.drf_content.proofs.laws.Sound.{IsSound-content_of}
-use Rattle.drf_content.proofs.laws.Put.{content_of-with_row}
+use Rattle.drf_content.proofs.theorems.Back.{clients_can_be_back}
+use Rattle.drf_content.proofs.theorems.Members.{has_client-registered}
+use Rattle.drf_content.proofs.theorems.Sound.{IsSound-content_of}
+use Rattle.drf_content.proofs.theorems.Put.{content_of-with_row}
 use Rattle.drf_core.specs.Keeping.{IsStanding}
 use Rattle.drf_saved.specs.Saved.{IsTyped, begun, head_fault, row_cases, row_fault, with_row}
 use Rattle.drf_saved.specs.declared.saved.Head.{Head}
 use Rattle.drf_saved.specs.declared.saved.SavedRow.{SavedRow}
 use Rattle.drf_saved.specs.declared.saved.SavedRow.TheVariants.{Agent, Framework, Weight, Limit, Offer, Task, Filter}
 use Rattle.drf_saved_laws.specs.SavedLaws.{IsSaveable}
-use Rattle.drf_saved_laws.proofs.laws.Faults.{NoneHolds, no_head_case, no_row_case}
-use Rattle.drf_saved_laws.proofs.laws.Saveable.{head_is_saveable, row_keeps_saveable}
+use Rattle.drf_saved_laws.proofs.theorems.Faults.{NoneHolds, no_head_case, no_row_case}
+use Rattle.drf_saved_laws.proofs.theorems.Saveable.{head_is_saveable, row_keeps_saveable}
 use Rattle.drf_state.specs.Placing.{FitsBehind, IsApart, IsPlaced}
 use Rattle.drf_state.specs.Restored.{IsRestored, PartsAgree}
 use Rattle.drf_tables.specs.Stored.{Stored}

@@ -6,7 +6,7 @@ use Rattle.std.proofs.lemmas.List.Folds.{list_all-append}
 use Rattle.drf_text.proofs.Names.{Text, text_below, is_blank, HasNone, label_has_none, is_label_byte, is_reserved, head_of, body_of, name_of, value_of, quantity_fault_of, IsEntry, QuantitiesAreRead, amount_text, quantity_text, TooLarge}
 use Rattle.drf_role.proofs.TextLaws.{below_other, cmp_above}
 use Rattle.drf_bundle.specs.Quantities.{amount_of, is_in_order, with_amount}
-use Rattle.drf_bundle.proofs.laws.QuantitiesLaws.{stands_first}
+use Rattle.drf_bundle.proofs.theorems.QuantitiesLaws.{stands_first}
 use Rattle.drf_bundle.specs.declared.quantities.Entry.{Entry}
 use Rattle.drf_bundle.specs.declared.value.Value.TheVariants.{Scalar}
 use Rattle.drf_text.specs.Meaning.{after, counted, quantities_from}

@@ -15,7 +15,7 @@ named_some (b ∷ bs) is = lt-ltb 0 (length (b ∷ bs)) (omega arith)
 first_named : (text : Text) (texts : List Text) → IsOk (named_in (trimmed text)) → IsFirstNamed (filled (text ∷ texts))
 first_named text texts is = rw (named_some (trimmed text) is) is
 
--- if a step succeeds on a text that is not blank, this text has a valid name
+-- if a step succeeds on a text that is not blank, the text has a valid name
 abbrev pub StepsAreNamed : {T : Type 0} → (Text → T → Result T TextFault) → Type 0
 StepsAreNamed {T} step = (text : Text) (earlier now : T) → ltb 0 (length (trimmed text)) ≡ true → step text earlier ≡ Ok now → IsOk (named_in (trimmed text))
 

@@ -24,7 +24,7 @@ use Rattle.drf_gates.specs.quota.Allowance.{Usage, quota_under}
 use Rattle.drf_core.specs.cycle.Entitling.{IsQuotaOf}
 use Rattle.drf_tables.proofs.cycle.DraftLaws.{offers-with_offers}
 use Rattle.drf_tables.specs.limits.Recounting.{CountsAll}
-use Rattle.drf_laws.proofs.laws.Kept.{consistent-clock}
+use Rattle.drf_laws.proofs.theorems.Kept.{consistent-clock}
 
 -- the rest of a list from a place on begins with the element there
 pub record BeginsAt {A : Type 0} (xs : List A) (i : ℕ) : Type 0 where

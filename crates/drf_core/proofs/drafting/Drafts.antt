@@ -12,11 +12,11 @@ use Rattle.drf_row_laws.proofs.ConsistentLaws.{is_registered-counted}
 use Rattle.drf_rows.specs.declared.rows.OfferRow.{OfferRow}
 use Rattle.drf_rows.specs.declared.rows.Rows.{Rows}
 use Rattle.drf_sorter.specs.Content.{Content, IsSame, with_change, charged, discharged, has_client, HasChargeAt}
-use Rattle.drf_sorter.proofs.laws.SameLaws.{HasChargeAt-same, IsSame-between, IsSame-sym, IsSame-with_change, has_client-same}
+use Rattle.drf_sorter.proofs.theorems.SameLaws.{HasChargeAt-same, IsSame-between, IsSame-sym, IsSame-with_change, has_client-same}
 use Rattle.drf_tables.specs.cycle.Drafts.{with_offers}
 use Rattle.drf_content.specs.Content.{content_of}
-use Rattle.drf_content.proofs.laws.Offer.{content_of-with_offer, discharged-with_change, HasChargeAt-charged}
-use Rattle.drf_content.proofs.laws.Members.{has_client-registered}
+use Rattle.drf_content.proofs.theorems.Offer.{content_of-with_offer, discharged-with_change, HasChargeAt-charged}
+use Rattle.drf_content.proofs.theorems.Members.{has_client-registered}
 
 -- ---- what offers do not change
 

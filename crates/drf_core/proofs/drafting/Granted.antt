@@ -15,7 +15,7 @@ use Rattle.drf_bundle.specs.Value.{Thousandths, amount_in, units_in}
 use Rattle.drf_role.specs.Parts.{text_of}
 use Rattle.drf_bundle.specs.laws.KeyLaws.{unit_of, where-cons}
 use Rattle.drf_bundle.specs.laws.SumLaws.{of_name}
-use Rattle.drf_bundle.proofs.laws.SumLaws.{amount-quantities_of}
+use Rattle.drf_bundle.proofs.theorems.SumLaws.{amount-quantities_of}
 use Rattle.drf_bundle.specs.declared.quantities.Entry.{Entry}
 use Rattle.drf_bundle.specs.declared.resource.Resource.{Resource}
 use Rattle.drf_gates.specs.quota.Allowance.{Allowance, IsAllowanceOf, IsRaisedBy, Usage, quota_under}

@@ -22,7 +22,7 @@ use Rattle.drf_rows.specs.declared.rows.LimitRow.{LimitRow}
 use Rattle.drf_rows.specs.declared.rows.OfferRow.{OfferRow}
 use Rattle.drf_rows.specs.declared.rows.Rows.{Rows}
 use Rattle.drf_sorter.specs.Content.{Content, IsSame, with_change, charged, has_client, IsSound}
-use Rattle.drf_sorter.proofs.laws.SameLaws.{IsSame-between, IsSame-sym, IsSame-with_change, IsSound-same, has_client-same}
+use Rattle.drf_sorter.proofs.theorems.SameLaws.{IsSame-between, IsSame-sym, IsSame-with_change, IsSound-same, has_client-same}
 use Rattle.drf_tables.specs.cycle.Drafts.{with_offers}
 use Rattle.drf_tables.specs.declared.tables.Left.{Left}
 use Rattle.drf_content.specs.Content.{content_of}
@@ -32,13 +32,13 @@ use Rattle.drf_core.proofs.drafting.Granted.{can_count}
 use Rattle.drf_core.proofs.drafting.Turn.{left-tried}
 use Rattle.drf_tables.proofs.cycle.DraftLaws.{agents-with_offers, next-with_offers}
 use Rattle.drf_core.proofs.drafting.Drafts.{with_offers-push, is_registered-with_offers}
-use Rattle.drf_content.proofs.laws.Offer.{content_of-with_offer}
-use Rattle.drf_content.proofs.laws.Members.{has_client-registered}
-use Rattle.drf_content.proofs.laws.Sound.{IsSound-content_of}
+use Rattle.drf_content.proofs.theorems.Offer.{content_of-with_offer}
+use Rattle.drf_content.proofs.theorems.Members.{has_client-registered}
+use Rattle.drf_content.proofs.theorems.Sound.{IsSound-content_of}
 use Rattle.drf_row_laws.proofs.ConsistentLaws.{bundles-consistent, IsConsistent-with_offer}
 use Rattle.drf_laws.specs.TurnLaws.{IsPart}
-use Rattle.drf_laws.proofs.laws.Turns.{grant-part}
-use Rattle.drf_laws.proofs.laws.Clients.{path_of-injective}
+use Rattle.drf_laws.proofs.theorems.Turns.{grant-part}
+use Rattle.drf_laws.proofs.theorems.Clients.{path_of-injective}
 
 -- the next draft
 abbrev pub next_draft : Rows → List OfferRow → AgentRow → Client → List Resource → OfferRow

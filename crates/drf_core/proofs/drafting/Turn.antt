@@ -26,13 +26,13 @@ use Rattle.drf_core.specs.declared.cycle.Drafts.{Drafts}
 use Rattle.drf_core.specs.declared.cycle.free.Free.{Free}
 use Rattle.drf_core.specs.cycle.Drafting.{IsCycleAt, IsDrafting, IsFreeAt, IsRegisteredPath, IsTried, IsTurn, HasLeft, is_open_at, turn_at}
 use Rattle.drf_sorter.specs.Content.{Content, IsSound, IsOrderOf}
-use Rattle.drf_sorter.proofs.laws.SameLaws.{IsOrderOf-same, IsSame-sym, IsSound-same}
+use Rattle.drf_sorter.proofs.theorems.SameLaws.{IsOrderOf-same, IsSame-sym, IsSound-same}
 use Rattle.drf_tables.proofs.cycle.DraftLaws.{agents-with_offers, next-with_offers}
 use Rattle.drf_core.proofs.drafting.Drafts.{is_registered-with_offers}
 use Rattle.drf_content.specs.Content.{content_of}
-use Rattle.drf_content.proofs.laws.Sound.{IsSound-content_of}
-use Rattle.drf_content.proofs.laws.Order.{IsOrderOf-turn_order}
-use Rattle.drf_laws.proofs.laws.Turns.{turn_order-registered, free_of-all_tried_other}
+use Rattle.drf_content.proofs.theorems.Sound.{IsSound-content_of}
+use Rattle.drf_content.proofs.theorems.Order.{IsOrderOf-turn_order}
+use Rattle.drf_laws.proofs.theorems.Turns.{turn_order-registered, free_of-all_tried_other}
 
 -- ---- lists
 

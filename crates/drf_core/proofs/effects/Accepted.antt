@@ -21,9 +21,9 @@ use Rattle.drf_rows.specs.declared.rows.FilterRow.{FilterRow}
 use Rattle.drf_rows.specs.declared.rows.OfferRow.{OfferRow}
 use Rattle.drf_rows.specs.declared.rows.Rows.{Rows}
 use Rattle.drf_sorter.specs.Content.{Content, IsSame, has_client, with_change, refunded, HoldsAt}
-use Rattle.drf_sorter.proofs.laws.SameLaws.{HoldsAt-same, IsSame-between, IsSame-sym, IsSame-with_change}
+use Rattle.drf_sorter.proofs.theorems.SameLaws.{HoldsAt-same, IsSame-between, IsSame-sym, IsSame-with_change}
 use Rattle.drf_content.specs.Content.{content_of}
-use Rattle.drf_content.proofs.laws.Ended.{GaveBack, content_of-gave_back, HoldsAt-gave_back}
+use Rattle.drf_content.proofs.theorems.Ended.{GaveBack, content_of-gave_back, HoldsAt-gave_back}
 use Rattle.drf_core.proofs.effects.Ended.{known-client}
 
 -- ---- an offer is accepted

@@ -19,7 +19,7 @@ use Rattle.drf_rows.specs.declared.event.Event.TheVariants.{RemoveAgent, Activat
 use Rattle.drf_rows.specs.declared.rows.FrameworkRow.{FrameworkRow}
 use Rattle.drf_rows.specs.declared.rows.Rows.{Rows}
 use Rattle.drf_sorter.specs.Content.{Content, IsSame, has_client, with_change, refunded, HoldsAt}
-use Rattle.drf_sorter.proofs.laws.SameLaws.{HoldsAt-same, IsSame-between, IsSame-sym, IsSame-with_change, IsSame-with_total, has_client-same}
+use Rattle.drf_sorter.proofs.theorems.SameLaws.{HoldsAt-same, IsSame-between, IsSame-sym, IsSame-with_change, IsSame-with_total, has_client-same}
 use Rattle.drf_sorter.specs.Content as sorter
 use Rattle.drf_tables.specs.offers.Ended.{HasEnded}
 use Rattle.drf_rows.specs.Client.{path_of}
@@ -27,12 +27,12 @@ use Rattle.drf_holdings.specs.Stored.{holding_of}
 use Rattle.drf_holdings.specs.declared.holdings.Taken.{Taken}
 use Rattle.drf_content.specs.Content.{content_of}
 use Rattle.drf_content.specs.Registering.{AreKnown, client_paths, without_all}
-use Rattle.drf_content.proofs.laws.Ended.{GaveBack, content_of-gave_back, HoldsAt-gave_back}
-use Rattle.drf_content.proofs.laws.Changed.{content_of-filters, content_of-activity, content_of-suppression, content_of-agent_removed}
-use Rattle.drf_content.proofs.laws.Members.{has_client-registered}
-use Rattle.drf_content.proofs.laws.Removed.{AreKnown-removing, content_of-framework_removed}
-use Rattle.drf_content.proofs.laws.Same.{AreKnown-same, IsSame-without_all}
-use Rattle.drf_laws.proofs.laws.Releases.{ended_twice}
+use Rattle.drf_content.proofs.theorems.Ended.{GaveBack, content_of-gave_back, HoldsAt-gave_back}
+use Rattle.drf_content.proofs.theorems.Changed.{content_of-filters, content_of-activity, content_of-suppression, content_of-agent_removed}
+use Rattle.drf_content.proofs.theorems.Members.{has_client-registered}
+use Rattle.drf_content.proofs.theorems.Removed.{AreKnown-removing, content_of-framework_removed}
+use Rattle.drf_content.proofs.theorems.Same.{AreKnown-same, IsSame-without_all}
+use Rattle.drf_laws.proofs.theorems.Releases.{ended_twice}
 
 -- ---- one offer or task ended
 

@@ -27,11 +27,11 @@ use Rattle.drf_rows.specs.declared.rows.AgentRow.{AgentRow}
 use Rattle.drf_rows.specs.declared.rows.LimitRow.{LimitRow}
 use Rattle.drf_rows.specs.declared.rows.Rows.{Rows}
 use Rattle.drf_sorter.specs.Content.{Content, IsSame}
-use Rattle.drf_sorter.proofs.laws.SameLaws.{IsSame-between, IsSame-with_total}
+use Rattle.drf_sorter.proofs.theorems.SameLaws.{IsSame-between, IsSame-with_total}
 use Rattle.drf_tables.specs.registry.Changing.{CanExchangeOn, CanHaveTotal}
 use Rattle.drf_content.specs.Content.{content_of}
 use Rattle.drf_core.specs.refusal.Cases.{early_cases_of, late_cases_of}
-use Rattle.drf_laws.proofs.laws.Welcome.{no_case_of, small_amounts}
+use Rattle.drf_laws.proofs.theorems.Welcome.{no_case_of, small_amounts}
 
 -- the cases of an event are the early ones, then the late ones
 pub early_and_late : (limits : LimitNumbers) (rows : Rows) (event : Event) → cases_of limits rows event ≡ early_cases_of limits rows event ++ late_cases_of limits rows event

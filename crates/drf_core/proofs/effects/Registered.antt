@@ -14,12 +14,12 @@ use Rattle.drf_rows.specs.declared.event.Event.TheVariants.{AddAgent, AddFramewo
 use Rattle.drf_rows.specs.declared.rows.ClientRow.{ClientRow}
 use Rattle.drf_rows.specs.declared.rows.Rows.{Rows}
 use Rattle.drf_sorter.specs.Content.{Content, IsSame}
-use Rattle.drf_sorter.proofs.laws.SameLaws.{IsSame-between, IsSame-with_total}
+use Rattle.drf_sorter.proofs.theorems.SameLaws.{IsSame-between, IsSame-with_total}
 use Rattle.drf_content.specs.Content.{content_of}
 use Rattle.drf_content.specs.Registering.{client_paths, with_all}
-use Rattle.drf_content.proofs.laws.Members.{content_of-with_agent}
-use Rattle.drf_content.proofs.laws.Registered.{content_of-registered}
-use Rattle.drf_content.proofs.laws.Same.{IsSame-with_all}
+use Rattle.drf_content.proofs.theorems.Members.{content_of-with_agent}
+use Rattle.drf_content.proofs.theorems.Registered.{content_of-registered}
+use Rattle.drf_content.proofs.theorems.Same.{IsSame-with_all}
 
 -- ---- an agent registers
 

@@ -21,7 +21,7 @@ use Rattle.drf_rows.specs.declared.rows.ClientRow.{ClientRow}
 use Rattle.drf_rows.specs.declared.rows.FrameworkRow.{FrameworkRow}
 use Rattle.drf_rows.specs.declared.rows.Rows.{Rows}
 use Rattle.drf_laws.specs.Kept.{IsKept}
-use Rattle.drf_laws.proofs.laws.Welcome.{no_case_of}
+use Rattle.drf_laws.proofs.theorems.Welcome.{no_case_of}
 use Rattle.drf_sorter.specs.Content.{Content, IsSame}
 use Rattle.drf_sorter.specs.Work.{Work, Defers, Spends}
 use Rattle.drf_content.specs.Content.{content_of}

@@ -6,7 +6,7 @@ use Rattle.drf_rows.specs.Weights.{weights_with}
 use Rattle.drf_rows.specs.declared.event.Event.TheVariants.{SetWeight}
 use Rattle.drf_rows.specs.declared.rows.Rows.{Rows}
 use Rattle.drf_sorter.specs.Content.{Content, IsSame, with_weight}
-use Rattle.drf_sorter.proofs.laws.SameLaws.{IsSame-between, IsSame-with_weight}
+use Rattle.drf_sorter.proofs.theorems.SameLaws.{IsSame-between, IsSame-with_weight}
 use Rattle.drf_content.specs.Content.{content_of}
 
 pub effect-weight : (rows tables : Rows) (role : Path) (weight : ℕ)

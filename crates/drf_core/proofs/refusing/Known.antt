@@ -15,7 +15,7 @@ use Rattle.drf_rows.specs.declared.rows.OfferRow.{OfferRow}
 use Rattle.drf_rows.specs.declared.rows.Rows.{Rows}
 use Rattle.drf_rows.specs.declared.rows.TaskRow.{TaskRow}
 use Rattle.drf_row_laws.proofs.ReleaseLaws.{held-offer_at}
-use Rattle.drf_laws.proofs.laws.Clients.{unregistered}
+use Rattle.drf_laws.proofs.theorems.Clients.{unregistered}
 
 known_holder : (rows : Rows) (h : Holding) → IsHeld rows.agents rows.frameworks h → has_framework rows h.client.framework ≡ true
 known_holder rows h held = elim (cases_Bool (has_framework rows h.client.framework)) [

@@ -21,7 +21,7 @@ use Rattle.drf_rows.specs.declared.limits.TheConstants.{LARGEST_AMOUNT}
 use Rattle.drf_rows.specs.declared.rows.AgentRow.{AgentRow}
 use Rattle.drf_rows.specs.declared.rows.Rows.{Rows}
 use Rattle.drf_core.specs.refusal.Cases.{cases_of_total}
-use Rattle.drf_laws.proofs.laws.Welcome.{no_case, small_amounts}
+use Rattle.drf_laws.proofs.theorems.Welcome.{no_case, small_amounts}
 
 -- a stronger statement about a result implies a weaker one
 pub if_ok : {T F : Type 0} (P Q : T → Type 0) (r : Result T F) → ((x : T) → P x → Q x) → IfOk r P → IfOk r Q

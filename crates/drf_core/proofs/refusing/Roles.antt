@@ -12,7 +12,7 @@ use Rattle.drf_rows.specs.Members.{distinct, has_framework}
 use Rattle.drf_rows.specs.Roles.{too_many_roles, with_framework_roles}
 use Rattle.drf_rows.specs.declared.rows.FrameworkRow.{FrameworkRow}
 use Rattle.drf_rows.specs.declared.rows.Rows.{Rows}
-use Rattle.drf_laws.proofs.laws.RoleCounts.{clients-then, frameworks-unknown}
+use Rattle.drf_laws.proofs.theorems.RoleCounts.{clients-then, frameworks-unknown}
 
 -- a framework has at most as many clients as there are in all
 pub clients_within : (fs : List FrameworkRow) (p : FrameworkRow → Bool) (f : FrameworkRow) → find p fs ≡ Some f

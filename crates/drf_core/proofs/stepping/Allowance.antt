@@ -9,9 +9,9 @@ use Rattle.drf_rows.specs.declared.reply.Refusal.{Refusal}
 use Rattle.drf_rows.specs.declared.rows.OfferRow.{OfferRow}
 use Rattle.drf_rows.specs.declared.rows.Rows.{Rows}
 use Rattle.drf_sorter.specs.Work.{Spends, Work}
-use Rattle.drf_sorter.proofs.laws.SpendLaws.{spends-both, spends-within}
+use Rattle.drf_sorter.proofs.theorems.SpendLaws.{spends-both, spends-within}
 use Rattle.drf_core.specs.Working.{all_nodes, allowance, allowed, allowance_of_all, nodes_of, offered_to, touched}
-use Rattle.drf_laws.proofs.laws.SameLive.{welcome_from, new_offers-live}
+use Rattle.drf_laws.proofs.theorems.SameLive.{welcome_from, new_offers-live}
 
 module _ (limits : LimitNumbers) (rows old : Rows) (event : Event) (live : live_rows rows ≡ live_rows old) where
   allowance-refused : (refusal : Refusal) → refusal_of limits rows event ≡ Some refusal → allowance limits old event ≡ 0

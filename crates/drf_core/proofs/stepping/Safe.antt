@@ -5,7 +5,7 @@ use Rattle.drf_row_laws.proofs.ConsistentLaws.{conserved-consistent, conserved-l
 use Rattle.drf_rows.specs.declared.rows.Rows.{Rows}
 use Rattle.drf_laws.specs.Kept.{IsKept}
 use Rattle.drf_core.specs.Machine.{IsSafe}
-use Rattle.drf_laws.proofs.laws.Kept.{consistent-live, numbers_bounded, filters_bounded, few_offers_kept}
+use Rattle.drf_laws.proofs.theorems.Kept.{consistent-live, numbers_bounded, filters_bounded, few_offers_kept}
 
 pub safe_kept : (limits : LimitNumbers) (rows : Rows) → IsKept limits rows → IsSafe (live_rows rows)
 safe_kept limits rows kept = record {

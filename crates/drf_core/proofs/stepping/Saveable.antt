@@ -7,10 +7,10 @@ use Rattle.drf_row_laws.proofs.LiveLaws.{rows_after-same_live, live_rows-twice}
 use Rattle.drf_rows.specs.declared.event.Event.{Event}
 use Rattle.drf_rows.specs.declared.rows.Rows.{Rows}
 use Rattle.drf_laws.specs.RunLaws.{IsGiven}
-use Rattle.drf_laws.proofs.laws.Kept.{IsKept-forgot}
+use Rattle.drf_laws.proofs.theorems.Kept.{IsKept-forgot}
 use Rattle.drf_saved_laws.specs.SavedLaws.{IsSaveable}
-use Rattle.drf_saved_laws.proofs.laws.Epochs.{live_saveable}
-use Rattle.drf_saved_laws.proofs.laws.Runs.{saveable_rows_stay_so}
+use Rattle.drf_saved_laws.proofs.theorems.Epochs.{live_saveable}
+use Rattle.drf_saved_laws.proofs.theorems.Runs.{saveable_rows_stay_so}
 use Rattle.drf_core.specs.Keeping.{IsStanding}
 
 -- if the current state can be saved, it can be saved after an event

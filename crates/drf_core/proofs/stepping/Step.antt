@@ -16,9 +16,9 @@ use Rattle.drf_rows.specs.declared.rows.Rows.{Rows}
 use Rattle.drf_core.specs.Machine.{Engine, IsSame, IsAfter, IsAfterAll, HasStopped}
 use Rattle.drf_laws.specs.Kept.{AreFew, IsKept, IsCountable}
 use Rattle.drf_core.specs.refusal.Cases.{early_cases_of, early_refusal_of}
-use Rattle.drf_laws.proofs.laws.Kept.{countable_after}
+use Rattle.drf_laws.proofs.theorems.Kept.{countable_after}
 use Rattle.drf_core.proofs.refusing.Tests.{reported_early}
-use Rattle.drf_laws.proofs.laws.SameLive.{welcome_from}
+use Rattle.drf_laws.proofs.theorems.SameLive.{welcome_from}
 
 -- what always holds after a call holds if it fails
 pub on_err : {T E P : Type 0} (r : Result T E) → P → OnErr r P

@@ -26,7 +26,7 @@ use Rattle.drf_holdings.specs.Stored.{holding_of}
 use Rattle.drf_holdings.specs.declared.holdings.Taken.{Taken}
 use Rattle.drf_content.specs.Content.{content_of}
 use Rattle.drf_content.specs.Registering.{client_paths}
-use Rattle.drf_content.proofs.laws.Same.{nodes_of_rows}
+use Rattle.drf_content.proofs.theorems.Same.{nodes_of_rows}
 use Rattle.drf_core.specs.Working.{nodes_of, offered_to, losers}
 use Rattle.drf_core.proofs.drafting.Cycle.{begins_at}
 

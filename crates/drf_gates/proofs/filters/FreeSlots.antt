@@ -85,9 +85,9 @@ no_slot {X} p (Some x ∷ slots) none =
     let here : p x ≡ false = none 0 None (omega arith) in
     rw here (ap (λ (ys : List X). x ∷ ys) (no_slot p slots (λ k d below. none (suc k) d (omega (arith, below)))))
 
--- ---- what is left
+-- ---- the rest
 
--- what is left of slots, without the gaps: at most as many, and all where as many
+-- the rest of slots, without the gaps: at most as many, and all where as many
 pub record IsLess {X : Type 0} (slots left : List (Option X)) : Type 0 where
   pub at_most : length left ≤ length slots
   pub or_all : length left ≡ length slots → left ≡ slots

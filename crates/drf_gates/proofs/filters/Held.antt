@@ -13,7 +13,7 @@ use Rattle.drf_role.specs.PathLaws.{same_path_itself, same_path-true}
 use Rattle.drf_role.specs.Text.{Text, same_text}
 use Rattle.drf_role.specs.Path.{same_path}
 use Rattle.drf_bundle.specs.Bundle.{IsBundle, covers}
-use Rattle.drf_bundle.proofs.laws.UnitProofs.{covers_by_units}
+use Rattle.drf_bundle.proofs.theorems.UnitProofs.{covers_by_units}
 use Rattle.drf_bundle.specs.declared.resource.Resource.{Resource}
 use Rattle.drf_rows.specs.Client.{Client}
 use Rattle.drf_rows.specs.Filters.{is_in_force, in_force, is_of_client, is_on_agent, holds_back, filters_without_client}
@@ -691,7 +691,7 @@ not_not p (x ∷ xs) = elim (cases_Bool (p x)) [
   | inr fails ↦ rw fails (not_not p xs)
 ]
 
--- ---- what is left of slots
+-- ---- the rest of slots
 
 pub left-of : (key : Key) (rows left : List (Option FilterRow)) (index : Index) → IsLess rows left → IsIndexed key rows index → IsLeft key left index
 left-of key rows left index less indexed = record { all = rows; indexed = indexed; at_most = less.at_most; or_all = less.or_all }

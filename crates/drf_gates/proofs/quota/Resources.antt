@@ -11,11 +11,11 @@ use Rattle.drf_role.specs.Path.{Path}
 use Rattle.drf_role.specs.Parts.{parts_of, text_of}
 use Rattle.drf_bundle.specs.Value.{Thousandths, units_in}
 use Rattle.drf_bundle.specs.Quantities.{amount_of, with_amount}
-use Rattle.drf_bundle.proofs.laws.QuantitiesLaws.{amount-with}
+use Rattle.drf_bundle.proofs.theorems.QuantitiesLaws.{amount-with}
 use Rattle.drf_bundle.specs.Bundle.{IsResource, IsBundle, is_default, is_unreserved, key_of, quantities_of, same_key, stock}
 use Rattle.drf_bundle.specs.laws.KeyLaws.{where-cons}
 use Rattle.drf_bundle.specs.laws.SumLaws.{of_name}
-use Rattle.drf_bundle.proofs.laws.SumLaws.{amount-quantities_of}
+use Rattle.drf_bundle.proofs.theorems.SumLaws.{amount-quantities_of}
 use Rattle.drf_bundle.specs.declared.quantities.Entry.{Entry}
 use Rattle.drf_bundle.specs.declared.resource.Resource.{Resource}
 use Rattle.drf_row_laws.proofs.ConsistentLaws.{same_text-swap}

@@ -11,7 +11,7 @@ use Rattle.drf_role.specs.TextLaws.{cases_cmp, same_itself, same_from_test, same
 use Rattle.drf_role.proofs.TextLaws.{cases_same, above_other}
 use Rattle.drf_role.specs.Path.{Path}
 use Rattle.drf_bundle.specs.Quantities.{amount_of, is_in_order, is_named, known_amount, names_of, with_amount}
-use Rattle.drf_bundle.proofs.laws.QuantitiesLaws.{stands_first, first_trans, amount-with, in_order-with, named-with}
+use Rattle.drf_bundle.proofs.theorems.QuantitiesLaws.{stands_first, first_trans, amount-with, in_order-with, named-with}
 use Rattle.drf_bundle.specs.declared.quantities.Entry.{Entry}
 use Rattle.drf_rows.specs.Quota.{Consumed, is_within, binds, room_under, headroom_under, headrooms, limited_names}
 use Rattle.drf_rows.specs.declared.rows.LimitRow.{LimitRow}

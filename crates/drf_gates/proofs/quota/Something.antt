@@ -11,7 +11,7 @@ use Rattle.indexmap.specs.IndexMap.{insert_entry, swap_remove_entry}
 use Rattle.drf_role.specs.Text.{Text, same_text}
 use Rattle.drf_role.specs.Path.{Path, same_path}
 use Rattle.drf_bundle.specs.Quantities.{amount_of, is_in_order}
-use Rattle.drf_bundle.proofs.laws.QuantitiesLaws.{amount_head, stands_first}
+use Rattle.drf_bundle.proofs.theorems.QuantitiesLaws.{amount_head, stands_first}
 use Rattle.drf_bundle.specs.declared.quantities.Entry.{Entry}
 use Rattle.drf_gates.specs.quota.Allowance.{Usage, AreSome, IsSomething, one_entry}
 use Rattle.drf_gates.proofs.quota.Swapped.{swapped}

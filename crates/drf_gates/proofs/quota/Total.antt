@@ -11,7 +11,7 @@ use Rattle.drf_role.specs.Path.{Path, same_path}
 use Rattle.drf_role.specs.PathLaws.{same_path-true}
 use Rattle.drf_role.specs.Role.{IsRole}
 use Rattle.drf_bundle.specs.Quantities.{amount_of, is_in_order, with_amount}
-use Rattle.drf_bundle.proofs.laws.QuantitiesLaws.{stands_first, amount_first, amount-with}
+use Rattle.drf_bundle.proofs.theorems.QuantitiesLaws.{stands_first, amount_first, amount-with}
 use Rattle.drf_bundle.specs.declared.quantities.Entry.{Entry}
 use Rattle.drf_rows.specs.Quota.{is_within}
 use Rattle.drf_gates.specs.quota.Allowance.{Usage, AreRaised, AreSome, IsBounded, one_entry, used_at, used_where}

@@ -111,7 +111,7 @@ waiting =
     ∷ Cycle 0
     ∷ []
 
--- ---- what is not promised
+-- ---- not promised
 
 -- When `fb` in `eng/b` is offered 7 of 8 `cpus`, `eng` has 1 and `ops` nothing: the order is that at the beginning of
 -- the turn.

@@ -10,8 +10,8 @@ use Rattle.drf_role.specs.Path.{Path}
 use Rattle.drf_role.specs.Role.{IsRole}
 use Rattle.drf_rows.specs.Roles.{framework_set, is_role_in_use, roles_set_in, with_roles, filters_without_left}
 use Rattle.drf_rows.specs.declared.rows.FilterRow.{FilterRow}
-use Rattle.drf_laws.proofs.laws.RoleChanges.{IsConsistent-roles_set}
-use Rattle.drf_laws.proofs.laws.RoleCounts.{others_stay}
+use Rattle.drf_laws.proofs.theorems.RoleChanges.{IsConsistent-roles_set}
+use Rattle.drf_laws.proofs.theorems.RoleCounts.{others_stay}
 use Rattle.drf_tables.proofs.tables.Names.{Text, has_framework, same_text, same_text-swap, none_has, are_distinct, changed, count_clients, clients_of, framework_row, framework_rows, AreDerived, rows_in, Inside, ClientRow, FrameworkRow, Rows}
 use Rattle.drf_tables.specs.Inside.{rows_of}
 use Rattle.drf_tables.proofs.tables.Fields.{has_framework-rows_in}

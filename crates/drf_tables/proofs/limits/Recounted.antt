@@ -9,11 +9,11 @@ use Rattle.drf_tables.proofs.tables.Names.{Text, same_text, Path, same_path, Key
 use Rattle.drf_role.specs.PathLaws.{same_path_itself}
 use Rattle.drf_bundle.specs.laws.FitLaws.{join_some}
 use Rattle.drf_bundle.specs.laws.JoinLaws.{where-merged}
-use Rattle.drf_bundle.proofs.laws.RestLaws.{bundle-rest}
-use Rattle.drf_bundle.proofs.laws.SumLaws.{amount-quantities_of}
+use Rattle.drf_bundle.proofs.theorems.RestLaws.{bundle-rest}
+use Rattle.drf_bundle.proofs.theorems.SumLaws.{amount-quantities_of}
 use Rattle.drf_bundle.specs.Taken.{rest_of_all, units_of_all}
-use Rattle.drf_bundle.proofs.laws.TakenLaws.{units-rest_of_all}
-use Rattle.drf_bundle.proofs.laws.UnitProofs.{covers_by_units, rest_and_part}
+use Rattle.drf_bundle.proofs.theorems.TakenLaws.{units-rest_of_all}
+use Rattle.drf_bundle.proofs.theorems.UnitProofs.{covers_by_units, rest_and_part}
 use Rattle.drf_bundle.specs.Value.{Point, Thousandths}
 use Rattle.drf_row_laws.proofs.ReleaseLaws.{IsOneLess, accepted_in, offer_held, offer_out, started_by, sum_by-out, tasks_last}
 use Rattle.drf_row_laws.proofs.QuotaLaws.{consumption_is_part_of_total, parts_le}

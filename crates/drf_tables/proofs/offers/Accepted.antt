@@ -1,7 +1,7 @@
 -- The rows after an offer is accepted or declined.
 use Rattle.std.proofs.Common.{◌≡◌, ℕ, ◌≤◌, Bool, true, false, List, [], ◌∷◌, ◌++◌, Option, Some, map, refl, sym, ap, subst, ◌∙◌, max, if◌then◌else◌, append-nil}
 use Rattle.std.specs.Option.{option_map_or}
-use Rattle.drf_bundle.proofs.laws.TakenLaws.{bundle-rest_of_all}
+use Rattle.drf_bundle.proofs.theorems.TakenLaws.{bundle-rest_of_all}
 use Rattle.drf_tables.proofs.tables.Names.{IsFilter, IsConsistent, at_timestamp, offer_accepted, filter_of, filters_with, left_of_offer, offer_at, filtered_until, filters_all, filters_rest, task_of, OfferRow, Rows}
 use Rattle.drf_rows.specs.Releases.{without_ended, one_offer}
 use Rattle.drf_row_laws.proofs.ReleaseLaws.{held-offer_at}

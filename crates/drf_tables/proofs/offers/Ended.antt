@@ -6,7 +6,7 @@ use Rattle.std.proofs.Common.{refl, sym, ap, ◌∙◌, subst, inl, inr}
 use Rattle.drf_role.specs.Text.{Text}
 use Rattle.drf_bundle.specs.Bundle.{IsBundle, units}
 use Rattle.drf_bundle.specs.Taken.{units_of_all}
-use Rattle.drf_bundle.proofs.laws.TakenLaws.{bundle-rest_of_all}
+use Rattle.drf_bundle.proofs.theorems.TakenLaws.{bundle-rest_of_all}
 use Rattle.drf_bundle.specs.declared.resource.Resource.{Resource}
 use Rattle.drf_bundle.specs.declared.quantities.Entry.{Entry}
 use Rattle.drf_rows.specs.Consistent.{IsAgent, IsConsistent, IsCovered, IsHeld, IsFilter}

@@ -7,8 +7,8 @@ use Rattle.drf_bundle.specs.Value.{Point}
 use Rattle.drf_bundle.specs.Bundle.{Key, IsBundle, join, merged, refusal, units}
 use Rattle.drf_bundle.specs.laws.FitLaws.{join_or_some}
 use Rattle.drf_bundle.specs.Taken.{units_of_all, rest_of_all}
-use Rattle.drf_bundle.proofs.laws.TakenLaws.{bundle-rest_of_all, units-rest_of_all}
-use Rattle.drf_bundle.proofs.laws.UnitProofs.{join_by_units}
+use Rattle.drf_bundle.proofs.theorems.TakenLaws.{bundle-rest_of_all, units-rest_of_all}
+use Rattle.drf_bundle.proofs.theorems.UnitProofs.{join_by_units}
 use Rattle.drf_bundle.specs.declared.resource.Resource.{Resource}
 use Rattle.drf_rows.specs.Consistent.{IsAgent, IsCovered}
 use Rattle.drf_row_laws.proofs.ConsistentLaws.{same_text-swap}

@@ -6,8 +6,8 @@ use Rattle.drf_tables.proofs.tables.Names.{Text, same_text, Key, IsBundle, rest,
 use Rattle.drf_bundle.specs.Value.{Point}
 use Rattle.drf_bundle.specs.Taken.{units_of_all, rest_of_all}
 use Rattle.drf_bundle.specs.laws.BundleLaws.{known_by_units}
-use Rattle.drf_bundle.proofs.laws.RestLaws.{bundle-rest, units-rest}
-use Rattle.drf_bundle.proofs.laws.TakenLaws.{bundle-rest_of_all, units-rest_of_all}
+use Rattle.drf_bundle.proofs.theorems.RestLaws.{bundle-rest, units-rest}
+use Rattle.drf_bundle.proofs.theorems.TakenLaws.{bundle-rest_of_all, units-rest_of_all}
 use Rattle.drf_row_laws.proofs.ReleaseLaws.{IsOneLess, one-one_less, one_less-offer, one_less-task, parts_on-one_less, units-one_less}
 use Rattle.drf_row_laws.proofs.HoldingsLaws.{each_part}
 use Rattle.drf_rows.specs.declared.rows.TaskRow.{TaskRow}

@@ -3,8 +3,8 @@ use Rattle.std.specs.List.{AllByRecursion}
 use Rattle.std.proofs.Common.{sym, subst, arith, ◌≡◌, not, IsTrue, List, [], ◌∷◌, filter, find, fold, Some}
 use Rattle.drf_tables.proofs.tables.Names.{Text, same_text, quantities_of, Entry, IsAgent, AreAgents, cluster_total, each_filter, each_find, AgentRow}
 use Rattle.drf_bundle.specs.Quantities.{plus, minus, covers, is_in_order, without_zeros, HasNoZeros}
-use Rattle.drf_bundle.proofs.laws.QuantitiesLaws.{amount-minus, amount-without_zeros, covers_from, in_order-minus, no_zeros-empty, no_zeros-plus, no_zeros-without_zeros, same_quantities}
-use Rattle.drf_bundle.proofs.laws.UnitProofs.{quantities_no_zeros}
+use Rattle.drf_bundle.proofs.theorems.QuantitiesLaws.{amount-minus, amount-without_zeros, covers_from, in_order-minus, no_zeros-empty, no_zeros-plus, no_zeros-without_zeros, same_quantities}
+use Rattle.drf_bundle.proofs.theorems.UnitProofs.{quantities_no_zeros}
 use Rattle.drf_row_laws.proofs.MemberLaws.{amount-without_named}
 
 no_zeros-added : (start : List Entry) (agents : List AgentRow) → HasNoZeros start → AllByRecursion IsAgent agents

@@ -8,9 +8,9 @@ use Rattle.drf_tables.proofs.tables.Names.{Text, same_text, Path, Key, IsBundle,
 use Rattle.drf_role.specs.Role.{IsRole}
 use Rattle.drf_bundle.specs.Value.{Point}
 use Rattle.drf_bundle.specs.laws.BundleLaws.{bundle-empty, known_by_units}
-use Rattle.drf_bundle.proofs.laws.RestLaws.{bundle-rest, units-rest}
+use Rattle.drf_bundle.proofs.theorems.RestLaws.{bundle-rest, units-rest}
 use Rattle.drf_bundle.specs.Taken.{units_of_all, rest_of_all}
-use Rattle.drf_bundle.proofs.laws.TakenLaws.{bundle-rest_of_all, rest-itself, units-rest_of_all}
+use Rattle.drf_bundle.proofs.theorems.TakenLaws.{bundle-rest_of_all, rest-itself, units-rest_of_all}
 use Rattle.drf_rows.specs.Cycle.{free_of}
 use Rattle.drf_row_laws.proofs.HoldingsLaws.{each_part}
 use Rattle.drf_row_laws.proofs.LimitLaws.{IsConsistent-limit_set}

@@ -6,8 +6,8 @@ use Rattle.std.specs.Map.{lookup, values_of}
 use Rattle.std.proofs.Common.{refl, sym, ap, ◌∙◌, zero, suc, arith, ◌≡◌, ℕ, ◌+◌, ◌*◌, ◌<◌, ◌≤◌, ◌^◌, Bool, true, List, [], ◌∷◌, ◌++◌, length, map, fold, slice_get, Some, is_some}
 use Rattle.std.proofs.lemmas.List.{map-append}
 use Rattle.drf_tables.proofs.tables.Names.{Text, same_text, amount_of, plus, quantities_of, Entry, cluster_total, has_agent, has_framework, IsAgent, AgentRow, ClientRow, OfferRow, Rows, counting_all, holdings_of, each_at, Resource, Agent, Inside}
-use Rattle.drf_bundle.proofs.laws.QuantitiesLaws.{amount-plus}
-use Rattle.drf_bundle.proofs.laws.UnitProofs.{quantities_no_zeros}
+use Rattle.drf_bundle.proofs.theorems.QuantitiesLaws.{amount-plus}
+use Rattle.drf_bundle.proofs.theorems.UnitProofs.{quantities_no_zeros}
 use Rattle.drf_rows.specs.Cycle.{free_of}
 use Rattle.drf_rows.specs.Totals.{agent_at as found_agent}
 use Rattle.drf_row_laws.proofs.RegistrationLaws.{agent_added, framework_added}

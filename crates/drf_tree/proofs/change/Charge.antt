@@ -2,7 +2,7 @@
 use Rattle.std.specs.List.{AllByRecursion}
 use Rattle.std.proofs.Common.{refl, ap, ◌∙◌, arith, ◌≡◌, ◌+◌, ℕ, true, List, [], ◌∷◌, Some}
 use Rattle.drf_tree.proofs.Names.{amount_of, is_in_order, plus, Entry, Path, same_path, Content, Ranked, charged, has_client, with_change, Sum, Tree, client_at, IsTreeOf}
-use Rattle.drf_bundle.proofs.laws.QuantitiesLaws.{amount-plus}
+use Rattle.drf_bundle.proofs.theorems.QuantitiesLaws.{amount-plus}
 use Rattle.drf_tree.proofs.change.Changed.{changed_marked}
 use Rattle.drf_tree.proofs.change.Climb.{IsClimbing, IsMarking, climb_end, marking_end}
 use Rattle.drf_tree.proofs.sums.Move.{Amounts, IsChange, IsMoved, none}

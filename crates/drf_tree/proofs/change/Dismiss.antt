@@ -5,7 +5,7 @@ use Rattle.std.proofs.lemmas.Bool.{cases_Bool}
 use Rattle.std.proofs.lemmas.List.Sums.{sum_by-cons}
 use Rattle.std.proofs.lemmas.Map.Keys.{IsDistinct-head, IsDistinct-tail}
 use Rattle.drf_tree.proofs.Names.{amount_of, minus, Entry, Text, Path, IsClientPath, begins_with, same_path, same_path-true, Sum, Tree, IsLeast, OnWay, client_at, is_live, path_at, IsSumOf, IsTreeOf}
-use Rattle.drf_bundle.proofs.laws.QuantitiesLaws.{amount-minus}
+use Rattle.drf_bundle.proofs.theorems.QuantitiesLaws.{amount-minus}
 use Rattle.drf_sorter.specs.Content.{Content, Ranked, clients_under, standing_in, without_client}
 use Rattle.drf_tree.proofs.change.Changed.{unmarked_after}
 use Rattle.drf_tree.proofs.change.Climb.{AreChanged, AreMarked, IsClimbing, IsMarking, climb_end, marking_end}

@@ -4,7 +4,7 @@ use Rattle.std.proofs.Common.{refl, sym, ap, subst, ◌∙◌, inl, inr, arith, 
 use Rattle.std.proofs.lemmas.Bool.{ltb-true, true≢false, cases_eq, and_from, and_parts}
 use Rattle.std.proofs.lemmas.Option.{slice_get_within, slice_get-get_or}
 use Rattle.drf_tree.proofs.Names.{amount_of, is_named, names_all, with_amount, Entry, Text, same_text, cases_same, same_itself, Path, Content, Sum, Tree, IsShapeOf, NamesFew, NamesFewOnWay, OnWay, is_live, path_at, AreRight, IsSumOf, IsTreeOf}
-use Rattle.drf_bundle.proofs.laws.QuantitiesLaws.{amount-with, named-with}
+use Rattle.drf_bundle.proofs.theorems.QuantitiesLaws.{amount-with, named-with}
 use Rattle.drf_tree.proofs.change.Climb.{IsClimbing, climb_end, live_on_way, on_way, some_part}
 use Rattle.drf_tree.proofs.sums.Move.{AreMoved, IsMoved, none, not_moved, sum_after}
 use Rattle.drf_tree.proofs.shape.Slice.{get_set_same, get_set_other}

@@ -1,7 +1,7 @@
 -- Subtracting quantities and offers from a client.
 use Rattle.std.proofs.Common.{refl, ap, ◌∙◌, arith, ◌≡◌, ◌≤◌, ◌-◌, ℕ, true, List, Some}
 use Rattle.drf_tree.proofs.Names.{amount_of, minus, Entry, Text, Path, same_path, each_from, Content, Ranked, has_client, with_change, Sum, Tree, CanLower, CanLowerAt, lowered, client_at, IsTreeOf}
-use Rattle.drf_bundle.proofs.laws.QuantitiesLaws.{amount-minus}
+use Rattle.drf_bundle.proofs.theorems.QuantitiesLaws.{amount-minus}
 use Rattle.drf_tree.proofs.change.Changed.{changed_marked}
 use Rattle.drf_tree.proofs.change.Climb.{IsClimbing, IsMarking, climb_end, marking_end}
 use Rattle.drf_tree.proofs.sums.Move.{Amounts, IsChange, IsMoved, none}

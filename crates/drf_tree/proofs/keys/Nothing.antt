@@ -6,7 +6,7 @@ use Rattle.drf_tree.proofs.Names.{amount_of, Entry, Path, Text, same_text, Key, 
 use Rattle.drf_sorter.specs.Content.{Content, standing_in}
 use Rattle.drf_sorter.specs.Served.{Weighs}
 use Rattle.drf_sorter.specs.laws.FractionLaws.{fraction_cmp-congr}
-use Rattle.drf_sorter.proofs.laws.OrderLaws.{weighted_share-above}
+use Rattle.drf_sorter.proofs.theorems.OrderLaws.{weighted_share-above}
 use Rattle.drf_tree.proofs.growth.Sprout.{same_nothing, share_of_nothing}
 
 -- no amount is above 0

@@ -11,7 +11,7 @@ use Rattle.drf_tree.proofs.Names.{Text, same_text, same_itself, Path, Key, key_b
 use Rattle.drf_rows.specs.Share.{Fraction, Standing, is_ahead}
 use Rattle.drf_sorter.specs.Fractions.{fraction_cmp}
 use Rattle.drf_sorter.specs.laws.FractionLaws.{fraction_cmp-antisymm, fraction_cmp-congr}
-use Rattle.drf_sorter.proofs.laws.OrderLaws.{is_ahead-is, is_ahead-total, weighted_share-above}
+use Rattle.drf_sorter.proofs.theorems.OrderLaws.{is_ahead-is, is_ahead-total, weighted_share-above}
 use Rattle.drf_sorter.specs.Served.{Weighs}
 
 -- equal fractions compare in the same way

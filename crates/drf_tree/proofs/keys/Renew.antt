@@ -12,7 +12,7 @@ use Rattle.drf_rows.specs.Weights.{are_weights}
 use Rattle.drf_rows.specs.declared.rows.WeightRow.{WeightRow}
 use Rattle.drf_sorter.specs.Content.{Content, IsSound, standing_in}
 use Rattle.drf_sorter.specs.Fractions.{dominant_of, fraction_cmp, weigh}
-use Rattle.drf_sorter.proofs.laws.OrderLaws.{weighted_share-above}
+use Rattle.drf_sorter.proofs.theorems.OrderLaws.{weighted_share-above}
 use Rattle.drf_sorter.specs.Served.{Weighs}
 use Rattle.drf_tree.specs.declared.ledger.Ledger.{Ledger}
 use Rattle.drf_row_laws.proofs.WeightLaws.{weight-found}

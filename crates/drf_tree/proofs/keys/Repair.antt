@@ -6,7 +6,7 @@ use Rattle.std.proofs.lemmas.Bool.{true≢false, cases_Bool, eqb-true}
 use Rattle.std.proofs.lemmas.Option.{slice_get-get_or}
 use Rattle.drf_tree.proofs.Names.{same_text, same_itself, each_at, each_from, each_from_both, each_map, key_by, key_of, ledger_content, Child, Family, Place, Sum, Tree, IsShapeOf, AreFresh, CanKeyAt, IsFresh, IsKeyed, WasRight, child_name, has_child, is_same, known, numbers_of, children_at, is_live, parent_at, path_at, AreRight, IsChildOf, IsMarkedOrRight, IsRight, IsSumOf, IsTreeOf}
 use Rattle.drf_sorter.specs.Content.{Content, IsSound, standing_in}
-use Rattle.drf_sorter.proofs.laws.OrderLaws.{weighted_share-above}
+use Rattle.drf_sorter.proofs.theorems.OrderLaws.{weighted_share-above}
 use Rattle.drf_sorter.specs.Served.{Weighs}
 use Rattle.drf_tree.specs.declared.ledger.Ledger.{Ledger}
 use Rattle.drf_tree.proofs.shape.Node.{live_within}

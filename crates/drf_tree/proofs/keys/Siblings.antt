@@ -18,7 +18,7 @@ use Rattle.std.proofs.lemmas.List.Quantifiers.{position-Some}
 use Rattle.std.proofs.lemmas.Option.{slice_get_read}
 use Rattle.drf_sorter.specs.declared.key.Key as made
 use Rattle.drf_tree.proofs.Names.{key_by, key_cmp, Child, IsWith, are_sorted, has_child, is_before, is_not_behind, seen}
-use Rattle.drf_bundle.proofs.laws.ListLaws.{position-none}
+use Rattle.drf_bundle.proofs.theorems.ListLaws.{position-none}
 use Rattle.drf_sorter.specs.laws.ShareLaws.{share_total}
 
 -- ---- the order of keys

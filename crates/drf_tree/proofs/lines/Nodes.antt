@@ -5,7 +5,7 @@ use Rattle.std.proofs.Common.{refl, sym, ap, subst, ◌∙◌, inl, inr, arith, 
 use Rattle.std.proofs.lemmas.Bool.{cases_Bool, false≢true, or_cases}
 use Rattle.drf_tree.proofs.Names.{amount_of, is_in_order, Entry, Path, Text, same_text, same_from_test, Child, Place, Sum, Tree, child_name, children_at, is_live, is_node, path_at, place_at, IsChildOf, IsTreeOf}
 use Rattle.drf_sorter.specs.Content.{Content, has_node, standing_in}
-use Rattle.drf_sorter.proofs.laws.LineLaws.{IsLineOf-with}
+use Rattle.drf_sorter.proofs.theorems.LineLaws.{IsLineOf-with}
 use Rattle.drf_sorter.specs.Lines.{IsLineOf, line_with}
 use Rattle.drf_tree.proofs.change.Climb.{node_from_live, some_part}
 use Rattle.drf_tree.proofs.shape.Find.{not_below, take_one_more, take_whole}

@@ -7,7 +7,7 @@ use Rattle.std.proofs.lemmas.Bool.Decides.{same_from_decides, Decides-like}
 use Rattle.std.proofs.lemmas.List.Quantifiers.{position-Some}
 use Rattle.std.proofs.lemmas.Option.{slice_get-get_or}
 use Rattle.drf_tree.proofs.Names.{Text, same_text, each_at, list_any-map, Child, Family, Place, Sum, Tree, is_bare_at, child_name, children_at, is_live, path_at, IsChildOf}
-use Rattle.drf_bundle.proofs.laws.ListLaws.{position-none}
+use Rattle.drf_bundle.proofs.theorems.ListLaws.{position-none}
 use Rattle.drf_tree.proofs.shape.Way.{not_equal}
 
 pub same_text-swap : (a b : Text) → same_text a b ≡ same_text b a

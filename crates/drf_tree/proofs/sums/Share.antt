@@ -3,7 +3,7 @@ use Rattle.std.specs.List.{list_any}
 use Rattle.std.proofs.Common.{refl, subst, ◌∙◌, arith, ◌≡◌, ◌≤◌, ◌<◌, ℕ, Bool, true, false, cond, ◌||◌, List, [], ◌∷◌, Some, filter, length, slice_get}
 use Rattle.drf_tree.proofs.Names.{amount_of, Path, begins_with, Text, share_of, Sum, Tree, is_live, path_at, IsSumOf, IsTreeOf}
 use Rattle.drf_sorter.specs.Content.{Content, IsSound, Ranked, has_node, standing_in}
-use Rattle.drf_sorter.proofs.laws.FractionLaws.{same_as_weighed}
+use Rattle.drf_sorter.proofs.theorems.FractionLaws.{same_as_weighed}
 use Rattle.drf_sorter.specs.Fractions.{dominant_of, weigh}
 use Rattle.drf_sorter.specs.Share.{IsShareOf, fraction_of}
 use Rattle.drf_sorter.specs.declared.share.Share.{Share}

@@ -49,7 +49,7 @@ abbrev pub size : (ℕ → List ℕ) → ℕ → ℕ → ℕ
 size family zero x = 2
 size family (suc n) x = 2 + sum_by (size family n) (family x)
 
--- the steps to visit what is left of each frame, the root's first
+-- the steps to visit the rest of each frame, the root's first
 abbrev pub left : (ℕ → List ℕ) → ℕ → List Frame → ℕ
 left family depth [] = 0
 left family zero (f ∷ frames) = 0

@@ -3,7 +3,7 @@ use Rattle.std.specs.List.Sorted.{IsPermutation}
 use Rattle.std.proofs.Common.{sym, subst, ◌∙◌, ◌≡◌, true, List}
 use Rattle.std.proofs.lemmas.List.Sorted.{list_any-IsPermutation}
 use Rattle.drf_tree.proofs.Names.{Path, is_serving_order, walk, WalkIsOrder}
-use Rattle.drf_sorter.proofs.laws.SortedLaws.{sorted, moved_sorted, ordered_sorted}
+use Rattle.drf_sorter.proofs.theorems.SortedLaws.{sorted, moved_sorted, ordered_sorted}
 use Rattle.drf_tree.proofs.walk.OneOrder.{one_serving_order}
 use Rattle.drf_tree.proofs.walk.InOrder.{walk-in_order}
 use Rattle.drf_tree.proofs.walk.Members.{walk-has}

@@ -125,7 +125,7 @@ module _ (tree : Tree) (shape : IsShapeOf tree) where
   moved_on : (f : Frame) (i : ℕ) → slice_get (kin f.node) f.next ≡ Some i → (onward f).next ≡ f.next + 1
   moved_on f i some = omega (arith, place_short families f.node f.next i some)
 
-  -- what is left of a family
+  -- the rest of a family
   rest_of : (f : Frame) (i : ℕ) → slice_get (kin f.node) f.next ≡ Some i
       → drop f.next (kin f.node) ≡ i ∷ drop (onward f).next (kin f.node)
   rest_of f i some =

@@ -1,6 +1,6 @@
 use Rattle.std.proofs.Common.{sym, subst}
 use Rattle.drf_saved_laws.specs.SavedLaws.{IsSaveable}
-use Rattle.drf_saved_laws.proofs.laws.Epochs.{epoch_saveable}
+use Rattle.drf_saved_laws.proofs.theorems.Epochs.{epoch_saveable}
 use Rattle.drf_app.proofs.saving.rows_to_save.Goals as goal
 
 pub returns-clause-saveable : goal.returns-clause-saveable

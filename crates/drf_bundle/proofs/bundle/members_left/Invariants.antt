@@ -3,6 +3,6 @@ use Rattle.drf_bundle.specs.Bundle.{key_of}
 use Rattle.drf_bundle.specs.Taken.{less_all}
 use Rattle.drf_bundle.proofs.bundle.members_left.Given as goal
 
--- what the remaining parts leave of what is left so far is what all parts leave
+-- what the remaining parts leave of the rest so far is what all parts leave
 abbrev pub invariant-loop-part : goal.invariant-loop-part
 invariant-loop-part l = less_all (map (λ p. p.1) (drop l.part-index l.parts)) (key_of l.resource) l.left ≡ less_all (map (λ p. p.1) l.parts) (key_of l.resource) l.resource.value

@@ -1,4 +1,4 @@
-use Rattle.drf_bundle.proofs.laws.QuantitiesLaws.{amount-plus, named-plus, in_order-plus, no_zeros-plus, plus_comm, plus_assoc}
+use Rattle.drf_bundle.proofs.theorems.QuantitiesLaws.{amount-plus, named-plus, in_order-plus, no_zeros-plus, plus_comm, plus_assoc}
 use Rattle.drf_bundle.proofs.laws.adding_law.Goals as goal
 
 pub returns : goal.returns

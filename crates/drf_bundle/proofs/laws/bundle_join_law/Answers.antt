@@ -1,4 +1,4 @@
-use Rattle.drf_bundle.proofs.laws.UnitProofs.{join_by_units, stocks_add}
+use Rattle.drf_bundle.proofs.theorems.UnitProofs.{join_by_units, stocks_add}
 use Rattle.drf_bundle.proofs.laws.bundle_join_law.Goals as goal
 
 pub returns : goal.returns

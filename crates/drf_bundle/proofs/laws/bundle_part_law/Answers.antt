@@ -1,4 +1,4 @@
-use Rattle.drf_bundle.proofs.laws.UnitProofs.{part_covered, clipped_covered, moved_bundle, moved_stocks}
+use Rattle.drf_bundle.proofs.theorems.UnitProofs.{part_covered, clipped_covered, moved_bundle, moved_stocks}
 use Rattle.drf_bundle.proofs.laws.bundle_part_law.Goals as goal
 
 pub returns : goal.returns

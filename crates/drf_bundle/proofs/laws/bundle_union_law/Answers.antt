@@ -1,4 +1,4 @@
-use Rattle.drf_bundle.proofs.laws.UnionLaws.{bundle-with_united, units-with_united}
+use Rattle.drf_bundle.proofs.theorems.UnionLaws.{bundle-with_united, units-with_united}
 use Rattle.drf_bundle.proofs.laws.bundle_union_law.Goals as goal
 
 pub returns : goal.returns

@@ -1,4 +1,4 @@
-use Rattle.drf_bundle.proofs.laws.QuantitiesLaws.{covers_at, covers_from}
+use Rattle.drf_bundle.proofs.theorems.QuantitiesLaws.{covers_at, covers_from}
 use Rattle.drf_bundle.proofs.laws.covering_law.Goals as goal
 
 pub returns : goal.returns

@@ -1,5 +1,5 @@
 use Rattle.std.proofs.Common.{◌∙◌}
-use Rattle.drf_bundle.proofs.laws.QuantitiesLaws.{amount-minus, named-minus, in_order-minus}
+use Rattle.drf_bundle.proofs.theorems.QuantitiesLaws.{amount-minus, named-minus, in_order-minus}
 use Rattle.drf_bundle.proofs.laws.lowering_law.Goals as goal
 
 pub returns : goal.returns

@@ -1,5 +1,5 @@
-use Rattle.drf_bundle.proofs.laws.SumLaws.{amount-quantities_of}
-use Rattle.drf_bundle.proofs.laws.UnitProofs.{quantities_no_zeros, quantities_add}
+use Rattle.drf_bundle.proofs.theorems.SumLaws.{amount-quantities_of}
+use Rattle.drf_bundle.proofs.theorems.UnitProofs.{quantities_no_zeros, quantities_add}
 use Rattle.drf_bundle.proofs.laws.quantities_law.Goals as goal
 
 pub returns : goal.returns

@@ -1,4 +1,4 @@
-use Rattle.drf_bundle.proofs.laws.QuantitiesLaws.{amount-with, named-with, in_order-with}
+use Rattle.drf_bundle.proofs.theorems.QuantitiesLaws.{amount-with, named-with, in_order-with}
 use Rattle.drf_bundle.proofs.laws.setting_law.Goals as goal
 
 pub returns : goal.returns

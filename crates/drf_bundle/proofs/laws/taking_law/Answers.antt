@@ -1,4 +1,4 @@
-use Rattle.drf_bundle.proofs.laws.TakenLaws.{joined-rest_of_all, only_rest_of_all}
+use Rattle.drf_bundle.proofs.theorems.TakenLaws.{joined-rest_of_all, only_rest_of_all}
 use Rattle.drf_bundle.proofs.laws.taking_law.Goals as goal
 
 pub returns-clause-joins : goal.returns-clause-joins

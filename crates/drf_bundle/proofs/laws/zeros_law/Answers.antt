@@ -1,4 +1,4 @@
-use Rattle.drf_bundle.proofs.laws.QuantitiesLaws.{amount-without_zeros, no_zeros-without_zeros}
+use Rattle.drf_bundle.proofs.theorems.QuantitiesLaws.{amount-without_zeros, no_zeros-without_zeros}
 use Rattle.drf_bundle.proofs.laws.zeros_law.Goals as goal
 
 pub returns : goal.returns

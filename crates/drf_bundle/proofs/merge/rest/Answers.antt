@@ -1,7 +1,7 @@
 use Rattle.std.proofs.Common.{Some, [], ◌∷◌, ◌++◌, sym, ap, ◌∙◌, subst}
 use Rattle.drf_bundle.specs.Value.{less}
 use Rattle.drf_bundle.specs.Bundle.{IsBundle, with_value, filled_of}
-use Rattle.drf_bundle.proofs.laws.RestLaws.{bundle-rest}
+use Rattle.drf_bundle.proofs.theorems.RestLaws.{bundle-rest}
 use Rattle.drf_bundle.proofs.MergeLemmas.{pushed}
 use Rattle.drf_bundle.proofs.PushLemmas.{bundle-next}
 use Rattle.drf_bundle.proofs.RestLemmas.{rest_begins, left_next, past_left, past_right, both_bundle, past_both, rest_ends}

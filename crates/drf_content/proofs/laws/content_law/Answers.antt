@@ -1,4 +1,4 @@
-use Rattle.drf_content.proofs.laws.Same.{lines_of_rows, order_of_rows, sound_of_rows}
+use Rattle.drf_content.proofs.theorems.Same.{lines_of_rows, order_of_rows, sound_of_rows}
 use Rattle.drf_content.proofs.laws.content_law.Goals as goal
 
 pub returns-clause-sound : goal.returns-clause-sound

@@ -1,5 +1,5 @@
-use Rattle.drf_content.proofs.laws.Back.{client_is_put_back, clients_can_be_back}
-use Rattle.drf_content.proofs.laws.Put.{content_of-begun, content_of-with_row}
+use Rattle.drf_content.proofs.theorems.Back.{client_is_put_back, clients_can_be_back}
+use Rattle.drf_content.proofs.theorems.Put.{content_of-begun, content_of-with_row}
 use Rattle.drf_content.proofs.laws.put_law.Goals as goal
 
 pub returns-clause-head : goal.returns-clause-head

@@ -1,4 +1,4 @@
-use Rattle.drf_content.proofs.laws.RolesSet.{roles_are_followed}
+use Rattle.drf_content.proofs.theorems.RolesSet.{roles_are_followed}
 use Rattle.drf_content.proofs.laws.roles_law.Goals as goal
 
 pub returns : goal.returns

@@ -3,8 +3,8 @@ use Rattle.drf_rows.specs.Step.{line_reported, new_offers}
 use Rattle.drf_rows.specs.declared.reply.Reply.TheVariants.{Offers}
 use Rattle.drf_rows.specs.declared.rows.Rows.{Rows}
 use Rattle.drf_rows.specs.declared.rows.OfferRow.{OfferRow}
-use Rattle.drf_sorter.proofs.laws.SameLaws.{IsSame-between}
-use Rattle.drf_sorter.proofs.laws.SpendLaws.{spends-on_ok, spends-within}
+use Rattle.drf_sorter.proofs.theorems.SameLaws.{IsSame-between}
+use Rattle.drf_sorter.proofs.theorems.SpendLaws.{spends-on_ok, spends-within}
 use Rattle.drf_core.specs.cycle.Drafting.{IsDrafting, turns_of}
 use Rattle.drf_core.specs.Working.{nodes_of, offered_to}
 use Rattle.drf_gates.specs.quota.Allowance.{Usage, quota_under}

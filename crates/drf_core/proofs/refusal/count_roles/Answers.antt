@@ -3,8 +3,8 @@ use Rattle.std.specs.List.{list_any, slice_index_or}
 use Rattle.std.proofs.lemmas.List.{take_more, take_more_set, take_all, map-append, length-append}
 use Rattle.drf_role.specs.Path.{Path}
 use Rattle.drf_rows.specs.Members.{distinct}
-use Rattle.drf_laws.proofs.laws.Roles.{is_role, distinct-known, distinct-new, distinct-grows}
-use Rattle.drf_content.proofs.laws.Registered.{list_any-seen}
+use Rattle.drf_laws.proofs.theorems.Roles.{is_role, distinct-known, distinct-new, distinct-grows}
+use Rattle.drf_content.proofs.theorems.Registered.{list_any-seen}
 use Rattle.drf_core.proofs.refusal.count_roles.Goals as goal
 
 abbrev now_of : Bor Path → Path

@@ -3,7 +3,7 @@ use Rattle.drf_rows.specs.Step.{accept_is_too_much, refusal_of}
 use Rattle.drf_rows.specs.declared.reply.Refusal.TheVariants.{TooMany}
 use Rattle.drf_core.specs.refusal.Accepting.{cases_of_tasks}
 use Rattle.drf_core.proofs.refusing.Tests.{first_prefix, first_rest}
-use Rattle.drf_laws.proofs.laws.Welcome.{no_case}
+use Rattle.drf_laws.proofs.theorems.Welcome.{no_case}
 use Rattle.drf_core.proofs.refusal.refuse_accept.Goals as goal
 
 pub returns-in-Some : goal.returns-in-Some

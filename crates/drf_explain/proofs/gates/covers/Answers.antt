@@ -1,6 +1,6 @@
 use Rattle.std.proofs.lemmas.Bool.Decides.{same_from_decides}
 use Rattle.drf_bundle.specs.Bundle.{covers}
-use Rattle.drf_bundle.proofs.laws.BundleLaws.{covers_exact}
+use Rattle.drf_bundle.proofs.theorems.BundleLaws.{covers_exact}
 use Rattle.drf_explain.proofs.gates.covers.Goals as goal
 
 pub returns : goal.returns

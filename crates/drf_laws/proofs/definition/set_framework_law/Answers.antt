@@ -1,4 +1,4 @@
-use Rattle.drf_laws.proofs.laws.RolesSet.{listed_roles_are_set, other_clients_stay_registered, same_roles_change_nothing, taken_again_is_new}
+use Rattle.drf_laws.proofs.theorems.RolesSet.{listed_roles_are_set, other_clients_stay_registered, same_roles_change_nothing, taken_again_is_new}
 use Rattle.drf_laws.proofs.definition.set_framework_law.Goals as goal
 
 pub returns-clause-listed : goal.returns-clause-listed

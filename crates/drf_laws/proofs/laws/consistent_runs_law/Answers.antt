@@ -1,4 +1,4 @@
-use Rattle.drf_laws.proofs.laws.Runs.{steps_stay_consistent, runs_stay_consistent, all_rows_stay_consistent, runs_from_opening_are_consistent, nothing_is_granted_twice}
+use Rattle.drf_laws.proofs.theorems.Runs.{steps_stay_consistent, runs_stay_consistent, all_rows_stay_consistent, runs_from_opening_are_consistent, nothing_is_granted_twice}
 use Rattle.drf_laws.proofs.laws.consistent_runs_law.Goals as goal
 
 pub returns-clause-step : goal.returns-clause-step

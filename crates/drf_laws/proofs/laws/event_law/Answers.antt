@@ -1,8 +1,8 @@
-use Rattle.drf_laws.proofs.laws.Events.{IsConsistent-effect}
-use Rattle.drf_laws.proofs.laws.Kept.{countable_after}
-use Rattle.drf_laws.proofs.laws.Offers.{can_accept}
-use Rattle.drf_laws.proofs.laws.SameLive.{welcome_from, new_offers-live}
-use Rattle.drf_laws.proofs.laws.Welcome.{no_case_of}
+use Rattle.drf_laws.proofs.theorems.Events.{IsConsistent-effect}
+use Rattle.drf_laws.proofs.theorems.Kept.{countable_after}
+use Rattle.drf_laws.proofs.theorems.Offers.{can_accept}
+use Rattle.drf_laws.proofs.theorems.SameLive.{welcome_from, new_offers-live}
+use Rattle.drf_laws.proofs.theorems.Welcome.{no_case_of}
 use Rattle.drf_laws.proofs.laws.event_law.Goals as goal
 
 pub returns-clause-cases : goal.returns-clause-cases

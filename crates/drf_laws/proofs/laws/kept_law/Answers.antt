@@ -1,4 +1,4 @@
-use Rattle.drf_laws.proofs.laws.Kept.{few_agents_kept, few_offers_kept, numbers_bounded, sound_total, filters_bounded, consistent-live, consistent-clock}
+use Rattle.drf_laws.proofs.theorems.Kept.{few_agents_kept, few_offers_kept, numbers_bounded, sound_total, filters_bounded, consistent-live, consistent-clock}
 use Rattle.drf_laws.proofs.laws.kept_law.Goals as goal
 
 pub returns-clause-numbers : goal.returns-clause-numbers

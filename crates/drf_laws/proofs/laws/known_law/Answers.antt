@@ -1,7 +1,7 @@
 use Rattle.drf_rows.specs.Holdings.{holdings_of}
-use Rattle.drf_laws.proofs.laws.Clients.{path_of-injective, nothing_held}
-use Rattle.drf_laws.proofs.laws.Nodes.{same_in_order}
-use Rattle.drf_laws.proofs.laws.Tests.{below_held}
+use Rattle.drf_laws.proofs.theorems.Clients.{path_of-injective, nothing_held}
+use Rattle.drf_laws.proofs.theorems.Nodes.{same_in_order}
+use Rattle.drf_laws.proofs.theorems.Tests.{below_held}
 use Rattle.drf_laws.proofs.laws.known_law.Goals as goal
 
 pub returns-clause-clients : goal.returns-clause-clients

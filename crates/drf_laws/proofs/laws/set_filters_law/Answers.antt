@@ -1,4 +1,4 @@
-use Rattle.drf_laws.proofs.laws.SetFilters.{declined_sets_filter, accepted_sets_filter, some_rest_is_left, declined_is_held_back, left_is_held_back}
+use Rattle.drf_laws.proofs.theorems.SetFilters.{declined_sets_filter, accepted_sets_filter, some_rest_is_left, declined_is_held_back, left_is_held_back}
 use Rattle.drf_laws.proofs.laws.set_filters_law.Goals as goal
 
 pub returns-clause-declined : goal.returns-clause-declined

@@ -1,4 +1,4 @@
-use Rattle.drf_laws.proofs.laws.Turns.{turn_order-registered, length-turn_order, grant-part, cycles_make_few_offers, free_of-all_tried_other}
+use Rattle.drf_laws.proofs.theorems.Turns.{turn_order-registered, length-turn_order, grant-part, cycles_make_few_offers, free_of-all_tried_other}
 use Rattle.drf_laws.proofs.laws.turns_law.Goals as goal
 
 pub returns-clause-registered : goal.returns-clause-registered

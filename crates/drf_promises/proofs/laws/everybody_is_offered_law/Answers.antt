@@ -1,4 +1,4 @@
-use Rattle.drf_promises.proofs.laws.Everybody.{everybody_is_offered}
+use Rattle.drf_promises.proofs.theorems.Everybody.{everybody_is_offered}
 use Rattle.drf_promises.proofs.laws.everybody_is_offered_law.Goals as goal
 
 pub returns : goal.returns

@@ -1,4 +1,4 @@
-use Rattle.drf_promises.proofs.laws.Cycles.{nothing_is_explained}
+use Rattle.drf_promises.proofs.theorems.Cycles.{nothing_is_explained}
 use Rattle.drf_promises.proofs.laws.explained_law.Goals as goal
 
 pub returns : goal.returns

@@ -1,5 +1,5 @@
-use Rattle.drf_promises.proofs.laws.Cycles.{cycles_leave_nothing, second_cycles_are_idle}
-use Rattle.drf_promises.proofs.laws.Open.{all_is_handed_out}
+use Rattle.drf_promises.proofs.theorems.Cycles.{cycles_leave_nothing, second_cycles_are_idle}
+use Rattle.drf_promises.proofs.theorems.Open.{all_is_handed_out}
 use Rattle.drf_promises.proofs.laws.leaves_nothing_law.Goals as goal
 
 pub returns-clause-nothing : goal.returns-clause-nothing

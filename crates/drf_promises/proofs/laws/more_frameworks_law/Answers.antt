@@ -1,4 +1,4 @@
-use Rattle.drf_promises.proofs.laws.FrameworkRuns.{each_stands_as_itself, more_frameworks_gain_nothing, one_more_stands_alike}
+use Rattle.drf_promises.proofs.theorems.FrameworkRuns.{each_stands_as_itself, more_frameworks_gain_nothing, one_more_stands_alike}
 use Rattle.drf_promises.proofs.laws.more_frameworks_law.Goals as goal
 
 pub returns-clause-itself : goal.returns-clause-itself

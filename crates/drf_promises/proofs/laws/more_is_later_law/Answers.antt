@@ -1,5 +1,5 @@
-use Rattle.drf_promises.proofs.laws.Overtaken.{nobody_overtakes}
-use Rattle.drf_promises.proofs.laws.Siblings.{more_is_later, offer_is_later, weight_is_not_later}
+use Rattle.drf_promises.proofs.theorems.Overtaken.{nobody_overtakes}
+use Rattle.drf_promises.proofs.theorems.Siblings.{more_is_later, offer_is_later, weight_is_not_later}
 use Rattle.drf_promises.proofs.laws.more_is_later_law.Goals as goal
 
 pub returns-clause-more : goal.returns-clause-more

@@ -1,4 +1,4 @@
-use Rattle.drf_promises.proofs.laws.Stands.{offers_stand, tasks_stand}
+use Rattle.drf_promises.proofs.theorems.Stands.{offers_stand, tasks_stand}
 use Rattle.drf_promises.proofs.laws.offers_stay_law.Goals as goal
 
 pub returns-clause-offers : goal.returns-clause-offers

@@ -1,5 +1,5 @@
-use Rattle.drf_promises.proofs.laws.Apart.{nothing_held_is_apart}
-use Rattle.drf_promises.proofs.laws.ApartRuns.{runs_stay_apart}
+use Rattle.drf_promises.proofs.theorems.Apart.{nothing_held_is_apart}
+use Rattle.drf_promises.proofs.theorems.ApartRuns.{runs_stay_apart}
 use Rattle.drf_promises.proofs.laws.one_agent_apart_law.Goals as goal
 
 pub returns-clause-start : goal.returns-clause-start

@@ -1,5 +1,5 @@
-use Rattle.drf_promises.proofs.laws.Cycles.{nobody_is_passed}
-use Rattle.drf_promises.proofs.laws.Order.{offers_go_to_the_first}
+use Rattle.drf_promises.proofs.theorems.Cycles.{nobody_is_passed}
+use Rattle.drf_promises.proofs.theorems.Order.{offers_go_to_the_first}
 use Rattle.drf_promises.proofs.laws.order_law.Goals as goal
 
 pub returns-clause-passed : goal.returns-clause-passed

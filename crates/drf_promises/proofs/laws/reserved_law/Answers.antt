@@ -1,4 +1,4 @@
-use Rattle.drf_promises.proofs.laws.Stands.{reserved_is_its_roles}
+use Rattle.drf_promises.proofs.theorems.Stands.{reserved_is_its_roles}
 use Rattle.drf_promises.proofs.laws.reserved_law.Goals as goal
 
 pub returns : goal.returns

@@ -1,6 +1,6 @@
-use Rattle.drf_promises.proofs.laws.Equal.{equal_agents_are_shared}
-use Rattle.drf_promises.proofs.laws.Incentive.{sharing_incentive}
-use Rattle.drf_promises.proofs.laws.Shared.{fair_shares}
+use Rattle.drf_promises.proofs.theorems.Equal.{equal_agents_are_shared}
+use Rattle.drf_promises.proofs.theorems.Incentive.{sharing_incentive}
+use Rattle.drf_promises.proofs.theorems.Shared.{fair_shares}
 use Rattle.drf_promises.proofs.laws.sharing_incentive_law.Goals as goal
 
 pub returns-clause-part : goal.returns-clause-part

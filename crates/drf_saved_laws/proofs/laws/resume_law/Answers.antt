@@ -1,4 +1,4 @@
-use Rattle.drf_saved_laws.proofs.laws.Runs.{rows_resume, runs_resume}
+use Rattle.drf_saved_laws.proofs.theorems.Runs.{rows_resume, runs_resume}
 use Rattle.drf_saved_laws.proofs.laws.resume_law.Goals as goal
 
 pub returns-clause-replies : goal.returns-clause-replies

@@ -1,4 +1,4 @@
-use Rattle.drf_saved_laws.proofs.laws.Saveable.{head_is_saveable, row_keeps_saveable}
+use Rattle.drf_saved_laws.proofs.theorems.Saveable.{head_is_saveable, row_keeps_saveable}
 use Rattle.drf_saved_laws.proofs.laws.row_law.Goals as goal
 
 pub returns-clause-head : goal.returns-clause-head

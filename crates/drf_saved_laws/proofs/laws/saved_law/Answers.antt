@@ -1,7 +1,7 @@
-use Rattle.drf_saved_laws.proofs.laws.Listed.{restored_is_listed}
-use Rattle.drf_saved_laws.proofs.laws.Runs.{live_rows_are_saved}
-use Rattle.drf_saved_laws.proofs.laws.Saveable.{restored_can_be_saved}
-use Rattle.drf_saved_laws.proofs.laws.Taken.{saved_is_restored}
+use Rattle.drf_saved_laws.proofs.theorems.Listed.{restored_is_listed}
+use Rattle.drf_saved_laws.proofs.theorems.Runs.{live_rows_are_saved}
+use Rattle.drf_saved_laws.proofs.theorems.Saveable.{restored_can_be_saved}
+use Rattle.drf_saved_laws.proofs.theorems.Taken.{saved_is_restored}
 use Rattle.drf_saved_laws.proofs.laws.saved_law.Goals as goal
 
 pub returns-clause-saveable : goal.returns-clause-saveable

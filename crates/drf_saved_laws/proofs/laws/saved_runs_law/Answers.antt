@@ -1,4 +1,4 @@
-use Rattle.drf_saved_laws.proofs.laws.Runs.{runs_can_be_saved, runs_go_on_from_saved, saveable_rows_stay_so, saved_rows_go_on}
+use Rattle.drf_saved_laws.proofs.theorems.Runs.{runs_can_be_saved, runs_go_on_from_saved, saveable_rows_stay_so, saved_rows_go_on}
 use Rattle.drf_saved_laws.proofs.laws.saved_runs_law.Goals as goal
 
 pub returns-clause-runs : goal.returns-clause-runs

@@ -7,10 +7,10 @@ use Rattle.drf_rows.specs.Report.{terms_of}
 use Rattle.drf_rows.specs.Share.{Standing, weighted_share_of}
 use Rattle.drf_rows.specs.declared.rows.FrameworkRow.{FrameworkRow}
 use Rattle.drf_rows.specs.Client.{path_of}
-use Rattle.drf_sorter.proofs.laws.SameLaws.{has_node-same, standing_in-same}
+use Rattle.drf_sorter.proofs.theorems.SameLaws.{has_node-same, standing_in-same}
 use Rattle.drf_content.specs.Content.{content_of}
-use Rattle.drf_content.proofs.laws.Order.{standing-content_of}
-use Rattle.drf_content.proofs.laws.Same.{sound_of_rows}
+use Rattle.drf_content.proofs.theorems.Order.{standing-content_of}
+use Rattle.drf_content.proofs.theorems.Same.{sound_of_rows}
 use Rattle.drf_show.specs.Had.{AreSmall, lines_by, parts_for, parts_in, weighted_in}
 use Rattle.drf_show.specs.Shown.{client_line}
 use Rattle.drf_show.specs.declared.clients.ClientLine.{ClientLine}

@@ -1,7 +1,7 @@
 use Rattle.std.proofs.Common.{List, ap, ◌∙◌}
 use Rattle.drf_bundle.specs.Quantities.{amount_of}
 use Rattle.drf_bundle.specs.declared.quantities.Entry.{Entry}
-use Rattle.drf_bundle.proofs.laws.QuantitiesLaws.{amount-plus, amount-without_zeros}
+use Rattle.drf_bundle.proofs.theorems.QuantitiesLaws.{amount-plus, amount-without_zeros}
 use Rattle.drf_sorter.proofs.client.raise.Goals as goal
 
 pub returns-then-names_all-clause-ok : goal.returns-then-names_all-clause-ok

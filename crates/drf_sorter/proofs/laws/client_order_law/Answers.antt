@@ -1,5 +1,5 @@
 use Rattle.drf_row_laws.proofs.ServingOrder.{stands_before-back}
-use Rattle.drf_sorter.proofs.laws.OrderLaws.{stands_before-total, stands_before-transitive}
+use Rattle.drf_sorter.proofs.theorems.OrderLaws.{stands_before-total, stands_before-transitive}
 use Rattle.drf_sorter.proofs.laws.client_order_law.Goals as goal
 
 pub returns-clause-asymmetric : goal.returns-clause-asymmetric

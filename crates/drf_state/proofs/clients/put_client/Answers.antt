@@ -2,8 +2,8 @@ use Rattle.std.proofs.Common.{◌≡◌, not, sym, ap, subst, ◌∙◌}
 use Rattle.drf_role.specs.Path.{Path, client_path}
 use Rattle.drf_sorter.specs.Content.{Content, IsSound, activated, charged, has_client, with_change, with_client}
 use Rattle.drf_content.specs.Putting.{put_back, with_last}
-use Rattle.drf_content.proofs.laws.Back.{added, client_is_added, client_is_put_back, has_client-last}
-use Rattle.drf_content.proofs.laws.Registered.{has_client-added}
+use Rattle.drf_content.proofs.theorems.Back.{added, client_is_added, client_is_put_back, has_client-last}
+use Rattle.drf_content.proofs.theorems.Registered.{has_client-added}
 use Rattle.drf_state.proofs.clients.put_client.Goals as goal
 
 pub set_active-requires : goal.set_active-requires

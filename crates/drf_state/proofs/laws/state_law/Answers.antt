@@ -1,4 +1,4 @@
-use Rattle.drf_state.proofs.laws.Texts.{what_is_said_can_be_saved, what_is_said_is_the_text, what_is_written_is_said}
+use Rattle.drf_state.proofs.theorems.Texts.{what_is_said_can_be_saved, what_is_said_is_the_text, what_is_written_is_said}
 use Rattle.drf_state.proofs.Readable.{read_is_valid}
 use Rattle.drf_state.proofs.Sayable.{read_back}
 use Rattle.drf_state.proofs.laws.state_law.Goals as goal

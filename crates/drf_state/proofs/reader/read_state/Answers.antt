@@ -5,7 +5,7 @@ use Rattle.drf_saved_laws.specs.SavedLaws.{IsSaveable}
 use Rattle.drf_state.specs.Reading.{IsFaultOf}
 use Rattle.drf_state.specs.State.{Said, rest_says, rows_begun, said_by, says_first, state_in}
 use Rattle.drf_state.specs.laws.Parts.{parts_of_text}
-use Rattle.drf_state.proofs.laws.Texts.{what_is_said_is_the_text}
+use Rattle.drf_state.proofs.theorems.Texts.{what_is_said_is_the_text}
 use Rattle.drf_state.proofs.Going.{passed_on, says_begun, says_nothing, stopped_first}
 use Rattle.drf_state.proofs.reader.read_state.Goals as goal
 

@@ -1,6 +1,6 @@
 use Rattle.std.proofs.Common.{◌<◌, ℕ, List, ap, inl, inr, subst, ◌∙◌}
 use Rattle.drf_tree.proofs.Names.{amount_of, Entry}
-use Rattle.drf_bundle.proofs.laws.QuantitiesLaws.{amount-without_zeros}
+use Rattle.drf_bundle.proofs.theorems.QuantitiesLaws.{amount-without_zeros}
 use Rattle.drf_tree.proofs.change.Label.{above_zero}
 use Rattle.drf_tree.proofs.charge.name_all.Goals as goal
 

@@ -1,6 +1,6 @@
 use Rattle.std.proofs.Common.{◌≡◌, IfOk, map, sym, ap, ◌∙◌, subst, take_all, List}
 use Rattle.drf_bundle.specs.Bundle.{clip, clipped}
-use Rattle.drf_bundle.proofs.laws.PartLaws.{bundle-clip, clip-all}
+use Rattle.drf_bundle.proofs.theorems.PartLaws.{bundle-clip, clip-all}
 use Rattle.drf_bundle.specs.declared.resource.Resource.{Resource}
 use Rattle.drf_bundle.proofs.bundle.Bundle.clip.Goals as goal
 

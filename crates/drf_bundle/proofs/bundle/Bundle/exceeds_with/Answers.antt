@@ -3,7 +3,7 @@ use Rattle.std.proofs.lemmas.Grind.{common_steps}
 use Rattle.std.proofs.lemmas.Bool.Decides.{nat_tests}
 use Rattle.drf_bundle.specs.Value.{Thousandths}
 use Rattle.drf_bundle.specs.Bundle.{stock}
-use Rattle.drf_bundle.proofs.laws.SumLaws.{amount-kept}
+use Rattle.drf_bundle.proofs.theorems.SumLaws.{amount-kept}
 use Rattle.drf_bundle.proofs.bundle.Bundle.exceeds_with.Goals as goal
 
 pub returns : goal.returns

@@ -1,7 +1,7 @@
 use Rattle.std.proofs.Common.{◌≡◌, ◌∙◌, List}
 use Rattle.drf_bundle.specs.Bundle.{rest}
 use Rattle.drf_bundle.specs.laws.FitLaws.{free_from_refusal, fits_from_free, join_of_free}
-use Rattle.drf_bundle.proofs.laws.RestLaws.{bundle-rest}
+use Rattle.drf_bundle.proofs.theorems.RestLaws.{bundle-rest}
 use Rattle.drf_bundle.specs.declared.resource.Resource.{Resource}
 use Rattle.drf_bundle.proofs.bundle.Bundle.exchange.Goals as goal
 

@@ -1,4 +1,4 @@
-use Rattle.drf_bundle.proofs.laws.OneLaws.{bundle-one_of}
+use Rattle.drf_bundle.proofs.theorems.OneLaws.{bundle-one_of}
 use Rattle.drf_bundle.proofs.bundle.Bundle.one.Goals as goal
 
 pub new-requires : goal.new-requires

@@ -1,7 +1,7 @@
 use Rattle.std.proofs.Common.{◌≡◌, true, IfOk, sym, ap, ◌∙◌, subst, take_all, List}
 use Rattle.std.specs.List.{list_all}
 use Rattle.drf_bundle.specs.Bundle.{is_for, part_for}
-use Rattle.drf_bundle.proofs.laws.PartLaws.{bundle-part_for, part_for-all}
+use Rattle.drf_bundle.proofs.theorems.PartLaws.{bundle-part_for, part_for-all}
 use Rattle.drf_bundle.specs.declared.resource.Resource.{Resource}
 use Rattle.drf_bundle.proofs.bundle.Bundle.part_for.Goals as goal
 

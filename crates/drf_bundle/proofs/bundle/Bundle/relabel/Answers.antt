@@ -1,6 +1,6 @@
 use Rattle.std.proofs.Common.{ap, ◌∙◌, take_all, List}
 use Rattle.drf_bundle.specs.Bundle.{relabel}
-use Rattle.drf_bundle.proofs.laws.PartLaws.{bundle-relabel}
+use Rattle.drf_bundle.proofs.theorems.PartLaws.{bundle-relabel}
 use Rattle.drf_bundle.specs.declared.resource.Resource.{Resource}
 use Rattle.drf_bundle.proofs.bundle.Bundle.relabel.Goals as goal
 

@@ -2,7 +2,7 @@ use Rattle.std.proofs.Common.{◌≡◌, true, false, refl, sym, ap, ◌∙◌, 
 use Rattle.std.proofs.lemmas.Bool.{false≢true}
 use Rattle.std.proofs.lemmas.List.Recursion.{and_at}
 use Rattle.drf_bundle.specs.Bundle.{covers, covers_one}
-use Rattle.drf_bundle.proofs.laws.BundleLaws.{covers_exact}
+use Rattle.drf_bundle.proofs.theorems.BundleLaws.{covers_exact}
 use Rattle.drf_bundle.specs.declared.resource.Resource.{Resource}
 use Rattle.drf_bundle.proofs.bundle.BundleAlgebra.covers.Goals as goal
 

@@ -1,7 +1,7 @@
 use Rattle.std.proofs.Common.{sym, subst}
 use Rattle.drf_amount.specs.Algebra.{IsRest}
 use Rattle.drf_bundle.specs.Bundle.{IsBundle, join}
-use Rattle.drf_bundle.proofs.laws.BundleLaws.{is_rest, covers_exact}
+use Rattle.drf_bundle.proofs.theorems.BundleLaws.{is_rest, covers_exact}
 use Rattle.drf_bundle.proofs.bundle.BundleAlgebra.try_minus.Goals as goal
 
 pub returns-clause-rest : goal.returns-clause-rest

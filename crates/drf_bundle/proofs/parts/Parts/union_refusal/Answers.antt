@@ -2,9 +2,9 @@ use Rattle.std.proofs.Common.{◌≡◌, ◌+◌, ℕ, List, nat_le, sym, ap, �
 use Rattle.drf_bundle.specs.Value.{Thousandths, units_in}
 use Rattle.drf_bundle.specs.Bundle.{stock}
 use Rattle.drf_bundle.specs.Quantities.{amount_of}
-use Rattle.drf_bundle.proofs.laws.SumLaws.{amount-kept}
+use Rattle.drf_bundle.proofs.theorems.SumLaws.{amount-kept}
 use Rattle.drf_bundle.specs.Union.{has_other_kind, is_reserved_elsewhere}
-use Rattle.drf_bundle.proofs.laws.UnionLaws.{refusal_is}
+use Rattle.drf_bundle.proofs.theorems.UnionLaws.{refusal_is}
 use Rattle.drf_bundle.specs.declared.resource.Resource.{Resource}
 use Rattle.drf_bundle.proofs.parts.Parts.union_refusal.Goals as goal
 

@@ -1,13 +1,13 @@
 use Rattle.std.proofs.Common.{◌≡◌, List, [], ◌∷◌, None, Some, sym, ap, ◌∙◌, subst, arith, rules}
 use Rattle.std.proofs.lemmas.Bool.{false≢true}
 use Rattle.drf_bundle.specs.Value.{Thousandths}
-use Rattle.drf_bundle.proofs.laws.ValueLaws.{units-most}
+use Rattle.drf_bundle.proofs.theorems.ValueLaws.{units-most}
 use Rattle.drf_bundle.specs.Bundle.{key_of, stock, merged}
 use Rattle.drf_bundle.specs.Quantities.{amount_of}
 use Rattle.drf_bundle.specs.KeyPlaces.{IsNameFreeSlot}
-use Rattle.drf_bundle.proofs.laws.SumLaws.{amount-kept}
+use Rattle.drf_bundle.proofs.theorems.SumLaws.{amount-kept}
 use Rattle.drf_bundle.specs.Union.{IsPiece, union_refusal}
-use Rattle.drf_bundle.proofs.laws.UnionLaws.{union_empty, union_filled, some_in, kept-merged}
+use Rattle.drf_bundle.proofs.theorems.UnionLaws.{union_empty, union_filled, some_in, kept-merged}
 use Rattle.drf_bundle.specs.declared.resource.Resource.{Resource}
 use Rattle.drf_bundle.proofs.FirstLemmas.{key_free_slot, stock_first, first_is_free}
 use Rattle.drf_bundle.proofs.parts.Parts.unite_first.Goals as goal

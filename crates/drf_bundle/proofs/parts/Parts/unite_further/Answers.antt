@@ -3,9 +3,9 @@ use Rattle.std.proofs.lemmas.Bool.{false≢true}
 use Rattle.drf_bundle.specs.Value.{Thousandths}
 use Rattle.drf_bundle.specs.Bundle.{stock}
 use Rattle.drf_bundle.specs.Quantities.{amount_of}
-use Rattle.drf_bundle.proofs.laws.SumLaws.{amount-kept}
+use Rattle.drf_bundle.proofs.theorems.SumLaws.{amount-kept}
 use Rattle.drf_bundle.specs.Union.{IsPiece, union_refusal}
-use Rattle.drf_bundle.proofs.laws.UnionLaws.{room_from_refusal, room_fits, union_empty, some_in, kept-merged}
+use Rattle.drf_bundle.proofs.theorems.UnionLaws.{room_from_refusal, room_fits, union_empty, some_in, kept-merged}
 use Rattle.drf_bundle.specs.declared.resource.Resource.{Resource}
 use Rattle.drf_bundle.proofs.parts.Parts.unite_further.Goals as goal
 

@@ -1,7 +1,7 @@
 use Rattle.std.proofs.Common.{◌≡◌, ◌+◌, ℕ, List, IsTrue, OnOk, refl, ap, ◌∙◌, subst, arith}
 use Rattle.drf_bundle.specs.declared.quantities.Entry.{Entry}
 use Rattle.drf_bundle.specs.Quantities.{amount_of, is_in_order, with_amount}
-use Rattle.drf_bundle.proofs.laws.QuantitiesLaws.{in_order-with}
+use Rattle.drf_bundle.proofs.theorems.QuantitiesLaws.{in_order-with}
 use Rattle.drf_bundle.proofs.PlaceLemmas.{amount_here, set_here, sum_in_free_slot}
 use Rattle.drf_bundle.proofs.quantities.Quantities.add.Goals as goal
 

@@ -2,7 +2,7 @@ use Rattle.std.proofs.Common.{◌≡◌, ◌+◌, ◌^◌, List, IsTrue, inl, in
 use Rattle.std.proofs.lemmas.Bool.{cases_lt}
 use Rattle.drf_bundle.specs.declared.quantities.Entry.{Entry}
 use Rattle.drf_bundle.specs.Quantities.{amount_of, is_in_order}
-use Rattle.drf_bundle.proofs.laws.QuantitiesLaws.{in_order-with}
+use Rattle.drf_bundle.proofs.theorems.QuantitiesLaws.{in_order-with}
 use Rattle.drf_bundle.proofs.PlaceLemmas.{amount_here, set_here, stands_here}
 use Rattle.drf_bundle.proofs.quantities.Quantities.add_at.Goals as goal
 

@@ -1,7 +1,7 @@
 use Rattle.std.proofs.Common.{List, length, ap, sym, arith}
 use Rattle.std.proofs.lemmas.List.{drop_all}
 use Rattle.drf_bundle.specs.declared.quantities.Entry.{Entry}
-use Rattle.drf_bundle.proofs.laws.QuantitiesLaws.{length-plus, unnamed_in}
+use Rattle.drf_bundle.proofs.theorems.QuantitiesLaws.{length-plus, unnamed_in}
 use Rattle.drf_bundle.proofs.ChangeLemmas.{unnamed_from}
 use Rattle.drf_bundle.proofs.quantities.Quantities.count_with.Goals.{then-not-is_named_near, else-not-is_named_near}
 use Rattle.drf_bundle.proofs.quantities.Quantities.count_with.Goals as goal

@@ -1,6 +1,6 @@
 use Rattle.std.proofs.Common.{◌≡◌, ◌+◌, ◌≤◌, length, drop}
 use Rattle.drf_bundle.specs.Quantities.{plus}
-use Rattle.drf_bundle.proofs.laws.QuantitiesLaws.{unnamed_in}
+use Rattle.drf_bundle.proofs.theorems.QuantitiesLaws.{unnamed_in}
 use Rattle.drf_bundle.proofs.quantities.Quantities.count_with.Given as goal
 
 -- the count so far, and the new labels among the remaining entries

@@ -1,6 +1,6 @@
 use Rattle.std.proofs.Common.{◌≡◌, ◌-◌, List, IsTrue, ◌∙◌, sym, subst, arith}
 use Rattle.drf_bundle.specs.Quantities.{amount_of, is_in_order, covers}
-use Rattle.drf_bundle.proofs.laws.QuantitiesLaws.{in_order-minus}
+use Rattle.drf_bundle.proofs.theorems.QuantitiesLaws.{in_order-minus}
 use Rattle.drf_bundle.specs.declared.quantities.Entry.{Entry}
 use Rattle.drf_bundle.proofs.ChangeLemmas.{unchanged_at, enough_at, lowered_more, lowered_all, refilled}
 use Rattle.drf_bundle.proofs.quantities.Quantities.lower.Goals as goal

@@ -1,7 +1,7 @@
 use Rattle.std.proofs.Common.{ℕ, List, IsTrue, refl, sym, ap, ◌∙◌, subst}
 use Rattle.drf_bundle.specs.declared.quantities.Entry.{Entry}
 use Rattle.drf_bundle.specs.Quantities.{is_in_order, with_amount}
-use Rattle.drf_bundle.proofs.laws.QuantitiesLaws.{in_order-with}
+use Rattle.drf_bundle.proofs.theorems.QuantitiesLaws.{in_order-with}
 use Rattle.drf_bundle.proofs.PlaceLemmas.{added_here}
 use Rattle.drf_bundle.proofs.quantities.Quantities.name_at.Goals as goal
 

@@ -2,7 +2,7 @@ use Rattle.std.proofs.Common.{IsTrue, List, nat_lt, subst, rules, refl}
 use Rattle.std.proofs.lemmas.Fn.{filter_same}
 use Rattle.drf_bundle.specs.declared.quantities.Entry.{Entry}
 use Rattle.drf_bundle.specs.Quantities.{is_in_order}
-use Rattle.drf_bundle.proofs.laws.QuantitiesLaws.{in_order-without_zeros, no_zeros-without_zeros}
+use Rattle.drf_bundle.proofs.theorems.QuantitiesLaws.{in_order-without_zeros, no_zeros-without_zeros}
 use Rattle.drf_bundle.proofs.quantities.Quantities.remove_zeros.Goals as goal
 
 pub invariant_of-self : goal.invariant_of-self

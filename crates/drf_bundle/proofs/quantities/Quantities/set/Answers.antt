@@ -2,7 +2,7 @@ use Rattle.std.proofs.Common.{List, IsTrue, refl, sym, subst, ◌∙◌}
 use Rattle.std.proofs.lemmas.Bool.{false≢true}
 use Rattle.drf_bundle.specs.declared.quantities.Entry.{Entry}
 use Rattle.drf_bundle.specs.Quantities.{is_in_order}
-use Rattle.drf_bundle.proofs.laws.QuantitiesLaws.{in_order-with}
+use Rattle.drf_bundle.proofs.theorems.QuantitiesLaws.{in_order-with}
 use Rattle.drf_bundle.proofs.PlaceLemmas.{set_here, added_here, named_in_free_slot}
 use Rattle.drf_bundle.proofs.quantities.Quantities.set.Goals as goal
 

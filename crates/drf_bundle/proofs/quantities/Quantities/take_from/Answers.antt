@@ -4,7 +4,7 @@ use Rattle.std.proofs.lemmas.Bool.Decides.{nat_tests}
 use Rattle.std.proofs.lemmas.Grind.{common_steps}
 use Rattle.drf_bundle.specs.declared.quantities.Entry.{Entry}
 use Rattle.drf_bundle.specs.Quantities.{amount_of, is_in_order}
-use Rattle.drf_bundle.proofs.laws.QuantitiesLaws.{in_order-with}
+use Rattle.drf_bundle.proofs.theorems.QuantitiesLaws.{in_order-with}
 use Rattle.drf_bundle.proofs.PlaceLemmas.{amount_unnamed, amount_here, set_here, stands_here, reduced}
 use Rattle.drf_bundle.proofs.quantities.Quantities.take_from.Goals as goal
 

@@ -6,7 +6,7 @@ use Rattle.std.specs.List.{list_any}
 use Rattle.drf_rows.specs.Step.{replies_to}
 use Rattle.drf_rows.specs.declared.event.Event.{Event}
 use Rattle.drf_rows.specs.declared.reply.Reply.{Reply}
-use Rattle.drf_sorter.proofs.laws.SpendLaws.{spends-at_ok}
+use Rattle.drf_sorter.proofs.theorems.SpendLaws.{spends-at_ok}
 use Rattle.drf_core.specs.Working.{may_make_keys}
 use Rattle.drf_core.proofs.stepping.Allowance.{spends-more}
 use Rattle.drf_core.proofs.stepping.Step.{on_err, HasStopped-at, IsAfterAll-more, reply-more, take_one_more}

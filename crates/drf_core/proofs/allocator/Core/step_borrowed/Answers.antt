@@ -2,8 +2,8 @@ use Rattle.std.proofs.Common.{◌≡◌, None, refl, ap, subst, ◌∙◌, sym, 
 use Rattle.drf_rows.specs.Step.{reply_to}
 use Rattle.drf_rows.specs.declared.event.Event.{Event}
 use Rattle.drf_rows.specs.declared.rows.Rows.{Rows}
-use Rattle.drf_laws.proofs.laws.SameLive.{refused_from}
-use Rattle.drf_sorter.proofs.laws.SpendLaws.{spends-nothing, spends-on_ok, spends-within}
+use Rattle.drf_laws.proofs.theorems.SameLive.{refused_from}
+use Rattle.drf_sorter.proofs.theorems.SpendLaws.{spends-nothing, spends-on_ok, spends-within}
 use Rattle.drf_core.specs.Machine.{Engine, IsAfter}
 use Rattle.drf_core.specs.refusal.Cases.{early_refusal_of}
 use Rattle.drf_core.proofs.refusing.Tests.{reported_early}

@@ -11,13 +11,13 @@ use Rattle.drf_core.proofs.stepping.Filters.{one_filter_more}
 use Rattle.drf_core.proofs.stepping.Safe.{safe_kept}
 use Rattle.drf_core.proofs.stepping.Saveable.{saveable_after}
 use Rattle.drf_saved_laws.specs.SavedLaws.{IsSaveable}
-use Rattle.drf_laws.proofs.laws.Welcome.{room_for}
+use Rattle.drf_laws.proofs.theorems.Welcome.{room_for}
 use Rattle.drf_core.proofs.stepping.Step.{on_err, early_none, rows_after-counted, events-applied, IsKept-counted}
-use Rattle.drf_laws.proofs.laws.SameLive.{refused_from, welcome_from, accepted_from}
+use Rattle.drf_laws.proofs.theorems.SameLive.{refused_from, welcome_from, accepted_from}
 use Rattle.drf_core.specs.Working.{allowance, allowed}
 use Rattle.drf_core.proofs.stepping.Allowance.{allowance-accepted}
 use Rattle.drf_sorter.specs.Work.{Spends}
-use Rattle.drf_sorter.proofs.laws.SpendLaws.{spends-at_ok, spends-both, spends-nothing, spends-on_ok, spends-within}
+use Rattle.drf_sorter.proofs.theorems.SpendLaws.{spends-at_ok, spends-both, spends-nothing, spends-on_ok, spends-within}
 use Rattle.drf_core.proofs.allocator.Core.step_copied.Goals as goal
 
 abbrev engine_of : LimitNumbers → ClusterState → Engine

@@ -4,7 +4,7 @@ use Rattle.drf_bundle.specs.Bundle.{quantities_of}
 use Rattle.drf_rows.specs.Offers.{left_of_offer}
 use Rattle.drf_rows.specs.declared.rows.Rows.{Rows}
 use Rattle.drf_holdings.specs.declared.holdings.Taken.{Taken}
-use Rattle.drf_sorter.proofs.laws.SpendLaws.{defers-on_ok, defers-within}
+use Rattle.drf_sorter.proofs.theorems.SpendLaws.{defers-on_ok, defers-within}
 use Rattle.drf_core.proofs.effects.Accepted.{known-accepted, held-accepted, sorted-accepted, effect-accept}
 use Rattle.drf_core.proofs.stepping.Work.{nodes_of-offer}
 use Rattle.drf_core.proofs.cluster.Cluster.accept.Goals as goal

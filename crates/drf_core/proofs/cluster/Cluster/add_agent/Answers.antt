@@ -4,9 +4,9 @@ use Rattle.drf_bundle.specs.Bundle.{quantities_of}
 use Rattle.drf_rows.specs.Held.{cluster_total}
 use Rattle.drf_rows.specs.Report as report
 use Rattle.drf_rows.specs.declared.rows.Rows.{Rows}
-use Rattle.drf_laws.proofs.laws.Welcome.{welcome_agent, small_amounts}
-use Rattle.drf_laws.proofs.laws.Kept.{sound_total, few_agents}
-use Rattle.drf_sorter.proofs.laws.SpendLaws.{defers-on_ok, defers-stale}
+use Rattle.drf_laws.proofs.theorems.Welcome.{welcome_agent, small_amounts}
+use Rattle.drf_laws.proofs.theorems.Kept.{sound_total, few_agents}
+use Rattle.drf_sorter.proofs.theorems.SpendLaws.{defers-on_ok, defers-stale}
 use Rattle.drf_core.proofs.effects.Registered.{sorted-agent, effect-agent}
 use Rattle.drf_core.proofs.stepping.Work.{has_nodes}
 use Rattle.drf_core.proofs.cluster.Cluster.add_agent.Goals as goal

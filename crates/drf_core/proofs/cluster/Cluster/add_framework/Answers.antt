@@ -11,14 +11,14 @@ use Rattle.drf_rows.specs.declared.rows.ClientRow.{ClientRow}
 use Rattle.drf_rows.specs.declared.rows.FrameworkRow.{FrameworkRow}
 use Rattle.drf_rows.specs.declared.rows.Rows.{Rows}
 use Rattle.drf_sorter.specs.Content.{Content}
-use Rattle.drf_sorter.proofs.laws.SpendLaws.{spends-at_ok, spends-on_ok, spends-within}
+use Rattle.drf_sorter.proofs.theorems.SpendLaws.{spends-at_ok, spends-on_ok, spends-within}
 use Rattle.drf_content.specs.Registering.{AreNew, client_paths, with_all}
-use Rattle.drf_laws.proofs.laws.Roles.{distinct_apart, roles_of_new, uncounted_new}
-use Rattle.drf_sorter.proofs.laws.SameLaws.{IsSame-sym}
+use Rattle.drf_laws.proofs.theorems.Roles.{distinct_apart, roles_of_new, uncounted_new}
+use Rattle.drf_sorter.proofs.theorems.SameLaws.{IsSame-sym}
 use Rattle.drf_content.specs.Content.{content_of}
-use Rattle.drf_content.proofs.laws.Registered.{AreNew-registering}
-use Rattle.drf_content.proofs.laws.Same.{AreNew-same}
-use Rattle.drf_laws.proofs.laws.Welcome.{welcome_framework}
+use Rattle.drf_content.proofs.theorems.Registered.{AreNew-registering}
+use Rattle.drf_content.proofs.theorems.Same.{AreNew-same}
+use Rattle.drf_laws.proofs.theorems.Welcome.{welcome_framework}
 use Rattle.drf_core.proofs.effects.Registered.{sorted-framework, effect-framework}
 use Rattle.drf_core.proofs.stepping.Work.{nodes_of-new}
 use Rattle.drf_core.proofs.cluster.Cluster.add_framework.Goals as goal

@@ -3,7 +3,7 @@ use Rattle.std.specs.Result.{OnOk}
 use Rattle.drf_rows.specs.Step.{effect}
 use Rattle.drf_core.proofs.effects.Answered.{done}
 use Rattle.drf_core.proofs.effects.Registered.{effect-report}
-use Rattle.drf_laws.proofs.laws.Kept.{few_agents_kept, few_offers_kept}
+use Rattle.drf_laws.proofs.theorems.Kept.{few_agents_kept, few_offers_kept}
 use Rattle.drf_core.proofs.cluster.Cluster.apply.Goals as goal
 
 on_ok : {T E P : Type 0} (r : Result T E) → P → OnOk r P

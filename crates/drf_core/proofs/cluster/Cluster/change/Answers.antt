@@ -2,8 +2,8 @@ use Rattle.std.proofs.Common.{◌≡◌, true≢false, None, subst, sym, ap, ◌
 use Rattle.drf_rows.specs.Step.{refusal_of}
 use Rattle.drf_rows.specs.declared.event.Event.{Event}
 use Rattle.drf_core.specs.events.Answered.{has_answer}
-use Rattle.drf_laws.proofs.laws.Offers.{can_accept}
-use Rattle.drf_laws.proofs.laws.Welcome.{known_framework, known_suppressed, known_reviving, early_accept, welcome_decline}
+use Rattle.drf_laws.proofs.theorems.Offers.{can_accept}
+use Rattle.drf_laws.proofs.theorems.Welcome.{known_framework, known_suppressed, known_reviving, early_accept, welcome_decline}
 use Rattle.drf_core.proofs.cluster.Cluster.change.Goals as goal
 
 pub remove_framework-requires-clause-known : goal.remove_framework-requires-clause-known

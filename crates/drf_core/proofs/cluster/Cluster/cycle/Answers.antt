@@ -10,7 +10,7 @@ use Rattle.drf_rows.specs.declared.rows.OfferRow.{OfferRow}
 use Rattle.drf_core.specs.cycle.Drafting.{turns_of}
 use Rattle.drf_core.specs.Working.{nodes_of, offered_to}
 use Rattle.drf_row_laws.proofs.OfferLaws.{timestamp_early}
-use Rattle.drf_laws.proofs.laws.Welcome.{early_cycle}
+use Rattle.drf_laws.proofs.theorems.Welcome.{early_cycle}
 use Rattle.drf_core.proofs.drafting.Cycle.{drafting-begins, turns_of-cycle, new_offers-cycle, content_of-clock}
 use Rattle.drf_core.proofs.cluster.Cluster.cycle.Goals.{After-offer_all}
 use Rattle.drf_core.proofs.cluster.Cluster.cycle.Given as given

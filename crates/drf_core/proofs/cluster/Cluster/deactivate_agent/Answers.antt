@@ -1,5 +1,5 @@
 use Rattle.std.proofs.Common.{ap, ◌∙◌, arith}
-use Rattle.drf_sorter.proofs.laws.SpendLaws.{defers-both, defers-nothing, defers-within}
+use Rattle.drf_sorter.proofs.theorems.SpendLaws.{defers-both, defers-nothing, defers-within}
 use Rattle.drf_core.specs.Cluster.{ClusterState}
 use Rattle.drf_core.proofs.effects.Ended.{sorted-activity, effect-deactivated}
 use Rattle.drf_core.proofs.cluster.Cluster.deactivate_agent.Goals as goal

@@ -4,7 +4,7 @@ use Rattle.drf_rows.specs.Cycle.{at_timestamp}
 use Rattle.drf_rows.specs.Releases.{one_offer}
 use Rattle.drf_rows.specs.Offers.{filters_with, filters_all}
 use Rattle.drf_rows.specs.declared.rows.Rows.{Rows}
-use Rattle.drf_sorter.proofs.laws.SpendLaws.{defers-on_ok, defers-within}
+use Rattle.drf_sorter.proofs.theorems.SpendLaws.{defers-on_ok, defers-within}
 use Rattle.drf_core.specs.Working.{losers, nodes_of}
 use Rattle.drf_row_laws.proofs.OfferLaws.{some_offer}
 use Rattle.drf_core.proofs.effects.Accepted.{sorted-declined, rows_declined, effect-decline}

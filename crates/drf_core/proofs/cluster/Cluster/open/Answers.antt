@@ -1,5 +1,5 @@
 use Rattle.std.proofs.Common.{sym, ap, ◌∙◌}
-use Rattle.drf_sorter.proofs.laws.SameLaws.{IsSame-from}
+use Rattle.drf_sorter.proofs.theorems.SameLaws.{IsSame-from}
 use Rattle.drf_content.specs.Content.{content_of}
 use Rattle.drf_core.proofs.cluster.Cluster.open.Goals as goal
 

@@ -3,7 +3,7 @@ use Rattle.std.proofs.lemmas.Result.{on_err_weaker}
 use Rattle.drf_rows.specs.declared.rows.Rows.{Rows}
 use Rattle.drf_sorter.specs.Content.{IsSame}
 use Rattle.drf_content.specs.Content.{content_of}
-use Rattle.drf_content.proofs.laws.Changed.{content_of-filters}
+use Rattle.drf_content.proofs.theorems.Changed.{content_of-filters}
 use Rattle.drf_core.specs.Cluster.{ClusterState}
 use Rattle.drf_core.specs.Keeping.{IsStanding}
 use Rattle.drf_core.specs.refusal.Cases.{early_refusal_of}

@@ -6,7 +6,7 @@ use Rattle.drf_rows.specs.Releases.{all_on, without_ended}
 use Rattle.drf_rows.specs.Held.{cluster_total}
 use Rattle.drf_rows.specs.Report as report
 use Rattle.drf_rows.specs.declared.rows.Rows.{Rows}
-use Rattle.drf_sorter.proofs.laws.SpendLaws.{defers-both, defers-nothing, defers-on_ok, defers-stale, defers-within}
+use Rattle.drf_sorter.proofs.theorems.SpendLaws.{defers-both, defers-nothing, defers-on_ok, defers-stale, defers-within}
 use Rattle.drf_core.specs.Cluster.{ClusterState}
 use Rattle.drf_core.specs.Working.{all_nodes}
 use Rattle.drf_core.proofs.effects.Ended.{nothing_left, sorted-departed, effect-departed}

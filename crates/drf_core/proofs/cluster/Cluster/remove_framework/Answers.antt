@@ -7,7 +7,7 @@ use Rattle.drf_rows.specs.Releases.{all_of, without_ended}
 use Rattle.drf_rows.specs.Held.{clients_of}
 use Rattle.drf_rows.specs.declared.rows.FrameworkRow.{FrameworkRow}
 use Rattle.drf_rows.specs.declared.rows.Rows.{Rows}
-use Rattle.drf_sorter.proofs.laws.SpendLaws.{defers-both, defers-nothing, defers-on_ok, defers-within}
+use Rattle.drf_sorter.proofs.theorems.SpendLaws.{defers-both, defers-nothing, defers-on_ok, defers-within}
 use Rattle.drf_core.specs.Cluster.{ClusterState}
 use Rattle.drf_content.specs.Registering.{client_paths}
 use Rattle.drf_core.specs.Working.{losers}

@@ -1,7 +1,7 @@
 use Rattle.std.proofs.Common.{◌∙◌, ap}
 use Rattle.drf_bundle.specs.Quantities.{without_zeros}
 use Rattle.drf_rows.specs.declared.rows.Rows.{Rows}
-use Rattle.drf_content.proofs.laws.Same.{lines_of_rows, sound_of_rows}
+use Rattle.drf_content.proofs.theorems.Same.{lines_of_rows, sound_of_rows}
 use Rattle.drf_core.proofs.cluster.Cluster.report.Goals as goal
 
 pub lines-requires : goal.lines-requires

@@ -1,5 +1,5 @@
 use Rattle.std.proofs.Common.{arith}
-use Rattle.drf_sorter.proofs.laws.SpendLaws.{defers-on_ok, defers-within}
+use Rattle.drf_sorter.proofs.theorems.SpendLaws.{defers-on_ok, defers-within}
 use Rattle.drf_core.proofs.effects.Ended.{known-client, sorted-revived, effect-revived}
 use Rattle.drf_core.proofs.cluster.Cluster.revive.Goals as goal
 

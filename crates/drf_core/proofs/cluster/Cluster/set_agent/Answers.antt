@@ -6,11 +6,11 @@ use Rattle.drf_bundle.specs.Bundle.{quantities_of}
 use Rattle.drf_rows.specs.Held.{cluster_total}
 use Rattle.drf_rows.specs.Report as report
 use Rattle.drf_rows.specs.declared.rows.Rows.{Rows}
-use Rattle.drf_laws.proofs.laws.Kept.{few_agents_kept}
-use Rattle.drf_sorter.proofs.laws.SpendLaws.{defers-on_ok, defers-stale}
+use Rattle.drf_laws.proofs.theorems.Kept.{few_agents_kept}
+use Rattle.drf_sorter.proofs.theorems.SpendLaws.{defers-on_ok, defers-stale}
 use Rattle.drf_core.proofs.effects.Moved.{small-set_agent, total-set_agent, sorted-total, effect-total}
 use Rattle.drf_core.proofs.stepping.Work.{has_nodes}
-use Rattle.drf_laws.proofs.laws.Kept.{small_others}
+use Rattle.drf_laws.proofs.theorems.Kept.{small_others}
 use Rattle.drf_core.proofs.cluster.Cluster.set_agent.Goals as goal
 
 pub plus-requires : goal.plus-requires

@@ -2,11 +2,11 @@ use Rattle.std.proofs.Common.{◌≡◌, sym, ap, subst, ◌∙◌}
 use Rattle.drf_role.specs.Text.{same_text}
 use Rattle.drf_rows.specs.declared.rows.FrameworkRow.{FrameworkRow}
 use Rattle.drf_rows.specs.declared.rows.Rows.{Rows}
-use Rattle.drf_sorter.proofs.laws.SpendLaws.{spends-at_ok, spends-both, spends-on_ok, spends-within}
+use Rattle.drf_sorter.proofs.theorems.SpendLaws.{spends-at_ok, spends-both, spends-on_ok, spends-within}
 use Rattle.drf_sorter.specs.Content.{Content}
 use Rattle.drf_content.specs.ContentLaws.{FollowsRoles}
 use Rattle.drf_content.specs.Registering.{AreKnown, AreNew, paths_joined, paths_left, with_all}
-use Rattle.drf_content.proofs.laws.RolesSet.{roles_are_followed}
+use Rattle.drf_content.proofs.theorems.RolesSet.{roles_are_followed}
 use Rattle.drf_core.proofs.effects.Ended.{one_found}
 use Rattle.drf_core.proofs.effects.RolesSet.{spends_of, effect-roles, few-set, known-set, nodes_of-roles, sorted-roles, unused-set}
 use Rattle.drf_core.proofs.cluster.Cluster.set_framework.Goals as goal

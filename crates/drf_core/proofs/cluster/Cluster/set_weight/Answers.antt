@@ -2,7 +2,7 @@ use Rattle.std.proofs.Common.{◌∙◌}
 use Rattle.drf_rows.specs.Weights.{weights_with}
 use Rattle.drf_row_laws.proofs.WeightLaws.{in_range}
 use Rattle.drf_rows.specs.declared.rows.Rows.{Rows}
-use Rattle.drf_laws.proofs.laws.Welcome.{welcome_weight}
+use Rattle.drf_laws.proofs.theorems.Welcome.{welcome_weight}
 use Rattle.drf_core.proofs.effects.Weighed.{sorted-weight, effect-weight}
 use Rattle.drf_core.proofs.cluster.Cluster.set_weight.Goals as goal
 

@@ -1,7 +1,7 @@
 use Rattle.std.proofs.Common.{◌≡◌, Bool, Some, None, [], sym, ap, ◌∙◌, cond}
 use Rattle.drf_role.specs.Path.{role_part, framework_part}
 use Rattle.drf_bundle.specs.Bundle.{is_unreserved, rest}
-use Rattle.drf_bundle.proofs.laws.TakenLaws.{rest-itself}
+use Rattle.drf_bundle.proofs.theorems.TakenLaws.{rest-itself}
 use Rattle.drf_rows.specs.Cycle.{is_allocatable}
 use Rattle.drf_rows.specs.Filters.{is_held_back}
 use Rattle.drf_core.proofs.cycle.free.take_all.Goals.{After-is_held_back, After-replace}

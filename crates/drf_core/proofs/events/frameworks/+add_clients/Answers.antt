@@ -3,8 +3,8 @@ use Rattle.std.specs.Prelude.{sum_by}
 use Rattle.std.proofs.lemmas.List.Sums.{sum_by-cons}
 use Rattle.drf_role.specs.Path.{Path}
 use Rattle.drf_sorter.specs.Content.{Content, has_client, with_client, without_client}
-use Rattle.drf_sorter.proofs.laws.SpendLaws.{spends-at_ok, spends-both, spends-on_ok, spends-within}
-use Rattle.drf_content.proofs.laws.Registered.{has_client-added, without-added, first_new}
+use Rattle.drf_sorter.proofs.theorems.SpendLaws.{spends-at_ok, spends-both, spends-on_ok, spends-within}
+use Rattle.drf_content.proofs.theorems.Registered.{has_client-added, without-added, first_new}
 use Rattle.drf_core.proofs.events.frameworks.+add_clients.Goals as goal
 
 pub remove-requires : goal.remove-requires

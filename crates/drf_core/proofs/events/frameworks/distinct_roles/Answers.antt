@@ -1,6 +1,6 @@
 use Rattle.std.proofs.Common.{ap, sym, ◌∙◌}
 use Rattle.std.specs.List.{list_any}
-use Rattle.drf_laws.proofs.laws.Roles.{is_role, distinct-known, distinct-new}
+use Rattle.drf_laws.proofs.theorems.Roles.{is_role, distinct-known, distinct-new}
 use Rattle.drf_core.proofs.events.frameworks.distinct_roles.Goals as goal
 
 pub loop-role-preserved-then-contains : goal.loop-role-preserved-then-contains

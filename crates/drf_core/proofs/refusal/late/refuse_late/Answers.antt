@@ -3,7 +3,7 @@ use Rattle.std.proofs.lemmas.Bool.{not-false}
 use Rattle.drf_bundle.specs.Bundle.{is_unreserved}
 use Rattle.drf_rows.specs.Members.{has_agent}
 use Rattle.drf_core.specs.refusal.Cases.{cases_of_agent, cases_of_move, early_refusal_of}
-use Rattle.drf_laws.proofs.laws.Welcome.{no_case}
+use Rattle.drf_laws.proofs.theorems.Welcome.{no_case}
 use Rattle.drf_core.proofs.refusal.late.refuse_late.Goals as goal
 
 pub refuse_other_total-requires-clause-known : goal.refuse_other_total-requires-clause-known

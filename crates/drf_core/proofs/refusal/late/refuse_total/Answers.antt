@@ -8,7 +8,7 @@ use Rattle.drf_rows.proofs.TaskLaws.{covers_from}
 use Rattle.drf_rows.specs.Totals.{is_below_held}
 use Rattle.drf_rows.specs.declared.reply.Refusal.TheVariants.{NotCovered, TooLarge}
 use Rattle.drf_rows.specs.declared.rows.Rows.{Rows}
-use Rattle.drf_laws.proofs.laws.Tests.{below_held}
+use Rattle.drf_laws.proofs.theorems.Tests.{below_held}
 use Rattle.drf_core.proofs.refusal.late.refuse_total.Goals as goal
 
 pub returns : goal.returns

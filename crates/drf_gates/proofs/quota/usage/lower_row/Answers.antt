@@ -1,6 +1,6 @@
 use Rattle.std.proofs.Common.{List, ap, arith}
 use Rattle.drf_bundle.specs.Quantities.{amount_of}
-use Rattle.drf_bundle.proofs.laws.QuantitiesLaws.{amount-minus, covers_from}
+use Rattle.drf_bundle.proofs.theorems.QuantitiesLaws.{amount-minus, covers_from}
 use Rattle.drf_bundle.specs.declared.quantities.Entry.{Entry}
 use Rattle.drf_gates.proofs.quota.usage.lower_row.Goals as goal
 

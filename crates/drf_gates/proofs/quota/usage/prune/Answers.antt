@@ -1,7 +1,7 @@
 use Rattle.std.proofs.Common.{List, length, ap, sym, ◌∙◌}
 use Rattle.std.proofs.lemmas.Bool.{eq-eqb, false≢true}
 use Rattle.drf_bundle.specs.Quantities.{amount_of}
-use Rattle.drf_bundle.proofs.laws.QuantitiesLaws.{amount-without_zeros}
+use Rattle.drf_bundle.proofs.theorems.QuantitiesLaws.{amount-without_zeros}
 use Rattle.drf_bundle.specs.declared.quantities.Entry.{Entry}
 use Rattle.drf_gates.proofs.quota.Something.{left_something}
 use Rattle.drf_gates.proofs.quota.usage.prune.Goals as goal

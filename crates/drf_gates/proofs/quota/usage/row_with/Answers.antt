@@ -5,7 +5,7 @@ use Rattle.std.proofs.Common.{Option}
 use Rattle.drf_role.specs.Text.{Text}
 use Rattle.drf_role.specs.Path.{Path, same_path}
 use Rattle.drf_bundle.specs.Quantities.{amount_of, plus}
-use Rattle.drf_bundle.proofs.laws.QuantitiesLaws.{amount-plus}
+use Rattle.drf_bundle.proofs.theorems.QuantitiesLaws.{amount-plus}
 use Rattle.drf_bundle.specs.declared.quantities.Entry.{Entry}
 use Rattle.drf_gates.specs.quota.Allowance.{Usage, row_of}
 use Rattle.drf_gates.proofs.quota.usage.row_with.Goals as goal

@@ -1,4 +1,4 @@
-use Rattle.drf_bundle.proofs.laws.QuantitiesLaws.{covers_from}
+use Rattle.drf_bundle.proofs.theorems.QuantitiesLaws.{covers_from}
 use Rattle.drf_sorter.proofs.ChangeLemmas.{discharged_is}
 use Rattle.drf_sorter.proofs.client.Client.undo_charge.Goals as goal
 

@@ -1,6 +1,6 @@
 use Rattle.std.proofs.Common.{arith, ◌∙◌, ap, sym, List}
 use Rattle.drf_bundle.specs.Quantities.{amount_of}
-use Rattle.drf_bundle.proofs.laws.QuantitiesLaws.{amount-plus}
+use Rattle.drf_bundle.proofs.theorems.QuantitiesLaws.{amount-plus}
 use Rattle.drf_bundle.specs.declared.quantities.Entry.{Entry}
 use Rattle.drf_role.specs.Path.{begins_with}
 use Rattle.drf_sorter.specs.declared.client.Client.{Client}

@@ -2,7 +2,7 @@ use Rattle.std.proofs.Common.{◌≡◌, ◌∙◌, arith, subst, sym, ap, List}
 use Rattle.drf_role.specs.Text.{Text}
 use Rattle.drf_bundle.specs.Quantities.{amount_of}
 use Rattle.drf_sorter.specs.declared.client.Client.{Client}
-use Rattle.drf_sorter.proofs.laws.LineLaws.{IsLineOf-with}
+use Rattle.drf_sorter.proofs.theorems.LineLaws.{IsLineOf-with}
 use Rattle.drf_sorter.specs.Lines.{IsLineOf}
 use Rattle.drf_sorter.specs.Plain.{count_by, held_by, plain_content}
 use Rattle.drf_sorter.proofs.PlainLemmas.{count-fits, count-standing, held-standing, held-within, weight-standing}

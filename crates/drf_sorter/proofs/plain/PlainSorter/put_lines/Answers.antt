@@ -3,7 +3,7 @@ use Rattle.std.specs.List.{AllByRecursion}
 use Rattle.drf_role.specs.Path.{Path}
 use Rattle.drf_rows.specs.declared.report.NodeLine.{NodeLine}
 use Rattle.drf_sorter.specs.Content.{has_node}
-use Rattle.drf_sorter.proofs.laws.LineLaws.{each-with, has_line-others}
+use Rattle.drf_sorter.proofs.theorems.LineLaws.{each-with, has_line-others}
 use Rattle.drf_sorter.specs.Lines.{IsLineOf, has_line}
 use Rattle.drf_sorter.specs.Plain.{plain_content}
 use Rattle.drf_sorter.proofs.LineLemmas.{prefixes-more, has_line-prefixes, has_node-prefix}

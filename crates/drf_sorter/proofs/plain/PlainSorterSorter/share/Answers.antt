@@ -5,7 +5,7 @@ use Rattle.drf_rows.specs.Share.{share_of}
 use Rattle.drf_role.specs.Path.{begins_with}
 use Rattle.drf_sorter.specs.declared.client.Client.{Client}
 use Rattle.drf_sorter.specs.Fractions.{dominant_of, weigh}
-use Rattle.drf_sorter.proofs.laws.FractionLaws.{same_as_weighed}
+use Rattle.drf_sorter.proofs.theorems.FractionLaws.{same_as_weighed}
 use Rattle.drf_sorter.specs.Plain.{count_by, held_by, plain_standing}
 use Rattle.drf_sorter.specs.Share.{fraction_of}
 use Rattle.drf_sorter.proofs.PlainLemmas.{held-within, count-fits, count-standing, share-standing, weighted-standing, has_node-is}

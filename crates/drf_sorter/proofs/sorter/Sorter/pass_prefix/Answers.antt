@@ -1,6 +1,6 @@
 use Rattle.std.proofs.Common.{subst, sym}
 use Rattle.drf_sorter.specs.Passed.{IsPassedPrefix}
-use Rattle.drf_sorter.proofs.laws.PassedLaws.{one_is_prefix}
+use Rattle.drf_sorter.proofs.theorems.PassedLaws.{one_is_prefix}
 use Rattle.drf_sorter.proofs.sorter.Sorter.pass_prefix.Goals as goal
 
 pub returns-clause-queue : goal.returns-clause-queue

@@ -3,7 +3,7 @@ use Rattle.std.specs.List.{position}
 use Rattle.std.proofs.lemmas.Bool.{false≢true}
 use Rattle.drf_role.specs.Path.{same_path}
 use Rattle.drf_rows.specs.declared.rows.WeightRow.{WeightRow}
-use Rattle.drf_bundle.proofs.laws.ListLaws.{position-none}
+use Rattle.drf_bundle.proofs.theorems.ListLaws.{position-none}
 use Rattle.drf_sorter.proofs.WeightLemmas.{weights-stay, weights-set, weights-push}
 use Rattle.drf_sorter.proofs.weights.Weights.set.Goals as goal
 

@@ -3,7 +3,7 @@ use Rattle.drf_rows.specs.Consistent.{offers_counted}
 use Rattle.drf_rows.specs.Step.{live_rows}
 use Rattle.drf_rows.specs.declared.rows.Rows.{Rows}
 use Rattle.drf_content.specs.Content.{content_of}
-use Rattle.drf_content.proofs.laws.Put.{content_of-begun}
+use Rattle.drf_content.proofs.theorems.Put.{content_of-begun}
 use Rattle.drf_state.proofs.placing.Parts.begin.Goals as goal
 
 pub returns-clause-agree : goal.returns-clause-agree

@@ -3,7 +3,7 @@ use Rattle.drf_bundle.specs.declared.quantities.Entry.{Entry}
 use Rattle.drf_rows.specs.Held.{cluster_total}
 use Rattle.drf_rows.specs.declared.rows.Rows.{Rows}
 use Rattle.drf_sorter.specs.Content.{Content}
-use Rattle.drf_content.proofs.laws.Put.{total-put}
+use Rattle.drf_content.proofs.theorems.Put.{total-put}
 use Rattle.drf_saved.specs.declared.saved.SavedRow.TheVariants.{Agent}
 use Rattle.drf_state.proofs.Placed.{agent_is, placed}
 use Rattle.drf_state.proofs.placing.Parts.put_agent.Goals as goal

@@ -1,7 +1,7 @@
 use Rattle.std.proofs.Common.{sym, ap, ◌∙◌}
 use Rattle.drf_rows.specs.Weights.{weights_with}
 use Rattle.drf_rows.specs.declared.rows.Rows.{Rows}
-use Rattle.drf_content.proofs.laws.Put.{weights_more}
+use Rattle.drf_content.proofs.theorems.Put.{weights_more}
 use Rattle.drf_saved.specs.declared.saved.SavedRow.TheVariants.{Weight}
 use Rattle.drf_state.proofs.Placed.{placed}
 use Rattle.drf_state.proofs.placing.Parts.put_weight.Goals as goal

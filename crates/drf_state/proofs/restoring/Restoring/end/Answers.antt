@@ -1,7 +1,7 @@
 use Rattle.std.proofs.Common.{sym, subst}
 use Rattle.drf_rows.specs.LimitNumbers.{LimitNumbers}
 use Rattle.drf_saved_laws.specs.SavedLaws.{IsSaveable}
-use Rattle.drf_sorter.proofs.laws.SameLaws.{IsSame-from}
+use Rattle.drf_sorter.proofs.theorems.SameLaws.{IsSame-from}
 use Rattle.drf_content.specs.Content.{content_of}
 use Rattle.drf_state.proofs.Placed.{standing}
 use Rattle.drf_state.proofs.restoring.Restoring.end.Goals as goal

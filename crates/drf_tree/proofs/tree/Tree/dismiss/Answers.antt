@@ -1,5 +1,5 @@
 use Rattle.std.proofs.Common.{◌≡◌, ◌-◌, [], ℕ, refl, sym, ap, subst, ◌∙◌, arith}
-use Rattle.drf_bundle.proofs.laws.QuantitiesLaws.{covers_from}
+use Rattle.drf_bundle.proofs.theorems.QuantitiesLaws.{covers_from}
 use Rattle.drf_tree.proofs.Names.{Sum}
 use Rattle.drf_tree.proofs.change.Climb.{climb_above, climb_falls, climb_holds, climb_on, climb_start, climb_step, climb_was, leaf_other, marking_start, marking_step}
 use Rattle.drf_tree.proofs.change.Dismiss.{IsLeastSum, dismissed_tree, is_emptied, is_gone, least_read}

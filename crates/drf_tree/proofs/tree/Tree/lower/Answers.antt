@@ -1,5 +1,5 @@
 use Rattle.std.proofs.Common.{◌-◌, refl, arith}
-use Rattle.drf_bundle.proofs.laws.QuantitiesLaws.{covers_from}
+use Rattle.drf_bundle.proofs.theorems.QuantitiesLaws.{covers_from}
 use Rattle.drf_tree.proofs.Names.{Sum}
 use Rattle.drf_tree.proofs.change.Climb.{climb_above, climb_falls, climb_holds, climb_on, climb_start, climb_step, climb_was, marking_start, marking_step}
 use Rattle.drf_tree.proofs.change.Lower.{is_lowered, lowered_tree, of_lowered}

@@ -4,7 +4,7 @@ use Rattle.std.proofs.lemmas.Bool.{false≢true}
 use Rattle.std.proofs.lemmas.Result.{on_ok_weaker}
 use Rattle.drf_tree.proofs.Names.{Path, ledger_content, path_at, IsSumOf}
 use Rattle.drf_rows.specs.declared.report.NodeLine.{NodeLine}
-use Rattle.drf_sorter.proofs.laws.LineLaws.{each-with, has_line-new, has_line-others}
+use Rattle.drf_sorter.proofs.theorems.LineLaws.{each-with, has_line-new, has_line-others}
 use Rattle.drf_sorter.specs.Lines.{IsLineOf, has_line, line_with, with_line}
 use Rattle.drf_tree.proofs.lines.Nodes.{line_is, live_place, path_place}
 use Rattle.drf_tree.proofs.keys.Renew.{weighs_within}

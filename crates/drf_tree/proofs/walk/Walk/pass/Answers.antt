@@ -6,7 +6,7 @@ use Rattle.drf_tree.proofs.walk.Step.{frames_onward, nobody_left, passed_on}
 use Rattle.drf_tree.proofs.walk.Walk.pass.Goals.{in-Some, in_default}
 use Rattle.drf_tree.proofs.walk.Walk.pass.Goals as goal
 
--- what is left of the walk after its last frame was moved on, for the lists in the code
+-- the rest of the walk after its last frame was moved on, for the lists in the code
 pub record IsPassed (tree : Tree) (old new : List Frame) : Type 0 where
   pub frames : AreFrames tree.places.items new
   pub queue : (content : Content) → IsTreeOf content tree

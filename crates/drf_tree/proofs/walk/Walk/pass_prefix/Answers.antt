@@ -1,6 +1,6 @@
 use Rattle.std.proofs.Common.{ap, rules, subst, sym, take-append-drop, ◌∙◌, drop, take}
 use Rattle.drf_sorter.specs.Passed.{IsPassedPrefix}
-use Rattle.drf_sorter.proofs.laws.PassedLaws.{one_is_prefix}
+use Rattle.drf_sorter.proofs.theorems.PassedLaws.{one_is_prefix}
 use Rattle.drf_tree.specs.Queue.{AreFrames, frames_queue}
 use Rattle.drf_tree.proofs.walk.Pass.{passed_prefix}
 use Rattle.drf_tree.proofs.walk.Step.{frames_prefix}

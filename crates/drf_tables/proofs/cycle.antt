@@ -1,4 +1,3 @@
 -- Lemmas on the offers of a cycle.
 pub mod Appended
 pub mod Counted
-pub mod DraftLaws

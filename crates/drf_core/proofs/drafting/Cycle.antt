@@ -22,7 +22,7 @@ use Rattle.drf_laws.specs.Kept.{IsKept}
 use Rattle.drf_core.specs.cycle.Drafting.{IsCycleAt, IsDrafting, turn_at, turns_of}
 use Rattle.drf_gates.specs.quota.Allowance.{Usage, quota_under}
 use Rattle.drf_core.specs.cycle.Entitling.{IsQuotaOf}
-use Rattle.drf_tables.proofs.cycle.DraftLaws.{offers-with_offers}
+use Rattle.drf_tables.proofs.DraftLaws.{offers-with_offers}
 use Rattle.drf_tables.specs.limits.Recounting.{CountsAll}
 use Rattle.drf_laws.proofs.theorems.Kept.{consistent-clock}
 

@@ -30,7 +30,7 @@ use Rattle.drf_explain.specs.declared.finding.Finding.TheVariants.{Inactive, Not
 use Rattle.drf_explain.specs.declared.finding.Outcome.{Outcome}
 use Rattle.drf_explain.specs.declared.gates.Gates.{Gates}
 use Rattle.drf_tables.specs.cycle.Drafts.{with_offers}
-use Rattle.drf_tables.proofs.cycle.DraftLaws.{agents-with_offers}
+use Rattle.drf_tables.proofs.DraftLaws.{agents-with_offers}
 use Rattle.drf_laws.proofs.theorems.Clients.{path_of-injective}
 use Rattle.drf_core.specs.cycle.Drafting.{IsRegisteredPath, IsTried, is_open_at, turn_at}
 use Rattle.drf_core.specs.cycle.Entitling.{IsEntitlement, IsQuotaOf}

@@ -30,7 +30,7 @@ use Rattle.drf_core.specs.cycle.Drafting.{IsDrafting, CanCount, HasLeft, IsRegis
 use Rattle.drf_core.specs.cycle.Entitling.{IsQuotaOf}
 use Rattle.drf_core.proofs.drafting.Granted.{can_count}
 use Rattle.drf_core.proofs.drafting.Turn.{left-tried}
-use Rattle.drf_tables.proofs.cycle.DraftLaws.{agents-with_offers, next-with_offers}
+use Rattle.drf_tables.proofs.DraftLaws.{agents-with_offers, next-with_offers}
 use Rattle.drf_core.proofs.drafting.Drafts.{with_offers-push, is_registered-with_offers}
 use Rattle.drf_content.proofs.theorems.Offer.{content_of-with_offer}
 use Rattle.drf_content.proofs.theorems.Members.{has_client-registered}

@@ -27,7 +27,7 @@ use Rattle.drf_core.specs.declared.cycle.free.Free.{Free}
 use Rattle.drf_core.specs.cycle.Drafting.{IsCycleAt, IsDrafting, IsFreeAt, IsRegisteredPath, IsTried, IsTurn, HasLeft, is_open_at, turn_at}
 use Rattle.drf_sorter.specs.Content.{Content, IsSound, IsOrderOf}
 use Rattle.drf_sorter.proofs.theorems.SameLaws.{IsOrderOf-same, IsSame-sym, IsSound-same}
-use Rattle.drf_tables.proofs.cycle.DraftLaws.{agents-with_offers, next-with_offers}
+use Rattle.drf_tables.proofs.DraftLaws.{agents-with_offers, next-with_offers}
 use Rattle.drf_core.proofs.drafting.Drafts.{is_registered-with_offers}
 use Rattle.drf_content.specs.Content.{content_of}
 use Rattle.drf_content.proofs.theorems.Sound.{IsSound-content_of}

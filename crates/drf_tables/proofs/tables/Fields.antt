@@ -13,7 +13,7 @@ use Rattle.drf_rows.specs.Totals.{agent_at as found_agent}
 use Rattle.drf_row_laws.proofs.RegistrationLaws.{agent_added, framework_added}
 use Rattle.drf_rows.specs.declared.limits.TheConstants.{LARGEST_AMOUNT}
 use Rattle.drf_tables.specs.cycle.Drafts.{with_offers}
-use Rattle.drf_tables.proofs.cycle.DraftLaws.{offers_added, with_offers-added}
+use Rattle.drf_tables.proofs.DraftLaws.{offers_added, with_offers-added}
 use Rattle.drf_tables.specs.Inside.{agent_row, framework_row, framework_rows, rows_of, rows_in, IsKnown}
 use Rattle.drf_holdings.specs.Stored.{OffersAndTasks}
 use Rattle.drf_tables.proofs.registry.Entries.{known-lookup, found-lookup}

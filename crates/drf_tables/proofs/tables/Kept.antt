@@ -7,7 +7,7 @@ use Rattle.drf_row_laws.proofs.RegistrationLaws.{new_agent, agent_added, framewo
 use Rattle.drf_rows.specs.declared.limits.TheConstants.{LATEST_TIMESTAMP}
 use Rattle.drf_rows.specs.Cycle.{free_of}
 use Rattle.drf_tables.specs.cycle.Drafts.{with_offers, frees_of, frees_after}
-use Rattle.drf_tables.proofs.cycle.DraftLaws.{with_offers-added, agents-with_offers}
+use Rattle.drf_tables.proofs.DraftLaws.{with_offers-added, agents-with_offers}
 use Rattle.drf_tables.specs.declared.tables.Left.{Left}
 use Rattle.drf_tables.proofs.cycle.Counted.{count_clients-counting_all}
 use Rattle.drf_tables.proofs.agents.Registered.{IsConsistent-framework_put}

@@ -4,7 +4,7 @@ use Rattle.drf_rows.specs.Cycle.{is_allocatable, turn_order}
 use Rattle.drf_rows.specs.declared.rows.Rows.{Rows}
 use Rattle.drf_sorter.specs.Content.{Content}
 use Rattle.drf_tables.specs.cycle.Drafts.{with_offers}
-use Rattle.drf_tables.proofs.cycle.DraftLaws.{agents-with_offers}
+use Rattle.drf_tables.proofs.DraftLaws.{agents-with_offers}
 use Rattle.drf_gates.specs.quota.Allowance.{quota_under}
 use Rattle.drf_core.specs.cycle.Drafting.{IsDrafting}
 use Rattle.drf_core.proofs.drafting.Turn.{element_at, free-before, left-begins, ordered_from, registered_all, sound_now}

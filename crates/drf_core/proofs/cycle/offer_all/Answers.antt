@@ -9,7 +9,7 @@ use Rattle.drf_core.specs.cycle.Drafting.{IsDrafting, turns_of}
 use Rattle.drf_core.specs.Working.{nodes_of, offered_to}
 use Rattle.drf_gates.specs.quota.Allowance.{Usage, quota_under}
 use Rattle.drf_core.specs.cycle.Entitling.{IsQuotaOf}
-use Rattle.drf_tables.proofs.cycle.DraftLaws.{next-with_offers, with_offers-added}
+use Rattle.drf_tables.proofs.DraftLaws.{next-with_offers, with_offers-added}
 use Rattle.drf_tables.specs.cycle.Drafts.{with_offers}
 use Rattle.drf_core.proofs.drafting.Cycle.{cycle-begins, counts_all, is_counting, new_offers-drafts}
 use Rattle.drf_content.specs.Content.{content_of}

@@ -1,6 +1,6 @@
 use Rattle.std.proofs.Common.{arith}
 use Rattle.drf_tables.specs.cycle.Drafts.{with_offers}
-use Rattle.drf_tables.proofs.cycle.DraftLaws.{agents-with_offers}
+use Rattle.drf_tables.proofs.DraftLaws.{agents-with_offers}
 use Rattle.drf_core.proofs.drafting.Cycle.{turns-next}
 use Rattle.drf_core.proofs.cycle.turns.Goals as goal
 

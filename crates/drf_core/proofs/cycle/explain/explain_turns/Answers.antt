@@ -2,7 +2,7 @@ use Rattle.std.proofs.Common.{◌++◌, arith, append-nil, sym, ap, ◌∙◌}
 use Rattle.std.proofs.lemmas.List.{drop_all}
 use Rattle.drf_explain.specs.Explained.{reported_of_agents}
 use Rattle.drf_tables.specs.cycle.Drafts.{with_offers}
-use Rattle.drf_tables.proofs.cycle.DraftLaws.{agents-with_offers}
+use Rattle.drf_tables.proofs.DraftLaws.{agents-with_offers}
 use Rattle.drf_core.proofs.drafting.Told.{reported-next}
 use Rattle.drf_core.proofs.cycle.explain.explain_turns.Goals as goal
 

@@ -2,7 +2,7 @@ use Rattle.std.proofs.Common.{◌≡◌, ℕ, ◌+◌, ◌++◌, List, true, map
 use Rattle.drf_tables.proofs.tables.Names.{IsConsistent, are_rising, OfferRow, Rows, counting_all, first_number, CountsAll, Stored}
 use Rattle.drf_holdings.specs.Listed.{offer_number}
 use Rattle.drf_holdings.proofs.RisingLaws.{rising_from}
-use Rattle.drf_tables.proofs.cycle.DraftLaws.{next-with_offers, offers-with_offers}
+use Rattle.drf_tables.proofs.DraftLaws.{next-with_offers, offers-with_offers}
 use Rattle.drf_tables.specs.cycle.Drafts.{with_offers, frees_of, frees_after}
 use Rattle.drf_tables.specs.Inside.{rows_of, rows_in, framework_rows, is_settled}
 use Rattle.drf_tables.proofs.cycle.Counted.{CanCountAll-from}

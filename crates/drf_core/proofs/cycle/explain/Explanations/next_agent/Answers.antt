@@ -1,7 +1,7 @@
 use Rattle.std.proofs.Common.{◌<◌, true, List, ◌++◌, sym, ap, ◌∙◌, arith, length}
 use Rattle.drf_explain.specs.declared.finding.Finding.{Finding}
 use Rattle.drf_tables.specs.cycle.Drafts.{with_offers}
-use Rattle.drf_tables.proofs.cycle.DraftLaws.{agents-with_offers}
+use Rattle.drf_tables.proofs.DraftLaws.{agents-with_offers}
 use Rattle.drf_core.specs.cycle.Explaining.{left_to_explain, reported_at, untouched_at}
 use Rattle.drf_core.proofs.drafting.Told.{explanations-next}
 use Rattle.drf_core.proofs.cycle.explain.Explanations.next_agent.Goals as goal

@@ -1,7 +1,7 @@
 use Rattle.std.proofs.Common.{◌<◌, List, ◌++◌, sym, ap, ◌∙◌, arith, length}
 use Rattle.drf_explain.specs.declared.finding.Finding.{Finding}
 use Rattle.drf_tables.specs.cycle.Drafts.{with_offers}
-use Rattle.drf_tables.proofs.cycle.DraftLaws.{agents-with_offers}
+use Rattle.drf_tables.proofs.DraftLaws.{agents-with_offers}
 use Rattle.drf_core.specs.cycle.Explaining.{left_to_explain, untouched_at}
 use Rattle.drf_core.proofs.drafting.Told.{untouched-next}
 use Rattle.drf_core.proofs.cycle.explain.Explanations.untouched.Goals as goal

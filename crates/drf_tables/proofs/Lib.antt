@@ -1,0 +1,2 @@
+-- Lemmas that other crates use.
+pub mod DraftLaws

@@ -41,7 +41,7 @@ fn wanted_of(row: &str) -> Option<Wanted<'_>> {
 }
 
 /// Returns the arguments, after `drf`.
-fn words_of<'a>(alloc: Global, words: &'a str) -> Result<Vec<&'a str>, AllocError> {
+pub fn words_of<'a>(alloc: Global, words: &'a str) -> Result<Vec<&'a str>, AllocError> {
     let mut list = Vec::new(alloc);
     list.push("drf")?;
     for word in words.split_whitespace() {

@@ -4,6 +4,7 @@
 mod commands;
 mod ends;
 mod events;
+mod generated;
 mod keys;
 mod resumes;
 mod rows;
@@ -18,5 +19,6 @@ fn main(rt: HostRuntime) -> io::Result<()> {
     keys::run_all(&rt)?;
     ends::run_all(&rt)?;
     commands::run_all(&rt)?;
-    resumes::run_all(&rt)
+    resumes::run_all(&rt)?;
+    generated::run_all(&rt)
 }

@@ -7,7 +7,8 @@ require (
 	github.com/prometheus/client_golang v1.14.0
 	go.etcd.io/etcd release-3.4 // the newest: before 3.4.21 one member alone might answer before it had synced. These releases have no name as modules
 	go.uber.org/zap v1.10.0
-	golang.org/x/sys v0.3.0
+	golang.org/x/net v0.7.0 // Debian's: newer ones need a newer golang.org/x/sys
+	golang.org/x/sys v0.5.0
 	google.golang.org/protobuf v1.28.1
 )
 

@@ -324,6 +324,32 @@ def test_tls(programs):
         assert wait(ready), g.log()
 
 
+def test_http2(programs):
+    """With -http2, curl sends events and reads a stream over HTTP/2; without it, over HTTP/1.1."""
+    with Fleet("alone", programs.gateway, programs.drf, "-cycle", "0") as fleet:
+        cert, key = make_certificate(fleet.folder)
+        g = fleet.gateways[0]
+        url = g.url.replace("http:", "https:")
+
+        def curl(path, *words):
+            command = ["curl", "-sS", "-N", "--http2", "--cacert", cert, "-H", "Authorization: Bearer " + fleet.tokens["admin"], "-w", "\n%{http_version} %{http_code}", *words, url + path]
+            return subprocess.run(command, capture_output=True, text=True, check=False).stdout
+
+        for flags, version, answer in (([], "1.1", '{"ok":true}'), (["-http2"], "2", '{"name":"KnownAgent","refused":4}')):
+            g.kill()
+            g.start("-cert", cert, "-key", key, *flags)
+            assert wait(lambda: curl("/healthz") == f"\n{version} 200"), g.log()
+            text = curl("/drf/v1/events", "--data-binary", json.dumps(AGENT))
+            assert text == f"{answer}\n\n{version} 200", text
+            text = curl("/drf/v1/frameworks/site/offers", "-m", "5")
+            assert text == f": these stand\n\n\n{version} 200", text
+            assert curl("/drf/v1/events", "--data-binary", "").endswith(f"\n{version} 400"), "an empty body"
+            with open(os.path.join(fleet.folder, "lines"), "w", encoding="ascii") as file:
+                file.write("x\n" * 70000)
+            text = curl("/drf/v1/events", "--data-binary", "@" + file.name)
+            assert text.endswith(f"\n{version} 413"), text
+
+
 def test_tls_of_members(programs):
     """Members take each other by their certificates alone, and nobody without one."""
     with Fleet("three", programs.gateway, programs.drf, is_secure=True) as fleet:

@@ -24,6 +24,7 @@ import (
 type options struct {
 	data, drf, listen, tokens, cert, key, prefix string
 	passwordFile                                 string
+	http2                                        bool
 	etcd                                         etcd.Config
 	bound, window                                time.Duration
 	cycle, offerTimeout                          time.Duration
@@ -66,6 +67,7 @@ func readOptions(arguments []string) (*options, error) {
 	flags.StringVar(&o.tokens, "tokens", "", "file of callers and their rights (DATA/tokens.json)")
 	flags.StringVar(&o.cert, "cert", "", "file of certificates, for callers to come over TLS; read again at SIGHUP")
 	flags.StringVar(&o.key, "key", "", "file of its key")
+	flags.BoolVar(&o.http2, "http2", false, "speak HTTP/2 too with callers that come over TLS")
 	flags.StringVar(&o.etcd.Name, "name", "one", "this gateway's name among the others")
 	flags.StringVar(&o.etcd.Members, "members", "", "embedded etcd of several gateways: NAME=URL of each, with commas")
 	flags.BoolVar(&o.etcd.Joins, "join", false, "this member is new in an existing cluster")
@@ -117,6 +119,7 @@ func readOptions(arguments []string) (*options, error) {
 	}{
 		{flags.NArg() > 0, fmt.Sprintf("%q: arguments without a flag are not expected", flags.Arg(0))},
 		{(o.cert == "") != (o.key == ""), "-cert and -key: give both or none"},
+		{o.http2 && o.cert == "", "-http2: give -cert and -key too"},
 		{o.etcd.URLs != "" && o.etcd.Members != "", "-etcd and -members: give one of them"},
 		{o.etcd.User != "" && o.etcd.URLs == "", "-etcd-user: give -etcd too"},
 		{(o.etcd.User == "") != (o.passwordFile == ""), "-etcd-user and -etcd-password-file: give both or none"},

@@ -156,6 +156,12 @@ func (g *gateway) listen() (closeServer func(), err error) {
 		if err := g.readCertificate(); err != nil {
 			return nil, err
 		}
+		if g.http2 {
+			err = g.server.AddHTTP2(server)
+		}
+		if err != nil {
+			return nil, err
+		}
 		listener = tls.NewListener(listener, server.TLSConfig)
 	}
 	go func() {

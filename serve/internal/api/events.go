@@ -134,7 +134,9 @@ func (q *request) body() (body []byte, release func(), err error) {
 	case err != nil && len(body) >= maxBody:
 		err = refusal(http.StatusRequestEntityTooLarge, "a body has at most %d bytes", maxBody)
 	case err != nil:
-		q.w.Header().Set("Connection", "close") // or the server would wait for the rest before it answers
+		if q.r.ProtoMajor == 1 {
+			q.w.Header().Set("Connection", "close") // or the server would wait for the rest before it answers
+		}
 		err = refusal(http.StatusBadRequest, "the body was not read: %v", err)
 	case len(body) == 0:
 		err = refusal(http.StatusBadRequest, "there is no line")

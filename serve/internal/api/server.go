@@ -3,9 +3,6 @@
 package api
 
 import (
-	"context"
-	"crypto/tls"
-	"net"
 	"net/http"
 	"strings"
 	"sync/atomic"
@@ -137,7 +134,8 @@ var calls = map[string]call{
 
 // ServeHTTP answers a request.
 func (s *Server) ServeHTTP(w http.ResponseWriter, r *http.Request) {
-	limitTime(r, s.inTime)
+	r = withDeadlines(w, r)
+	limitReading(r, s.inTime)
 	head := w.Header()
 	head.Set("X-Content-Type-Options", "nosniff")
 	head.Set("Cache-Control", "no-store")
@@ -254,31 +252,6 @@ func (s *Server) dispatch(w http.ResponseWriter, r *http.Request) error {
 	r, cancel := named(r, by)
 	defer cancel()
 	return c.answer(&request{service, s, w, r, by, callers, name})
-}
-
-type connectionKey struct{}
-
-// HTTPServer returns a server for HTTP/1.1. With HTTP/2 several requests share a connection, and before Go 1.20 a deadline is the
-// connection's: one slow caller would end the others' answers.
-func (s *Server) HTTPServer(certificate func(*tls.ClientHelloInfo) (*tls.Certificate, error)) *http.Server {
-	return &http.Server{Handler: s, ReadHeaderTimeout: 10 * time.Second, IdleTimeout: 2 * time.Minute, MaxHeaderBytes: 1 << 16,
-		ConnContext: func(ctx context.Context, c net.Conn) context.Context {
-			return context.WithValue(ctx, connectionKey{}, c)
-		},
-		TLSConfig:    &tls.Config{MinVersion: tls.VersionTLS12, GetCertificate: certificate},
-		TLSNextProto: map[string]func(*http.Server, *tls.Conn, http.Handler){},
-	}
-}
-
-// limitTime bounds the time that a caller may take to send the rest of its request, and to take what is written to it; 0 means no bound.
-func limitTime(r *http.Request, within time.Duration) {
-	until := time.Time{}
-	if within > 0 {
-		until = time.Now().Add(within)
-	}
-	if connection, is := r.Context().Value(connectionKey{}).(net.Conn); is {
-		connection.SetDeadline(until)
-	}
 }
 
 // write writes an answer that is valid as of a message.

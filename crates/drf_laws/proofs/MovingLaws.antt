@@ -23,7 +23,7 @@ use Rattle.drf_row_laws.proofs.ReservationLaws.{CanMove, can_move-reserve, can_m
 use Rattle.drf_rows.specs.Step.{first_case, refusal_of, effect, rows_after, is_full}
 use Rattle.drf_row_laws.proofs.StepLaws.{no_case_of, rows_after-accepted}
 use Rattle.drf_rows.specs.Totals.{CanExchange, agent_at, total_at, with_total, exchanged, is_not_free}
-use Rattle.drf_row_laws.specs.TotalsLaws.{free_of-exchanged, cluster_total-exchanged}
+use Rattle.drf_row_laws.proofs.TotalsLaws.{free_of-exchanged, cluster_total-exchanged}
 use Rattle.drf_row_laws.proofs.TotalsLaws.{joined-exchanged, exchanged-back, bundle-exchanged, can_exchange-back, can_in_total, if_named, names-with_total, activity-with_total, has_agent-with_total}
 use Rattle.drf_rows.specs.declared.event.Event.TheVariants.{Reserve, Unreserve, SetLimit}
 use Rattle.drf_rows.specs.declared.reply.Refusal.{Refusal}

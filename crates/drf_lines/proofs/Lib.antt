@@ -23,4 +23,3 @@ pub mod Appends
 pub mod Lanes
 pub mod LeftAmounts
 pub mod KeptTexts
-pub mod LineValue

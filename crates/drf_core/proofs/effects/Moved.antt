@@ -18,7 +18,7 @@ use Rattle.drf_row_laws.specs.ReservationLaws.{IsAsked}
 use Rattle.drf_row_laws.proofs.ReservationLaws.{can_move-reserve, can_move-unreserve, can_exchange-reserve, can_exchange-unreserve, found_known}
 use Rattle.drf_rows.specs.Step.{cases_of, refusal_of, effect}
 use Rattle.drf_rows.specs.Totals.{CanExchange, agent_at, exchanged, with_total, with_other_total}
-use Rattle.drf_row_laws.specs.TotalsLaws.{cluster_total-exchanged}
+use Rattle.drf_row_laws.proofs.TotalsLaws.{cluster_total-exchanged}
 use Rattle.drf_row_laws.proofs.TotalsLaws.{cluster_total-other_total}
 use Rattle.drf_rows.specs.declared.limits.TheConstants.{LARGEST_AMOUNT}
 use Rattle.drf_rows.specs.declared.event.Event.{Event}

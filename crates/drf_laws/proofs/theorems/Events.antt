@@ -25,7 +25,7 @@ use Rattle.drf_bundle.proofs.ListLaws.{each_append}
 use Rattle.drf_row_laws.proofs.MemberLaws.{IsConsistent-with_activity, IsConsistent-with_suppression, IsConsistent-revived}
 use Rattle.drf_row_laws.proofs.RegistrationLaws.{IsConsistent-agent_added, IsConsistent-framework_added}
 use Rattle.drf_row_laws.proofs.ReservationLaws.{found_known, can_move-reserve, can_move-unreserve, can_exchange-reserve, can_exchange-unreserve, IsConsistent-other_total}
-use Rattle.drf_row_laws.specs.TotalsLaws.{IsConsistent-exchanged}
+use Rattle.drf_row_laws.proofs.TotalsLaws.{IsConsistent-exchanged}
 use Rattle.drf_row_laws.proofs.WeightLaws.{IsConsistent-weight_set}
 use Rattle.drf_rows.specs.declared.event.Accept as accepting
 use Rattle.drf_rows.specs.declared.event.Decline as declining

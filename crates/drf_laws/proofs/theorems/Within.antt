@@ -25,7 +25,7 @@ use Rattle.drf_row_laws.proofs.FrameLaws.{cycle_only, only_changed}
 use Rattle.drf_row_laws.proofs.OthersLaws.{cycle_only_offers}
 use Rattle.drf_row_laws.proofs.ReservationLaws.{found_known, can_move-reserve, can_move-unreserve, can_exchange-reserve, can_exchange-unreserve}
 use Rattle.drf_row_laws.proofs.StepLaws.{rows_after-refused, rows_after-accepted}
-use Rattle.drf_row_laws.specs.TotalsLaws.{cluster_total-exchanged}
+use Rattle.drf_row_laws.proofs.TotalsLaws.{cluster_total-exchanged}
 use Rattle.drf_rows.specs.declared.event.Accept as accepting
 use Rattle.drf_rows.specs.declared.event.Decline as declining
 use Rattle.drf_rows.specs.declared.event.Event.{Event}

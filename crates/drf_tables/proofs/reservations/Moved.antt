@@ -16,7 +16,7 @@ use Rattle.drf_row_laws.proofs.HoldingsLaws.{each_part}
 use Rattle.drf_row_laws.proofs.LimitLaws.{IsConsistent-limit_set}
 use Rattle.drf_row_laws.proofs.QuotaLaws.{consumption_is_part_of_total}
 use Rattle.drf_row_laws.proofs.ReservationLaws.{IsConsistent-other_total}
-use Rattle.drf_row_laws.specs.TotalsLaws.{IsConsistent-exchanged, free_of-exchanged, cluster_total-exchanged}
+use Rattle.drf_row_laws.proofs.TotalsLaws.{IsConsistent-exchanged, free_of-exchanged, cluster_total-exchanged}
 use Rattle.drf_row_laws.proofs.TotalsLaws.{if_named, can_in_total, cluster_total-other_total}
 use Rattle.drf_tables.specs.Inside.{agent_row, rows_of, rows_in, IsKnown, AreDerived, IsWhole}
 use Rattle.drf_tables.proofs.agents.Changes.{rows_but}

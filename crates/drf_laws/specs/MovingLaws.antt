@@ -117,13 +117,13 @@ LimitsRefuseNothingElse =
 
 -- what both events require besides free resources
 pub record IsMovable (rows : Rows) (agent : Text) (role : Path) (resources : List Resource) : Type 0 where
-  known : has_agent rows agent ≡ true
-  other : is_default role ≡ false
-  some : is_empty resources ≡ false
-  unreserved : is_unreserved resources ≡ true
+  pub known : has_agent rows agent ≡ true
+  pub other : is_default role ≡ false
+  pub some : is_empty resources ≡ false
+  pub unreserved : is_unreserved resources ≡ true
 
 -- the event satisfies everything that is required of a reservation, except that the limits do not admit it
 pub record IsOverLimit (rows : Rows) (agent : Text) (role : Path) (resources : List Resource) : Type 0 where
-  movable : IsMovable rows agent role resources
-  free : is_not_free rows agent resources ≡ false
-  beyond : admits rows role (quantities_of resources) ≡ false
+  pub movable : IsMovable rows agent role resources
+  pub free : is_not_free rows agent resources ≡ false
+  pub beyond : admits rows role (quantities_of resources) ≡ false

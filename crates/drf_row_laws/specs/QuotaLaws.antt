@@ -57,5 +57,5 @@ ConsumptionIsPartOfTotal =
 
 -- limits stay, and the consumption of a role is at most its limit, or what it was
 pub record KeepsLimit (start after : Rows) (label : Text) (l : LimitRow) : Type 0 where
-  limits : after.limits ≡ start.limits
-  consumed : consumption after l.role label ≤ max (amount_of l.limit label) (consumption start l.role label)
+  pub limits : after.limits ≡ start.limits
+  pub consumed : consumption after l.role label ≤ max (amount_of l.limit label) (consumption start l.role label)

@@ -122,7 +122,7 @@ class Durzhanok:
                     yield kind, data
                 elif kind == "gone" and standing.pop(number, None):
                     yield kind, data
-            elif line == ": these stand" and told is not None:
+            elif line == ": all existing offers were sent" and told is not None:
                 for number in [n for n in standing if n not in told]:
                     del standing[number]
                     yield "gone", {"offer": number}

@@ -108,7 +108,7 @@ def without_the_right_there_are_no_actions(browser, room):
     browser.show("agents/n1")
     browser.ask("actions", "m.confirm(m.actions.drain({name: 'n1', tasks: [], offers: []}))")
     browser.one("#ask-go").click()
-    browser.wait("the refusal", lambda: "You have no right to this: eye may send no events" in browser.text("#ask-answer"))
+    browser.wait("the refusal", lambda: 'Your token does not allow this: the token "eye" has no right to send events' in browser.text("#ask-answer"))
     holds("n1 is active", any(row.get("agent") == "n1" and row["row"] == "agent" and row["active"] for row in rows(service)))
     browser.console()
     service.end()

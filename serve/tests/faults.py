@@ -100,7 +100,7 @@ def test_other_program(programs):
         g.kill()
         fleet.drf = program(fleet.folder, "other", f"#!/bin/sh\nexec {programs.drf} \"$@\" | stdbuf -oL sed s/UnknownOffer/unknownOffer/\n")
         g.start()
-        ended(g, "differ from those that were answered")
+        ended(g, "differ from the replies that were given before")
 
 
 def test_other_echo(programs):
@@ -131,7 +131,7 @@ def test_list_lost_its_end(programs):
         shutil.rmtree(os.path.join(g.folder, "etcd"))
         shutil.copytree(kept, os.path.join(g.folder, "etcd"))
         g.start()
-        ended(g, "messages that were answered are lost")
+        ended(g, "has lost messages that were already answered")
 
 
 @mostly_waits

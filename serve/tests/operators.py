@@ -74,7 +74,7 @@ def test_etcd_with_users(programs):
     try:
         one.start("-etcd-user", "root", "-etcd-password-file", passwords["wrong"])
         assert one.process.wait(30) == 1, one.log()
-        assert 'does not take the user "root" with this password' in one.log() and "wrong-password" not in one.log(), one.log()
+        assert 'rejects the user "root" or its password' in one.log() and "wrong-password" not in one.log(), one.log()
         fleet.kill_server(2)
         one.start("-etcd-user", "root", "-etcd-password-file", passwords["right"])
         one.until_ready()
@@ -182,7 +182,7 @@ def test_audit(programs):
         assert [r["name"] for r in audit(one, "answer=refused")["records"]] == ["ops"] and audit(one, "cause=cycle")["records"] == []
         for secret in fleet.tokens.values():
             assert secret not in json.dumps(audit(one, "limit=1000"))
-        for words, name, want, problem in (("", "site", 403, "no right to read"), ("", None, 401, "token"), ("from=x", "eye", 400, "from="), ("limit=0", "eye", 400, "limit="), ("before=x", "eye", 400, "before="),
+        for words, name, want, problem in (("", "site", 403, "does not have the right read"), ("", None, 401, "token"), ("from=x", "eye", 400, "from="), ("limit=0", "eye", 400, "limit="), ("before=x", "eye", 400, "before="),
                                            ("nmae=x", "eye", 400, '"nmae"'), ("answer=ok", "eye", 400, "answer=")):
             status, text, _ = one.ask("/drf/v1/audit?" + words, name=name)
             assert status == want and problem in text, (words, status, text)

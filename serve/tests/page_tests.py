@@ -227,7 +227,7 @@ def replaying_and_a_lost_gateway_are_told(browser, room):
     own = small(browser)
     own.show(stand_in.small_rows(), ready=False)
     browser.wait("replaying", lambda: browser.text("#health") == "Replaying" and "replaying" in browser.text("#notes"))
-    own.show(stand_in.small_rows(), clock_fault="the clock of this machine is 1m0s behind the service's: set it right")
+    own.show(stand_in.small_rows(), clock_fault="the clock of this machine is 1m0s behind the service's clock: correct it")
     browser.wait("a wrong clock", lambda: browser.text("#health") == "Takes no events" and "1m0s behind" in browser.text("#notes"))
     own.show(stand_in.small_rows(), clock_warning="the clock of this machine is 5h0m0s ahead of the last time at which the service ran: check it")
     browser.wait("a clock far ahead", lambda: browser.text("#health") == "Live" and "5h0m0s ahead" in browser.text("#notes"))

@@ -137,7 +137,7 @@ def why_nothing_of_a_real_cluster(browser, room):
 def a_token_without_the_right_to_read_is_told(browser, room):
     service = room.service()
     browser.enter(service.url, service.tokens["site"])
-    browser.wait("the refusal", lambda: "no right to read" in browser.text("#denied"))
+    browser.wait("the refusal", lambda: "does not have the right read" in browser.text("#denied"))
     browser.console()
 
 

@@ -43,25 +43,25 @@ func main() {
 func run(arguments []string) error {
 	host, _ := os.Hostname()
 	flags := flag.NewFlagSet("durzhanok-agent", flag.ContinueOnError)
-	gateways := flags.String("gateways", "http://127.0.0.1:8450", "URLs of gateways, with commas")
-	folder := flags.String("work", "durzhanok-agent-data", "folder of the agent's id and of its tasks")
-	hostname := flags.String("hostname", host, "name of this machine, for frameworks")
-	name := flags.String("name", "", "what the agent's id begins with (HOSTNAME)")
-	given := flags.String("resources", "", "resources such as cpus:4;mem:8192;ports:[31000-32000] (those of the machine)")
+	gateways := flags.String("gateways", "http://127.0.0.1:8450", "URLs of gateways, separated by commas")
+	folder := flags.String("work", "durzhanok-agent-data", "folder for the agent's id and its tasks")
+	hostname := flags.String("hostname", host, "name of this machine that frameworks see")
+	name := flags.String("name", "", "name with which the agent's id begins (HOSTNAME)")
+	given := flags.String("resources", "", "resources to offer, such as cpus:4;mem:8192;ports:[31000-32000] (all of the machine)")
 	attributes := flags.String("attributes", "", "attributes such as rack:r1;zone:a")
 	principal := flags.String("principal", "admin", "name of the token")
-	tokenFile := flags.String("token-file", "", "file of the token")
+	tokenFile := flags.String("token-file", "", "file of the token, which needs the right agent:NAME")
 	keep := flags.Duration("keep", 24*time.Hour, "how long sandboxes of ended tasks are kept")
-	grace := flags.Duration("executor-shutdown-grace-period", 5*time.Second, "time from SHUTDOWN to the end of an executor whose ExecutorInfo has none")
-	registration := flags.Duration("executor-registration-timeout", time.Minute, "time in which an executor must subscribe, after its start and after the agent's")
-	switchUser := flags.Bool("switch-user", os.Getuid() == 0, "run tasks as their frameworks' users; only root can")
-	cgroups := flags.String("cgroups", "auto", "folder in cgroup v2 for limits of tasks; auto for one of its own where that can be made; none")
-	outputSize := flags.Int64("output-size", 10, "MiB of stdout, and of stderr, before a new file begins; 0 for no limit")
-	outputFiles := flags.Int("output-files", 5, "files of stdout, and of stderr, that are kept besides the last one")
-	recovery := flags.Duration("recovery-timeout", 15*time.Minute, "time in which executors try to subscribe again")
-	asked := operators{flags.String("listen", "", "address for operators' calls (none)"), flags.String("cert", "", "file of certificates, for operators to come over TLS"),
-		flags.String("key", "", "file of its key")}
-	isVersion := flags.Bool("version", false, "print the version, and end")
+	grace := flags.Duration("executor-shutdown-grace-period", 5*time.Second, "time that an executor has to end after SHUTDOWN, if its ExecutorInfo has none")
+	registration := flags.Duration("executor-registration-timeout", time.Minute, "time that an executor has to subscribe after its own start, or after the agent's")
+	switchUser := flags.Bool("switch-user", os.Getuid() == 0, "run each task as the user that its framework names; only root can")
+	cgroups := flags.String("cgroups", "auto", "folder in cgroup v2 for the limits of tasks; auto for /sys/fs/cgroup/durzhanok if it can be created; none for no limits")
+	outputSize := flags.Int64("output-size", 10, "size in MiB at which stdout and stderr are rotated; 0 for no limit")
+	outputFiles := flags.Int("output-files", 5, "number of rotated files of stdout, and of stderr, that are kept")
+	recovery := flags.Duration("recovery-timeout", 15*time.Minute, "time for which executors try to subscribe again after the agent ended")
+	asked := operators{flags.String("listen", "", "address for operators' calls (none: no such calls)"), flags.String("cert", "", "file of the certificates for operators, who then use TLS"),
+		flags.String("key", "", "file of the key of -cert")}
+	isVersion := flags.Bool("version", false, "print the version and exit")
 	if err := usage.Parse(flags, arguments, "[FLAG..]"); err != nil {
 		return err
 	}
@@ -70,7 +70,10 @@ func run(arguments []string) error {
 		return nil
 	}
 	if flags.NArg() > 0 {
-		return fmt.Errorf("%q: arguments without a flag are not expected", flags.Arg(0))
+		return fmt.Errorf("%q: unknown argument; see durzhanok-agent -help", flags.Arg(0))
+	}
+	if *tokenFile == "" {
+		return errors.New("-token-file: expected the file of the agent's token; see durzhanok-agent -help")
 	}
 	token, err := os.ReadFile(*tokenFile)
 	if err != nil {

@@ -14,9 +14,9 @@ import (
 )
 
 const verifyUsage = `usage: durzhanok-gateway verify-archive [-drf PROGRAM] [-last SHA256] [-print journal|audit] DIR
-  -drf PROGRAM    check the replies too, by PROGRAM check
-  -last SHA256    the digest of the last segment, which /drf/v1/status has: later ones are not missing
-  -print WHAT     write the journal, or who sent the messages, to standard output
+  -drf PROGRAM    check the replies too, with PROGRAM check
+  -last SHA256    check that the last segment has this digest (/drf/v1/status has it), so that no later one is missing
+  -print WHAT     write the journal, or the audit, to standard output
 status: 0 good, 3 damaged or incomplete, 4 good with gaps, 1 another error`
 
 // Statuses of verify-archive, beside 0 and 1.
@@ -72,7 +72,7 @@ func verifyArchive(ctx context.Context, arguments []string, out, notes io.Writer
 		fmt.Fprintf(notes, "gap: messages %d to %d were never archived\n", gap.After+1, gap.Before-1)
 	}
 	if len(report.Gaps) > 0 {
-		return &statusError{statusGaps, errors.New("the archive is good, and has gaps")}
+		return &statusError{statusGaps, errors.New("the archive is good, but messages are missing")}
 	}
 	return nil
 }

@@ -25,15 +25,15 @@ Starts a service on this machine with a simulated cluster, and prints a link to 
 func demoCommand(ctx context.Context, arguments []string, in io.Reader, out io.Writer) error {
 	o := demo.Options{In: in, Out: out}
 	flags := flag.NewFlagSet("durzhanok-gateway demo", flag.ContinueOnError)
-	flags.StringVar(&o.Drf, "drf", "drf", "program of the allocator")
-	flags.StringVar(&o.Listen, "listen", "127.0.0.1:8450", "address of the loopback; port 0 is any free one")
+	flags.StringVar(&o.Drf, "drf", "drf", "program of the allocator, drf")
+	flags.StringVar(&o.Listen, "listen", "127.0.0.1:8450", "address of the loopback interface; port 0 means any free port")
 	if err := usage.Parse(flags, arguments, demoForm); errors.Is(err, flag.ErrHelp) {
 		return err
 	} else if err != nil {
 		return &statusError{2, err}
 	}
 	if flags.NArg() > 0 {
-		return &statusError{2, fmt.Errorf("demo: %q: arguments without a flag are not expected", flags.Arg(0))}
+		return &statusError{2, fmt.Errorf("demo: %q: unknown argument; see durzhanok-gateway demo -help", flags.Arg(0))}
 	}
 	program, err := os.Executable()
 	if err != nil {

@@ -18,8 +18,8 @@ import (
 const importForm = `[FLAG..] FILE
 
 Prints the event lines that set up the cluster of a Mesos master in an empty allocator. FILE is the answer of /state (- for
-standard input), or a folder with the answers of /state, /slaves, /roles, /weights and /quota in state.json, slaves.json ..
-What cannot be carried over is listed on standard error. Then nothing is printed, and the status is 3, unless -partial is given.
+standard input), or a folder with the answers of /state, /slaves, /roles, /weights and /quota in state.json, slaves.json and so on.
+If something cannot be carried over, it is listed on standard error, nothing is printed, and the status is 3, unless -partial is given.
 `
 
 // importCluster prints the lines of a cluster, or nothing.
@@ -27,8 +27,8 @@ func importCluster(arguments []string, in io.Reader, out, messages io.Writer) er
 	var isPartial, byName bool
 	files := map[string]*string{}
 	flags := flag.NewFlagSet("durzhanok-gateway import", flag.ContinueOnError)
-	flags.BoolVar(&isPartial, "partial", false, "print the lines even if something is left out")
-	flags.BoolVar(&byName, "names", false, "name agents by their host names and frameworks by their names where these are unique, not by their ids")
+	flags.BoolVar(&isPartial, "partial", false, "print the event lines even if something is left out")
+	flags.BoolVar(&byName, "names", false, "use host names for agents and names for frameworks, where these are unique, instead of ids")
 	for _, answer := range []string{"slaves", "roles", "weights", "quota"} {
 		files[answer] = flags.String(answer, "", "file with the answer of /"+answer)
 	}

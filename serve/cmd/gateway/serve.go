@@ -70,7 +70,7 @@ func (o *options) openData() error {
 	if err != nil {
 		return err
 	}
-	log.Printf("%s/admin.token may do everything", o.data)
+	log.Printf("created %s/admin.token, a token with all rights", o.data)
 	return disk.WriteFile(filepath.Join(o.data, "admin.token"), []byte(token+"\n"))
 }
 
@@ -125,7 +125,7 @@ func (o *options) serve(ctx context.Context) error {
 	case <-ctx.Done():
 	}
 	time.AfterFunc(endTime-500*time.Millisecond, func() {
-		log.Print("some parts did not end in time")
+		log.Print("some parts of the gateway did not end in time")
 		os.Exit(1)
 	})
 	g.server.EndStreams()
@@ -209,7 +209,7 @@ func (g *gateway) reload(ctx context.Context) {
 			continue
 		}
 		g.setCallers(callers)
-		log.Printf("%d tokens", callers.Len())
+		log.Printf("read %d tokens", callers.Len())
 	}
 }
 
@@ -380,7 +380,7 @@ func markEachSecond(ctx context.Context, journal *allocator.Journal) {
 			continue
 		}
 		if err := journal.Settings.Save(); err != nil {
-			log.Printf("who set what cannot be written: %v", err)
+			log.Printf("the settings cannot be written: %v", err)
 		}
 	}
 }

@@ -17,8 +17,9 @@ import (
 
 const shadowForm = `[FLAG..] URL
 
-Polls the Mesos master at URL, such as http://10.0.0.1:5050, and shows for each role what it holds in Mesos, what the allocator
-would give it for the same demand, and what is its fair part if all active frameworks wanted more. It changes nothing in Mesos.
+Polls the Mesos master at URL, such as http://10.0.0.1:5050. For each role, it shows the share that the role holds in Mesos, the
+share that the allocator would give it for the same demand, and its fair share if all active frameworks wanted more. It changes
+nothing in Mesos.
 `
 
 func shadowCommand(ctx context.Context, arguments []string, out, notes io.Writer) error {
@@ -27,14 +28,14 @@ func shadowCommand(ctx context.Context, arguments []string, out, notes io.Writer
 	var isOnce bool
 	var principal, secretFile string
 	var timeout time.Duration
-	flags.BoolVar(&isOnce, "once", false, "poll once, and end")
-	flags.BoolVar(&s.AsJSON, "json", false, "print a JSON object for each poll in place of a table")
+	flags.BoolVar(&isOnce, "once", false, "poll once and exit")
+	flags.BoolVar(&s.AsJSON, "json", false, "print a JSON object for each poll instead of a table")
 	flags.DurationVar(&s.Interval, "interval", 10*time.Second, "time from one poll to the next")
-	flags.DurationVar(&timeout, "timeout", 30*time.Second, "time for the master to answer all questions of a poll")
-	flags.StringVar(&s.Program, "drf", "drf", "program of the allocator")
-	flags.StringVar(&s.State, "state", "", "file to which the state of the cluster is saved after each poll, for the commands of drf")
-	flags.StringVar(&s.Picture, "svg", "", "file to which a picture is written after each poll")
-	flags.StringVar(&principal, "principal", "", "principal to authenticate as")
+	flags.DurationVar(&timeout, "timeout", 30*time.Second, "time that the master has to answer all questions of a poll")
+	flags.StringVar(&s.Program, "drf", "drf", "program of the allocator, drf")
+	flags.StringVar(&s.State, "state", "", "file to save the allocator's state of the cluster to after each poll, for drf --from")
+	flags.StringVar(&s.Picture, "svg", "", "file to write a picture to after each poll")
+	flags.StringVar(&principal, "principal", "", "principal to authenticate as at the master")
 	flags.StringVar(&secretFile, "secret-file", "", "file of the principal's secret")
 	urls, err := parseMixed(flags, arguments, shadowForm)
 	switch {

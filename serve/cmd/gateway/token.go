@@ -21,8 +21,8 @@ const tokenUsage = `usage:
   durzhanok-gateway token add [-expires WHEN] FILE NAME RIGHT..
   durzhanok-gateway token list FILE
   durzhanok-gateway token revoke FILE NAME
-rights are admin, operate, clock, read, framework:NAME, role:ROLE, agent:NAME, agent:PREFIX*, user:NAME
-WHEN is 30d, 12h, 2027-01-31 (the end of that day in UTC) or 2027-01-31T12:00:00Z`
+RIGHT is admin, operate, clock, read, framework:NAME, role:ROLE, agent:NAME, agent:PREFIX* or user:NAME
+WHEN is such as 30d, 12h, 2027-01-31 (the end of that day in UTC) or 2027-01-31T12:00:00Z`
 
 // tokenCommand does what the arguments after "token" say. The older form without a command, FILE NAME RIGHT.., still adds a token.
 func tokenCommand(arguments []string, out, notes io.Writer) error {

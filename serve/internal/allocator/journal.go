@@ -53,7 +53,7 @@ func OpenJournal(folder string) (*Journal, error) {
 	j := &Journal{Audit: audit.NewLog(folder), folder: folder, sum: sha256.New()}
 	var broken error
 	if j.Settings, j.lacksSettings, broken = audit.OpenSettings(filepath.Join(folder, "settings")); broken != nil {
-		log.Printf("%v: who set what is read from etcd", broken)
+		log.Printf("%v: the settings are read from etcd instead", broken)
 	}
 	text, err := os.ReadFile(filepath.Join(folder, "answered"))
 	if err == nil {
@@ -100,7 +100,7 @@ func (j *Journal) write(block []byte) error {
 			return err
 		}
 		if j.digest() != j.answered.Sha256 {
-			return &oplog.FatalError{Err: fmt.Errorf("the journal's first %d bytes differ from those that were answered: another program or another list made them", j.answered.Bytes)}
+			return &oplog.FatalError{Err: fmt.Errorf("the journal's first %d bytes differ from the replies that were given before: another program or another list made them", j.answered.Bytes)}
 		}
 		block = block[due:]
 	}
@@ -123,7 +123,7 @@ func (j *Journal) checkWhole() error {
 	j.mu.RLock()
 	defer j.mu.RUnlock()
 	if lost := j.answered.Bytes - j.end; lost > 0 {
-		return &oplog.FatalError{Err: fmt.Errorf("the journal had %d bytes more than the list gives: messages that were answered are lost from it", lost)}
+		return &oplog.FatalError{Err: fmt.Errorf("the journal had %d bytes more than the list gives: the list has lost messages that were already answered", lost)}
 	}
 	return nil
 }

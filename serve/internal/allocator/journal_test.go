@@ -46,7 +46,7 @@ func TestJournalComesAgain(t *testing.T) {
 	}{
 		"the same":             {oplog.Snapshot{}, []string{"a\nA\nb\nB\nc\nC\n"}, ""},
 		"what was not marked":  {oplog.Snapshot{}, []string{"a\nA\n", "b\nB\ne\nE\n"}, ""},
-		"less than was marked": {oplog.Snapshot{}, []string{"a\nA\n"}, "are lost"},
+		"less than was marked": {oplog.Snapshot{}, []string{"a\nA\n"}, "has lost messages"},
 		"other replies":        {oplog.Snapshot{}, []string{"a\nA\nb", "\nX\n"}, "first 8 bytes differ"},
 		"another snapshot":     {later, []string{"b\nB\n"}, "first 8 bytes differ"},
 	} {

@@ -130,7 +130,7 @@ func (a *Allocator) feed(ctx context.Context, after oplog.Revision, revision int
 			}
 		}
 		if err := out.Flush(); err != nil {
-			return fmt.Errorf("feeding it: %w", err)
+			return fmt.Errorf("writing to it: %w", err)
 		}
 		return nil
 	}
@@ -162,7 +162,7 @@ func (a *Allocator) collect(ctx context.Context, in *bufio.Reader, pipeline <-ch
 				return fmt.Errorf("reading its echo: %w", err)
 			}
 			if !bytes.Equal(echo[:len(echo)-1], line) {
-				return &oplog.FatalError{Err: fmt.Errorf("the allocator echoed %.200q where it was fed %.200q, in message %s", echo, line, f.Key)}
+				return &oplog.FatalError{Err: fmt.Errorf("the allocator echoed %.200q instead of %.200q, in message %s", echo, line, f.Key)}
 			}
 			reply, err := in.ReadBytes('\n')
 			if err != nil {

@@ -20,7 +20,7 @@ func (a *Allocator) shareSettings(ctx context.Context) error {
 	out.Write(a.journal.Settings.Encode())
 	out.Close()
 	if _, err := a.log.Cluster().Client().Put(ctx, a.log.Path(settingsKey), packed.String()); err != nil {
-		return fmt.Errorf("sharing who set what: %w", err)
+		return fmt.Errorf("writing the settings to etcd: %w", err)
 	}
 	return nil
 }
@@ -47,6 +47,6 @@ func (a *Allocator) adoptSettings(ctx context.Context) {
 		err = a.journal.Settings.Merge(text)
 	}
 	if err != nil {
-		log.Printf("who set what, in etcd: %v", err)
+		log.Printf("the settings in etcd: %v", err)
 	}
 }

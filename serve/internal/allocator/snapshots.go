@@ -269,10 +269,10 @@ func (s *snapshots) make(ctx context.Context, marked oplog.Snapshot, registry []
 	a.positions.forget(kept.Revision)
 	messages, end := a.prunable(kept)
 	if fault := a.journal.prune(end); fault != nil {
-		log.Printf("the journal keeps its space on the disk: %v", fault)
+		log.Printf("the disk space of pruned lines in the journal was not freed: %v", fault)
 	}
 	if fault := a.journal.Audit.Prune(messages); fault != nil {
-		log.Printf("the audit keeps its space on the disk: %v", fault)
+		log.Printf("the disk space of pruned records in the audit was not freed: %v", fault)
 	}
 	s.removeBelow(last.Number)
 	return marked, err

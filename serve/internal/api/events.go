@@ -32,7 +32,7 @@ var isKey = regexp.MustCompile(`^[!-~]{1,128}$`)
 func (q *request) events() error {
 	start := time.Now()
 	if !q.by.MaySend() {
-		return refusal(http.StatusForbidden, "%s may send no events", q.by.Name)
+		return refusal(http.StatusForbidden, "the token %q has no right to send events", q.by.Name)
 	}
 	key, err := q.key()
 	if err != nil {
@@ -110,7 +110,7 @@ func (q *request) key() (string, error) {
 			appliedUnknown, 0, 0}
 	}
 	if isDated && age < -maxAhead {
-		return "", refusal(http.StatusBadRequest, "this key is from %s, which is yet to come: set the clock right that made it", made.UTC().Format(time.RFC3339))
+		return "", refusal(http.StatusBadRequest, "this key is from %s, which is in the future: correct the clock of the machine that made the key", made.UTC().Format(time.RFC3339))
 	}
 	return q.by.Name + "/" + key, nil
 }
@@ -137,9 +137,9 @@ func (q *request) body() (body []byte, release func(), err error) {
 		if q.r.ProtoMajor == 1 {
 			q.w.Header().Set("Connection", "close") // or the server would wait for the rest before it answers
 		}
-		err = refusal(http.StatusBadRequest, "the body was not read: %v", err)
+		err = refusal(http.StatusBadRequest, "the body could not be read: %v", err)
 	case len(body) == 0:
-		err = refusal(http.StatusBadRequest, "there is no line")
+		err = refusal(http.StatusBadRequest, "the body has no event line")
 	}
 	if err != nil {
 		release()
@@ -214,7 +214,7 @@ func (q *request) frameworkAlive() error { return q.alive(registry.Frameworks, "
 
 func (q *request) alive(kind, right string) error {
 	if !auth.IsName(q.name) || !q.by.Has(right, q.name) {
-		return refusal(http.StatusForbidden, "%s has no right to speak for %q", q.by.Name, q.name)
+		return refusal(http.StatusForbidden, "the token %q needs the right %s:%s", q.by.Name, right, q.name)
 	}
 	wasAlive, err := q.Sessions.Heartbeat(q.r.Context(), kind, q.name)
 	if err != nil {

@@ -81,7 +81,7 @@ func (q *request) createLogin() error {
 func (s *Server) useLogin(w http.ResponseWriter, r *http.Request) error {
 	if r.Method != http.MethodPost {
 		w.Header().Set("Allow", http.MethodPost)
-		return refusal(http.StatusMethodNotAllowed, "this call is a POST")
+		return refusal(http.StatusMethodNotAllowed, "this call needs the method POST, not %s", r.Method)
 	}
 	body, err := io.ReadAll(http.MaxBytesReader(w, r.Body, 256))
 	if err != nil {

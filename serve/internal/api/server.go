@@ -230,17 +230,17 @@ func (s *Server) dispatch(w http.ResponseWriter, r *http.Request) error {
 	by, err := find(callers, token, hasToken)
 	if err != nil {
 		w.Header().Set("WWW-Authenticate", "Bearer")
-		return unauthorized(err, "no known token: send `Authorization: Bearer TOKEN`")
+		return unauthorized(err, "missing or unknown token: send the header `Authorization: Bearer TOKEN`")
 	}
 	c, name, is := route(r.URL.Path)
 	switch {
 	case !is:
-		return refusal(http.StatusNotFound, "there is no such call: calls are below %s", Prefix)
+		return refusal(http.StatusNotFound, "there is no call %q: the paths of calls begin with %s", r.URL.Path, Prefix)
 	case r.Method != c.method:
 		w.Header().Set("Allow", c.method)
-		return refusal(http.StatusMethodNotAllowed, "this call is a %s", c.method)
+		return refusal(http.StatusMethodNotAllowed, "this call needs the method %s, not %s", c.method, r.Method)
 	case c.right != "" && !by.Has(c.right, ""):
-		return refusal(http.StatusForbidden, "%s has no right to %s", by.Name, c.right)
+		return refusal(http.StatusForbidden, "the token %q does not have the right %s", by.Name, c.right)
 	}
 	if err := s.limiter.Request(by.Name); err != nil {
 		return err

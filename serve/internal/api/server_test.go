@@ -56,7 +56,7 @@ func TestExpiredTokenIsRefused(t *testing.T) {
 		{"GET", "/drf/v1/status", token, `the token "web" expired at 2020-01-02T03:04:05Z: ask for a new one`},
 		{"POST", "/drf/v1/events", token, `the token "web" expired at 2020-01-02T03:04:05Z: ask for a new one; nothing was applied`},
 		{"POST", "/api/v1/scheduler", token, `the token "web" expired at 2020-01-02T03:04:05Z: ask for a new one`},
-		{"GET", "/drf/v1/status", token + "0", "no known token: send `Authorization: Bearer TOKEN`"},
+		{"GET", "/drf/v1/status", token + "0", "missing or unknown token: send the header `Authorization: Bearer TOKEN`"},
 		{"POST", "/api/v1/scheduler", token + "0", "no known principal"},
 	} {
 		r, w := httptest.NewRequest(c.method, c.path, nil), httptest.NewRecorder()

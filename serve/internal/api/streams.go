@@ -24,7 +24,7 @@ func (q *request) replies() error {
 // offers streams a framework's offers: those that exist, and then each that is made or ends.
 func (q *request) offers() error {
 	if !auth.IsName(q.name) || !q.by.Has("framework", q.name) && !q.by.Has("read", "") {
-		return refusal(http.StatusForbidden, "%s has no right to the offers of %q", q.by.Name, q.name)
+		return refusal(http.StatusForbidden, "the token %q needs the right framework:%s, or read", q.by.Name, q.name)
 	}
 	return q.stream(func() (*registry.Subscription, []byte) { return q.Registry.SubscribeOffers(q.name) })
 }
@@ -45,7 +45,7 @@ func (q *request) stream(subscribe func() (*registry.Subscription, []byte)) erro
 	q.w.Header().Set("Content-Type", "text/event-stream")
 	alive := time.NewTicker(reminder)
 	defer alive.Stop()
-	text, isOpen := append(text, ": these stand\n\n"...), true
+	text, isOpen := append(text, ": all existing offers were sent\n\n"...), true
 	for isOpen && q.send(text) {
 		select {
 		case text, isOpen = <-s.Events:

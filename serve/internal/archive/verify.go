@@ -32,7 +32,7 @@ func Verify(folder string, visit func(*Segment) error) (Report, error) {
 		return Report{}, err
 	}
 	if len(numbers) == 0 {
-		return Report{}, fmt.Errorf("%s has no segments", folder)
+		return Report{}, fmt.Errorf("%s: not an archive: expected files such as 00000001.segment", folder)
 	}
 	r := Report{First: numbers[0]}
 	if newest, err := read(folder, numbers[len(numbers)-1]); err == nil && newest.Kept < numbers[0] {

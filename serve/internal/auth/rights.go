@@ -57,6 +57,19 @@ func IsEvent(kind string) bool {
 	return is
 }
 
+// needed names the rights that a caller needs to send an event.
+func needed(kind string, object map[string]json.RawMessage) string {
+	rule := rules[kind]
+	if rule.named == "" {
+		return rule.right
+	}
+	right := rule.named + ":" + registry.Text(object, rule.named)
+	if kind == "add_framework" || kind == "set_framework" {
+		right += " and role:ROLE for each role"
+	}
+	return right + ", or " + rule.right
+}
+
 // Judged is a line as the allocator is to read it.
 type Judged struct {
 	Line  []byte
@@ -75,11 +88,13 @@ func (c *Caller) Judge(line []byte) (Judged, error) {
 	case c.Has("admin", ""):
 		return judged, nil
 	case object == nil:
-		return judged, errors.New("it is not a JSON object")
+		return judged, errors.New("the line is not a JSON object")
+	case !IsEvent(kind):
+		return judged, fmt.Errorf("unknown event %q", kind)
 	case !c.mayDo(kind, object):
-		return judged, fmt.Errorf("%s may not send this %q", c.Name, kind)
+		return judged, fmt.Errorf("the token %q may not send this %q: it needs the right %s", c.Name, kind, needed(kind, object))
 	case given && !c.Has("clock", ""):
-		return judged, errors.New("only a caller with the right `clock` may say `at`")
+		return judged, errors.New("only a token with the right clock may set `at`: leave it out")
 	}
 	var err error
 	judged.Line, err = encode(object)

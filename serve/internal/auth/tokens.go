@@ -33,8 +33,8 @@ func (c *Caller) HasExpired(now time.Time) bool { return c.Expires != nil && !no
 
 // Errors of tokens files and of tokens.
 var (
-	ErrUnknownToken = errors.New("no known token")
-	ErrNoCaller     = errors.New("there is no token of this name")
+	ErrUnknownToken = errors.New("unknown token")
+	ErrNoCaller     = errors.New("no token has this name")
 )
 
 // ExpiredError reports that a token was valid once.
@@ -80,7 +80,7 @@ func parse(path string, text []byte) (*Callers, error) {
 	reader := json.NewDecoder(bytes.NewReader(text))
 	reader.DisallowUnknownFields()
 	if err := reader.Decode(&callers.list); err != nil {
-		return nil, fmt.Errorf("%s: %w", path, err)
+		return nil, fmt.Errorf("%s: not a valid file of tokens: %w", path, err)
 	}
 	names := map[string]bool{}
 	for k, c := range callers.list {
@@ -92,11 +92,11 @@ func parse(path string, text []byte) (*Callers, error) {
 		}
 		switch {
 		case !isName.MatchString(c.Name):
-			return nil, fmt.Errorf("%s: token %q: a name has 1 to 64 letters, digits, dots, dashes and underscores", path, c.Name)
+			return nil, fmt.Errorf("%s: token %q: expected a name of 1 to 64 letters, digits, dots, dashes and underscores", path, c.Name)
 		case internalOwners[c.Name]:
 			return nil, fmt.Errorf("%s: token %q: this name is reserved for the gateways", path, c.Name)
 		case names[c.Name]:
-			return nil, fmt.Errorf("%s: token %q: there are two of this name", path, c.Name)
+			return nil, fmt.Errorf("%s: token %q: this name is already in use", path, c.Name)
 		}
 		if salt, err := hex.DecodeString(c.Salt); err != nil || len(salt) != 0 && len(salt) != saltSize {
 			return nil, fmt.Errorf("%s: token %q: the salt is not %d bytes in hexadecimal", path, c.Name, saltSize)

@@ -69,7 +69,7 @@ func (c *Cluster) connectAll(connect func(string) (*clientv3.Client, error), url
 		client, err := connect(url)
 		switch {
 		case errors.Is(err, rpctypes.ErrAuthFailed):
-			return nil, fmt.Errorf("etcd at %s does not take the user %q with this password", url, config.User)
+			return nil, fmt.Errorf("etcd at %s rejects the user %q or its password", url, config.User)
 		case err != nil && config.User == "":
 			return nil, fmt.Errorf("etcd at %s: %w", url, err)
 		case err != nil:

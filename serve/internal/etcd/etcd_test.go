@@ -81,7 +81,7 @@ func TestMemberWithoutMajority(t *testing.T) {
 }
 
 func TestMembersAreChecked(t *testing.T) {
-	for members, want := range map[string]string{"a=http://127.0.0.1:1,b": `"b" is not NAME=URL`, "b=http://127.0.0.1:1": "does not have this gateway's -name"} {
+	for members, want := range map[string]string{"a=http://127.0.0.1:1,b": `"b": expected NAME=URL`, "b=http://127.0.0.1:1": "does not have this gateway's -name"} {
 		if _, err := Open(context.Background(), Config{Name: "a", Folder: t.TempDir(), Members: members}); err == nil || !strings.Contains(err.Error(), want) {
 			t.Errorf("%s: %v", members, err)
 		}

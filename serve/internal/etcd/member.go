@@ -116,7 +116,7 @@ func joinMembers(config *embed.Config, o Config) error {
 		name, text, _ := strings.Cut(member, "=")
 		address, err := url.Parse(text)
 		if err != nil || address.Host == "" {
-			return fmt.Errorf("-members: %q is not NAME=URL", member)
+			return fmt.Errorf("-members: %q: expected NAME=URL, such as a=https://a:2380", member)
 		}
 		if name == o.Name {
 			config.APUrls = append(config.APUrls, *address)

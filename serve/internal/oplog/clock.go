@@ -136,7 +136,7 @@ func (c *Clock) Run(ctx context.Context) {
 		}
 		c.mu.Lock()
 		if (fault == "") != (c.fault == "") {
-			if log.Print("clock: in agreement"); fault != "" {
+			if log.Print("clock: it agrees with the service's clock"); fault != "" {
 				log.Printf("clock: %s", fault)
 			}
 		}
@@ -242,22 +242,22 @@ func (c *Clock) judge(at, shared int64) (median int64, err error) {
 	case 2*len(ours) > len(away) && len(away) > 1: // a majority agrees
 		c.offset = c.apart()
 	case hasLeapt:
-		return 0, fmt.Errorf("the clock of this machine moved by %v since the gateway started: set it right, or restart the gateway", leapt.Round(time.Millisecond))
+		return 0, fmt.Errorf("the clock of this machine moved by %v since the gateway started: correct it, or restart the gateway", leapt.Round(time.Millisecond))
 	case len(away) > 2:
 		sort.Slice(away, func(i, j int) bool { return away[i] < away[j] })
 		middle := time.Duration(away[len(away)/2]) * time.Millisecond
-		return 0, fmt.Errorf("the clock of this machine is %s most gateways': set it right", apartText(-middle))
+		return 0, fmt.Errorf("the clock of this machine is %s the clocks of most gateways: correct it", apartText(-middle))
 	case len(away) == 2 && (ahead > c.bound || ahead < -c.bound):
-		return 0, fmt.Errorf("the clock of this machine is %s the service's: set it right", apartText(ahead))
+		return 0, fmt.Errorf("the clock of this machine is %s the service's clock: correct it", apartText(ahead))
 	}
 	if ahead < -c.bound {
-		return 0, fmt.Errorf("the clock of this machine is %s the service's: set it right", apartText(ahead))
+		return 0, fmt.Errorf("the clock of this machine is %s the service's clock: correct it", apartText(ahead))
 	}
 	if ahead > c.bound && !c.alone && c.running()-c.sharing < waitFor {
-		return 0, fmt.Errorf("the clock of this machine is %s the service's, which may have other gateways: waiting for them", apartText(ahead))
+		return 0, fmt.Errorf("the clock of this machine is %s the service's clock: waiting for other gateways to decide", apartText(ahead))
 	}
 	if shared > 0 && ahead > farAhead {
-		c.warn(fmt.Sprintf("the clock of this machine is %v ahead of the last time at which the service ran: check it", ahead.Round(time.Second)))
+		c.warn(fmt.Sprintf("the clock of this machine is %v ahead of the last time at which the service ran: check the clock", ahead.Round(time.Second)))
 	}
 	sort.Slice(ours, func(i, j int) bool { return ours[i] < ours[j] })
 	return at + ours[(len(ours)-1)/2], nil

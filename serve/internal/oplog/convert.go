@@ -133,7 +133,7 @@ func (l *Log) prepareLocked(ctx context.Context, folder string, isOld bool, leas
 				return fmt.Errorf("converting the list: %w", err)
 			}
 		}
-		log.Printf("the list is converted; what it was before is in %s", filepath.Join(folder, backupName))
+		log.Printf("the list is converted; %s has a backup of the old list", filepath.Join(folder, backupName))
 	}
 	_, err = l.cluster.Client().Put(ctx, l.prefix+formatKey, formatText)
 	return err

@@ -74,7 +74,7 @@ func New(config Config, log *oplog.Log, registry *registry.Registry, ready func(
 }
 
 // ErrNotWatched reports that heartbeats of a kind have no effect.
-var ErrNotWatched = errors.New("this service does not watch for heartbeats of this kind")
+var ErrNotWatched = errors.New("heartbeats of this kind are not watched: the gateways need the flag -agent-timeout or -framework-timeout")
 
 // UnknownError reports a heartbeat of an owner that is not registered.
 type UnknownError struct{ Kind, Name string }

@@ -78,13 +78,13 @@ func TestDetails(t *testing.T) {
 		status                            int
 		want                              string
 	}{
-		{"eye", reader, c.id, "t1", 403, "eye has no right to operate, and is not the principal"},
-		{"eye", reader, "unknown", "t1", 403, "eye has no right to operate"},
+		{"eye", reader, c.id, "t1", 403, `the token "eye" does not have the right operate, and is not the principal`},
+		{"eye", reader, "unknown", "t1", 403, `the token "eye" does not have the right operate`},
 		{"ops", operator, c.id, "t2", 404, `has no task "t2"`},
 		{"ops", operator, "", "t1", 400, "expected"},
 		{"ops", operator, c.id, "t1", 202, ""},
 		{"web", owner, c.id, "t1", 202, ""},
-		{"web", owner, "unknown", "t1", 403, "web has no right to operate"},
+		{"web", owner, "unknown", "t1", 403, `the token "web" does not have the right operate`},
 	} {
 		if status, text := kill(one.principal, one.token, one.framework, one.task); status != one.status || !strings.Contains(text, one.want) {
 			t.Errorf("%s kills %q of %q: %d %s", one.principal, one.task, one.framework, status, text)

@@ -137,7 +137,7 @@ async function sendOnce(mine, body) {
 }
 function httpAnswer(response, text) {
   const why = cut(visible(text.trim()), 300), applied = response.headers.get("Drf-Applied");
-  if (response.status === 403) return {isOver: true, text: `You have no right to this: ${why}.`};
+  if (response.status === 403) return {isOver: true, text: `Your token does not allow this: ${why}.`};
   if (applied === "unknown" || response.status === 504) return {text: `It is not known whether this was applied: ${why}. If you send it again, it is applied at most once.`};
   return {isOver: applied !== "yes", text: `The gateway refused it: ${why}.`};
 }

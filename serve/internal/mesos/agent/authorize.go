@@ -71,7 +71,7 @@ func (z *Authorizer) Check(ctx context.Context, authorization, right string) err
 	request.Header.Set("Authorization", authorization)
 	answer, err := z.agent.client.Do(request)
 	if err != nil {
-		return fmt.Errorf("no gateway answers who the caller is: %w", err)
+		return fmt.Errorf("no gateway could be asked for the caller's rights: %w", err)
 	}
 	defer answer.Body.Close()
 	text, _ := io.ReadAll(io.LimitReader(answer.Body, 1000))
@@ -82,7 +82,7 @@ func (z *Authorizer) Check(ctx context.Context, authorization, right string) err
 	case http.StatusUnauthorized, http.StatusForbidden, http.StatusTooManyRequests:
 		return &Denied{answer.StatusCode, string(bytes.TrimSpace(text))}
 	}
-	return fmt.Errorf("the gateway answers %s to who the caller is", answer.Status)
+	return fmt.Errorf("the gateway answered %s when it was asked for the caller's rights", answer.Status)
 }
 
 func (z *Authorizer) isKnown(key [32]byte) bool {

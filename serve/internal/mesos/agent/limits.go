@@ -76,7 +76,7 @@ func hasControllers(folder string) error {
 		found[name] = true
 	}
 	if !found["cpu"] || !found["memory"] {
-		return fmt.Errorf("%s: the controllers cpu and memory are not there: it has %q", folder, strings.TrimSpace(string(text)))
+		return fmt.Errorf("%s: expected the controllers cpu and memory, found %q", folder, strings.TrimSpace(string(text)))
 	}
 	return nil
 }

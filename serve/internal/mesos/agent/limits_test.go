@@ -68,7 +68,7 @@ func TestLimits(t *testing.T) {
 	if folder, reason, err := FindCgroups("none"); folder != "" || reason == nil || err != nil {
 		t.Error(folder, reason, err)
 	}
-	if _, _, err := FindCgroups(fakeCgroups(t, "hugetlb")); err == nil || !strings.Contains(err.Error(), "the controllers cpu and memory are not there") {
+	if _, _, err := FindCgroups(fakeCgroups(t, "hugetlb")); err == nil || !strings.Contains(err.Error(), "expected the controllers cpu and memory") {
 		t.Error(err)
 	}
 	if _, _, err := FindCgroups(filepath.Join(t.TempDir(), "x")); err == nil || !strings.Contains(err.Error(), "is not in cgroup v2") {

@@ -91,7 +91,7 @@ func (p *process) openOutput(path string) (*os.File, error) {
 	if err == nil {
 		stat := about.Sys().(*syscall.Stat_t)
 		if !about.Mode().IsRegular() || stat.Nlink != 1 {
-			err = fmt.Errorf("%s is no file of its own", path)
+			err = fmt.Errorf("%s is not a regular file with a single link", path)
 		}
 	}
 	if err == nil {

@@ -55,7 +55,7 @@ func mayRead(c *api.Call) error {
 	if c.By().Has("read", "") {
 		return nil
 	}
-	return api.Refuse(http.StatusForbidden, "%s has no right to read", c.By().Name)
+	return api.Refuse(http.StatusForbidden, "the token %q does not have the right read", c.By().Name)
 }
 
 // view returns the state as operators see it, after everything that any gateway answered before.

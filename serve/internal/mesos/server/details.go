@@ -139,7 +139,7 @@ func (s *Server) killTask(c *api.Call) error {
 	}
 	switch {
 	case !c.By().Has("operate", "") && (principal == "" || principal != c.By().Name):
-		return api.Refuse(http.StatusForbidden, "%s has no right to operate, and is not the principal of the framework", c.By().Name)
+		return api.Refuse(http.StatusForbidden, "the token %q does not have the right operate, and is not the principal of the framework", c.By().Name)
 	case state == "":
 		return api.Refuse(http.StatusNotFound, "the framework %q has no task %q", asked.Framework, asked.Task)
 	case mesos.IsTerminal(state):

@@ -30,7 +30,7 @@ func (s *Server) link(c *api.Call) error {
 	}
 	id := call.Text("agent_id.value")
 	if !resources.IsName(id) || !c.By().Has("agent", id) {
-		return api.Refuse(http.StatusForbidden, "%s has no right to speak for the agent %q", c.By().Name, id)
+		return api.Refuse(http.StatusForbidden, "the token %q needs the right agent:%s", c.By().Name, id)
 	}
 	if err := s.allocator.WaitReady(c.R.Context()); err != nil {
 		return err

@@ -237,7 +237,7 @@ def replaying_and_a_lost_gateway_are_told(browser, room):
     browser.wait("live", lambda: browser.text("#health") == "Live" and "replaying" not in browser.text("#notes"))
     own.end()
     browser.wait("lost", lambda: browser.text("#health") == "No answer" and "no answer since" in browser.text("#lost"))
-    holds("it says that it asks again", "asks again by itself" in browser.text("#lost") and browser.one("#lost").is_displayed())
+    holds("it says that it tries again", "tries again by itself" in browser.text("#lost") and browser.one("#lost").is_displayed())
     equal("how it is announced", [browser.one("#lost").get_attribute("role"), browser.one("#health").get_attribute("aria-live")], ["alert", "polite"])
     holds("what was last known stays", browser.texts("#tree tbody tr"))
     browser.console()

@@ -39,7 +39,7 @@ async function search(before) {
     if (id !== asked) return;
     if (!answer.ok) { say($("audit-state"), "No answer: " + cut(visible((await answer.text()).trim()), 200)); return; }
     page = await answer.json();
-  } catch { if (id === asked) say($("audit-state"), "The gateway gives no answer. Search again."); return; }
+  } catch { if (id === asked) say($("audit-state"), "The gateway does not answer. Search again."); return; }
   body.append(...page.records.map(rowOf));
   const count = body.rows.length;
   $("audit-table").hidden = !count;

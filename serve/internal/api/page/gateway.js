@@ -14,7 +14,7 @@ export async function call(path, options = {}) {
   const answer = await fetch(path, {...options, headers, signal: mine.stop.signal, cache: "no-store"});
   const isDenied = answer.status === 401 || answer.status === 403 && !options.method;
   if (isDenied && mine === visit) {
-    const why = answer.status === 401 ? "This token is not known here." : cut(visible(await answer.text()), 200) || "This token may not read.";
+    const why = answer.status === 401 ? "The gateway does not know this token." : cut(visible(await answer.text()), 200) || "This token may not read.";
     leave(why);
     throw new Error(why);
   }
@@ -48,7 +48,7 @@ async function refresh() {
     const why = (await answer.text()).trim();
     if (answer.status !== 501) throw new Error(why);
     mine.stateless = true;
-    view.lacks = "Only shares are shown. Agents, limits, offers and what is offered apart from used are not available: " + cut(visible(why), 200);
+    view.lacks = "Only shares are shown. Agents, limits and offers are not available: " + cut(visible(why), 200);
   }
   view.cluster = clusterOfReport(await json("/drf/v1/report"));
   mine.message = status.messages;
@@ -79,7 +79,7 @@ async function follow(mine, drawn) {
       if (mine !== visit) return;
       if (!mine.failed++) mine.since = new Date().toLocaleTimeString("en-GB", {timeZoneName: "short"});
       drawHealth("bad", "No answer");
-      drawLost(`The gateway gives no answer since ${mine.since}. What is shown is from before. This page asks again by itself. (${cut(visible(error.message), 160)})`);
+      drawLost(`The gateway has not answered since ${mine.since}. The page shows the last known state, and tries again by itself. (${cut(visible(error.message), 160)})`);
     }
     if (mine !== visit) return;
     drawn();
@@ -132,8 +132,8 @@ function heard(block) {
 function drawStatus(s) {
   const restarts = s.allocator?.restarts || 0;
   const fault = s.fault && s.fault !== "replaying" ? ` (${cut(visible(s.fault), 300)})` : "";
-  view.problem = !s.ready ? "This gateway is replaying: it feeds its allocator again, and takes no events yet." + fault
-    : s.clock_fault ? "This gateway takes no events: " + cut(visible(s.clock_fault), 300) + "." : "";
+  view.problem = !s.ready ? "This gateway is replaying: it passes earlier messages to its allocator, and accepts no events yet." + fault
+    : s.clock_fault ? "This gateway accepts no events: " + cut(visible(s.clock_fault), 300) + "." : "";
   view.warning = s.clock_warning ? "Check the clock: " + cut(visible(s.clock_warning), 300) + "." : "";
   view.restarts = restarts ? `The allocator was restarted ${plural(restarts, "time")} since this gateway started.` : "";
   drawHealth(!s.ready ? "warn" : s.clock_fault ? "bad" : "ok", !s.ready ? "Replaying" : s.clock_fault ? "Takes no events" : "Live");

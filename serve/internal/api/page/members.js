@@ -21,7 +21,7 @@ function drawGateway(td, g) {
   else mark(td, "ok", "ready");
 }
 const gateways = new List({
-  name: "gateway", names: "gateways", caption: "Gateways", keyOf: g => g.name, sort: ["name", false], empty: "This gateway does not say which others there are.", textOf: g => g.name, isSmall: true,
+  name: "gateway", names: "gateways", caption: "Gateways", keyOf: g => g.name, sort: ["name", false], empty: "This gateway does not report the other gateways.", textOf: g => g.name, isSmall: true,
   columns: [
     {key: "name", label: "Gateway", sort: g => natural(g.name), text: g => visible(g.name) + (g.name === view.status?.name ? " (this one)" : "")},
     {key: "state", label: "State", sort: g => `${g.live} ${g.ready}`, update: drawGateway},
@@ -33,7 +33,7 @@ const gateways = new List({
   ],
 });
 const etcd = new List({
-  name: "member", names: "members of etcd", caption: "Members of etcd", keyOf: m => m.id || m.name, sort: ["name", false], empty: "This gateway does not say which members etcd has.", textOf: m => m.name, isSmall: true,
+  name: "member", names: "members of etcd", caption: "Members of etcd", keyOf: m => m.id || m.name, sort: ["name", false], empty: "This gateway does not report the members of etcd.", textOf: m => m.name, isSmall: true,
   columns: [
     {key: "name", label: "Member of etcd", sort: m => natural(m.name), text: m => visible(m.name || m.id)},
     {key: "state", label: "State", sort: m => `${m.reachable} ${m.leader}`,

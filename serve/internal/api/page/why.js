@@ -59,7 +59,7 @@ function answersOf(name, rows, seen) {
   }).sort((a, b) => !!b.yes - !!a.yes);
   const tried = new Set([...mine, ...others].flatMap(s => s.agents)), passed = [...seen].filter(a => !tried.has(a));
   if (passed.length && !mine.some(s => s.why === "Suppressed")) {
-    answers.push({text: `Others come before it, and leave nothing worth an offer. On ${plural(passed.length, "agent")}: ${some(passed, 5)}.`});
+    answers.push({text: `Other clients come before it, and leave too little for an offer. On ${plural(passed.length, "agent")}: ${some(passed, 5)}.`});
   }
   for (const s of others) answers.push({text: whys[s.why] ? whys[s.why](s) + "." + on(s) : visible(s.why)});
   return answers.length ? answers : [{text: "There is no agent with anything free."}];

@@ -1,9 +1,9 @@
 #!/usr/bin/env python3
-"""Outside the proof. Tries mutants: wrong bodies, each of which a stored run must refuse.
-Each file bench/mutants/CRATE/NAME.edit has the form of a must-fail edit, and one line more, `caught by: PROGRAM`. For each, this script copies the
-crates, applies the edit, builds the program without proofs, runs it as `rt ci` does, and compares what it writes with crates/PROGRAM/stdout.
-PROGRAM may also be a script of bench/, which must then count differences on the copy. Before that, everything must pass on the unchanged crates.
-It prints `ok NAME: refused by PROGRAM, at line N` or `FAILED NAME: why`. The status is 1 if one failed. It needs a C compiler.
+"""Outside the proof. Checks that each mutant, a wrong change of the code, is detected by a stored run.
+Each file bench/mutants/CRATE/NAME.edit has the form of a must-fail edit, with one more line, `caught by: PROGRAM`. For each of them, this script copies
+the crates, applies the edit, builds the program without proofs, runs it as `rt ci` does, and compares its output with crates/PROGRAM/stdout.
+PROGRAM may also be a script of bench/, which must then find differences on the copy. Before that, everything must pass on the unchanged crates.
+The script prints `ok NAME: refused by PROGRAM, at line N` or `FAILED NAME: why`. The status is 1 if one failed. It needs a C compiler.
 
     bench/mutants.py            all mutants: 45 minutes of processor time
     bench/mutants.py NAME..     only these"""

@@ -1,13 +1,13 @@
 #!/usr/bin/env python3
-"""Outside the proof. Damages a state file in every place: each byte changed, dropped, doubled and turned with the next, each line dropped, doubled and turned
-with the next or the last, the file cut behind each byte, and more behind it. Each must be refused by a line that is not before the damage, with
-status 3 and nothing written, or be the very state. Then the same with a last line that fits what stands before it: that is refused as well, or
-is another state, of which a save writes just these bytes.
+"""Outside the proof. Damages a state file in every place: changes, removes and doubles each byte and each line, exchanges it with the next one (a line also
+with the last one), cuts the file after each byte, and appends more to it. The program must refuse each damaged file with status 3, name a line that is
+not before the damage, and write nothing; or the file must be the original state. Then the same is done with a last line that is correct for the
+damaged lines. Such a file must be refused too, or be another state, which `save` writes again byte for byte.
 
-    bench/sweeps/damaged_states.py                  the program that ./drf builds
-    bench/sweeps/damaged_states.py PROGRAM          another one
-    bench/sweeps/damaged_states.py PROGRAM whole    a state at the ends of all tables too, of 9 MB: it is read and written again, and with one more
-                                             of anything refused there"""
+    bench/sweeps/damaged_states.py                  tests the released program
+    bench/sweeps/damaged_states.py PROGRAM          tests another one
+    bench/sweeps/damaged_states.py PROGRAM whole    also with a state of 9 MB that fills all tables: it is read and written again, and refused with
+                                                    one more row of any table"""
 import hashlib
 import json
 import os

@@ -1,12 +1,12 @@
 #!/usr/bin/env python3
-"""Outside the proof. Makes each read and each write of the program fail in turn, in several ways and with pieces of several lengths, while it takes
-events: after a read fault just the lines that had come whole are answered (an audit, an explanation, a check and a drive
-write nothing then), after a write fault just what the device took is out, and it is a front of the answers; the status and the
-line on standard error tell of it. Pieces of any length alone change nothing. It needs a C compiler.
+"""Outside the proof. Makes each read and each write of the program fail in turn, in several ways and with chunks of several sizes, while it reads events.
+After a read error, exactly the complete lines must have been answered (an audit, an explanation, a check and a drive then write nothing). After a write
+error, exactly what the device accepted must have been written, which is a prefix of the replies. The status and the line on standard error must report
+the error. The size of the chunks alone must change nothing. It needs a C compiler.
 
-    bench/sweeps/failing_devices.py                  the program that ./drf builds, on lines that use every event
-    bench/sweeps/failing_devices.py PROGRAM          another one
-    bench/sweeps/failing_devices.py PROGRAM whole    on the lines of examples/ too, in some minutes"""
+    bench/sweeps/failing_devices.py                  tests the released program on lines that use every event
+    bench/sweeps/failing_devices.py PROGRAM          tests another one
+    bench/sweeps/failing_devices.py PROGRAM whole    also on the lines of examples/, in some minutes"""
 import errno
 import os
 import subprocess

@@ -1,11 +1,11 @@
 #!/usr/bin/env python3
-"""Outside the proof. Asks the program at the ends of its limits: as many agents, frameworks, clients, weights, limits, names, filters and tasks as there
-may be and one more, the greatest amounts, shares that differ in their last place, and the latest moments. Each reply is compared with what
-the rules say, the journal must check as good, and another program, where one is named, must write the same bytes.
+"""Outside the proof. Tests the program at its capacities: as many agents, frameworks, clients, weights, limits, names, filters and tasks as are allowed and
+one more, the greatest amounts, shares that differ in the last digit, and the latest timestamps. Each reply is compared with what the rules say,
+`drf check` must accept the journal, and another program, if one is given, must write the same bytes.
 
-    bench/sweeps/limits.py                  the program that ./drf builds, all but the filters
-    bench/sweeps/limits.py PROGRAM          another one
-    bench/sweeps/limits.py PROGRAM whole    the filters too
+    bench/sweeps/limits.py                  tests the released program, without the filters
+    bench/sweeps/limits.py PROGRAM          tests another one
+    bench/sweeps/limits.py PROGRAM whole    also fills the table of filters
     bench/sweeps/limits.py PROGRAM whole OTHER"""
 import json
 import os

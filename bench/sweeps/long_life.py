@@ -1,9 +1,9 @@
 #!/usr/bin/env python3
-"""Outside the proof. Keeps a cluster in use for a million events, and tells how much memory the program has on the way: it must not have grown by a
-tenth after the first of ten parts. Then the same lines are run for a journal, which must check as good.
+"""Outside the proof. Keeps a cluster busy for up to a million events, and prints how much memory the program uses meanwhile. After the first tenth of the
+events, the memory must not grow by more than a tenth. Then the same lines are run with --echo, and `drf check` must accept the journal.
 
-    bench/sweeps/long_life.py                 the program that ./drf builds, 100,000 events
-    bench/sweeps/long_life.py PROGRAM         another one
+    bench/sweeps/long_life.py                 tests the released program with 100,000 events
+    bench/sweeps/long_life.py PROGRAM         tests another one
     bench/sweeps/long_life.py PROGRAM whole   1,000,000 events, in some minutes"""
 import os
 import re

@@ -1,9 +1,9 @@
 #!/usr/bin/env python3
-"""Outside the proof. Gives the program one line at a time, and the next one only once all that comes of it is there: no reply, answer or fault of a line
-may wait for more input. The clauses promise that of lines that ended 65,536 bytes before; the gate runs it of `run` alone.
+"""Outside the proof. Gives the program one line at a time, and the next line only after the whole output for it has arrived: no reply, answer or error may
+wait for more input. The contracts promise this only for lines that ended 65,536 bytes before.
 
-    bench/sweeps/prompt_answers.py           the program that ./drf builds
-    bench/sweeps/prompt_answers.py PROGRAM   another one"""
+    bench/sweeps/prompt_answers.py           tests the released program
+    bench/sweeps/prompt_answers.py PROGRAM   tests another one"""
 import os
 import select
 import subprocess

@@ -1,11 +1,11 @@
 #!/usr/bin/env python3
-"""Outside the proof. Plays random events, refused ones among them, on `drf run` and on a slow allocator that follows docs/REFERENCE.md and docs/CONCEPTS.md
-literally: lists of rows, sums over all of them, and exact fractions. Each reply must be the same, byte for byte, and so must the state that `drf save` writes in
-the end.
+"""Outside the proof. Runs random events, some of which are refused, on `drf run` and on a slow allocator that follows docs/REFERENCE.md and docs/CONCEPTS.md
+literally: lists of rows, sums over all of them, and exact fractions. Each reply must be the same, byte for byte, and so must the state that `drf save`
+writes at the end.
 
-    bench/sweeps/random_events.py [PROGRAM [LISTS [SEED]]]      200 lists of 150 events if nothing else is said
+    bench/sweeps/random_events.py [PROGRAM [LISTS [SEED]]]      200 lists of 150 events by default
 
-Resources are scalars. It prints `ok` or the first list that differs, as event lines that can be run again."""
+All resources are scalars. It prints `ok`, or the first list with a difference, as event lines that can be run again."""
 import json
 import os
 import random

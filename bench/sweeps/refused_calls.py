@@ -1,13 +1,13 @@
 #!/usr/bin/env python3
-"""Outside the proof. Makes calls of the libraries again and again, each time with the next growth of memory refused, until none was refused: each event
-as a step of the allocator, as a call of a master that is watched, and as an entry of a book; all events as one list, one input and
-one journal; each line as a text; and calls below the allocator. At want of memory what stands must be what stood before, and the call made
-again must answer as if nothing had been; an event that is refused by its number must be so at every growth, but for late refusals. It
-needs a C compiler. CALLS is the program of bench/sweeps/refused_calls, DRF the one that checks journals and answers lines.
+"""Outside the proof. Repeats calls of the libraries, and refuses one memory allocation more each time, until none was refused: each event as a step of the
+allocator, as a call of a master with viewers, and as an entry of a book; all events as one list, one input and one journal; each line as a text; and
+calls of the crates below the allocator. When memory runs out, the state must be as before, and the same call must then succeed as if nothing had
+happened. An event that is refused must be refused at every allocation, except for late refusals. It needs a C compiler. CALLS is the program of
+bench/sweeps/refused_calls, and DRF the one that checks journals and answers lines.
 
-    bench/sweeps/refused_calls.py                     builds both (CALLS without proofs, by bench/tools/unproved.py)
-    bench/sweeps/refused_calls.py CALLS DRF          other builds
-    bench/sweeps/refused_calls.py CALLS DRF whole    on the lines of examples/ too; - for CALLS or DRF builds it"""
+    bench/sweeps/refused_calls.py                     builds both (CALLS without proofs, with bench/tools/unproved.py)
+    bench/sweeps/refused_calls.py CALLS DRF          tests other builds
+    bench/sweeps/refused_calls.py CALLS DRF whole    also on the lines of examples/; `-` for CALLS or DRF builds it"""
 import json
 import os
 import subprocess

@@ -1,12 +1,11 @@
 #!/usr/bin/env python3
-"""Outside the proof. Refuses each growth of memory in turn, once, while the program takes events: what was written must be whole lines of a front
-of the answers, and the status and the line on standard error must say that memory ended; or else all was answered. Of files
-that are driven side by side no two journals need be the same, nor the growths of two runs: what was written must be a journal
-that the program's own check finds good, with all events unless memory ended. It needs a C compiler.
+"""Outside the proof. Refuses each memory allocation in turn, once, while the program reads events. Either all replies must be written, or the output must be
+complete lines of a prefix of the replies, and the status and the line on standard error must report that memory ran out. In a drive, two runs may have
+different journals and allocations: `drf check` must accept what was written, and it must have all events unless memory ran out. It needs a C compiler.
 
-    bench/sweeps/refused_memory.py                  the program that ./drf builds, on lines that use every event
-    bench/sweeps/refused_memory.py PROGRAM          another one
-    bench/sweeps/refused_memory.py PROGRAM whole    on the lines of examples/ too, in some minutes"""
+    bench/sweeps/refused_memory.py                  tests the released program on lines that use every event
+    bench/sweeps/refused_memory.py PROGRAM          tests another one
+    bench/sweeps/refused_memory.py PROGRAM whole    also on the lines of examples/, in some minutes"""
 import json
 import os
 import subprocess

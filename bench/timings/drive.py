@@ -1,10 +1,10 @@
 #!/usr/bin/env python3
-"""Outside the proof. Times `drive` of 1, 2, 8 and 64 files, 20,000 events together: seconds of the processor and by the clock, medians of five runs. Then
-64 files of 10,000 events each. Each journal must be one that the program's own check finds good, with all events.
+"""Outside the proof. Measures `drive` with 1, 2, 8 and 64 files that have 20,000 events together: processor time and elapsed time, medians of five runs. Then
+64 files of 10,000 events each. `drf check` must accept each journal, with all events.
 
-    bench/timings/drive.py                 the program that ./drf builds
-    bench/timings/drive.py PROGRAM         another one
-    bench/timings/drive.py PROGRAM PEER    beside one that takes the same words, one's run after the other's"""
+    bench/timings/drive.py                 measures the released program
+    bench/timings/drive.py PROGRAM         measures another one
+    bench/timings/drive.py PROGRAM PEER    compares with one that takes the same arguments; the runs alternate"""
 import os
 import random
 import resource

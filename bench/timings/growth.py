@@ -1,10 +1,10 @@
 #!/usr/bin/env python3
-"""Outside the proof. Tells what an event costs where more stands. A cluster of each size is turned over, so that its events meet as many rows; the
-processor microseconds of an event stand beside the exponent by which they grow, which is 0 where they stay the same.
+"""Outside the proof. Measures how long an event takes in larger clusters. In a cluster of each size, all rows are replaced, so that the events find that many
+rows. It prints the processor time of an event in microseconds, and the exponent with which it grows, which is 0 if it stays the same.
 
-    bench/timings/growth.py                       asks the program that ./drf builds
-    bench/timings/growth.py COMMAND..             asks another command that answers event lines
-    bench/timings/growth.py --instructions [..]   counts instructions, by Debian's valgrind, which other work does not change"""
+    bench/timings/growth.py                       measures the released program
+    bench/timings/growth.py COMMAND..             measures another command that answers event lines
+    bench/timings/growth.py --instructions [..]   counts instructions with Debian's valgrind, on which other work has no influence"""
 import math
 import os
 import re

@@ -1,9 +1,9 @@
 #!/usr/bin/env python3
-"""Outside the proof. Tells how many reports viewers read while one thread calls, a call for each line of a cluster in use: reads and calls a second with
-1, 8 and 64 viewers, each on a thread of its own. It builds an unproved program (bench/tools/unproved.py), in some minutes.
+"""Outside the proof. Measures how many reports viewers read while one thread makes calls, one for each line of a busy cluster: reads and calls a second with
+1, 8 and 64 viewers, each on its own thread. It builds a program without proofs (bench/tools/unproved.py), in some minutes.
 
-    bench/timings/readers.py PROGRAM            PROGRAM answers lines, from which the lines are made
-    bench/timings/readers.py PROGRAM READERS    READERS is what bench/tools/unproved.py made of bench/timings/readers before"""
+    bench/timings/readers.py PROGRAM            PROGRAM answers event lines, from which the lines are generated
+    bench/timings/readers.py PROGRAM READERS    READERS is what bench/tools/unproved.py built from bench/timings/readers before"""
 import os
 import subprocess
 import sys

@@ -1,12 +1,12 @@
 #!/usr/bin/env python3
-"""Outside the proof. Times the program on inputs of several kinds: processor seconds (medians of three runs), lines a second and peak
-memory of each; then one report more of two large clusters.
+"""Outside the proof. Measures the program on inputs of several kinds: processor time (medians of three runs), lines a second and the greatest memory use of
+each; then one more report of two large clusters.
 
-    bench/timings/speed.py                        the program that ./drf builds
-    bench/timings/speed.py PROGRAM                another one; - for that of ./drf
-    bench/timings/speed.py PROGRAM 100            a hundredth of each input, for a try
-    bench/timings/speed.py PROGRAM SHORTER PLAIN  beside a program that reads each line as a JSON value, by the same library, and drops it:
-                                                  what rt or bench/tools/unproved.py made of bench/timings/plain; - builds it by the latter"""
+    bench/timings/speed.py                        measures the released program
+    bench/timings/speed.py PROGRAM                measures another one; `-` is the released one
+    bench/timings/speed.py PROGRAM 100            a hundredth of each input, to try the script
+    bench/timings/speed.py PROGRAM SHORTER PLAIN  compares with a program that only reads each line as JSON with the same library: what rt or
+                                                  bench/tools/unproved.py built from bench/timings/plain; `-` builds it with the latter"""
 import itertools
 import os
 import resource

@@ -1,8 +1,8 @@
 #!/usr/bin/env python3
-"""Outside the proof. Writes examples/busy_day.jsonl, the event lines of a day of three teams on thirty machines. A site that grows with
-its visitors, builds and batches answer what they are offered, so the lines are made by talking to the program.
+"""Outside the proof. Writes examples/busy_day.jsonl, the event lines of a day of three teams on thirty machines: a site that grows with its visitors, builds,
+and batch jobs. Their replies depend on the offers, so the script runs the program while it generates the lines.
 
-    bench/tools/busy_day.py PROGRAM WORD..    the program's words, as `drf run`"""
+    bench/tools/busy_day.py PROGRAM ARGUMENT..    the command to run, such as `./drf run`"""
 import math
 import random
 import sys

@@ -1,9 +1,8 @@
 #!/usr/bin/env python3
-"""Outside the proof. Writes the lines of a cluster in use: cycles, offers that are accepted in part or declined, tasks that end. What comes
-depends on what is offered, so the lines are made by talking to the program, which is waited for at each cycle; a reply that is
-not as expected ends it.
+"""Outside the proof. Writes the event lines of a busy cluster: cycles, offers that are accepted in part or declined, tasks that end. The lines depend on the
+offers, so the script runs the program, and waits for its reply to each cycle. It ends if a reply is not as expected.
 
-    bench/tools/churn.py PROGRAM WORD.. > FILE     the program's lines, for 500 agents, 100 frameworks and 40 cycles"""
+    bench/tools/churn.py PROGRAM ARGUMENT.. > FILE     the command to run, such as `./drf run`; 500 agents, 100 frameworks and 40 cycles"""
 import json
 import random
 import subprocess

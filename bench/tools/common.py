@@ -1,5 +1,5 @@
-"""Outside the proof. What the scripts here have in common: the program that they try, its inputs, a library that stands in front of the system's
-calls, and the toolchain."""
+"""Outside the proof. Functions that the scripts here share: the tested program, its inputs, a library that intercepts the calls of the system, and the
+toolchain."""
 import os
 import shutil
 import subprocess

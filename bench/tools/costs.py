@@ -1,11 +1,11 @@
 #!/usr/bin/env python3
-"""Outside the proof. Runs a command, such as `rt ci --anew`, and prints what its checks cost: a table of crates with their lines, the processor seconds and
-the memory of the proof, the processor seconds of mutants and of builds, and whether a crate is on the longest chain of crates that wait for each other.
+"""Outside the proof. Runs a command, such as `rt ci --anew`, and prints how long its checks take: a table of crates with their lines, the processor time and
+memory of the proof, the processor time of mutants and of builds, and whether a crate is on the longest chain of crates that wait for each other.
 
     bench/tools/costs.py [--out FILE] COMMAND..
 
-It looks twice a second at the processes of the prover that the command started, and changes nothing. A process that ends is counted as it was seen last, so
-the sum is a little low. What `rt ci` took from an earlier run costs nothing, and is not in the table."""
+Twice a second it looks at the prover's processes that the command started, and changes nothing. A process that ends counts as it was last seen, so the
+sum is a little low. What `rt ci` reused from an earlier run takes no time, and is not in the table."""
 import collections
 import os
 import subprocess

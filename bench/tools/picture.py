@@ -1,10 +1,10 @@
 #!/usr/bin/env python3
-"""Outside the proof. Draws the day of examples/busy_day.jsonl as docs/day.svg: each team's cpus in tasks and offered, which with what is
-free come to the cluster's, and the teams' weighted shares. All is the means, over quarters of an hour, of what the program tells at each
-moment: the rows of `save`, the shares of a report.
+"""Outside the proof. Draws the day of examples/busy_day.jsonl as docs/day.svg: the cpus of each team in tasks and offered, which together with the free ones
+are all cpus of the cluster, and the weighted shares of the teams. The values are means over quarters of an hour of what the program prints: the rows
+of `save`, and the shares of a report.
 
-    bench/tools/picture.py             asks ./drf
-    bench/tools/picture.py PROGRAM     asks another program of the same words"""
+    bench/tools/picture.py             runs ./drf
+    bench/tools/picture.py PROGRAM     runs another program with the same arguments"""
 import json
 import os
 import subprocess

@@ -1,7 +1,6 @@
 #!/usr/bin/env python3
 # An example of a Mesos framework: it runs one command on an agent, and prints the states of its task. Outside the proof.
-"""Runs a command as a task of a framework that speaks the v1 scheduler API of Apache Mesos. The token needs the rights role:ROLE and
-user:USER.
+"""Runs a command as a task of a Mesos framework (v1 scheduler API). The token needs the rights role:ROLE and user:USER.
 
     mesos_example.py --token-file admin.token --role web 'echo hello'"""
 import argparse
@@ -87,7 +86,7 @@ def main():
     parser.add_argument("--authority", help="a file with certificates to trust")
     parser.add_argument("--name", default="example", help="name of the framework and of the task")
     parser.add_argument("--role", default="example")
-    parser.add_argument("--user", default="nobody", help="the user that the task runs as, where the agent is root (nobody)")
+    parser.add_argument("--user", default="nobody", help="the user that the task runs as, if root runs the agent (nobody)")
     parser.add_argument("--cpus", type=float, default=0.5)
     parser.add_argument("--mem", type=float, default=64)
     parser.add_argument("command", help="a command for the shell")

@@ -141,7 +141,7 @@ def a_demo_says_what_is_missing(browser, room):
             os.symlink(shutil.which(name), os.path.join(bin_folder, name))
         done = subprocess.run([os.path.join(bare, "drf"), "demo"], capture_output=True, text=True, check=False, env={"PATH": bin_folder})
         equal("its status and words", (done.returncode, done.stderr.splitlines()),
-              (4, ["drf demo: Go or etcd's sources are missing: apt-get install golang-go golang-etcd-server-dev golang-google-protobuf-dev"]))
+              (4, ["drf demo: Go, or the sources of etcd or protobuf, are missing: apt-get install golang-go golang-etcd-server-dev golang-google-protobuf-dev"]))
 
 
 def take_screenshots(browser, room, folder):

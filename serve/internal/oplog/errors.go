@@ -62,7 +62,7 @@ func (e *UnavailableError) Unwrap() error { return e.Err }
 // ClockError reports that this gateway cannot append, because its clock disagrees with the other gateways' clocks.
 type ClockError struct{ Reason string }
 
-func (e *ClockError) Error() string { return "this gateway takes no events: " + e.Reason }
+func (e *ClockError) Error() string { return "this gateway accepts no events: " + e.Reason }
 
 // FatalError reports contradicting data: the gateway stops rather than answer from them.
 type FatalError struct{ Err error }

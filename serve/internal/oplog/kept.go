@@ -216,8 +216,11 @@ func (k *Kept) load(ctx context.Context) (*keptSet, error) {
 	return set, nil
 }
 
-// segmentOps returns the operations that add a segment.
+// segmentOps returns the operations that add a segment, and let all gateways notice that messages are pruned.
 func (k *Kept) segmentOps(first, revision int64, entries []keptEntry) []clientv3.Op {
+	if len(entries) == 0 {
+		return []clientv3.Op{clientv3.OpPut(k.guard(), "")}
+	}
 	name := fmt.Sprintf("%s%s%016d-%d", k.prefix, segmentSuite, first, revision)
 	return []clientv3.Op{clientv3.OpPut(k.guard(), ""), clientv3.OpPut(name, string(encodeSegment(entries)))}
 }

@@ -70,7 +70,9 @@ func (l *Log) touched(name string) string { return l.prefix + "touched/" + name 
 type pending struct {
 	*Batch
 	done     chan struct{}
-	hasShare bool // it is counted among the keys of its owner
+	hasShare bool  // it is counted among the keys of its owner
+	tries    int   // transactions with it that may have been committed
+	guard    int64 // the revision of the kept keys at the first of these
 	at       Revision
 	err      error
 }
@@ -218,11 +220,19 @@ func (l *Log) tryCommit(ctx context.Context, group []*pending, patience time.Dur
 		ops = append(ops, clientv3.OpPut(l.touched(name), ""))
 	}
 	clock, isSame := l.Clock.within(at), kept.isCurrent()
+	for _, p := range group {
+		if p.tries++; p.tries == 1 {
+			p.guard = kept.revision
+		}
+	}
 	answer, err := client.Txn(ctx).If(append(clock, isSame)...).Then(ops...).Else(clientv3.OpTxn([]clientv3.Cmp{isSame}, nil, nil)).Commit()
 	if err != nil {
 		return err
 	}
 	if !answer.Succeeded {
+		for _, p := range group {
+			p.tries--
+		}
 		if !answer.Responses[0].GetResponseTxn().Succeeded {
 			l.Kept.forget(kept)
 			return errKeptChanged
@@ -239,15 +249,20 @@ func (l *Log) tryCommit(ctx context.Context, group []*pending, patience time.Dur
 // check returns why a batch cannot be put now, whatever the list has: its key is that of a pruned message, or there is no room. The second error is
 // of the kept keys.
 func (l *Log) check(kept *keptSet, b *pending) (refused, err error) {
-	entry, is, err := kept.find(b.Key)
+	anonymous := isAnonymous(b.Key)
+	if !anonymous {
+		if entry, is, err := kept.find(b.Key); err != nil {
+			return nil, err
+		} else if is {
+			return entry.compare(b.Batch), nil
+		}
+	}
 	switch {
-	case err != nil:
-		return nil, err
-	case is:
-		return entry.compare(b.Batch), nil
+	case anonymous && b.tries > 0 && b.guard != kept.revision: // it may have been committed and pruned since then, and its key is not kept
+		return &UnavailableError{MayBeApplied: true}, nil
 	case b.Internal:
 		return nil, nil
-	case !isAnonymous(b.Key) && kept.count() >= l.Kept.max:
+	case !anonymous && kept.count() >= l.Kept.max:
 		return &FullError{What: fmt.Sprintf("%d idempotency keys are kept, which is -max-kept-keys: send this later, or without a key", kept.count()), Keys: true}, nil
 	}
 	if err := l.Space.check(); err != nil {

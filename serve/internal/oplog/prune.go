@@ -39,7 +39,7 @@ func (l *Log) Prune(ctx context.Context, to Position) error {
 	var entries []keptEntry
 	var keys []string
 	flush := func(first int64) error {
-		if len(entries) > 0 {
+		if len(entries) > 0 || len(keys) > 0 {
 			if _, err := l.cluster.Client().Txn(ctx).Then(l.Kept.segmentOps(first, revision, entries)...).Commit(); err != nil {
 				return fmt.Errorf("keeping the keys of pruned messages: %w", err)
 			}

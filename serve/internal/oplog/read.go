@@ -43,7 +43,7 @@ func (l *Log) Load(ctx context.Context, after Revision, revision int64, hand fun
 func (l *Log) index(ctx context.Context, revision int64) (index []*mvccpb.KeyValue, err error) {
 	from, end := l.messages(""), clientv3.GetPrefixRangeEnd(l.messages(""))
 	for {
-		page, err := l.cluster.Client().Get(ctx, from, clientv3.WithRange(end), clientv3.WithLimit(indexPage), clientv3.WithRev(revision), clientv3.WithKeysOnly())
+		page, err := l.cluster.Client().Get(ctx, from, clientv3.WithRange(end), clientv3.WithLimit(indexPage), clientv3.WithRev(revision), clientv3.WithKeysOnly(), clientv3.WithSerializable())
 		if err != nil {
 			return nil, fmt.Errorf("reading the list: %w", err)
 		}
@@ -72,7 +72,7 @@ func (l *Log) fetch(ctx context.Context, index []*mvccpb.KeyValue, revision int6
 		}
 		ops := make([]clientv3.Op, count)
 		for k := range ops {
-			ops[k] = clientv3.OpGet(string(index[k].Key), clientv3.WithRev(revision))
+			ops[k] = clientv3.OpGet(string(index[k].Key), clientv3.WithRev(revision), clientv3.WithSerializable())
 		}
 		answer, err := l.cluster.Client().Txn(ctx).Then(ops...).Commit()
 		if err != nil {

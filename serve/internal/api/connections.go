@@ -5,8 +5,10 @@ package api
 import (
 	"context"
 	"crypto/tls"
+	"io"
 	"net"
 	"net/http"
+	"os"
 	"time"
 
 	"gateway/internal/h2"
@@ -37,20 +39,65 @@ type deadlinesKey struct{}
 
 // withDeadlines returns a request that can be bounded in time. One over HTTP/1.1 can be, by its connection.
 func withDeadlines(w http.ResponseWriter, r *http.Request) *http.Request {
-	own, is := w.(interface {
-		SetReadDeadline(time.Time) error
-		SetWriteDeadline(time.Time) error
-	})
+	own, is := w.(interface{ SetWriteDeadline(time.Time) error })
 	if r.ProtoMajor == 1 || !is {
 		return r
 	}
-	d := deadlines{own.SetReadDeadline, own.SetWriteDeadline}
-	r = r.WithContext(context.WithValue(r.Context(), deadlinesKey{}, &d))
-	if r.ContentLength == 0 { // golang.org/x/net before 0.8 fails at the deadline of a body that there is not
-		r.Body, d.read = http.NoBody, func(time.Time) error { return nil }
-	}
+	body := &timedBody{body: r.Body}
+	r = r.WithContext(context.WithValue(r.Context(), deadlinesKey{}, &deadlines{body.setDeadline, own.SetWriteDeadline}))
+	r.Body = body
 	return r
 }
+
+// timedBody is a body over HTTP/2 with a deadline. With the library's deadline, the next part of a slow body would end its stream, often before
+// the caller has the answer.
+type timedBody struct {
+	body    io.ReadCloser
+	until   time.Time
+	pending chan readPart // of a read that goes on
+	left    readPart      // of what was read
+}
+
+type readPart struct {
+	text []byte
+	err  error
+}
+
+const timedPart = 32 << 10 // bytes that are read at once
+
+func (b *timedBody) setDeadline(until time.Time) error {
+	b.until = until
+	return nil
+}
+
+// Read reads from the body until the deadline. What goes on then ends with the handler.
+func (b *timedBody) Read(to []byte) (int, error) {
+	if len(b.left.text) == 0 && b.left.err == nil {
+		if b.pending == nil {
+			b.pending = make(chan readPart, 1)
+			go func(done chan<- readPart) {
+				text := make([]byte, timedPart)
+				n, err := b.body.Read(text)
+				done <- readPart{text[:n], err}
+			}(b.pending)
+		}
+		timer := time.NewTimer(time.Until(b.until))
+		defer timer.Stop()
+		select {
+		case b.left = <-b.pending:
+			b.pending = nil
+		case <-timer.C:
+			return 0, os.ErrDeadlineExceeded
+		}
+	}
+	n := copy(to, b.left.text)
+	if b.left.text = b.left.text[n:]; len(b.left.text) == 0 {
+		return n, b.left.err
+	}
+	return n, nil
+}
+
+func (b *timedBody) Close() error { return b.body.Close() }
 
 func deadlinesOf(r *http.Request) (d deadlines, is bool) {
 	if own, is := r.Context().Value(deadlinesKey{}).(*deadlines); is {

@@ -128,6 +128,9 @@ func (a *Allocator) Ready() error {
 
 // WaitReady waits a few seconds for a child that was just restarted.
 func (a *Allocator) WaitReady(ctx context.Context) error {
+	if a.Ready() == nil {
+		return nil
+	}
 	ctx, cancel := context.WithTimeout(ctx, 3*time.Second)
 	defer cancel()
 	a.positions.waitReady(ctx)

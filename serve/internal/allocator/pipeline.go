@@ -6,6 +6,7 @@ import (
 	"bufio"
 	"bytes"
 	"context"
+	"errors"
 	"fmt"
 	"log"
 	"os"
@@ -156,31 +157,43 @@ func (a *Allocator) collect(ctx context.Context, in *bufio.Reader, pipeline <-ch
 		case <-ctx.Done():
 			return ctx.Err()
 		}
-		for _, line := range f.lines {
-			echo, err := in.ReadBytes('\n')
-			if err != nil {
+		f.replies = make([][]byte, len(f.lines))
+		for k, line := range f.lines {
+			var err error
+			start := len(block)
+			if block, err = appendLine(block, in); err != nil {
 				return fmt.Errorf("reading its echo: %w", err)
 			}
-			if !bytes.Equal(echo[:len(echo)-1], line) {
+			if echo := block[start:]; !bytes.Equal(echo[:len(echo)-1], line) {
 				return &oplog.FatalError{Err: fmt.Errorf("the allocator echoed %.200q instead of %.200q, in message %s", echo, line, f.Key)}
 			}
-			reply, err := in.ReadBytes('\n')
-			if err != nil {
+			start = len(block)
+			if block, err = appendLine(block, in); err != nil {
 				return fmt.Errorf("reading its reply: %w", err)
 			}
-			f.replies, block = append(f.replies, reply), append(append(block, echo...), reply...)
+			f.replies[k] = block[start:len(block):len(block)]
 		}
 		done = append(done, f)
 		if len(pipeline) == 0 || in.Buffered() == 0 || len(block) > maxBlock || f.Key == "" || f.Marker != "" {
 			if err := a.deliver(block, done); err != nil {
 				return err
 			}
-			block, done = block[:0], nil
+			block, done = make([]byte, 0, len(block)), nil // the replies are parts of the old one
 		}
 		if f.Marker != "" {
 			if err := a.snapshots.onMarker(ctx, f, a.positions.last()); err != nil {
 				return err
 			}
+		}
+	}
+}
+
+// appendLine appends a line, which may be longer than the reader's buffer.
+func appendLine(text []byte, in *bufio.Reader) ([]byte, error) {
+	for {
+		part, err := in.ReadSlice('\n')
+		if text = append(text, part...); !errors.Is(err, bufio.ErrBufferFull) {
+			return text, err
 		}
 	}
 }

@@ -31,9 +31,14 @@ func unauthorized(err error, what string) error {
 
 // named returns a request whose context names its caller, and ends when the caller's token expires, so that no stream outlives it.
 func named(r *http.Request, by *auth.Caller) (*http.Request, context.CancelFunc) {
-	ctx, cancel := oplog.WithSender(r.Context(), oplog.NewSender(by.Name, r.RemoteAddr)), context.CancelFunc(func() {})
-	if by.Expires != nil {
-		ctx, cancel = context.WithTimeout(ctx, time.Until(*by.Expires))
+	return bounded(r.WithContext(oplog.WithSender(r.Context(), oplog.NewSender(by.Name, r.RemoteAddr))), by)
+}
+
+// bounded returns a request whose context ends when its caller's token expires.
+func bounded(r *http.Request, by *auth.Caller) (*http.Request, context.CancelFunc) {
+	if by.Expires == nil {
+		return r, func() {}
 	}
+	ctx, cancel := context.WithTimeout(r.Context(), time.Until(*by.Expires))
 	return r.WithContext(ctx), cancel
 }

@@ -119,7 +119,12 @@ func (q *request) key() (string, error) {
 func (q *request) body() (body []byte, release func(), err error) {
 	reader := http.MaxBytesReader(q.w, q.r.Body, maxBody)
 	release = func() {}
-	body, err = io.ReadAll(io.LimitReader(reader, smallBody))
+	if length := q.r.ContentLength; length > 0 && length < smallBody {
+		body = make([]byte, length)
+		_, err = io.ReadFull(reader, body)
+	} else {
+		body, err = io.ReadAll(io.LimitReader(reader, smallBody))
+	}
 	if err == nil && len(body) == smallBody {
 		if release, err = q.server.slots.Take(q.r.Context(), q.by.Name); err != nil {
 			return nil, nil, err
@@ -166,7 +171,8 @@ func (q *request) batch(key string, body []byte) (*oplog.Batch, error) {
 	if err := q.server.limiter.Batch(q.by.Name, len(body), count); err != nil {
 		return nil, err
 	}
-	b := &oplog.Batch{Key: key, Sender: oplog.SenderOf(q.r.Context()), Limited: !q.by.Has("operate", "")}
+	b := &oplog.Batch{Key: key, Sender: oplog.NewSender(q.by.Name, q.r.RemoteAddr), Limited: !q.by.Has("operate", "")}
+	b.Grow(len(body) + count)
 	touches := map[string]bool{}
 	for number, rest, more := 1, body, true; more; number++ {
 		var line []byte

@@ -92,9 +92,9 @@ func TestBodies(t *testing.T) {
 			{"small", strings.NewReader("x"), 200, version + " 1"},
 			{"large", bytes.NewReader(make([]byte, maxBody)), 200, fmt.Sprint(version, " ", maxBody)},
 			{"too large", bytes.NewReader(make([]byte, maxBody+1)), 413, "a body has at most"},
-			{"none", nil, 400, "there is no line"},
-			{"slow", slow{strings.NewReader("")}, 400, "the body was not read"},
-			{"slow and large", slow{bytes.NewReader(make([]byte, 100_000))}, 400, "the body was not read"},
+			{"none", nil, 400, "the body has no event line"},
+			{"slow", slow{strings.NewReader("")}, 400, "the body could not be read"},
+			{"slow and large", slow{bytes.NewReader(make([]byte, 100_000))}, 400, "the body could not be read"},
 		} {
 			start := time.Now()
 			answer, err := client.Post("https://"+address, "", one.body)

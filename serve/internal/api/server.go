@@ -132,13 +132,15 @@ var calls = map[string]call{
 	"/metrics":                        {http.MethodGet, "read", (*request).readMetrics, always},
 }
 
+// Values of headers that every answer has.
+var nosniff, noStore = []string{"nosniff"}, []string{"no-store"}
+
 // ServeHTTP answers a request.
 func (s *Server) ServeHTTP(w http.ResponseWriter, r *http.Request) {
 	r = withDeadlines(w, r)
 	limitReading(r, s.inTime)
 	head := w.Header()
-	head.Set("X-Content-Type-Options", "nosniff")
-	head.Set("Cache-Control", "no-store")
+	head["X-Content-Type-Options"], head["Cache-Control"] = nosniff, noStore
 	text, kind, isPage := pageFile(r.URL.Path)
 	name, m, isMounted := findMount(r.URL.Path)
 	switch {
@@ -249,7 +251,7 @@ func (s *Server) dispatch(w http.ResponseWriter, r *http.Request) error {
 	if err != nil && (c.when == whenReady || c.when == whenCutOff && service == nil) {
 		return err
 	}
-	r, cancel := named(r, by)
+	r, cancel := bounded(r, by)
 	defer cancel()
 	return c.answer(&request{service, s, w, r, by, callers, name})
 }

@@ -238,3 +238,14 @@ func TestPruning(t *testing.T) {
 		t.Error("of the old file:", err)
 	}
 }
+
+// Records are written as encoding/json writes them.
+func TestEncode(t *testing.T) {
+	for _, r := range []Record{{}, {Message: 1, At: 2, Name: "ops", Address: "10.0.0.7", Key: "k", Line: 3, Lines: 4, Byte: 5, Bytes: 6, Events: map[string]int{"cycle": 1}, Refused: 7},
+		{Cause: "cycle", Call: "kill", Name: "<\"é", Key: "a\\b", Events: map[string]int{"set_limit": 2, "cycle": 1, "other": 3}}, {Events: map[string]int{}}} {
+		want, _ := json.Marshal(r)
+		if got := encode([]byte("x"), []Record{r}); string(got) != "x"+string(want)+"\n" {
+			t.Errorf("%s, want %s", got, want)
+		}
+	}
+}

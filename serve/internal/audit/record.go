@@ -5,9 +5,11 @@ package audit
 import (
 	"bytes"
 	"encoding/json"
+	"strconv"
 	"strings"
 
 	"gateway/internal/auth"
+	"gateway/internal/jsontext"
 	"gateway/internal/oplog"
 	"gateway/internal/registry"
 )
@@ -74,11 +76,43 @@ func callOf(note []byte) string {
 	return string(kind)
 }
 
-// encode appends records as lines.
+// encode appends records as lines, as encoding/json writes them.
 func encode(text []byte, records []Record) []byte {
-	for _, r := range records {
-		line, _ := json.Marshal(r) // it has texts and numbers alone
-		text = append(append(text, line...), '\n')
+	for k := range records {
+		text = append(records[k].append(text), '\n')
 	}
 	return text
+}
+
+func (r *Record) append(to []byte) []byte {
+	number := func(name string, value int64) { to = strconv.AppendInt(append(to, name...), value, 10) }
+	text := func(name, value string) {
+		if value != "" {
+			to = jsontext.AppendString(append(to, name...), value)
+		}
+	}
+	number(`{"message":`, r.Message)
+	number(`,"at":`, r.At)
+	text(`,"name":`, r.Name)
+	text(`,"address":`, r.Address)
+	text(`,"cause":`, r.Cause)
+	text(`,"key":`, r.Key)
+	text(`,"call":`, r.Call)
+	number(`,"line":`, r.Line)
+	number(`,"lines":`, int64(r.Lines))
+	number(`,"byte":`, r.Byte)
+	number(`,"bytes":`, r.Bytes)
+	to = append(to, `,"events":`...)
+	if len(r.Events) == 1 {
+		for kind, count := range r.Events {
+			to = jsontext.AppendString(append(to, '{'), kind)
+			number(":", int64(count))
+			to = append(to, '}')
+		}
+	} else {
+		events, _ := json.Marshal(r.Events) // in order
+		to = append(to, events...)
+	}
+	number(`,"refused":`, int64(r.Refused))
+	return append(to, '}')
 }

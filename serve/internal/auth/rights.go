@@ -80,10 +80,13 @@ type Judged struct {
 // Judge returns the line that the allocator is to read, or why the caller has no right to send it. The lines of a caller that has the right to send
 // everything are not changed, even if they are not valid.
 func (c *Caller) Judge(line []byte) (Judged, error) {
+	if judged, is := c.judgePlain(line); is {
+		return judged, nil
+	}
 	object := registry.Fields(line)
 	kind := registry.Text(object, "event")
 	_, given := object["at"]
-	judged := Judged{line, kind, !given && (kind == "cycle" || kind == "accept" || kind == "decline")}
+	judged := Judged{line, kind, isTimed(kind, given)}
 	switch {
 	case c.Has("admin", ""):
 		return judged, nil
@@ -99,6 +102,11 @@ func (c *Caller) Judge(line []byte) (Judged, error) {
 	var err error
 	judged.Line, err = encode(object)
 	return judged, err
+}
+
+// isTimed reports whether an event gets a timestamp, unless it has one.
+func isTimed(kind string, given bool) bool {
+	return !given && (kind == "cycle" || kind == "accept" || kind == "decline")
 }
 
 // encode writes JSON without replacing characters such as < by escapes.

@@ -26,6 +26,8 @@ type Caller struct {
 	Salt    string     `json:"salt,omitempty"` // of a secret that is used with the name alone, by HTTP Basic, or empty: of a token
 	Rights  []string   `json:"rights"`
 	Expires *time.Time `json:"expires,omitempty"` // or nil: never
+
+	sum []byte // Sha256, decoded
 }
 
 // HasExpired reports whether a caller's token is no longer valid.
@@ -90,6 +92,7 @@ func parse(path string, text []byte) (*Callers, error) {
 		if sum, err := hex.DecodeString(c.Sha256); err != nil || len(sum) != sha256.Size {
 			return nil, fmt.Errorf("%s: token %q: %q is not a SHA-256 in hexadecimal", path, c.Name, c.Sha256)
 		}
+		c.sum, _ = hex.DecodeString(c.Sha256)
 		switch {
 		case !isName.MatchString(c.Name):
 			return nil, fmt.Errorf("%s: token %q: expected a name of 1 to 64 letters, digits, dots, dashes and underscores", path, c.Name)
@@ -189,9 +192,9 @@ func (c *Callers) Replaced() <-chan struct{} { return c.replaced }
 // *ExpiredError.
 func (c *Callers) Find(token string, now time.Time) (*Caller, error) {
 	found := (*Caller)(nil)
-	sum := []byte(disk.Digest([]byte(token)))
+	sum := sha256.Sum256([]byte(token))
 	for _, one := range c.list {
-		if subtle.ConstantTimeCompare(sum, []byte(strings.ToLower(one.Sha256))) == 1 && one.Salt == "" {
+		if subtle.ConstantTimeCompare(sum[:], one.sum) == 1 && one.Salt == "" {
 			found = one
 		}
 	}

@@ -24,7 +24,10 @@ type Metrics struct {
 	cycles, answers                prometheus.Histogram
 	rows, limits, shares, weighted *prometheus.GaugeVec
 	tokens                         *prometheus.GaugeVec
+	lines                          map[lineKind]prometheus.Counter // of events, so that a line need not look for its labels
 }
+
+type lineKind struct{ kind, answer string }
 
 // New returns metrics without gauges of the gateway: see Gauge.
 func New() *Metrics {
@@ -41,6 +44,7 @@ func New() *Metrics {
 	}
 	return &Metrics{
 		registry: registry,
+		lines:    map[lineKind]prometheus.Counter{},
 		events:   count("drf_events_total", "Event lines that were answered, by event and answer: ok, or the name of the refusal.", "event", "answer"),
 		made:     count("drf_offers_made_total", "Offers made.", "framework"),
 		ended:    count("drf_offers_ended_total", "Offers that ended, by the event that ended them: accept, decline, rescind or another.", "framework", "event"),
@@ -65,7 +69,12 @@ func (m *Metrics) Line(kind, answer string, took time.Duration) {
 	if !auth.IsEvent(kind) {
 		kind = "other"
 	}
-	m.events.WithLabelValues(kind, answer).Inc()
+	counter, is := m.lines[lineKind{kind, answer}]
+	if !is {
+		counter = m.events.WithLabelValues(kind, answer)
+		m.lines[lineKind{kind, answer}] = counter
+	}
+	counter.Inc()
 	if kind == "cycle" {
 		m.cycles.Observe(took.Seconds())
 	}

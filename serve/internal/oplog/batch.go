@@ -6,7 +6,6 @@ import (
 	"bytes"
 	"crypto/rand"
 	"encoding/hex"
-	"encoding/json"
 	"fmt"
 	"hash/crc32"
 	"strings"
@@ -67,6 +66,9 @@ func Anonymous(owner string) string {
 
 func isAnonymous(key string) bool { return strings.Contains(key, "/ ") }
 
+// Grow makes room for lines of some bytes.
+func (b *Batch) Grow(size int) { b.text = append(make([]byte, 0, len(b.text)+size), b.text...) }
+
 // Add adds a line, to which the timestamp of the message is added when it is timed.
 func (b *Batch) Add(line []byte, timed bool) {
 	b.text = append(b.text, '\n')
@@ -116,22 +118,13 @@ func (b *Batch) bodyAt(at int64) []byte {
 	return append(append([]byte(nil), b.Note...), text...)
 }
 
-// header is the first line of a value. It has a checksum of what follows, because etcd does not notice if a member's store was damaged.
-type header struct {
-	At     int64  `json:"at"`
-	Index  int    `json:"index"`
-	Marker string `json:"mark,omitempty"`
-	Note   int    `json:"note,omitempty"` // its length
-	By     string `json:"by,omitempty"`   // the sender's name
-	From   string `json:"from,omitempty"` // and address
-	Sum    uint32 `json:"sum"`
-}
+const headerSize = 160 // in bytes, of most
 
 // value encodes a batch as the message at an index of a transaction, from a sender.
 func (b *Batch) value(at int64, index int, by Sender) string {
 	body := b.bodyAt(at)
-	first, _ := json.Marshal(header{at, index, b.Marker, len(b.Note), by.Name, by.Address, crc32.ChecksumIEEE(body)})
-	return string(append(first, body...))
+	first := header{at, index, b.Marker, len(b.Note), by.Name, by.Address, crc32.ChecksumIEEE(body)}
+	return string(append(first.append(make([]byte, 0, headerSize+len(body))), body...))
 }
 
 // Message is an entry of the list.
@@ -157,8 +150,8 @@ func (l *Log) decode(kv *mvccpb.KeyValue) (Message, error) {
 	if end := bytes.IndexByte(kv.Value, '}') + 1; end > 0 {
 		first, rest = kv.Value[:end], kv.Value[end:]
 	}
-	m := Message{Key: string(kv.Key[len(l.messages("")):])}
-	err := json.Unmarshal(first, &head)
+	m := Message{Key: string(kv.Key[len(l.prefix)+len("m/"):])}
+	err := head.read(first)
 	if err == nil && (head.Note < 0 || head.Note > len(rest)) {
 		err = fmt.Errorf("its note has %d bytes", head.Note)
 	}

@@ -89,16 +89,16 @@ func (c *cluster) follow(kind string, line, reply []byte, m *Message) {
 		fields := Fields(line)
 		c.finish(Text(fields, "framework"), Text(fields, "task"))
 	case "add_agent":
-		c.agents[Text(Fields(line), "agent")] = m.Number
+		c.agents[TextOf(line, "agent")] = m.Number
 	case "add_framework":
-		c.frameworks[Text(Fields(line), "framework")] = m.Number
+		c.frameworks[TextOf(line, "framework")] = m.Number
 	case "remove_agent", "deactivate_agent":
-		name := Text(Fields(line), "agent")
+		name := TextOf(line, "agent")
 		if c.end(kind, c.sortedOrNone(c.byAgent[name])); kind == "remove_agent" {
 			c.removeAgent(name)
 		}
 	case "remove_framework":
-		name := Text(Fields(line), "framework")
+		name := TextOf(line, "framework")
 		c.end(kind, c.sortedOrNone(c.byFramework[name]))
 		delete(c.frameworks, name)
 		delete(c.tasks, name)

@@ -63,6 +63,13 @@ func (h *hub) drop(s *Subscription) {
 	}
 }
 
+// isHeard reports whether a topic has subscribers.
+func (h *hub) isHeard(topic string) bool {
+	h.mu.Lock()
+	defer h.mu.Unlock()
+	return len(h.topics[topic]) > 0
+}
+
 // publish sends an event to the subscribers of a topic. The event is built only if there are any.
 func (h *hub) publish(topic string, event func() []byte) {
 	h.mu.Lock()

@@ -93,15 +93,19 @@ func (r *Registry) Apply(m *Message) {
 	if r.applied = m.Number; m.At > r.now {
 		r.now = m.At
 	}
+	isHeard := r.hub.isHeard(AllReplies)
 	for k, line := range m.Lines {
 		reply := bytes.TrimSuffix(m.Replies[k], []byte("\n"))
 		kind := Kind(line)
 		r.observer.Line(kind, answerOf(reply), m.Took)
+		r.idle = kind == "cycle" && string(reply) == `{"offers":[]}`
+		if !isHeard {
+			continue
+		}
 		line := line
 		r.hub.publish(AllReplies, func() []byte {
 			return Event(m.Number, "reply", map[string]interface{}{"message": m.Number, "line": string(line), "reply": json.RawMessage(reply)})
 		})
-		r.idle = kind == "cycle" && string(reply) == `{"offers":[]}`
 	}
 	for _, state := range r.states {
 		state.Apply(m)
@@ -176,23 +180,60 @@ func (r *Registry) ResetRows(rows []byte, message, at int64) {
 	}
 }
 
-// Kind returns the name of a line's event.
-func Kind(line []byte) string { return TextOf(line, "event") }
+// kinds are the names of events: the name of a line's event need not be allocated.
+var kinds = func() map[string]string {
+	known := map[string]string{}
+	for _, kind := range []string{"accept", "activate_agent", "add_agent", "add_framework", "cycle", "deactivate_agent", "decline", "finish", "remove_agent", "remove_framework",
+		"report", "rescind", "reserve", "revive", "set_agent", "set_framework", "set_limit", "set_weight", "suppress", "unreserve"} {
+		known[kind] = kind
+	}
+	return known
+}()
 
-// TextOf returns a field of a line that is a text, or an empty text. Most lines have the field once, without escapes, and need not be parsed for it.
+// Kind returns the name of a line's event.
+func Kind(line []byte) string {
+	text, is := plainText(line, `"event"`)
+	if !is {
+		return Text(Fields(line), "event")
+	}
+	return KindOf(text)
+}
+
+// KindOf returns the name of an event as a text.
+func KindOf(name []byte) string {
+	if kind, is := kinds[string(name)]; is {
+		return kind
+	}
+	return string(name)
+}
+
+// TextOf returns a field of a line that is a text, or an empty text.
 func TextOf(line []byte, key string) string {
-	name := `"` + key + `"`
-	if bytes.Count(line, []byte(name)) == 1 && bytes.IndexByte(line, '\\') < 0 {
-		_, rest, _ := bytes.Cut(line, []byte(name))
-		rest = bytes.TrimLeft(rest, " ")
-		if len(rest) > 0 && rest[0] == ':' {
-			if rest = bytes.TrimLeft(rest[1:], " "); len(rest) > 0 && rest[0] == '"' {
-				text, _, _ := bytes.Cut(rest[1:], []byte(`"`))
-				return string(text)
-			}
-		}
+	if text, is := plainText(line, `"`+key+`"`); is {
+		return string(text)
 	}
 	return Text(Fields(line), key)
+}
+
+// plainText returns the text of a field whose name is given in quotes, if the line has the name once and no escapes. Most lines are so, and need not
+// be parsed for it.
+func plainText(line []byte, name string) (text []byte, is bool) {
+	at := bytes.Index(line, []byte(name))
+	if at < 0 || bytes.IndexByte(line, '\\') >= 0 {
+		return nil, false
+	}
+	rest := line[at+len(name):]
+	if bytes.Contains(rest, []byte(name)) {
+		return nil, false
+	}
+	if rest = bytes.TrimLeft(rest, " "); len(rest) == 0 || rest[0] != ':' {
+		return nil, false
+	}
+	if rest = bytes.TrimLeft(rest[1:], " "); len(rest) == 0 || rest[0] != '"' {
+		return nil, false
+	}
+	text, _, _ = bytes.Cut(rest[1:], []byte(`"`))
+	return text, true
 }
 
 // Fields reads a line as the allocator does: keys must match exactly, and of equal keys the last counts. It returns nil if the line is not an

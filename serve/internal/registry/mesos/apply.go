@@ -52,18 +52,18 @@ func (s *State) follow(kind string, line, reply []byte, isOK bool) {
 			s.endOffer(o)
 		}
 	case kind == "deactivate_agent":
-		name := registry.Text(registry.Fields(line), "agent")
+		name := registry.TextOf(line, "agent")
 		s.endOffers(func(o Offer) bool { return o.Agent == name })
 	case kind == "activate_agent":
-		s.reactivate(registry.Text(registry.Fields(line), "agent"))
+		s.reactivate(registry.TextOf(line, "agent"))
 	case kind == "remove_agent":
-		name := registry.Text(registry.Fields(line), "agent")
+		name := registry.TextOf(line, "agent")
 		s.endOffers(func(o Offer) bool { return o.Agent == name })
 		s.removeAgent(name)
 	case kind == "set_framework":
 		s.setRoles(line)
 	case kind == "remove_framework":
-		s.removeFramework(registry.Text(registry.Fields(line), "framework"))
+		s.removeFramework(registry.TextOf(line, "framework"))
 	}
 }
 

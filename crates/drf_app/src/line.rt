@@ -135,7 +135,7 @@ fn explain_line<'a>(alloc: Global) -> Result<Command<'a>, AllocError>
             "Says what the next cycle would offer to which client, and why other clients would get nothing, after the event lines of standard input",
         )
         .after_help(
-            "Examples: head -12 examples/day.jsonl | drf explain, and with explain --summary or explain --client batch data in its place",
+            "Examples: head -12 examples/day.jsonl | drf explain; head -12 examples/day.jsonl | drf explain --client batch data",
         )
         .arg(timestamp_option(alloc));
     let each = flag(
@@ -149,7 +149,7 @@ fn explain_line<'a>(alloc: Global) -> Result<Command<'a>, AllocError>
     let summary = flag(
         alloc,
         "summary",
-        "Counts for each client on how many agents it is offered something, on how many it gets nothing and why, and which clients come before it",
+        "For each client: counts the agents on which it is offered something, or nothing and why, and names the clients that come before it",
     );
     let line = with_argument(line, summary);
     with_argument(line, from_option(alloc))
@@ -167,7 +167,7 @@ fn save_line<'a>(alloc: Global) -> Result<Command<'a>, AllocError>
         .arg(flag(
             alloc,
             "epoch",
-            "Ends all offers, and restarts the counts of offers and events: for a history that is full",
+            "Ends all offers, and begins the counts of offers and events again; needed when the history is full",
         ));
     with_argument(line, from_option(alloc))
 }
@@ -184,7 +184,7 @@ fn lint_line<'a>(alloc: Global) -> Result<Command<'a>, AllocError>
         .arg(flag(
             alloc,
             "write",
-            "Writes each event in its written form to standard output, and reports the other lines on standard error",
+            "Writes each event in its normal form to standard output, and reports the other lines on standard error",
         ))
 }
 

@@ -13,7 +13,7 @@ use Rattle.drf_lint.specs.declared.diagnosis.Diagnosis.{Diagnosis}
 use Rattle.drf_lint.specs.Judged.{form_of, forms_of, faults_of, fault_count, IsDiagnosis, IsReportedOf, AreReported, AreJudged}
 use Rattle.drf_lint.specs.Linted.{AreJudgedInPart, IsPrefixOf, HasAllOf}
 use Rattle.drf_lint.specs.Lint.{HasJudged, HasJudgedInPart, HasStoppedAt, IsStop}
-use Rattle.drf_lint.specs.Told.{reported_line}
+use Rattle.drf_lint.specs.Diagnosed.{reported_line}
 
 -- ---- a line, and another that means the same and is no shorter
 

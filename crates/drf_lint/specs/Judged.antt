@@ -8,7 +8,7 @@ use Rattle.drf_rows.specs.declared.event.Event.{Event}
 use Rattle.drf_lint.specs.declared.diagnosis.Diagnosis.{Diagnosis}
 use Rattle.drf_lint.specs.declared.diagnosis.NoEvent.{NoEvent}
 use Rattle.drf_lint.specs.declared.diagnosis.NoEvent.TheVariants.{Fault, Memory}
-use Rattle.drf_lint.specs.Told.{AreWords, IsColumn, IsReporting}
+use Rattle.drf_lint.specs.Diagnosed.{AreWords, IsColumn, IsReporting}
 
 -- what is reported about a line that is not an event
 pub record IsDiagnosis (line : List ℕ) (said : Diagnosis) : Type 0 where

@@ -1,5 +1,5 @@
 -- Definitions of what a lint reports and writes.
-pub mod Told
+pub mod Diagnosed
 pub mod Judged
 pub mod Linted
 pub mod Lint

@@ -1,7 +1,7 @@
 //! Decides whether a line is an event and, if it is not, says why.
 ghost use Rattle.std.specs.Prelude.{◌≡◌, length, IfOk};
 ghost use Rattle.drf_lint.specs.Judged.{IsDiagnosed};
-ghost use Rattle.drf_lint.specs.Told.{AreWords, IsColumn};
+ghost use Rattle.drf_lint.specs.Diagnosed.{AreWords, IsColumn};
 
 use crate::json_hint::json_hint;
 use crate::shape_hint::shape_hint;
@@ -79,9 +79,9 @@ fn find_hint(alloc: Global, line: &[u8], fault: LineFault) -> Result<Hint, Alloc
     match found {
         Some(hint) => Ok(hint),
         None if line.len() > LONGEST_LINE => {
-            plain_hint(alloc, LONGEST_LINE, "a line may have 65536 bytes")
+            plain_hint(alloc, LONGEST_LINE, "a line can have at most 65536 bytes")
         }
-        None => plain_hint(alloc, 0, "this is no event"),
+        None => plain_hint(alloc, 0, "not an event"),
     }
 }
 

@@ -166,17 +166,17 @@ fn byte_before(bytes: &[u8], place: usize) -> Option<u8> {
 }
 
 /// Returns the message that says what is expected, given the last byte before the position.
-fn wanted(within: Within, before: Option<u8>) -> &'static str {
+fn expected(within: Within, before: Option<u8>) -> &'static str {
     match (within, before) {
-        (Within::Start, _) => "an event is wanted, which is a JSON object",
-        (Within::End, _) => "nothing may stand behind the object",
-        (Within::Key, _) => "a value is wanted here",
-        (Within::Array, Some(b'[')) => "a value or ] is wanted here",
-        (Within::Array, Some(b',')) => "a value is wanted here",
-        (Within::Array, _) => "a , or ] is wanted here",
-        (Within::Object, Some(b'{')) => "a key or } is wanted here",
-        (Within::Object, Some(b',')) => "a key is wanted here",
-        (Within::Object, _) => "a , or } is wanted here",
+        (Within::Start, _) => "expected an event, which is a JSON object",
+        (Within::End, _) => "unexpected text after the object",
+        (Within::Key, _) => "expected a value",
+        (Within::Array, Some(b'[')) => "expected a value or ]",
+        (Within::Array, Some(b',')) => "expected a value",
+        (Within::Array, _) => "expected , or ]",
+        (Within::Object, Some(b'{')) => "expected a key or }",
+        (Within::Object, Some(b',')) => "expected a key",
+        (Within::Object, _) => "expected , or }",
     }
 }
 
@@ -261,7 +261,7 @@ fn string_stop(bytes: &[u8], place: usize) -> StringStop {
                 return StringStop {
                     place: at,
                     length: 1,
-                    why: "a control byte stands in a text as an escape alone, as \\u0009",
+                    why: "a control byte in a text must be escaped, such as \\u0009",
                 };
             }
             b'"' => break,
@@ -269,7 +269,7 @@ fn string_stop(bytes: &[u8], place: usize) -> StringStop {
                 return StringStop {
                     place: at,
                     length: 2,
-                    why: "this is no escape of JSON",
+                    why: "not a JSON escape",
                 };
             }
             b'\\' => at = at.saturating_add(2),
@@ -284,7 +284,7 @@ fn string_stop(bytes: &[u8], place: usize) -> StringStop {
 }
 
 /// Returns a hint that shows the part at a position, or says that the line ends there, and then says what is expected.
-fn hint_at(alloc: Global, piece: &[u8], place: usize, wanted: &str) -> Result<Hint, AllocError> {
+fn hint_at(alloc: Global, piece: &[u8], place: usize, expected: &str) -> Result<Hint, AllocError> {
     let mut words = Vec::new(alloc);
     if piece.is_empty() {
         say(&mut words, "the line ends here")?;
@@ -292,7 +292,7 @@ fn hint_at(alloc: Global, piece: &[u8], place: usize, wanted: &str) -> Result<Hi
         show(&mut words, piece)?;
     }
     say(&mut words, ": ")?;
-    say(&mut words, wanted)?;
+    say(&mut words, expected)?;
     Ok(Hint { place, words })
 }
 
@@ -305,7 +305,12 @@ fn bad_hint(alloc: Global, bytes: &[u8], place: usize, within: Within) -> Result
         let rest = bytes.get(place..).unwrap_or(&[]);
         return hint_at(alloc, rest.get(..length).unwrap_or(rest), place, why);
     }
-    hint_at(alloc, piece_at(bytes, place), place, wanted(within, before))
+    hint_at(
+        alloc,
+        piece_at(bytes, place),
+        place,
+        expected(within, before),
+    )
 }
 
 /// Returns a hint for a line that is UTF-8 but not JSON.
@@ -320,18 +325,18 @@ fn text_hint(alloc: Global, line: &str) -> Result<Hint, AllocError> {
             place,
             "this number is out of the range of a double",
         ),
-        Stop::NoColon => plain_hint(alloc, place, "a : is wanted behind this key"),
+        Stop::NoColon => plain_hint(alloc, place, "expected : after this key"),
         Stop::Colon => plain_hint(
             alloc,
             place,
-            "no : may stand behind this text, which is no key",
+            "unexpected : after this text, which is not a key",
         ),
         Stop::Bad(within) => bad_hint(alloc, bytes, place, within),
         Stop::Unfit(within) => hint_at(
             alloc,
             piece_at(bytes, place),
             place,
-            wanted(within, byte_before(bytes, place)),
+            expected(within, byte_before(bytes, place)),
         ),
     }
 }
@@ -343,12 +348,7 @@ pub(crate) fn json_hint(alloc: Global, line: &[u8]) -> Result<Hint, AllocError> 
         Err(error) => {
             let place = error.valid_up_to();
             let rest = line.get(place..).unwrap_or(&[]);
-            hint_at(
-                alloc,
-                rest.get(..1).unwrap_or(rest),
-                place,
-                "this is no UTF-8",
-            )
+            hint_at(alloc, rest.get(..1).unwrap_or(rest), place, "not UTF-8")
         }
     }
 }

@@ -6,7 +6,7 @@ ghost use Rattle.drf_journal.specs.Device.{AppendsPrefixOf};
 ghost use Rattle.drf_journal.specs.Ended.{HasCause, HasFlushed};
 ghost use Rattle.drf_lint.specs.Judged.{form_of};
 ghost use Rattle.drf_lint.specs.Lint.{begun, lint_of, HasClosed, HasEnded, HasJudged, HasStoppedAt, HasStoppedIn, HasTaken, IsStop};
-ghost use Rattle.drf_lint.specs.Told.{reported_line};
+ghost use Rattle.drf_lint.specs.Diagnosed.{reported_line};
 
 use crate::diagnosis::{Diagnosis, NoEvent, diagnose};
 use crate::reported::reported_line;

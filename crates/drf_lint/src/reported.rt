@@ -1,6 +1,6 @@
 //! The line that reports what is wrong with a line of the input.
 ghost use Rattle.std.specs.Prelude.{◌≡◌, ◌++◌, OnOk, IfOk, decimal};
-ghost use Rattle.drf_lint.specs.Told.{reported_line};
+ghost use Rattle.drf_lint.specs.Diagnosed.{reported_line};
 
 use crate::diagnosis::Diagnosis;
 use itoa::Buffer;

@@ -121,7 +121,7 @@ fn say_list(words: &mut Vec<u8>, has_any: bool, list: &str) -> Result<(), AllocE
 fn say_unknown(words: &mut Vec<u8>, shaped: &Shaped<'_, '_>, key: &str) -> Result<(), AllocError> {
     say(words, shaped.path)?;
     quote(words, key.as_bytes())?;
-    say(words, " is no key of ")?;
+    say(words, " is not a key of ")?;
     say(words, shaped.name)?;
     say(words, ", whose keys are ")?;
     if shaped.has_event {
@@ -173,18 +173,17 @@ fn kind_hint(
     place: usize,
     path: &str,
     value: &Value<'_>,
-    wanted: &str,
+    expected: &str,
 ) -> Result<Hint, AllocError> {
     let mut words = Vec::new(alloc);
     say(&mut words, path)?;
-    say(&mut words, ": ")?;
+    say(&mut words, ": found ")?;
     match value {
         Value::Number(text) => show(&mut words, text.as_bytes())?,
         _ => say(&mut words, kind_word(value))?,
     }
-    say(&mut words, " stands here, and ")?;
-    say(&mut words, wanted)?;
-    say(&mut words, " is wanted")?;
+    say(&mut words, ", expected ")?;
+    say(&mut words, expected)?;
     Ok(Hint { place, words })
 }
 
@@ -290,7 +289,7 @@ fn tasks_hint(
         let mut words = Vec::new(alloc);
         say(&mut words, "\"tasks\": ")?;
         say_number(&mut words, items.len())?;
-        say(&mut words, " tasks stand here, and 1 to 16 are wanted")?;
+        say(&mut words, " tasks; expected 1 to 16")?;
         return Ok(Some(Hint { place, words }));
     }
     for (i, item) in items.iter().enumerate() {
@@ -423,7 +422,7 @@ fn event_hint(alloc: Global, line: &str, word: &str) -> Result<Hint, AllocError>
     match near_event(word) {
         Some(near) => {
             quote(&mut words, word.as_bytes())?;
-            say(&mut words, " is no event; the nearest is ")?;
+            say(&mut words, " is not an event; the nearest is ")?;
             quote(&mut words, near.as_bytes())?;
         }
         None => {

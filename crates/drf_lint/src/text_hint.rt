@@ -18,36 +18,37 @@ struct Wrong {
     why: &'static str,
 }
 
-const NO_NAME: &str = " is no name: 1 to 64 letters, digits, _, - or .";
+const NO_NAME: &str = " is not a name: expected 1 to 64 letters, digits, _, - or .";
 
 const NO_ROLE: &str =
-    " is no role: * or 1 to 8 parts with / between them, 64 bytes in all; a part is visible ASCII without ( ) : ;, begins with no -, and is not ., .. or *";
+    " is not a role: expected * or 1 to 8 parts joined by /, at most 64 bytes; a part is visible ASCII without ( ) : ;, does not begin with -, and is not ., .. or *";
 
-const NO_WEIGHT: &str = " is no weight: digits, with . and digits behind them or not";
+const NO_WEIGHT: &str = " is not a weight: expected a number such as 2 or 0.5";
 
-const LARGE: &str = " is too large: what a name has in all is at most 18446744073709551.615";
+const LARGE: &str = " is too large: the sum of a name is at most 18446744073709551.615";
 
 const NO_FORM: &str =
     " is not written as NAME:AMOUNT, NAME:[LOW-HIGH,..] or NAME:{MEMBER,..}; NAME(ROLE) is reserved for ROLE";
 
-const NO_LABEL: &str = " has no right name or member: 1 to 64 letters, digits, _, -, . or /";
+const NO_LABEL: &str =
+    " has a name or a member that is not valid: expected 1 to 64 letters, digits, _, -, . or /";
 
-const RESERVED: &str = " is reserved: a limit is amounts alone, as cpus:4;mem:1024";
+const RESERVED: &str = " is reserved: a limit has only amounts, such as cpus:4;mem:1024";
 
 const BAD_ROLE: &str =
-    " has no role between ( and ): * or 1 to 8 parts with / between them, 64 bytes in all, of visible ASCII";
+    " has no role between ( and ): expected * or 1 to 8 parts joined by /, at most 64 bytes, of visible ASCII";
 
 const NO_RANGE: &str =
-    " has no right range: LOW-HIGH, two numbers below 4294967296, the second not below the first";
+    " has a range that is not valid: expected LOW-HIGH, two numbers below 4294967296, the second not below the first";
 
-const NO_AMOUNT: &str = " is no amount: digits, with . and digits behind them or not";
+const NO_AMOUNT: &str = " is not an amount: expected a number such as 2 or 0.5";
 
 const OTHER_KIND: &str =
-    " is of another kind than this name was before: an amount, ranges or a set";
+    " is not of the kind that this name had before: an amount, ranges or a set";
 
-const NO_LIMIT: &str = " is no amount: a limit is amounts alone, as cpus:4;mem:1024";
+const NO_LIMIT: &str = " is not an amount: a limit has only amounts, such as cpus:4;mem:1024";
 
-const TWICE: &str = " has a member that stands under another reservation of this name before";
+const TWICE: &str = " has a member that is also under another reservation of this name";
 
 /// Returns that the whole text is not valid.
 fn whole(text: &str, at: usize, why: &'static str) -> Option<Wrong> {
@@ -213,7 +214,7 @@ fn wrong_in(alloc: Global, kind: Kind, text: &str) -> Result<Option<Wrong>, Allo
 
 /// A text of a line, which is the value of a key, an item of its array, or the value of a key in such an item.
 #[derive(Clone, Copy)]
-struct Told<'v, 'a> {
+struct LineText<'v, 'a> {
     line: &'v str,
     key: &'v str,
     /// Counted from 0; in hints, items are counted from 1.
@@ -223,7 +224,7 @@ struct Told<'v, 'a> {
 }
 
 /// Appends where the text is, such as `"tasks" item 2 "use": `.
-fn say_path(words: &mut Vec<u8>, reported: &Told<'_, '_>) -> Result<(), AllocError> {
+fn say_path(words: &mut Vec<u8>, reported: &LineText<'_, '_>) -> Result<(), AllocError> {
     quote(words, reported.key.as_bytes())?;
     if let Some(item) = reported.item {
         say(words, " item ")?;
@@ -237,7 +238,7 @@ fn say_path(words: &mut Vec<u8>, reported: &Told<'_, '_>) -> Result<(), AllocErr
 }
 
 /// Returns the position in the line at which the string of the text begins.
-fn place_of(alloc: Global, reported: &Told<'_, '_>) -> Result<usize, AllocError> {
+fn place_of(alloc: Global, reported: &LineText<'_, '_>) -> Result<usize, AllocError> {
     let mut place = value_at(alloc, reported.line, 0, reported.key)?;
     if let Some(item) = reported.item {
         place = item_at(alloc, reported.line, place, item)?;
@@ -249,7 +250,7 @@ fn place_of(alloc: Global, reported: &Told<'_, '_>) -> Result<usize, AllocError>
 }
 
 /// Returns a hint if a text of the line is not valid.
-fn reported_hint(alloc: Global, reported: &Told<'_, '_>) -> Result<Option<Hint>, AllocError> {
+fn reported_hint(alloc: Global, reported: &LineText<'_, '_>) -> Result<Option<Hint>, AllocError> {
     let kind = kind_of(reported.inner.unwrap_or(reported.key));
     let Some(wrong) = wrong_in(alloc, kind, reported.text)? else {
         return Ok(None);
@@ -268,7 +269,7 @@ fn reported_hint(alloc: Global, reported: &Told<'_, '_>) -> Result<Option<Hint>,
 /// Returns a hint if a role of the framework is not valid.
 fn roles_hint(alloc: Global, line: &str, items: &[Value<'_>]) -> Result<Option<Hint>, AllocError> {
     for (i, item) in items.iter().enumerate() {
-        let reported = Told {
+        let reported = LineText {
             line,
             key: "roles",
             item: Some(i),
@@ -290,7 +291,7 @@ fn task_hint(
     value: &Value<'_>,
 ) -> Result<Option<Hint>, AllocError> {
     for key in TASK_KEYS.split(' ') {
-        let reported = Told {
+        let reported = LineText {
             line,
             key: "tasks",
             item: Some(item),
@@ -323,7 +324,7 @@ fn key_hint<'v>(
 ) -> Result<Option<Hint>, AllocError> {
     match value.get(key) {
         Some(Value::String(text)) => {
-            let reported = Told {
+            let reported = LineText {
                 line,
                 key,
                 item: None,

@@ -1,6 +1,6 @@
 //! The text of hints.
 ghost use Rattle.std.specs.Prelude.{◌≡◌, IfOk, true};
-ghost use Rattle.drf_lint.specs.Told.{AreWords, is_seen};
+ghost use Rattle.drf_lint.specs.Diagnosed.{AreWords, is_seen};
 
 use itoa::Buffer;
 use std::alloc::{AllocError, Global};

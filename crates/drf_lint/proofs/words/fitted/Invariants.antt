@@ -1,5 +1,5 @@
 use Rattle.std.proofs.Common.{◌≡◌, true, All, length}
-use Rattle.drf_lint.specs.Told.{is_seen}
+use Rattle.drf_lint.specs.Diagnosed.{is_seen}
 use Rattle.drf_lint.proofs.words.fitted.Given as goal
 
 abbrev pub invariant-loop-byte : goal.invariant-loop-byte

@@ -21,7 +21,7 @@ type positions struct {
 	waiting map[oplog.Revision]chan struct{}
 }
 
-const chunkSize = 256 // messages
+const chunkSize = 64 // messages
 
 // chunk has the positions after some messages that follow one another.
 type chunk struct {

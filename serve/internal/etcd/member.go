@@ -16,12 +16,17 @@ import (
 	"go.etcd.io/etcd/clientv3"
 	"go.etcd.io/etcd/embed"
 	"go.etcd.io/etcd/etcdserver/api/v3client"
+	"go.etcd.io/etcd/wal"
 )
 
 const (
-	maxSocketPath = 100   // of a Unix socket's path, which the system limits to 107 bytes
+	maxSocketPath = 100 // of a Unix socket's path, which the system limits to 107 bytes
+	walFiles      = 2   // of raft's log that are kept: a start reads all of them
+	walFileSize   = 16 << 20
 	batchLimit    = 1_000 // writes after which the store is written to its file: etcd copies the room for them at each transaction
 )
+
+func init() { wal.SegmentSizeBytes = walFileSize }
 
 // embed starts a member in this process. Without other members it listens on no port: its only socket is in the data folder, for etcdctl.
 func (c *Cluster) embed(ctx context.Context, o Config) error {
@@ -30,7 +35,7 @@ func (c *Cluster) embed(ctx context.Context, o Config) error {
 	config.Logger, config.LogLevel, config.LogOutputs = "zap", "error", []string{filepath.Join(o.Folder, "etcd.log")}
 	config.MaxRequestBytes, config.QuotaBackendBytes = 10<<20, o.Quota
 	config.PreVote, config.EnableGRPCGateway = true, false
-	config.SnapshotCount, config.BackendBatchLimit = mostEntries, batchLimit
+	config.SnapshotCount, config.BackendBatchLimit, config.MaxWalFiles = mostEntries, batchLimit, walFiles
 	config.AutoCompactionMode, config.AutoCompactionRetention = embed.CompactorModePeriodic, "1h"
 	config.LPUrls, config.LCUrls = nil, nil
 	config.InitialCluster = config.InitialClusterFromName(o.Name)

@@ -11,8 +11,8 @@ import (
 )
 
 const (
-	room         = 60 << 20 // bytes up to which the heap may grow before garbage is collected
-	leastPercent = 50       // of what is in use, that may be garbage: with less, collecting takes too much processor time
+	room         = 52 << 20 // bytes up to which the heap may grow before garbage is collected
+	leastPercent = 40       // of what is in use, that may be garbage: with less, collecting takes too much processor time
 	mostPercent  = 600
 )
 

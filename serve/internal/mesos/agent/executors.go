@@ -117,6 +117,7 @@ func (a *Agent) startByExecutor(list []codec.Message) {
 	e, err := a.executorOf(list[0].Sub("executor"))
 	if err != nil {
 		failAll(tasks, "TASK_FAILED", "REASON_CONTAINER_LAUNCH_FAILED", "the executor was not started: "+err.Error())
+		a.expectExecutor(list[0].Sub("executor")) // it has ended, unless its folder was made
 		return
 	}
 	if e == nil {
@@ -128,9 +129,7 @@ func (a *Agent) startByExecutor(list []codec.Message) {
 
 func failAll(tasks []*task, state, reason, message string) {
 	for _, t := range tasks {
-		if err := t.fail(state, reason, message); err != nil {
-			log.Printf("task %s: %v", t.id, err)
-		}
+		t.fail(state, reason, message)
 	}
 }
 

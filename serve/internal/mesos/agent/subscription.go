@@ -149,11 +149,16 @@ func (e *executor) take(status codec.Message) error {
 	return nil
 }
 
-// update takes a status from an executor.
+// update takes a status from an executor. If the status cannot be stored, the executor's stream ends: when it subscribes again, it sends the status
+// again.
 func (e *executor) update(status codec.Message) error {
 	e.mu.Lock()
 	defer e.mu.Unlock()
-	return e.take(status)
+	err := e.take(status)
+	if err != nil {
+		e.endStream("")
+	}
+	return err
 }
 
 // tell gives an executor a message of its framework. As in Mesos, delivery is not guaranteed.

@@ -6,6 +6,7 @@ package agent
 import (
 	"context"
 	"encoding/json"
+	"errors"
 	"fmt"
 	"os"
 	"os/exec"
@@ -63,7 +64,22 @@ func Supervise(folder string) error {
 	ended.IsOutOfMemory = ended.Signal != "" && s.process.Cgroup.isOutOfMemory()
 	s.process.Cgroup.remove()
 	line, _ := json.Marshal(ended)
-	return disk.WriteFile(s.path("exit"), line)
+	return writeWhenRoom(s.path("exit"), line, patience)
+}
+
+const (
+	patience  = time.Hour   // for which a supervisor waits for room on the disk
+	roomPause = time.Second // before it is tried again
+)
+
+// writeWhenRoom writes a file. On a full disk it waits until there is room: how a process ended must not be lost.
+func writeWhenRoom(path string, text []byte, patience time.Duration) error {
+	for end := time.Now().Add(patience); ; time.Sleep(roomPause) {
+		err := disk.WriteFile(path, text)
+		if !errors.Is(err, syscall.ENOSPC) && !errors.Is(err, syscall.EDQUOT) || time.Now().After(end) {
+			return err
+		}
+	}
 }
 
 func (s *supervisor) sandbox() string { return s.path("sandbox") }

@@ -34,7 +34,7 @@ type task struct {
 	kills         codec.Message // the KILL that its executor got; guarded by the executor's lock
 
 	mu       sync.Mutex
-	rejected codec.Message // the status of a command that was never started
+	rejected codec.Message // the status of a command that was never started, or of a task without a folder
 	updates  updates       // of a task that a custom executor runs
 }
 
@@ -207,17 +207,15 @@ func (a *Agent) kill(one codec.Message) {
 }
 
 // reject reports the end of a task that does not run. It keeps the task's folder, so that the task is not started later. If there is no room for
-// the folder of a command, only the report says that it ended.
+// the folder, only the report says that it ended.
 func (a *Agent) reject(one codec.Message, state, reason, message string) {
 	t, err := a.add(one)
 	if err != nil {
 		log.Printf("task %s: %v", one.Text("task_info.task_id.value"), err)
-		if !one.Has("executor") {
-			t = newTask(filepath.Join(a.config.Folder, "tasks", keyOf(one)), one)
-			a.mu.Lock()
-			a.tasks[t.key] = t
-			a.mu.Unlock()
-		}
+		t = newTask(filepath.Join(a.config.Folder, "tasks", keyOf(one)), one)
+		a.mu.Lock()
+		a.tasks[t.key] = t
+		a.mu.Unlock()
 	}
 	isNew := t != nil
 	if t == nil {
@@ -225,11 +223,8 @@ func (a *Agent) reject(one codec.Message, state, reason, message string) {
 			return
 		}
 	}
-	if t.isRunBy {
-		if err := t.fail(state, reason, message); err != nil {
-			log.Printf("task %s: %v", t.id, err)
-		}
-		if isNew {
+	if t.isRunBy && err == nil {
+		if t.fail(state, reason, message); isNew {
 			go a.watch(context.Background(), t)
 		}
 		return
@@ -249,7 +244,10 @@ func (t *task) status(step, state string) codec.Message {
 
 // watch reports the steps of a task, until its end is acknowledged.
 func (a *Agent) watch(ctx context.Context, t *task) {
-	if t.isRunBy {
+	t.mu.Lock()
+	isRejected := !t.rejected.IsAbsent()
+	t.mu.Unlock()
+	if t.isRunBy && !isRejected {
 		a.watchUpdates(ctx, t)
 		return
 	}

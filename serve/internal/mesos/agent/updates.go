@@ -7,6 +7,7 @@ import (
 	"context"
 	"crypto/rand"
 	"fmt"
+	"log"
 	"os"
 	"strconv"
 	"time"
@@ -94,12 +95,22 @@ func (t *task) hasUpdates() (any, isOver bool) {
 	return len(t.updates.list) > 0, t.updates.isOver
 }
 
-// fail ends a task by the agent's own status.
-func (t *task) fail(state, reason, message string) error {
+// fail ends a task by the agent's own status. While the status cannot be stored, as on a full disk, this is tried again.
+func (t *task) fail(state, reason, message string) {
 	if state == "TASK_DROPPED" && !t.has("PARTITION_AWARE") {
 		state = "TASK_LOST"
 	}
-	return t.store(codec.New("mesos.TaskStatus").Set("task_id.value", t.id).Set("state", state).Set("source", "SOURCE_AGENT").Set("reason", reason).Set("message", message))
+	status := codec.New("mesos.TaskStatus").Set("task_id.value", t.id).Set("state", state).Set("source", "SOURCE_AGENT").Set("reason", reason).Set("message", message)
+	err := t.store(status)
+	if err == nil {
+		return
+	}
+	log.Printf("task %s: its status is not stored yet: %v", t.id, err)
+	go func() {
+		for t.store(status) != nil {
+			time.Sleep(roomPause)
+		}
+	}()
 }
 
 // nextUpdate returns the first status that is not reported.

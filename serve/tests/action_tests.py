@@ -148,7 +148,7 @@ def a_refusal_is_said_in_the_words_of_the_reference(browser, room):
         equal("how it is announced", browser.one("#ask-answer").get_attribute("role"), "alert")
         browser.keys(Keys.ESCAPE)
         browser.wait("closed by Escape", lambda: not browser.one("#ask").is_displayed())
-        equal("where the focus is again", browser.focused(), "Reserve on n1")
+        browser.wait("the focus is on the button again", lambda: browser.focused() == "Reserve on n1")
     browser.show("overview")
     press(browser, "#tree", "Set")
     fill_in(browser, weight="2000", limit="cpus:3")

@@ -73,7 +73,20 @@ class Browser:
     def console(self):
         return [entry["message"] for entry in self.driver.get_log("browser") if entry["level"] in ("SEVERE", "WARNING")]
 
-    def wait(self, what, holds, seconds=40):
+    def processor_time(self):
+        """The seconds for which a processor ran the page so far. Unlike the time of a clock, they do not grow while other programs run."""
+        self.driver.execute_cdp_cmd("Performance.enable", {})
+        return next(one["value"] for one in self.driver.execute_cdp_cmd("Performance.getMetrics", {})["metrics"] if one["name"] == "ThreadTime")
+
+    def takes(self, what, seconds, action):
+        """Does something that may take the page so much time of a processor, and returns its result."""
+        begun = self.processor_time()
+        result = action()
+        spent = self.processor_time() - begun
+        assert spent < seconds, f"{what} takes {spent:.2f} s of a processor, and not less than {seconds} s"
+        return result
+
+    def wait(self, what, holds, seconds=120):
         until = time.time() + seconds
         while time.time() < until:
             if got := holds():

@@ -5,7 +5,7 @@ the crates, applies the edit, builds the program without proofs, runs it as `rt 
 PROGRAM may also be a script of bench/, which must then find differences on the copy. Before that, everything must pass on the unchanged crates.
 The script prints `ok NAME: refused by PROGRAM, at line N` or `FAILED NAME: why`. The status is 1 if one failed. It needs a C compiler.
 
-    bench/mutants.py            all mutants: 45 minutes of processor time
+    bench/mutants.py            all mutants: 80 minutes of processor time
     bench/mutants.py NAME..     only these"""
 import glob
 import itertools

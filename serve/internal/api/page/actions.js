@@ -21,7 +21,7 @@ export const refusals = {
   DefaultRole: "the event sets a limit or makes a reservation for *",
   Empty: "the framework has no roles, a task uses nothing, or there is nothing to reserve or unreserve",
   NotUnreserved: "the resources to reserve or unreserve name a reservation",
-  NotCovered: "the tasks use more than the offer has; more than the free resources is to be reserved or unreserved; or the new total does not cover what is held on the agent",
+  NotCovered: "the tasks use more than the offer has; the resources to reserve or unreserve are not all free; or the new total does not cover the resources held on the agent",
   OverLimit: "the reservation would take the role, or a role above it, over its limit",
   BadWeight: "the weight is not from 0.001 to 1000",
   TooLarge: "the agent would have more of a scalar than the capacity",

@@ -21,8 +21,10 @@ import (
 	"gateway/internal/mesos/codec"
 )
 
-// maxCall is the size of a call of an executor.
-const maxCall = 16 << 20
+const (
+	maxCall   = 16 << 20 // bytes of a call of an executor
+	maxStatus = 3 << 20  // bytes of a status in protobuf: a gateway takes calls of 4 MiB, and would never take a longer one
+)
 
 // httpError is an answer with an error status. The texts are those of Mesos.
 type httpError struct {
@@ -173,6 +175,8 @@ func validate(call codec.Message) error {
 		return fmt.Errorf("Received the unknown state %s from executor %s of framework %s", status.Enum("state"), executor, framework)
 	case status.Enum("state") == "TASK_STAGING":
 		return fmt.Errorf("Received TASK_STAGING from executor %s of framework %s which is not allowed", executor, framework)
+	case len(status.Protobuf()) > maxStatus:
+		return fmt.Errorf("the status has %d bytes: expected at most %d", len(status.Protobuf()), maxStatus)
 	}
 	return nil
 }

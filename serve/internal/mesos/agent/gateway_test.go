@@ -141,7 +141,7 @@ func (g *fakeGateway) waitIdle(a *Agent) {
 // status waits for the next status of a task.
 func (g *fakeGateway) status(id string) codec.Message {
 	g.Helper()
-	for late := time.After(2 * time.Minute); ; {
+	for late := time.After(5 * time.Minute); ; {
 		select {
 		case call := <-g.calls:
 			if status := call.Sub("status"); status.Text("task_id.value") == id {

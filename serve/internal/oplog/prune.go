@@ -8,6 +8,7 @@ import (
 	"sort"
 
 	"go.etcd.io/etcd/clientv3"
+	"go.etcd.io/etcd/mvcc/mvccpb"
 )
 
 // Prune removes the messages up to a position, and keeps their keys.
@@ -58,24 +59,55 @@ func (l *Log) Prune(ctx context.Context, to Position) error {
 		entries, keys = nil, nil
 		return nil
 	}
-	err = l.fetch(ctx, index[:end], revision, func(messages []Message) error {
-		for k := range messages {
-			m := &messages[k]
-			if to.Revision.Before(m.Revision) {
-				continue
-			}
-			number++
-			if keys = append(keys, l.messages(m.Key)); !isAnonymous(m.Key) {
-				entries = append(entries, newEntry(m, number))
-			}
-		}
+	flushMany := func() error {
 		if len(keys) < segmentSize-maxGroup {
 			return nil
 		}
 		return flush(number)
-	})
-	if err != nil {
-		return err
+	}
+	for rest := index[:end]; len(rest) > 0; {
+		count, isRead := l.nextToPrune(rest, to.Main)
+		if isRead {
+			err = l.fetch(ctx, rest[:count], revision, func(messages []Message) error {
+				for k := range messages {
+					m := &messages[k]
+					if to.Revision.Before(m.Revision) {
+						continue
+					}
+					number++
+					if keys = append(keys, l.messages(m.Key)); !isAnonymous(m.Key) {
+						entries = append(entries, newEntry(m, number))
+					}
+				}
+				return flushMany()
+			})
+		} else {
+			for _, kv := range rest[:count] {
+				number, keys = number+1, append(keys, string(kv.Key))
+			}
+			err = flushMany()
+		}
+		if err != nil {
+			return err
+		}
+		rest = rest[count:]
 	}
 	return flush(number)
+}
+
+// nextToPrune returns how many messages at the start of an index are pruned in the same way: read, or not. Transactions whose messages all have no
+// key of their caller need not be read, as nothing of them is kept. The last one is, because it may have messages that are not pruned.
+func (l *Log) nextToPrune(index []*mvccpb.KeyValue, last int64) (count int, isRead bool) {
+	for count < len(index) && count < segmentSize-maxGroup {
+		end, isNext := count, index[count].ModRevision == last
+		for end < len(index) && index[end].ModRevision == index[count].ModRevision {
+			isNext = isNext || !isAnonymous(string(index[end].Key[len(l.prefix):]))
+			end++
+		}
+		if count > 0 && isNext != isRead {
+			break
+		}
+		count, isRead = end, isNext
+	}
+	return count, isRead
 }

@@ -2,8 +2,7 @@
 #![tactic(auto)]
 
 use drf_app::{command, report_no_arguments};
-use drf_journal::{SystemFiles, random_key};
-use drf_journal::Device;
+use drf_journal::{Device, SystemFiles, random_key};
 use std::env::Env;
 use std::process::ExitCode;
 use std::{env, io};

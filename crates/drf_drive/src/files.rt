@@ -3,8 +3,7 @@ ghost use Rattle.std.specs.Prelude.{◌≡◌, map, IfOk, IfErr};
 ghost use Rattle.drf_drive.specs.Files.{AreContents, IsUnread, bytes_of, fault_of};
 
 use crate::script::ScriptFault;
-use drf_journal::FileBytes;
-use drf_journal::RunFault;
+use drf_journal::{FileBytes, RunFault};
 use std::alloc::Global;
 use std::convert::AsStr;
 

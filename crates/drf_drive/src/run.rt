@@ -12,8 +12,7 @@ use crate::journal::{write_journal, write_nothing};
 use crate::script::{Misfit, ScriptFault, read_scripts};
 use drf_board::{Brand, Entry, Naming, Slate};
 use drf_core::Core;
-use drf_journal::FileBytes;
-use drf_journal::{Device, RunFault};
+use drf_journal::{Device, FileBytes, RunFault};
 use drf_master::{
     CloseFault, CloseRefused, DriveFault, Master, MasterSorter, OpenGate, Undriven, drive,
 };

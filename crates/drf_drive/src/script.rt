@@ -6,8 +6,7 @@ ghost use Rattle.drf_drive.specs.Scripts.{AreScripts, AreWhole, HasScripts, Have
 use crate::files::read_files;
 use crate::lines::first_line;
 use drf_board::Entry;
-use drf_journal::FileBytes;
-use drf_journal::RunFault;
+use drf_journal::{FileBytes, RunFault};
 use drf_lines::{LineError, LineFault, LineReader};
 use drf_master::{CloseFault, Pass};
 use drf_rows::Event;

@@ -3,9 +3,8 @@
 //! whole text. `?VERDICT` is for a journal whose lines can be in different orders: `check`, from the same state, must give this verdict.
 use crate::streams::{Bounds, Full, NO_BOUNDS, Slow};
 use drf_app::command;
-use drf_journal::{FileBytes, SystemFiles};
 use drf_hash::HashKey;
-use drf_journal::{Device, RunFault};
+use drf_journal::{Device, FileBytes, RunFault, SystemFiles};
 use std::alloc::{AllocError, Global};
 use std::rt::{Files, Runtime};
 use std::sync::Wait;

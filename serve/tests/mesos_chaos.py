@@ -2,8 +2,8 @@
 # Mesos' frameworks over three gateways and five agents, each in a network namespace, under random failures. Outside the proof.
 """    mesos_chaos.py TASKS SECONDS [SEED]        GATEWAY, DRF and SCHEDULER name the programs; needs root, for `ip netns`
 
-Gateways, agents' programs and schedulers are killed and started again, links fail for seconds, disks of gateways are full, and a gateway and
-an agent are cut off for so long that the one loses its streams and the other its tasks. It goes on for the seconds, until the tasks have finished, and until an agent was removed. In the end each
+Gateways, agents' programs and schedulers are killed and started again, links fail for seconds, disks of gateways and agents are full, and a
+gateway and an agent are cut off for so long that the one loses its streams and the other its tasks. It goes on for the seconds, until the tasks have finished, and until an agent was removed. In the end each
 task id started at most once, each launch has a terminal status, the allocator holds exactly the tasks that run, and `drf check` calls the
 journals good.
 """
@@ -23,6 +23,7 @@ from fleet import NotRun, SERVE, wait
 
 TERMINAL = {"TASK_FINISHED", "TASK_FAILED", "TASK_KILLED", "TASK_ERROR", "TASK_LOST", "TASK_DROPPED", "TASK_GONE"}
 SILENCE, AGENT_GONE = 3, 6  # seconds
+PATIENCE = 600  # seconds for what comes within a few on a machine with nothing else to do
 
 
 def run(*words):
@@ -57,7 +58,7 @@ class Node:
         run("ip", "link", "set", "v" + self.name, state)
 
     def fill_disk(self, left):
-        """Fills the disk of a gateway, but for some bytes."""
+        """Fills the disk of a gateway or an agent, but for some bytes."""
         path = os.path.join(self.folder, self.name, "filler")
         with open(path, "wb") as file:
             for size in (1 << 24, 1 << 16, 1):  # the gateway takes space too
@@ -101,6 +102,8 @@ class Cluster:
                     "-mesos-silence", f"{SILENCE}s", "-mesos-agent-gone", f"{AGENT_GONE}s", "-mesos-gateway-grace", "20s")
         self.until_ready()
         for a in self.agents:
+            os.mkdir(os.path.join(folder, a.name), 0o755)
+            run("mount", "-t", "tmpfs", "-o", "size=100m,mode=755", "none", os.path.join(folder, a.name))
             a.start(os.path.join(os.path.dirname(gateway), "durzhanok-agent"), "-gateways", ",".join("http://" + host for host in self.hosts.split(",")), "-work", a.name, "-name", a.name, "-token-file", self.token_path,
                     "-resources", "cpus:1;mem:1024")
 
@@ -117,7 +120,7 @@ class Cluster:
 
     def until_ready(self):
         for n in range(3):
-            assert wait(lambda: self.is_ready(n), 90), f"g{n} is not ready: {self.gateways[n].log()[-2000:]}"
+            assert wait(lambda: self.is_ready(n), PATIENCE), f"g{n} is not ready: {self.gateways[n].log()[-2000:]}"
 
     def record(self, name):
         """The launches of a scheduler, and its statuses: lists of words."""
@@ -137,7 +140,7 @@ class Cluster:
     def start_scheduler(self, n, tasks, name=None, command=None):
         node = self.schedulers[n]
         name = name or node.name
-        node.start(self.scheduler, "-gateways", self.hosts, "-token-file", self.token_path, "-prefix", name, "-record", name + ".record", "-id-file", name + ".id", "-tasks", str(tasks), "-within", "600s",
+        node.start(self.scheduler, "-gateways", self.hosts, "-token-file", self.token_path, "-prefix", name, "-record", name + ".record", "-id-file", name + ".id", "-tasks", str(tasks), "-within", f"{3 * PATIENCE}s",
                    "-command", command or f"echo $MESOS_TASK_ID >> {self.starts}; sleep 1.$(($$ % 9))", *(["-codec", "json", "-single"] if n == 1 else []))
 
     def held(self):
@@ -151,7 +154,7 @@ def disturb(cluster, tasks, seconds, chance):
     counts, begun, cut, full = collections.Counter(), time.time(), [], []
     partition, silent = begun + 2, None
     while time.time() < begun + seconds or sum(cluster.finished(s.name) for s in cluster.schedulers) < tasks or not cluster.is_agent_removed():
-        assert time.time() < begun + max(20 * seconds, 600), counts
+        assert time.time() < begun + max(20 * seconds, 2 * PATIENCE), counts
         time.sleep(chance.uniform(0.2, 1.0))
         now = time.time()
         for node, until in [one for one in cut if one[1] < now]:
@@ -171,7 +174,7 @@ def disturb(cluster, tasks, seconds, chance):
             counts["partition"] += 1
             continue
         away = [one[0] for one in cut]
-        isolated = full or any(node in cluster.gateways for node in away)
+        isolated = any(node in cluster.gateways for node in away + [one[0] for one in full])
         node = chance.choice(cluster.gateways * 2 + cluster.agents + cluster.schedulers)
         if node in away or node in cluster.gateways and isolated:
             continue
@@ -180,11 +183,11 @@ def disturb(cluster, tasks, seconds, chance):
             cut.append((node, now + chance.uniform(0.5, 3)))
             counts["link of " + node.name[0]] += 1
             continue
-        if node in cluster.gateways and chance.random() < 0.3:
-            left = chance.choice((0, 60 << 20))
+        if node not in cluster.schedulers and chance.random() < 0.3 and node not in [one[0] for one in full]:
+            left = chance.choice((0, 60 << 20 if node in cluster.gateways else 64 << 10))
             node.fill_disk(left)
             full.append((node, now + chance.uniform(1, 3)))
-            counts["disk without space" if left == 0 else "disk with little space"] += 1
+            counts[f"disk of {node.name[0]} with {'no' if left == 0 else 'little'} space"] += 1
             continue
         node.kill()
         time.sleep(0 if node.name[0] == "s" else chance.uniform(0, 1.5))
@@ -230,20 +233,20 @@ def inside(folder, tasks, seconds, seed):
     try:
         for n in range(2):
             cluster.start_scheduler(n, 1_000_000)
-        assert wait(lambda: all(cluster.finished(s.name) for s in cluster.schedulers), 90), "no task finishes"
+        assert wait(lambda: all(cluster.finished(s.name) for s in cluster.schedulers), PATIENCE), "no task finishes"
         counts = disturb(cluster, tasks, seconds, chance)
         cluster.until_ready()
         for n, node in enumerate(cluster.schedulers):
             node.kill()
             cluster.start_scheduler(n, cluster.finished(node.name) + 10)
         for node in cluster.schedulers:
-            assert wait(lambda: node.process.poll() is not None, 180), f"{node.name} does not end: {node.log()[-2000:]}"
+            assert wait(lambda: node.process.poll() is not None, PATIENCE), f"{node.name} does not end: {node.log()[-2000:]}"
             assert node.process.returncode == 0, node.log()[-2000:]
         launched, started, gone = check(cluster, [s.name for s in cluster.schedulers])
-        assert wait(lambda: not cluster.held(), 60), f"the allocator holds {cluster.held()[:5]}"
+        assert wait(lambda: not cluster.held(), PATIENCE), f"the allocator holds {cluster.held()[:5]}"
         cluster.start_scheduler(0, 12, "last", "sleep 1000")
         running = lambda: sorted({status[0] for status in cluster.record("last")[1] if status[1] == "TASK_RUNNING"})
-        assert wait(lambda: len(running()) == 12, 60), cluster.schedulers[0].log()[-2000:]
+        assert wait(lambda: len(running()) == 12, PATIENCE), cluster.schedulers[0].log()[-2000:]
         assert cluster.held() == running(), f"the allocator holds {cluster.held()}, and {running()} run"
         for n, g in enumerate(cluster.gateways):
             checked = subprocess.run([cluster.drf, "check"], input=cluster.ask(n, "/drf/v1/journal"), capture_output=True, check=False)
@@ -275,7 +278,7 @@ def chaos(programs, tasks, seconds, seed):
     with tempfile.TemporaryDirectory(prefix="mesos-chaos-", ignore_cleanup_errors=True) as folder:
         environment = {**os.environ, "GATEWAY": programs.gateway, "DRF": programs.drf, "SCHEDULER": build_scheduler(folder)}
         inner = f"mkdir -p /run/netns && mount -t tmpfs none /run/netns && exec {sys.executable} {os.path.realpath(__file__)} inside {folder} {tasks} {seconds} {seed}"
-        done = subprocess.run([*isolated, "sh", "-c", inner], env=environment, capture_output=True, text=True, timeout=max(20 * seconds, 600) + 600, check=False)
+        done = subprocess.run([*isolated, "sh", "-c", inner], env=environment, capture_output=True, text=True, timeout=max(20 * seconds, 2 * PATIENCE) + 3 * PATIENCE, check=False)
         assert done.returncode == 0, f"seed {seed}: {done.stderr[-12000:]}"
         return done.stdout.strip()
 

@@ -44,6 +44,7 @@ def main():
     words.add_argument("--long", action="store_true", help="chaos of minutes in place of seconds")
     options = words.parse_args()
     import calls
+    import cgroups
     import conversion
     import defects
     import faults
@@ -51,7 +52,7 @@ def main():
     import operators
     import scale
     programs = find_programs()
-    every = calls.TESTS + conversion.TESTS + defects.TESTS + operators.TESTS + faults.tests(options.long) + mesos_chaos.tests(options.long) + (scale.TESTS if options.long else [])
+    every = calls.TESTS + conversion.TESTS + defects.TESTS + operators.TESTS + faults.tests(options.long) + mesos_chaos.tests(options.long) + cgroups.TESTS + (scale.TESTS if options.long else [])
     passed = failed = 0
     for has_passed, told in outcomes([test for test in every if any(part in name_of(test) for part in options.only.split(","))], programs):
         print(told, flush=True)

@@ -63,9 +63,9 @@ func execute() {
 		if len(task.Data) == 0 {
 			continue
 		}
+		exec.Command("/bin/sh", "-c", string(task.Data)).Start()
 		uuid, _ := json.Marshal(append([]byte(randomHex(4)), randomHex(4)...))
 		post(`"type":"UPDATE","update":{"status":{"task_id":` + string(task.TaskID) + `,"state":"TASK_RUNNING","source":"SOURCE_EXECUTOR","uuid":` + string(uuid) + `}}`)
-		exec.Command("/bin/sh", "-c", string(task.Data)).Start()
 	}
 }
 

@@ -123,7 +123,7 @@ func TestEntries(t *testing.T) {
 		average float64
 		want    uint64
 	}{{0, mostEntries}, {1000, mostEntries}, {entryBytes / 100, 99}, {4 << 20, leastEntries}} {
-		if got := entriesOf(one.average); got != one.want {
+		if got := entriesOf(one.average, entryBytes); got != one.want {
 			t.Errorf("%.0f bytes: %d entries, want %d", one.average, got, one.want)
 		}
 	}

@@ -54,7 +54,7 @@ func (c *Cluster) embed(ctx context.Context, o Config) error {
 	if err != nil {
 		return fmt.Errorf("the embedded etcd member: %w", err)
 	}
-	setEntries(server, mostEntries)
+	setEntries(server, mostEntries, mostEntries)
 	c.member = server
 	c.clients = []*clientv3.Client{v3client.New(server.Server)}
 	if o.Members == "" {
@@ -63,7 +63,7 @@ func (c *Cluster) embed(ctx context.Context, o Config) error {
 		c.setProblem("this member waits for a majority of the members " + o.Members)
 	}
 	go c.follow(ctx, server, o)
-	go c.boundEntries(ctx, server)
+	go c.boundEntries(ctx, server, o.Members == "")
 	return nil
 }
 

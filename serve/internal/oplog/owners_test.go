@@ -7,6 +7,7 @@ import (
 	"encoding/binary"
 	"errors"
 	"fmt"
+	"strings"
 	"sync"
 	"testing"
 	"time"
@@ -119,7 +120,12 @@ func TestKeysOfOneOwnerAreBounded(t *testing.T) {
 	check := func(when string) {
 		t.Helper()
 		for _, gateway := range []*Log{l, other} {
-			if _, err := gateway.Append(ctx, limited("greedy/new")); !errors.As(err, &full) || !full.Keys {
+			// What a gateway counted can lack transactions that ran at the same time, until a quarter of the share is used.
+			var err error
+			for n := 0; n < 5 && err == nil; n++ {
+				_, err = gateway.Append(ctx, limited(fmt.Sprintf("greedy/new-%d", n)))
+			}
+			if !errors.As(err, &full) || !full.Keys {
 				t.Error(when, "a new key:", err)
 			}
 			if _, err := gateway.Append(ctx, limited(Anonymous("greedy"))); err != nil {
@@ -139,7 +145,7 @@ func TestKeysOfOneOwnerAreBounded(t *testing.T) {
 	}
 	known := ""
 	for _, m := range all {
-		if ownerOf(m.Key) == "greedy" && !isAnonymous(m.Key) {
+		if ownerOf(m.Key) == "greedy" && !isAnonymous(m.Key) && !strings.HasPrefix(m.Key, "greedy/new-") {
 			known = m.Key
 		}
 	}

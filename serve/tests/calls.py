@@ -342,7 +342,7 @@ def test_http2(programs):
             text = curl("/drf/v1/events", "--data-binary", json.dumps(AGENT))
             assert text == f"{answer}\n\n{version} 200", text
             text = curl("/drf/v1/frameworks/site/offers", "-m", "5")
-            assert text == f": these stand\n\n\n{version} 200", text
+            assert text == f": all existing offers were sent\n\n\n{version} 200", text
             assert curl("/drf/v1/events", "--data-binary", "").endswith(f"\n{version} 400"), "an empty body"
             with open(os.path.join(fleet.folder, "lines"), "w", encoding="ascii") as file:
                 file.write("x\n" * 70000)
